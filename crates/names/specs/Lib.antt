@@ -1,0 +1,4 @@
+pub mod Texts
+pub mod Moments
+pub mod Rules
+pub mod Streams
