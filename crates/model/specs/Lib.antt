@@ -1,0 +1,10 @@
+pub mod Policy
+pub mod World
+pub mod Reading
+pub mod Forms
+pub mod Heads
+pub mod Steps
+pub mod Stream
+pub mod Replies
+pub mod Sessions
+pub mod Laws
