@@ -6,6 +6,8 @@
 //! proof, is said by the functions of [`laws`] and [`examples`], which do nothing when they run.
 #![tactic(auto)]
 
+pub mod laws;
+
 /// What a policy row may allow or deny.
 #[derive(Clone, Copy, Debug, PartialEq, Eq, Hash)]
 pub enum Right {
