@@ -21,6 +21,7 @@ use Rattle.model.specs.Policy.{Policy, IsPolicy, Repo, decide, repo_named}
 use Rattle.model.specs.World.{World, Lock, Issued, IsWorld, IsLock, IsIssued, DiffersInId, DiffersInPlace, stands_at, lock_at, with_lock, counted, nothing}
 use Rattle.model.specs.Forms.{LockForm, Request, asks_lock, lock_form, is_ref_if_given, members_of, text_if_given, ref_if_given, required, request_of, needs_upload}
 use Rattle.model.specs.Steps.{Granted, makes_lock, Answer, Denial, by_lock, by_rules, permitted, is_upload, bearer, issued_as, caller_of, ref_asked, lock_question, new_lock, verdict, state_verdict, lock_verdict, after, Message, bad_head, broken, message, verdict_on, Carries, exchanged}
+use Rattle.model.proofs.Tests.{both_true}
 use Rattle.model.specs.Laws.{StepsKeepWorlds, RunsKeepWorlds, RunsMakeWorlds, NeverLocksTwice, DenialsChangeNothing}
 
 -- ---- what a chain of checks has passed
@@ -53,10 +54,6 @@ find_ok : {A : Type 0} (Q : A → Type 0) (test : A → Bool) (xs : List A) → 
 find_ok Q test [] all = tt
 find_ok Q test (x ∷ xs) all =
     cond_both (test x) (Some x) (find test xs) (λ o. IfSome o Q) (λ _. all.0) (λ _. find_ok Q test xs all.1)
-
-both_true : (a b : Bool) → IsTrue (a && b) → IsTrue a × IsTrue b
-both_true true b is = (refl, is)
-both_true false b is = absurd (true≢false (sym is))
 
 -- ---- what is in range
 

@@ -1,2 +1,4 @@
+pub mod Tests
+pub mod Computed
 pub mod Firsts
 pub mod Keeping

@@ -8,3 +8,4 @@ pub mod Stream
 pub mod Replies
 pub mod Sessions
 pub mod Laws
+pub mod Examples

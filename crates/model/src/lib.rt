@@ -6,6 +6,7 @@
 //! proof, is said by the functions of [`laws`] and [`examples`], which do nothing when they run.
 #![tactic(auto)]
 
+pub mod examples;
 pub mod laws;
 
 /// What a policy row may allow or deny.
