@@ -1,4 +1,8 @@
 //! The names that `custody` speaks of, and where bytes come from and go to.
 #![tactic(auto)]
 
-pub mod rules;
+mod rules;
+mod texts;
+
+pub use rules::Rule;
+pub use texts::{LockPath, RefName, RepoName, UserName};
