@@ -1,6 +1,6 @@
 -- What cuts at a slash, and a search for two dots, say of a text.
 use Rattle.std.proofs.Common.{◌≡◌, ℕ, ◌<◌, Bool, true, false, ◌&&◌, ◌||◌, List, [], ◌∷◌, ◌++◌, length, get_or, inl, inr, ◌⊎◌, ◌≤◌, refl, sym, ap, ◌∙◌, arith, cond, ◌==◌, ◌↔◌, codes}
-use Rattle.std.specs.List.{slice_split, onto_first, list_all, position_or_len, before_first, after_first}
+use Rattle.std.specs.List.{onto_first, list_all, position_or_len, before_first, after_first}
 use Rattle.std.specs.Str.Iter.{HasSubslice}
 use Rattle.std.proofs.lemmas.Bool.{cases_lt, cases_Bool, eqb-true, and_right, false≢true}
 use Rattle.std.proofs.lemmas.Bool.Decides.{Decides-eqb}
