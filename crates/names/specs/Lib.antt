@@ -2,3 +2,4 @@ pub mod Texts
 pub mod Moments
 pub mod Rules
 pub mod Streams
+pub mod Names
