@@ -1,0 +1,69 @@
+-- What a body asks, by way of its value.
+use Rattle.std.proofs.Common.{◌≡◌, ℕ, Bool, true, false, ◌&&◌, List, Option, Some, None, Result, Ok, Err, refl, sym, ap, subst, ◌∙◌, codes, if◌then◌else◌, option_and_then}
+use Rattle.std.specs.Str.{is_utf8, IsUtf8}
+use Rattle.std.proofs.lemmas.Str.{IsUtf8-from_is_utf8, is_utf8-from_IsUtf8}
+use Rattle.serde_json.specs.Data.{Data, null, boolean, number, string, array, object}
+use Rattle.serde_json.specs.Read.{read}
+use Rattle.serde_json.specs.Find.{get_member, as_object}
+use Rattle.names.specs.Texts.{is_lock_path}
+use Rattle.names.specs.declared.rules.Rule.{Rule}
+use Rattle.names.specs.declared.rules.Rule.TheVariants.{J1, J2}
+use Rattle.model.specs.Reading.{◌>>=◌, check, found}
+use Rattle.model.specs.Forms.{LockForm, lock_form, text_if_given, ref_if_given, required, is_ref_if_given}
+use Rattle.forms.specs.Given.{lock_fields, lock_of_value, in_range, value_of}
+
+pub no_text : (body : List ℕ) → ¬ (IsUtf8 body) → None ≡ value_of body
+no_text body bad = at (is_utf8 body) refl
+  where
+  at : (v : Bool) → is_utf8 body ≡ v → None ≡ (if v then read body else None)
+  at true e = absurd (bad (IsUtf8-from_is_utf8 body e))
+  at false e = refl
+
+pub value_is : (body text : List ℕ) (o : Option Data) → text ≡ body → IsUtf8 body → read text ≡ o → o ≡ value_of body
+value_is body text o same utf8 e =
+    sym (ap (λ v. if v then read body else None) (is_utf8-from_IsUtf8 body utf8) ∙ sym (ap read same) ∙ e)
+
+abbrev form : List ℕ → Option (List ℕ) → LockForm
+form path ref = record { path = path; ref = ref }
+
+-- reading and then judging is reading and judging in turn
+chain : (p : Result (List ℕ) Rule) (r : Result (Option (List ℕ)) Rule)
+    → (p >>= λ path. r >>= λ ref. check (is_lock_path path && is_ref_if_given ref) J2 >>= λ valid. Ok (form path ref))
+    ≡ ((p >>= λ path. r >>= λ ref. Ok (form path ref)) >>= in_range)
+chain (Err e) r = refl
+chain (Ok path) (Err e) = refl
+chain (Ok path) (Ok ref) = refl
+
+by_value : (o : Option Data)
+    → (found (option_and_then as_object o) J1 >>= λ members. required (text_if_given (get_member (codes "path") members)) >>= λ path. ref_if_given (get_member (codes "ref") members) >>= λ ref. check (is_lock_path path && is_ref_if_given ref) J2 >>= λ valid. Ok (form path ref))
+    ≡ (found o J1 >>= λ d. lock_fields d >>= in_range)
+by_value None = refl
+by_value (Some null) = refl
+by_value (Some (boolean b)) = refl
+by_value (Some (number n)) = refl
+by_value (Some (string s)) = refl
+by_value (Some (array ds)) = refl
+by_value (Some (object ms)) = chain (required (text_if_given (get_member (codes "path") ms))) (ref_if_given (get_member (codes "ref") ms))
+
+lock_by_value : (body : List ℕ) → lock_form body ≡ (found (value_of body) J1 >>= λ d. lock_fields d >>= in_range)
+unfolding lock_form
+lock_by_value body =
+    elim (is_utf8 body) as (λ v. (found (if v then option_and_then as_object (read body) else None) J1 >>= λ members. required (text_if_given (get_member (codes "path") members)) >>= λ path. ref_if_given (get_member (codes "ref") members) >>= λ ref. check (is_lock_path path && is_ref_if_given ref) J2 >>= λ valid. Ok (form path ref))
+    ≡ (found (if v then read body else None) J1 >>= λ d. lock_fields d >>= in_range)) [
+      | true ↦ by_value (read body)
+      | false ↦ refl
+    ]
+
+-- what the value of a body asks, the body asks
+pub lock_from : (body : List ℕ) (o : Option Data) (r : Result LockForm Rule) → o ≡ value_of body → (found o J1 >>= lock_of_value) ≡ r → lock_form body ≡ r
+lock_from body o r e f = lock_by_value body ∙ ap (λ v. found v J1 >>= lock_of_value) (sym e) ∙ f
+
+abbrev SameResult : Result LockForm Rule → Result LockForm Rule → Type 0
+SameResult a b = a ≡ b
+
+pub same_form : (path text : List ℕ) (ref name : Option (List ℕ)) → path ≡ text → ref ≡ name
+    → SameResult (Ok (form path ref)) (Ok (form text name))
+same_form path text ref name e f =
+    let P : List ℕ → Type 0 = λ t. SameResult (Ok (form path ref)) (Ok (form t name)) in
+    let Q : Option (List ℕ) → Type 0 = λ n. SameResult (Ok (form path ref)) (Ok (form path n)) in
+    subst P e (subst Q f refl)

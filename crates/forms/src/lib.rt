@@ -1,0 +1,9 @@
+//! What clients ask, read from JSON (Git LFS API; RFC 8259).
+#![tactic(auto)]
+
+mod body;
+mod lock;
+mod request;
+
+pub use lock::LockRequest;
+pub use request::{Request, read_form};

@@ -1,0 +1,96 @@
+//! The body of a request for a lock (Git LFS API, File Locking, "Create Lock").
+
+ghost use Rattle.std.specs.Prelude.{◌≡◌, option_map, IfOk, string_bytes};
+ghost use Rattle.serde_json.specs.View.{view};
+ghost use Rattle.names.specs.Texts.{is_lock_path, is_ref};
+ghost use Rattle.model.specs.Forms.{lock_form};
+ghost use Rattle.model.specs.Forms as asked;
+ghost use Rattle.forms.specs.Given.{Gives, lock_fields, lock_of_value};
+
+use crate::body::{ref_if_given, text_if_given, value_read};
+use names::{LockPath, RefName, Rule};
+use serde_json::Value;
+use std::alloc::{AllocError, Global};
+
+/// A path to lock, and perhaps its ref. Both are in range.
+#[derive(Debug, Drop)]
+pub struct LockRequest {
+    /// The path.
+    pub path: String,
+    /// The ref; where it is missing, the repository's default ref is meant.
+    pub ref_name: Option<String>,
+}
+
+/// The path and the ref of a value, whatever their range.
+fn lock_fields(value: &Value) -> Result<(&str, Option<&str>), Rule>
+    ensures { Gives (λ p. record { path = p.0.now; ref = option_map (λ s. s.now) p.1 }) result (lock_fields (view value.now)) }
+{
+    let Some(path) = text_if_given(value.get("path"))? else {
+        return Err(Rule::J1);
+    };
+    let name = ref_if_given(value.get("ref"))?;
+    Ok((path, name))
+}
+
+fn is_ref(name: &str) -> bool
+    ensures { result ≡ is_ref name.now }
+{
+    RefName::read(name).is_some()
+}
+
+fn is_ref_if_given(name: Option<&str>) -> bool
+    ensures { result ≡ asked.is_ref_if_given (option_map (λ s. s.now) name.entry) }
+{
+    match name {
+        Some(name) => is_ref(name),
+        None => true,
+    }
+}
+
+fn is_lock_path(path: &str) -> bool
+    ensures { result ≡ is_lock_path path.now }
+{
+    LockPath::read(path).is_some()
+}
+
+/// The path and the ref of a value, in range.
+fn lock_of_value(value: &Value) -> Result<(&str, Option<&str>), Rule>
+    ensures { Gives (λ p. record { path = p.0.now; ref = option_map (λ s. s.now) p.1 }) result (lock_of_value (view value.now)) }
+{
+    let (path, name) = lock_fields(value)?;
+    if is_lock_path(path) && is_ref_if_given(name) {
+        Ok((path, name))
+    } else {
+        Err(Rule::J2)
+    }
+}
+
+/// A copy of the text, where there is one.
+fn owned(alloc: Global, text: Option<&str>) -> Result<Option<String>, AllocError>
+    ensures { IfOk result (λ o. option_map string_bytes o ≡ option_map (λ s. s.now) text.entry) }
+{
+    match text {
+        Some(text) => Ok(Some(text.to_owned(alloc)?)),
+        None => Ok(None),
+    }
+}
+
+/// What the body asks, or the first rule that refuses it.
+pub(crate) fn read_lock(
+    alloc: Global,
+    body: &[u8],
+) -> Result<Result<LockRequest, Rule>, AllocError>
+    ensures { IfOk result (λ r. Gives (λ q. record { path = string_bytes q.path; ref = option_map string_bytes q.ref_name }) r (lock_form body.now)) }
+{
+    let Some(value) = value_read(alloc, body)? else {
+        return Ok(Err(Rule::J1));
+    };
+    match lock_of_value(&value) {
+        Err(rule) => Ok(Err(rule)),
+        Ok((path, name)) => {
+            let path = path.to_owned(alloc)?;
+            let ref_name = owned(alloc, name)?;
+            Ok(Ok(LockRequest { path, ref_name }))
+        }
+    }
+}
