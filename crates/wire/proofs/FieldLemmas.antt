@@ -1,0 +1,71 @@
+-- What the slices of a head show of its fields.
+use Rattle.std.proofs.Common.{◌≡◌, ℕ, ◌≤◌, Bool, true, false, nat_le, List, [], ◌∷◌, length, take, map, filter, find, count_by, cond, Some, option_map, refl, ap, ◌∙◌, arith}
+use Rattle.std.specs.List.{AllByRecursion}
+use Rattle.std.specs.Str.{str_eq_ignore_ascii_case}
+use Rattle.std.proofs.lemmas.List.Elements.{recursion_from_All}
+use Rattle.std.proofs.lemmas.List.{length-map}
+use Rattle.std.proofs.lemmas.List.Sums.{length-filter}
+use Rattle.std.proofs.lemmas.Bool.Decides.{nat_tests}
+use Rattle.httparse.specs.Grammar.{RequestHead, Field, field_value}
+use Rattle.httparse.specs.Spans.{span_bytes, header_bytes, name_and_value, IsWithin, IsHeaderWithin}
+use Rattle.httparse.specs.declared.spans.Span.{Span}
+use Rattle.httparse.specs.declared.spans.HeaderSpan.{HeaderSpan}
+use Rattle.model.specs.Heads.{values, first}
+use Rattle.wire.specs.declared.head.Head.{Head}
+use Rattle.wire.specs.Fields.{covered, is_named, values_at, Shows, shown}
+
+leb_true : (a b : ℕ) → a ≤ b → nat_le a b ≡ true
+leb_true a b h = grind (arith, nat_tests)
+
+head_same : {A : Type 0} {x y : A} {xs ys : List A} → x ∷ xs ≡ y ∷ ys → x ≡ y
+head_same e = cc
+
+tail_same : {A : Type 0} {x y : A} {xs ys : List A} → x ∷ xs ≡ y ∷ ys → xs ≡ ys
+tail_same e = cc
+
+pub covered_is : (bytes : List ℕ) (s : Span) (n : ℕ) → IsWithin n s → n ≤ length bytes → covered bytes s ≡ span_bytes bytes s
+covered_is bytes s n within fits =
+    let low : nat_le s.start s.end ≡ true = leb_true s.start s.end within.0 in
+    let high : nat_le s.end (length bytes) ≡ true = leb_true s.end (length bytes) (omega (arith, within.1, fits)) in
+    rw (low, high) refl
+
+abbrev value_at : List ℕ → HeaderSpan → List ℕ
+value_at bytes f = covered bytes f.value
+
+-- one field more, on both sides
+one_more : (bytes : List ℕ) (v w : Bool) (f : HeaderSpan) (g : Field) (fs : List HeaderSpan) (gs : List Field) → v ≡ w → value_at bytes f ≡ field_value g
+    → map (value_at bytes) fs ≡ map field_value gs → map (value_at bytes) (cond v (f ∷ fs) fs) ≡ map field_value (cond w (g ∷ gs) gs)
+one_more bytes true true f g fs gs e value rest = ap (λ x. x ∷ map (value_at bytes) fs) value ∙ ap (λ l. field_value g ∷ l) rest
+one_more bytes false false f g fs gs e value rest = rest
+one_more bytes true false f g fs gs e value rest = absurd (cc)
+one_more bytes false true f g fs gs e value rest = absurd (cc)
+
+-- the values of the fields that the spans cover
+values_same : (bytes : List ℕ) (name : List ℕ) (spans : List HeaderSpan) (fields : List Field) (n : ℕ) → n ≤ length bytes
+    → AllByRecursion (IsHeaderWithin n) spans → map (header_bytes bytes) spans ≡ map name_and_value fields
+    → values_at bytes spans name ≡ map field_value (filter (λ f. str_eq_ignore_ascii_case f.name name) fields)
+values_same bytes name [] [] n fits within e = refl
+values_same bytes name [] (g ∷ gs) n fits within e = absurd (cc)
+values_same bytes name (f ∷ fs) [] n fits within e = absurd (cc)
+values_same bytes name (f ∷ fs) (g ∷ gs) n fits within e =
+    let named : covered bytes f.name ≡ g.name = covered_is bytes f.name n within.0.0 fits ∙ ap (λ (p : List ℕ × List ℕ). p.0) (head_same e) in
+    let value : covered bytes f.value ≡ field_value g = covered_is bytes f.value n within.0.1 fits ∙ ap (λ (p : List ℕ × List ℕ). p.1) (head_same e) in
+    one_more bytes (is_named bytes name f) (str_eq_ignore_ascii_case g.name name) f g (filter (is_named bytes name) fs) (filter (λ h. str_eq_ignore_ascii_case h.name name) gs)
+    (ap (λ k. str_eq_ignore_ascii_case k name) named) value (values_same bytes name fs gs n fits within.1 (tail_same e))
+
+pub shown_are : (h : Head) (head : RequestHead) (name : List ℕ) → Shows h head → shown h name ≡ values name head
+shown_are h head name s =
+    let section = s.within.section in
+    values_same h.bytes.now name (take h.spans.headers h.fields.now) head.fields h.spans.len section.len_fits
+    (recursion_from_All (IsHeaderWithin h.spans.len) (take h.spans.headers h.fields.now) section.headers_fit) s.fields_are
+
+pub first_value : (bytes name : List ℕ) (fields : List HeaderSpan) → first (values_at bytes fields name) ≡ option_map (λ (f : HeaderSpan). covered bytes f.value) (find (is_named bytes name) fields)
+first_value bytes name [] = refl
+first_value bytes name (f ∷ fs) =
+    elim (is_named bytes name f) as (λ v. first (map (value_at bytes) (cond v (f ∷ filter (is_named bytes name) fs) (filter (is_named bytes name) fs))) ≡ option_map (value_at bytes) (cond v (Some f) (find (is_named bytes name) fs))) [
+      | true ↦ refl
+      | false ↦ first_value bytes name fs
+    ]
+
+pub count_values : (bytes name : List ℕ) (fields : List HeaderSpan) → length (values_at bytes fields name) ≡ count_by (is_named bytes name) fields
+count_values bytes name fields = length-map (filter (is_named bytes name) fields) (value_at bytes) ∙ length-filter (is_named bytes name) fields

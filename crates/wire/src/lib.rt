@@ -1,0 +1,9 @@
+//! The messages of a stream of bytes: where a head ends, what its fields say, and how long its
+//! body is (RFC 9112).
+#![tactic(auto)]
+
+mod cut;
+mod head;
+
+pub use cut::{Cut, ROOM, first_head, front_of};
+pub use head::Head;
