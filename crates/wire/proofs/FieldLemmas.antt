@@ -1,18 +1,20 @@
 -- What the slices of a head show of its fields.
-use Rattle.std.proofs.Common.{◌≡◌, ℕ, ◌≤◌, Bool, true, false, nat_le, List, [], ◌∷◌, length, take, map, filter, find, count_by, cond, Some, option_map, refl, ap, ◌∙◌, arith}
-use Rattle.std.specs.List.{AllByRecursion}
+use Rattle.std.proofs.Common.{◌≡◌, ℕ, ◌≤◌, Bool, true, false, ◌&&◌, ◌||◌, nat_le, ◌==◌, List, [], ◌∷◌, length, take, map, filter, find, count_by, cond, codes, Option, Some, option_map, refl, sym, ap, ◌∙◌, arith}
+use Rattle.std.specs.List.{AllByRecursion, list_any, slice_split}
+use Rattle.std.proofs.lemmas.List.Folds.{list_any-append}
+use Rattle.httparse.specs.Ascii.{comma}
 use Rattle.std.specs.Str.{str_eq_ignore_ascii_case}
 use Rattle.std.proofs.lemmas.List.Elements.{recursion_from_All}
 use Rattle.std.proofs.lemmas.List.{length-map}
 use Rattle.std.proofs.lemmas.List.Sums.{length-filter}
 use Rattle.std.proofs.lemmas.Bool.Decides.{nat_tests}
-use Rattle.httparse.specs.Grammar.{RequestHead, Field, field_value}
+use Rattle.httparse.specs.Grammar.{RequestHead, Field, field_value, trim_ows}
 use Rattle.httparse.specs.Spans.{span_bytes, header_bytes, name_and_value, IsWithin, IsHeaderWithin}
 use Rattle.httparse.specs.declared.spans.Span.{Span}
 use Rattle.httparse.specs.declared.spans.HeaderSpan.{HeaderSpan}
-use Rattle.model.specs.Heads.{values, first}
+use Rattle.model.specs.Heads.{values, first, items, asks_close}
 use Rattle.wire.specs.declared.head.Head.{Head}
-use Rattle.wire.specs.Fields.{covered, is_named, values_at, Shows, shown}
+use Rattle.wire.specs.Fields.{covered, is_named, values_at, Shows, shown, lists_close, is_closing_field}
 
 leb_true : (a b : ℕ) → a ≤ b → nat_le a b ≡ true
 leb_true a b h = grind (arith, nat_tests)
@@ -69,3 +71,48 @@ first_value bytes name (f ∷ fs) =
 
 pub count_values : (bytes name : List ℕ) (fields : List HeaderSpan) → length (values_at bytes fields name) ≡ count_by (is_named bytes name) fields
 count_values bytes name fields = length-map (filter (is_named bytes name) fields) (value_at bytes) ∙ length-filter (is_named bytes name) fields
+
+pub count_shown : (h : Head) (head : RequestHead) (name : List ℕ) (fields : List HeaderSpan) (n : ℕ) → fields ≡ take h.spans.headers h.fields.now
+    → n ≡ count_by (is_named h.bytes.now name) fields → Shows h head → n ≡ length (values name head)
+count_shown h head name fields n e count s =
+    count ∙ sym (count_values h.bytes.now name fields) ∙ ap (λ fs. length (values_at h.bytes.now fs name)) e ∙ ap length (shown_are h head name s)
+
+pub first_shown : (h : Head) (head : RequestHead) (name : List ℕ) (fields : List HeaderSpan) (o : Option HeaderSpan) → fields ≡ take h.spans.headers h.fields.now
+    → o ≡ find (is_named h.bytes.now name) fields → Shows h head → option_map (value_at h.bytes.now) o ≡ first (values name head)
+first_shown h head name fields o e found s =
+    ap (option_map (value_at h.bytes.now)) found ∙ sym (first_value h.bytes.now name fields)
+    ∙ ap (λ fs. first (values_at h.bytes.now fs name)) e ∙ ap first (shown_are h head name s)
+
+any_map : {X Y : Type 0} (p : Y → Bool) (h : X → Y) (xs : List X) → list_any p (map h xs) ≡ list_any (λ x. p (h x)) xs
+any_map p h [] = refl
+any_map p h (x ∷ xs) = ap (λ b. p (h x) || b) (any_map p h xs)
+
+abbrev close : List ℕ → Bool
+close = str_eq_ignore_ascii_case (codes "close")
+
+-- a value lists close where one of its items is close
+close_in : (value : List ℕ) (more : List (List ℕ)) → list_any close (items (value ∷ more)) ≡ (lists_close value || list_any close (items more))
+close_in value more =
+    list_any-append close (map trim_ows (slice_split (λ b. b == comma) value)) (items more)
+    ∙ ap (λ b. b || list_any close (items more)) (any_map close trim_ows (slice_split (λ b. b == comma) value))
+
+one_more_closing : (bytes : List ℕ) (v : Bool) (f : HeaderSpan) (fs rest : List HeaderSpan)
+    → list_any (is_closing_field bytes) fs ≡ list_any close (items (map (value_at bytes) rest))
+    → ((v && lists_close (covered bytes f.value)) || list_any (is_closing_field bytes) fs) ≡ list_any close (items (map (value_at bytes) (cond v (f ∷ rest) rest)))
+one_more_closing bytes true f fs rest e =
+    ap (λ b. lists_close (covered bytes f.value) || b) e ∙ sym (close_in (covered bytes f.value) (map (value_at bytes) rest))
+one_more_closing bytes false f fs rest e = e
+
+closing : (bytes : List ℕ) (fields : List HeaderSpan)
+    → list_any (is_closing_field bytes) fields ≡ list_any close (items (values_at bytes fields (codes "connection")))
+closing bytes [] = refl
+closing bytes (f ∷ fs) =
+    one_more_closing bytes (is_named bytes (codes "connection") f) f fs (filter (is_named bytes (codes "connection")) fs) (closing bytes fs)
+
+pub closes_shown : (h : Head) (head : RequestHead) (lists : Bool)
+    → lists ≡ list_any (is_closing_field h.bytes.now) (take h.spans.headers h.fields.now) → Shows h head → (head.minor == 0) ≡ false
+    → lists ≡ asks_close head
+closes_shown h head lists is s new =
+    is ∙ closing h.bytes.now (take h.spans.headers h.fields.now)
+    ∙ ap (λ vs. list_any close (items vs)) (shown_are h head (codes "connection") s)
+    ∙ ap (λ b. b || list_any close (items (values (codes "connection") head))) (sym new)

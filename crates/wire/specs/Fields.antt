@@ -1,8 +1,10 @@
 -- The fields of a head, as slices show them.
-use Rattle.std.specs.Prelude.{ℕ, Bool, ◌&&◌, nat_le, List, [], length, map, filter, take, if◌then◌else◌}
+use Rattle.std.specs.Prelude.{ℕ, Bool, ◌&&◌, nat_le, List, [], length, map, filter, take, if◌then◌else◌, codes, ◌==◌}
+use Rattle.std.specs.List.{list_any, slice_split}
+use Rattle.httparse.specs.Ascii.{comma}
 use Rattle.std.specs.Str.{str_eq_ignore_ascii_case}
 use Rattle.httparse.specs.Spans.{span_bytes}
-use Rattle.httparse.specs.Grammar.{RequestHead}
+use Rattle.httparse.specs.Grammar.{RequestHead, trim_ows}
 use Rattle.httparse.specs.declared.spans.Span.{Span}
 use Rattle.httparse.specs.declared.spans.HeaderSpan.{HeaderSpan}
 use Rattle.wire.specs.Cut.{Covers}
@@ -28,3 +30,14 @@ Shows h head = Covers h.bytes.now h.fields.now h.spans head
 -- the values of that name that the slices show
 abbrev pub shown : Head → List ℕ → List (List ℕ)
 shown h name = values_at h.bytes.now (take h.spans.headers h.fields.now) name
+
+-- the text between two commas is close
+abbrev pub is_close : List ℕ → Bool
+is_close item = str_eq_ignore_ascii_case (codes "close") (trim_ows item)
+
+abbrev pub lists_close : List ℕ → Bool
+lists_close value = list_any is_close (slice_split (λ b. b == comma) value)
+
+-- a Connection field that lists close
+abbrev pub is_closing_field : List ℕ → HeaderSpan → Bool
+is_closing_field bytes field = is_named bytes (codes "connection") field && lists_close (covered bytes field.value)

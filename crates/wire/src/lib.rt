@@ -4,6 +4,7 @@
 
 mod cut;
 mod head;
+mod ows;
 
 pub use cut::{Cut, ROOM, first_head, front_of};
 pub use head::Head;
