@@ -36,7 +36,10 @@ fn is_named(bytes: &[u8], field: &HeaderSpan, name: &str) -> bool
 fn count_of(bytes: &[u8], fields: &[HeaderSpan], name: &str) -> usize
     ensures { result ≡ count_by (is_named bytes.now name.now) fields.now }
 {
-    fields.iter().filter(|field| is_named(bytes, field, name)).count()
+    fields
+        .iter()
+        .filter(|field| is_named(bytes, field, name))
+        .count()
 }
 
 /// The first field of that name.

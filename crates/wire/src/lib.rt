@@ -3,6 +3,7 @@
 #![tactic(auto)]
 
 mod cut;
+mod framing;
 mod head;
 mod ows;
 

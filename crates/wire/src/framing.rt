@@ -1,0 +1,90 @@
+//! How long the body of a message is, and which heads do not say it well (RFC 9112, Message Body
+//! Length).
+
+ghost use Rattle.std.specs.Prelude.{◌≡◌, ◌&&◌, ◌||◌, true, false, Ok, Err, MatchOption, MatchResult};
+ghost use Rattle.std.specs.List.{list_all};
+ghost use Rattle.std.specs.Str.Parse.{digits_value};
+ghost use Rattle.std.specs.Char.{is_ascii_digit};
+ghost use Rattle.httparse.specs.Grammar.{RequestHead};
+ghost use Rattle.model.specs.Heads.{is_length, is_method, lengths, content_length, at_most_one, framed};
+ghost use Rattle.wire.specs.Fields.{Shows};
+
+use crate::head::Head;
+use names::Rule;
+
+/// The longest body of a POST, in bytes.
+const LARGEST_FORM: u64 = 1_048_576;
+
+/// The longest body of a PUT, in bytes: the largest object.
+const LARGEST_OBJECT: u64 = 268_435_456;
+
+fn are_digits(value: &[u8]) -> bool
+    ensures { result ≡ list_all is_ascii_digit value.now }
+{
+    value.iter().all(u8::is_ascii_digit)
+}
+
+/// The number that 1 to 18 digits write; `None` for any other text.
+fn length_in(value: &[u8]) -> Option<u64>
+    ensures { MatchOption result (is_length value.now ≡ false) (λ n. (is_length value.now ≡ true) × (n ≡ digits_value 10 value.now)) }
+{
+    if value.is_empty() || value.len() > 18 || !are_digits(value) {
+        return None;
+    }
+    let Ok(text) = str::from_utf8(value) else {
+        return None;
+    };
+    text.parse().ok()
+}
+
+impl<'a> Head<'a> {
+    /// The one length that the head states: 0 where it states none, and `None` where it states
+    /// two, or one that is not 1 to 18 digits.
+    fn stated_length(&self) -> Option<u64>
+        ensures { (head : RequestHead) → Shows self.now head → MatchOption result
+            ((at_most_one (lengths head) && list_all is_length (lengths head)) ≡ false)
+            (λ n. ((at_most_one (lengths head) && list_all is_length (lengths head)) ≡ true) × (n ≡ content_length head)) }
+    {
+        if self.count("content-length") > 1 {
+            return None;
+        }
+        match self.first("content-length") {
+            Some(value) => length_in(value),
+            None => Some(0),
+        }
+    }
+
+    /// How many bytes of body follow the head, or the first of H2 to H5 that refuses it:
+    ///
+    /// - H2: a transfer coding;
+    /// - H3: POST or PUT without a length;
+    /// - H4: a length that stands twice or is none, `Authorization` or `Accept` twice, a GET with a
+    ///   body;
+    /// - H5: a body over the limit of its method.
+    pub fn body_length(&self) -> Result<u64, Rule>
+        ensures { (head : RequestHead) → Shows self.now head
+            → MatchResult result (λ n. (framed head ≡ Ok tt) × (n ≡ content_length head)) (λ rule. framed head ≡ Err rule) }
+    {
+        if self.count("transfer-encoding") > 0 {
+            return Err(Rule::H2);
+        }
+        let is_post = self.method() == b"POST".as_slice();
+        let is_put = self.method() == b"PUT".as_slice();
+        if (is_post || is_put) && self.count("content-length") == 0 {
+            return Err(Rule::H3);
+        }
+        let Some(length) = self.stated_length() else {
+            return Err(Rule::H4);
+        };
+        if self.count("authorization") > 1 || self.count("accept") > 1 {
+            return Err(Rule::H4);
+        }
+        if self.method() == b"GET".as_slice() && length > 0 {
+            return Err(Rule::H4);
+        }
+        if is_post && length > LARGEST_FORM || is_put && length > LARGEST_OBJECT {
+            return Err(Rule::H5);
+        }
+        Ok(length)
+    }
+}
