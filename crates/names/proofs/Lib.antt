@@ -1,2 +1,3 @@
+pub mod Capped
 pub mod Digits
 pub mod Splits
