@@ -1,6 +1,7 @@
 //! The names that `custody` speaks of, and where bytes come from and go to.
 #![tactic(auto)]
 
+mod civil;
 mod counted;
 pub mod memory;
 mod numbers;
@@ -9,6 +10,7 @@ mod rules;
 mod streams;
 mod texts;
 
+pub use civil::moment_text;
 pub use counted::Counted;
 pub use numbers::{LockId, Moment};
 pub use objects::{Oid, Size};
