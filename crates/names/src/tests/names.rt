@@ -205,7 +205,7 @@ fn moments_are_printed_as_dates(rt: HostRuntime) -> Result<(), Fail> {
 }
 
 #[test]
-fn rules_have_their_codes_statuses_and_reasons(rt: HostRuntime) -> Result<(), Fail> {
+fn rules_of_heads_and_tokens(rt: HostRuntime) -> Result<(), Fail> {
     for (rule, code, status, reason) in [
         (Rule::H1, "H1", 400, "bad request head"),
         (Rule::H2, "H2", 501, "transfer codings are not served"),
@@ -221,6 +221,17 @@ fn rules_have_their_codes_statuses_and_reasons(rt: HostRuntime) -> Result<(), Fa
         (Rule::A4, "A4", 404, "no such repository"),
         (Rule::A5, "A5", 403, "the token does not cover this"),
         (Rule::R1, "R1", 404, "no such repository"),
+    ] {
+        assert_eq!(rt; rule.to_string(rt.alloc())?.as_str(), code);
+        assert_eq!(rt; rule.status(), Some(status), "{code}");
+        assert_eq!(rt; rule.reason(), Some(reason), "{code}");
+    }
+    Ok(())
+}
+
+#[test]
+fn rules_of_bodies_and_objects(rt: HostRuntime) -> Result<(), Fail> {
+    for (rule, code, status, reason) in [
         (Rule::J1, "J1", 422, "the body has the wrong shape"),
         (Rule::J2, "J2", 422, "a field is out of range"),
         (Rule::J3, "J3", 413, "too many objects"),
@@ -235,6 +246,17 @@ fn rules_have_their_codes_statuses_and_reasons(rt: HostRuntime) -> Result<(), Fa
         (Rule::X3, "X3", 507, "the quota does not hold the object"),
         (Rule::V1, "V1", 404, "the object is not stored"),
         (Rule::V2, "V2", 422, "the stored size differs"),
+    ] {
+        assert_eq!(rt; rule.to_string(rt.alloc())?.as_str(), code);
+        assert_eq!(rt; rule.status(), Some(status), "{code}");
+        assert_eq!(rt; rule.reason(), Some(reason), "{code}");
+    }
+    Ok(())
+}
+
+#[test]
+fn rules_of_locks_and_the_store(rt: HostRuntime) -> Result<(), Fail> {
+    for (rule, code, status, reason) in [
         (Rule::L1, "L1", 409, "the path is already locked"),
         (Rule::L2, "L2", 404, "no such lock"),
         (Rule::L3, "L3", 403, "the lock belongs to another user"),
@@ -246,7 +268,13 @@ fn rules_have_their_codes_statuses_and_reasons(rt: HostRuntime) -> Result<(), Fa
         assert_eq!(rt; rule.status(), Some(status), "{code}");
         assert_eq!(rt; rule.reason(), Some(reason), "{code}");
     }
-    for (rule, code) in [(Rule::P(0), "P0"), (Rule::P(1000), "P1000")] {
+    Ok(())
+}
+
+#[test]
+fn a_denial_by_the_policy_has_its_row(rt: HostRuntime) -> Result<(), Fail> {
+    for (row, code) in [(0, "P0"), (1, "P1"), (1000, "P1000")] {
+        let rule = Rule::P(row);
         assert_eq!(rt; rule.to_string(rt.alloc())?.as_str(), code);
         assert_eq!(rt; rule.status(), None);
         assert_eq!(rt; rule.reason(), None);
