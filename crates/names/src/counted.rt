@@ -3,6 +3,7 @@
 ghost use Rattle.std.specs.Prelude.{◌≡◌, ◌≤◌, ◌-◌};
 ghost use Rattle.names.specs.Streams.{capped, most_handed_out};
 
+use crate::streams::one_more;
 use crate::{DeviceFault, Sink, Source};
 use std::io::{Read, Write};
 
@@ -66,7 +67,7 @@ impl<R: Read> Source for Counted<R> {
                 Ok(n)
             }
             Err(_) => {
-                self.failures = self.failures.saturating_add(1);
+                self.failures = one_more(self.failures);
                 Err(DeviceFault)
             }
         }
@@ -86,7 +87,7 @@ impl<W: Write> Sink for Counted<W> {
         match self.inner.write(piece) {
             Ok(n) if n > 0 || piece.is_empty() => Ok(n),
             _ => {
-                self.failures = self.failures.saturating_add(1);
+                self.failures = one_more(self.failures);
                 Err(DeviceFault)
             }
         }
@@ -98,46 +99,4 @@ impl<W: Write> Sink for Counted<W> {
 }
 
 #[cfg(test)]
-mod tests {
-    use super::*;
-
-    #[test]
-    fn a_source_ends_at_its_cap(rt: HostRuntime) {
-        let mut piece = [0; 8];
-        let mut source = Counted {
-            inner: b"abcdef".as_slice(),
-            handed_out: 1_099_511_627_776 - 4,
-            failures: 0,
-        };
-        assert_eq!(rt; source.read(&mut piece[..3]), Ok(3));
-        assert_eq!(rt; source.read(&mut piece), Ok(1));
-        assert_eq!(rt; source.read(&mut piece), Ok(0));
-        assert_eq!(rt; source.into_inner(), b"ef".as_slice());
-    }
-
-    /// A reader that always fails.
-    #[derive(Drop)]
-    struct Broken;
-
-    impl Read for Broken {
-        fn read(&mut self, _piece: &mut [u8]) -> std::io::Result<usize> {
-            Err(std::io::ErrorKind::Other.into())
-        }
-    }
-
-    #[test]
-    fn counts_stay_at_their_greatest_number(rt: HostRuntime) {
-        let mut source = Counted {
-            inner: Broken,
-            handed_out: 0,
-            failures: u64::MAX - 1,
-        };
-        for _ in 0..2 {
-            assert_eq!(rt; source.read(&mut [0]), Err(DeviceFault));
-            assert_eq!(rt; source.failures(), u64::MAX);
-        }
-        // Once all is handed out, the reader is not asked again.
-        source.handed_out = 1_099_511_627_776;
-        assert_eq!(rt; source.read(&mut [0]), Ok(0));
-    }
-}
+mod tests;

@@ -1,7 +1,8 @@
 //! Sources and sinks in memory, for tests: whole, in small pieces, and failing.
 
-ghost use Rattle.std.specs.Prelude.{◌≡◌, ◌≤◌, Some, [], length, min, max};
+ghost use Rattle.std.specs.Prelude.{◌≡◌, ◌-◌, ◌<◌, ◌↔◌, IsTrue, Some, [], length, max};
 
+use crate::streams::one_more;
 use crate::{DeviceFault, Sink, Source};
 use std::alloc::Global;
 
@@ -10,6 +11,7 @@ use std::alloc::Global;
 pub struct SliceSource<'a> {
     left: &'a [u8],
     most: usize,
+    pub ghost some: { 0 < most },
 }
 
 impl<'a> SliceSource<'a> {
@@ -42,7 +44,7 @@ impl Source for SliceSource<'_> {
     ghost failed = { λ _. 0 };
 
     fn read(&mut self, piece: &mut [u8]) -> Result<usize, DeviceFault> {
-        let size = self.most.max(1).min(self.left.len()).min(piece.len());
+        let size = self.most.min(self.left.len()).min(piece.len());
         let (front, left) = self.left.split_at(size);
         piece[..size].copy_from_slice(front);
         self.left = left;
@@ -60,6 +62,7 @@ pub struct VecSink {
     taken: Vec<u8>,
     most: usize,
     failures: u64,
+    pub ghost some: { 0 < most },
 }
 
 impl VecSink {
@@ -91,11 +94,11 @@ impl Sink for VecSink {
     ghost failed = { λ k. k.failures };
 
     fn write(&mut self, piece: &[u8]) -> Result<usize, DeviceFault> {
-        let size = self.most.max(1).min(piece.len());
+        let size = self.most.min(piece.len());
         match self.taken.extend_from_slice(&piece[..size]) {
             Ok(()) => Ok(size),
             Err(_) => {
-                self.failures = self.failures.saturating_add(1);
+                self.failures = one_more(self.failures);
                 Err(DeviceFault)
             }
         }
@@ -130,6 +133,16 @@ impl<T> FailAfter<T> {
         }
     }
 
+    /// Whether this call reaches the device.
+    fn reaches_device(&mut self) -> bool
+        ensures reaches { IsTrue result ↔ (0 < self.old.calls) }
+        ensures uses { self.new ≡ record self.old { calls = self.old.calls - 1 } }
+    {
+        let reaches = self.calls > 0;
+        self.calls = self.calls.saturating_sub(1);
+        reaches
+    }
+
     /// The source or the sink.
     pub fn into_inner(self) -> T
         ensures { result ≡ failing self }
@@ -149,13 +162,12 @@ impl<S: Source> Source for FailAfter<S> {
     ghost failed = { λ s. s.failures };
 
     fn read(&mut self, piece: &mut [u8]) -> Result<usize, DeviceFault> {
-        if self.calls > 0 {
-            self.calls -= 1;
-            if let Ok(size) = self.inner.read(piece) {
-                return Ok(size);
-            }
+        if self.reaches_device()
+            && let Ok(size) = self.inner.read(piece)
+        {
+            return Ok(size);
         }
-        self.failures = self.failures.saturating_add(1);
+        self.failures = one_more(self.failures);
         Err(DeviceFault)
     }
 
@@ -170,13 +182,12 @@ impl<K: Sink> Sink for FailAfter<K> {
     ghost failed = { λ k. k.failures };
 
     fn write(&mut self, piece: &[u8]) -> Result<usize, DeviceFault> {
-        if self.calls > 0 {
-            self.calls -= 1;
-            if let Ok(size) = self.inner.write(piece) {
-                return Ok(size);
-            }
+        if self.reaches_device()
+            && let Ok(size) = self.inner.write(piece)
+        {
+            return Ok(size);
         }
-        self.failures = self.failures.saturating_add(1);
+        self.failures = one_more(self.failures);
         Err(DeviceFault)
     }
 

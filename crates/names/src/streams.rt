@@ -77,6 +77,13 @@ pub trait Sink {
         ensures { result ≡ failed self.now };
 }
 
+/// The count of failures after one more. At its greatest number it stays.
+pub(crate) fn one_more(failures: u64) -> u64
+    ensures { HasGrown failures result }
+{
+    failures.saturating_add(1)
+}
+
 /// A source that is lent.
 impl<S: Source> Source for &mut S {
     ghost left = { λ s. S.left s.now };
