@@ -3,3 +3,5 @@ pub mod Moments
 pub mod Rules
 pub mod Streams
 pub mod Names
+pub mod Counted
+pub mod Memory

@@ -7,16 +7,16 @@ use Rattle.names.specs.declared.texts.LockPath.{LockPath}
 
 -- the text of a user
 abbrev pub user_text : UserName → List ℕ
-user_text name = name.text.now
+user_text name = name.user.now
 
 -- the text of a repository
 abbrev pub repo_text : RepoName → List ℕ
-repo_text name = name.text.now
+repo_text name = name.repo.now
 
 -- the text of a ref
 abbrev pub ref_text : RefName → List ℕ
-ref_text name = name.text.now
+ref_text name = name.name.now
 
 -- the text of a path that may be locked
 abbrev pub path_text : LockPath → List ℕ
-path_text name = name.text.now
+path_text name = name.path.now

@@ -113,8 +113,8 @@ fn is_lock_path(text: &str) -> bool
 /// A user: 1 to 40 bytes of `a-z 0-9 _ -`.
 #[derive(Clone, Copy, Debug, PartialEq, Eq, PartialOrd, Ord, Hash)]
 pub struct UserName<'a> {
-    text: &'a str,
-    pub ghost in_range: { IsTrue (is_user text.now) },
+    user: &'a str,
+    pub ghost in_range: { IsTrue (is_user user.now) },
 }
 
 impl<'a> UserName<'a> {
@@ -126,7 +126,7 @@ impl<'a> UserName<'a> {
         ensures value { IfSome result (λ name. user_text name ≡ text.now) }
     {
         if is_user(text) {
-            Some(UserName { text })
+            Some(UserName { user: text })
         } else {
             None
         }
@@ -137,7 +137,7 @@ impl<'a> UserName<'a> {
         ensures value { result.now ≡ user_text self.now }
         ensures in_range { IsTrue (is_user result.now) }
     {
-        self.text
+        self.user
     }
 }
 
@@ -148,15 +148,15 @@ impl fmt::Display for UserName<'_> {
     ghost output = { λ name. Some (user_text name) };
 
     fn fmt<W: fmt::Write>(&self, f: &mut fmt::Formatter<W>) -> fmt::Result {
-        f.write_str(self.text)
+        f.write_str(self.user)
     }
 }
 
 /// A repository: `owner/name`, each of 1 to 40 bytes of `a-z 0-9 _ -`.
 #[derive(Clone, Copy, Debug, PartialEq, Eq, PartialOrd, Ord, Hash)]
 pub struct RepoName<'a> {
-    text: &'a str,
-    pub ghost in_range: { IsTrue (is_repo text.now) },
+    repo: &'a str,
+    pub ghost in_range: { IsTrue (is_repo repo.now) },
 }
 
 impl<'a> RepoName<'a> {
@@ -168,7 +168,7 @@ impl<'a> RepoName<'a> {
         ensures value { IfSome result (λ name. repo_text name ≡ text.now) }
     {
         if is_repo(text) {
-            Some(RepoName { text })
+            Some(RepoName { repo: text })
         } else {
             None
         }
@@ -179,7 +179,7 @@ impl<'a> RepoName<'a> {
         ensures value { result.now ≡ repo_text self.now }
         ensures in_range { IsTrue (is_repo result.now) }
     {
-        self.text
+        self.repo
     }
 }
 
@@ -190,7 +190,7 @@ impl fmt::Display for RepoName<'_> {
     ghost output = { λ name. Some (repo_text name) };
 
     fn fmt<W: fmt::Write>(&self, f: &mut fmt::Formatter<W>) -> fmt::Result {
-        f.write_str(self.text)
+        f.write_str(self.repo)
     }
 }
 
@@ -198,8 +198,8 @@ impl fmt::Display for RepoName<'_> {
 /// and no empty part between slashes or at the end.
 #[derive(Clone, Copy, Debug, PartialEq, Eq, PartialOrd, Ord, Hash)]
 pub struct RefName<'a> {
-    text: &'a str,
-    pub ghost in_range: { IsTrue (is_ref text.now) },
+    name: &'a str,
+    pub ghost in_range: { IsTrue (is_ref name.now) },
 }
 
 impl<'a> RefName<'a> {
@@ -211,7 +211,7 @@ impl<'a> RefName<'a> {
         ensures value { IfSome result (λ name. ref_text name ≡ text.now) }
     {
         if is_ref(text) {
-            Some(RefName { text })
+            Some(RefName { name: text })
         } else {
             None
         }
@@ -222,7 +222,7 @@ impl<'a> RefName<'a> {
         ensures value { result.now ≡ ref_text self.now }
         ensures in_range { IsTrue (is_ref result.now) }
     {
-        self.text
+        self.name
     }
 }
 
@@ -233,7 +233,7 @@ impl fmt::Display for RefName<'_> {
     ghost output = { λ name. Some (ref_text name) };
 
     fn fmt<W: fmt::Write>(&self, f: &mut fmt::Formatter<W>) -> fmt::Result {
-        f.write_str(self.text)
+        f.write_str(self.name)
     }
 }
 
@@ -241,8 +241,8 @@ impl fmt::Display for RefName<'_> {
 /// 0x7F), no backslash, and between slashes no part that is empty, `.` or `..`.
 #[derive(Clone, Copy, Debug, PartialEq, Eq, PartialOrd, Ord, Hash)]
 pub struct LockPath<'a> {
-    text: &'a str,
-    pub ghost in_range: { IsTrue (is_lock_path text.now) },
+    path: &'a str,
+    pub ghost in_range: { IsTrue (is_lock_path path.now) },
 }
 
 impl<'a> LockPath<'a> {
@@ -254,7 +254,7 @@ impl<'a> LockPath<'a> {
         ensures value { IfSome result (λ name. path_text name ≡ text.now) }
     {
         if is_lock_path(text) {
-            Some(LockPath { text })
+            Some(LockPath { path: text })
         } else {
             None
         }
@@ -265,7 +265,7 @@ impl<'a> LockPath<'a> {
         ensures value { result.now ≡ path_text self.now }
         ensures in_range { IsTrue (is_lock_path result.now) }
     {
-        self.text
+        self.path
     }
 }
 
@@ -276,6 +276,6 @@ impl fmt::Display for LockPath<'_> {
     ghost output = { λ name. Some (path_text name) };
 
     fn fmt<W: fmt::Write>(&self, f: &mut fmt::Formatter<W>) -> fmt::Result {
-        f.write_str(self.text)
+        f.write_str(self.path)
     }
 }

@@ -1,0 +1,216 @@
+use crate::memory::{FailAfter, SliceSource, VecSink};
+use crate::{Counted, DeviceFault, Sink, Source};
+use std::cell::Cell;
+use std::io;
+use std::io::{Read, Write};
+use std::test::Fail;
+
+fn write_whole<K: Sink>(sink: &mut K, bytes: &[u8]) -> Result<(), DeviceFault> {
+    let mut rest = bytes;
+    for _ in 0..bytes.len() {
+        if rest.is_empty() {
+            break;
+        }
+        let size = sink.write(rest)?;
+        rest = &rest[size..];
+    }
+    Ok(())
+}
+
+/// Copies in pieces of 8 bytes to the end or a fault, in at most 32 reads, and counts the reads.
+fn copy<S: Source, K: Sink>(source: &mut S, sink: &mut K) -> Result<usize, DeviceFault> {
+    for reads in 0..32 {
+        let mut piece = [0; 8];
+        let size = source.read(&mut piece)?;
+        if size == 0 {
+            return Ok(reads);
+        }
+        write_whole(sink, &piece[..size])?;
+    }
+    Ok(32)
+}
+
+#[test]
+fn sources_hand_out_every_byte(rt: HostRuntime) -> Result<(), Fail> {
+    let bytes = b"twenty bytes of text";
+    for (most, reads) in [(0, 20), (1, 20), (2, 10), (7, 3), (usize::MAX, 3)] {
+        let mut source = SliceSource::new(bytes, most);
+        let mut sink = VecSink::new(rt.alloc(), most);
+        // Lent, a source is a source and a sink a sink.
+        assert_eq!(rt; copy(&mut &mut source, &mut &mut sink)?, reads, "{most}");
+        assert_eq!(rt; sink.taken(), bytes.as_slice());
+        assert_eq!(rt; source.left(), b"".as_slice());
+        assert_eq!(rt; (source.failures(), sink.failures()), (0, 0));
+    }
+    Ok(())
+}
+
+#[test]
+fn pieces_are_as_small_as_asked(rt: HostRuntime) -> Result<(), Fail> {
+    let mut piece = [0; 8];
+    assert_eq!(rt; SliceSource::new(b"abcdef", 2).read(&mut piece), Ok(2));
+    assert_eq!(rt; SliceSource::new(b"abcdef", 7).read(&mut piece), Ok(6));
+    assert_eq!(rt; SliceSource::new(b"abcdef", 7).read(&mut piece[..3]), Ok(3));
+    assert_eq!(rt; SliceSource::new(b"abcdef", 7).read(&mut []), Ok(0));
+    let mut sink = VecSink::new(rt.alloc(), 2);
+    assert_eq!(rt; sink.write(b"abc"), Ok(2));
+    assert_eq!(rt; sink.write(b"c"), Ok(1));
+    assert_eq!(rt; sink.write(b""), Ok(0));
+    assert_eq!(rt; sink.taken(), b"abc".as_slice());
+    Ok(())
+}
+
+#[test]
+fn failing_devices_fail_from_then_on(rt: HostRuntime) -> Result<(), Fail> {
+    let mut source = FailAfter::new(SliceSource::new(b"abcdef", 2), 2);
+    let mut sink = VecSink::new(rt.alloc(), 2);
+    assert_eq!(rt; copy(&mut source, &mut sink), Err(DeviceFault));
+    assert_eq!(rt; sink.taken(), b"abcd".as_slice());
+    assert_eq!(rt; source.read(&mut [0]), Err(DeviceFault));
+    assert_eq!(rt; source.failures(), 2);
+    assert_eq!(rt; source.into_inner().left(), b"ef".as_slice());
+
+    let mut sink = FailAfter::new(VecSink::new(rt.alloc(), 1), 3);
+    assert_eq!(rt; write_whole(&mut sink, b"abcdef"), Err(DeviceFault));
+    assert_eq!(rt; sink.failures(), 1);
+    assert_eq!(rt; sink.into_inner().taken(), b"abc".as_slice());
+    assert_eq!(rt;
+        DeviceFault.to_string(rt.alloc())?.as_str(),
+        "the device failed"
+    );
+    Ok(())
+}
+
+/// A reader that fails once, before its byte of that index.
+#[derive(Drop)]
+struct FailsOnce {
+    bytes: &'static [u8],
+    before: Option<usize>,
+}
+
+impl Read for FailsOnce {
+    fn read(&mut self, piece: &mut [u8]) -> io::Result<usize> {
+        if self.before == Some(0) {
+            self.before = None;
+            return Err(io::ErrorKind::Interrupted.into());
+        }
+        let (Some(byte), Some(place)) = (self.bytes.first(), piece.first_mut()) else {
+            return Ok(0);
+        };
+        *place = *byte;
+        self.bytes = &self.bytes[1..];
+        self.before = self.before.map(|count| count.saturating_sub(1));
+        Ok(1)
+    }
+}
+
+#[test]
+fn a_reader_that_fails_is_counted(rt: HostRuntime) -> Result<(), Fail> {
+    let mut source = Counted::new(FailsOnce {
+        bytes: b"abcdef",
+        before: Some(3),
+    });
+    let mut sink = Counted::new(Vec::new(rt.alloc()));
+    assert_eq!(rt; copy(&mut source, &mut sink), Err(DeviceFault));
+    assert_eq!(rt; source.failures(), 1);
+    assert_eq!(rt; copy(&mut source, &mut sink), Ok(3));
+    assert_eq!(rt; copy(&mut source, &mut sink), Ok(0));
+    assert_eq!(rt; (source.failures(), sink.failures()), (1, 0));
+    assert_eq!(rt; source.into_inner().bytes, b"".as_slice());
+    assert_eq!(rt; sink.into_inner().as_slice(), b"abcdef".as_slice());
+    Ok(())
+}
+
+/// A writer that fails, or takes nothing.
+#[derive(Drop)]
+struct Stuck(bool);
+
+impl Write for Stuck {
+    fn write(&mut self, _piece: &[u8]) -> io::Result<usize> {
+        if self.0 {
+            return Err(io::ErrorKind::Other.into());
+        }
+        Ok(0)
+    }
+
+    fn flush(&mut self) -> io::Result<()> {
+        Ok(())
+    }
+}
+
+#[test]
+fn a_writer_that_takes_nothing_is_counted(rt: HostRuntime) {
+    for fails in [true, false] {
+        let mut sink = Counted::new(Stuck(fails));
+        assert_eq!(rt; sink.write(b"a"), Err(DeviceFault));
+        assert_eq!(rt; sink.failures(), 1);
+        assert_eq!(rt; sink.write(b"").is_ok(), !fails);
+        assert_eq!(rt; sink.write(b"a"), Err(DeviceFault));
+        assert_eq!(rt; sink.failures(), if fails { 3 } else { 2 });
+    }
+}
+
+/// A source or a sink that counts its calls in a cell.
+#[derive(Drop)]
+struct Ticking<'c, T> {
+    inner: T,
+    calls: &'c Cell<u32>,
+}
+
+impl<T> Ticking<'_, T> {
+    fn tick(&self) {
+        self.calls.set(self.calls.get().saturating_add(1));
+    }
+}
+
+impl<S: Source> Source for Ticking<'_, S> {
+    ghost left = { λ s. S.left s.inner };
+
+    ghost reference = { λ s. S.reference s.inner };
+
+    ghost budget = { λ s. S.budget s.inner };
+
+    ghost failed = { λ s. S.failed s.inner };
+
+    fn read(&mut self, piece: &mut [u8]) -> Result<usize, DeviceFault> {
+        self.tick();
+        self.inner.read(piece)
+    }
+
+    fn failures(&self) -> u64 {
+        self.inner.failures()
+    }
+}
+
+impl<K: Sink> Sink for Ticking<'_, K> {
+    ghost taken = { λ k. K.taken k.inner };
+
+    ghost failed = { λ k. K.failed k.inner };
+
+    fn write(&mut self, piece: &[u8]) -> Result<usize, DeviceFault> {
+        self.tick();
+        self.inner.write(piece)
+    }
+
+    fn failures(&self) -> u64 {
+        self.inner.failures()
+    }
+}
+
+#[test]
+fn a_source_and_a_sink_may_share_a_cell(rt: HostRuntime) -> Result<(), Fail> {
+    let calls = Cell::new(0);
+    let mut source = Ticking {
+        inner: SliceSource::new(b"abcd", 2),
+        calls: &calls,
+    };
+    let mut sink = Ticking {
+        inner: VecSink::new(rt.alloc(), 1),
+        calls: &calls,
+    };
+    assert_eq!(rt; copy(&mut source, &mut sink)?, 2);
+    // Three reads, of which the last is the end, and four writes.
+    assert_eq!(rt; calls.get(), 7);
+    assert_eq!(rt; sink.inner.taken(), b"abcd".as_slice());
+    Ok(())
+}
