@@ -15,9 +15,9 @@ use Rattle.forms.specs.Given.{lock_fields, lock_of_value, in_range, value_of}
 pub no_text : (body : List ℕ) → ¬ (IsUtf8 body) → None ≡ value_of body
 no_text body bad = at (is_utf8 body) refl
   where
-  at : (v : Bool) → is_utf8 body ≡ v → None ≡ (if v then read body else None)
-  at true e = absurd (bad (IsUtf8-from_is_utf8 body e))
-  at false e = refl
+    at : (v : Bool) → is_utf8 body ≡ v → None ≡ (if v then read body else None)
+    at true e = absurd (bad (IsUtf8-from_is_utf8 body e))
+    at false e = refl
 
 pub value_is : (body text : List ℕ) (o : Option Data) → text ≡ body → IsUtf8 body → read text ≡ o → o ≡ value_of body
 value_is body text o same utf8 e =

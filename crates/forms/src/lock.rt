@@ -76,10 +76,7 @@ fn owned(alloc: Global, text: Option<&str>) -> Result<Option<String>, AllocError
 }
 
 /// What the body asks, or the first rule that refuses it.
-pub(crate) fn read_lock(
-    alloc: Global,
-    body: &[u8],
-) -> Result<Result<LockRequest, Rule>, AllocError>
+pub(crate) fn read_lock(alloc: Global, body: &[u8]) -> Result<Result<LockRequest, Rule>, AllocError>
     ensures { IfOk result (λ r. Gives (λ q. record { path = string_bytes q.path; ref = option_map string_bytes q.ref_name }) r (lock_form body.now)) }
 {
     let Some(value) = value_read(alloc, body)? else {

@@ -1,0 +1,203 @@
+//! What a client is told, as a status and a JSON body (Git LFS API, File Locking).
+
+ghost use Rattle.std.specs.Prelude.{◌≡◌, ◌∷◌, [], codes, decimal, IfOk, string_bytes};
+ghost use Rattle.serde_json.specs.View.{view};
+ghost use Rattle.serde_json.specs.Data.{object, member, string, no_members};
+ghost use Rattle.serde_json.specs.Written.{compact_text};
+ghost use Rattle.names.specs.declared.rules.Rule.TheVariants.{L1};
+ghost use Rattle.names.specs.Moments.{IsMomentText};
+ghost use Rattle.model.specs.Replies.{rule_message, row_message, right_text, row_reason, told, message_body, lock_members};
+ghost use Rattle.forms.specs.Told.{locked_data, held_data, locked_with, held_with, IsBodyOf};
+
+use model::Right;
+use names::{LockId, LockPath, Moment, Rule, UserName, moment_text};
+use serde_json::{Value, json};
+use std::alloc::{AllocError, Global};
+
+/// What a client is shown of a lock.
+#[derive(Clone, Copy, Debug)]
+pub struct ShownLock<'a> {
+    /// Its number in the repository.
+    pub id: LockId,
+    /// Since when it stands.
+    pub locked_at: Moment,
+    /// Who made it.
+    pub owner: UserName<'a>,
+    /// What it locks.
+    pub path: LockPath<'a>,
+}
+
+/// What a client is told.
+#[derive(Clone, Copy, Debug)]
+pub enum Answer<'a> {
+    /// The lock was made: 201.
+    Locked(ShownLock<'a>),
+    /// The path is locked by this lock: L1, 409.
+    Held(ShownLock<'a>),
+    /// The rule refuses.
+    Denied(Rule),
+    /// The policy's row of that number, or none at 0, denies the right, with that status.
+    DeniedByRow(u32, Right, u16),
+}
+
+fn right_text(right: Right) -> &'static str
+    ensures { result.now ≡ right_text right }
+{
+    match right {
+        Right::Pull => "pull",
+        Right::Push => "push",
+        Right::List => "list",
+        Right::Lock => "lock",
+        Right::Force => "force",
+    }
+}
+
+/// A rule's code, a colon, a space and the reason.
+fn told(alloc: Global, rule: Rule, reason: &str) -> Result<String, AllocError>
+    ensures { IfOk result (λ text. string_bytes text ≡ told rule reason.now) }
+{
+    let mut text = rule.to_string(alloc)?;
+    text.push_str(": ")?;
+    text.push_str(reason)?;
+    Ok(text)
+}
+
+fn rule_message(alloc: Global, rule: Rule) -> Result<String, AllocError>
+    ensures { IfOk result (λ text. string_bytes text ≡ rule_message rule) }
+{
+    told(alloc, rule, rule.reason().unwrap_or(""))
+}
+
+fn row_reason(alloc: Global, row: u32, right: Right) -> Result<String, AllocError>
+    ensures { IfOk result (λ text. string_bytes text ≡ row_reason row right) }
+{
+    if row == 0 {
+        let mut text = String::from_str(alloc, "no policy row allows ")?;
+        text.push_str(right_text(right))?;
+        return Ok(text);
+    }
+    let mut text = format!(in alloc; "policy row {row}")?;
+    text.push_str(" denies ")?;
+    text.push_str(right_text(right))?;
+    Ok(text)
+}
+
+fn row_message(alloc: Global, row: u32, right: Right) -> Result<String, AllocError>
+    ensures { IfOk result (λ text. string_bytes text ≡ row_message row right) }
+{
+    let reason = row_reason(alloc, row, right)?;
+    told(alloc, Rule::P(row), reason.as_str())
+}
+
+/// A JSON object with one text.
+fn message_value(alloc: Global, message: &str) -> Result<Value, AllocError>
+    ensures { IfOk result (λ value. view value ≡ object (member (codes "message") (string message.now) no_members)) }
+{
+    json!(in alloc; {"message": message})
+}
+
+fn message_body(alloc: Global, message: &str) -> Result<String, AllocError>
+    ensures { IfOk result (λ text. string_bytes text ≡ message_body message.now) }
+{
+    message_value(alloc, message)?.to_string(alloc)
+}
+
+/// The parts of a lock that is shown, as texts.
+#[derive(Clone, Copy)]
+struct LockTexts<'a> {
+    id: &'a str,
+    locked_at: &'a str,
+    owner: &'a str,
+    path: &'a str,
+}
+
+fn locked_value(alloc: Global, lock: &LockTexts<'_>) -> Result<Value, AllocError>
+    ensures { IfOk result (λ value. view value ≡ locked_data lock.now) }
+{
+    json!(in alloc; {"lock": {"id": lock.id, "locked_at": lock.locked_at, "owner": {"name": lock.owner}, "path": lock.path}})
+}
+
+fn locked_text(alloc: Global, lock: &LockTexts<'_>) -> Result<String, AllocError>
+    ensures { IfOk result (λ text. string_bytes text ≡ compact_text (locked_data lock.now)) }
+{
+    locked_value(alloc, lock)?.to_string(alloc)
+}
+
+fn held_value(alloc: Global, lock: &LockTexts<'_>, message: &str) -> Result<Value, AllocError>
+    ensures { IfOk result (λ value. view value ≡ held_data lock.now message.now) }
+{
+    json!(in alloc; {"lock": {"id": lock.id, "locked_at": lock.locked_at, "owner": {"name": lock.owner}, "path": lock.path}, "message": message})
+}
+
+fn held_text(alloc: Global, lock: &LockTexts<'_>, message: &str) -> Result<String, AllocError>
+    ensures { IfOk result (λ text. string_bytes text ≡ compact_text (held_data lock.now message.now)) }
+{
+    held_value(alloc, lock, message)?.to_string(alloc)
+}
+
+fn locked_body(alloc: Global, lock: &ShownLock<'_>) -> Result<String, AllocError>
+    ensures { IfOk result (λ text. IsBodyOf locked_with lock.now (string_bytes text)) }
+{
+    let id = lock.id.to_string(alloc)?;
+    let locked_at = moment_text(alloc, lock.locked_at)?;
+    let texts = LockTexts {
+        id: id.as_str(),
+        locked_at: locked_at.as_str(),
+        owner: lock.owner.as_str(),
+        path: lock.path.as_str(),
+    };
+    locked_text(alloc, &texts)
+}
+
+fn held_body(alloc: Global, lock: &ShownLock<'_>) -> Result<String, AllocError>
+    ensures { IfOk result (λ text. IsBodyOf held_with lock.now (string_bytes text)) }
+{
+    let id = lock.id.to_string(alloc)?;
+    let locked_at = moment_text(alloc, lock.locked_at)?;
+    let texts = LockTexts {
+        id: id.as_str(),
+        locked_at: locked_at.as_str(),
+        owner: lock.owner.as_str(),
+        path: lock.path.as_str(),
+    };
+    let message = rule_message(alloc, Rule::L1)?;
+    held_text(alloc, &texts, message.as_str())
+}
+
+impl Answer<'_> {
+    ghost use Rattle.std.specs.Prelude.{◌≡◌, IfOk, string_bytes};
+    ghost use Rattle.model.specs.Replies.{IsBody, status_of};
+    ghost use Rattle.forms.specs.Told.{Tells};
+
+    /// The status of the reply.
+    pub fn status(&self) -> u16
+        ensures { (given : _) → Tells self.now given → result ≡ status_of given }
+    {
+        match self {
+            Answer::Locked(_) => 201,
+            Answer::Held(_) => 409,
+            Answer::Denied(rule) => rule.status().unwrap_or(403),
+            Answer::DeniedByRow(_, _, status) => *status,
+        }
+    }
+
+    /// The JSON body of the reply: compact, with keys in the order of their bytes.
+    ///
+    /// `Err` is told only where memory refused.
+    pub fn body(&self, alloc: Global) -> Result<String, AllocError>
+        ensures { IfOk result (λ text. (given : _) → Tells self.now given → IsBody given (string_bytes text)) }
+    {
+        match self {
+            Answer::Locked(lock) => locked_body(alloc, lock),
+            Answer::Held(lock) => held_body(alloc, lock),
+            Answer::Denied(rule) => {
+                let message = rule_message(alloc, *rule)?;
+                message_body(alloc, message.as_str())
+            }
+            Answer::DeniedByRow(row, right, _) => {
+                let message = row_message(alloc, *row, *right)?;
+                message_body(alloc, message.as_str())
+            }
+        }
+    }
+}
