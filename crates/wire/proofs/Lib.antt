@@ -1,3 +1,5 @@
 pub mod Fronts
 pub mod FieldLemmas
 pub mod Lengths
+pub mod Wholes
+pub mod Heads

@@ -1,2 +1,4 @@
 pub mod Cut
 pub mod Fields
+pub mod Heads
+pub mod Writes

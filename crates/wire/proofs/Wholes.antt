@@ -1,0 +1,39 @@
+-- One more piece written.
+use Rattle.std.proofs.Common.{◌≡◌, ℕ, ◌+◌, List, ◌++◌, take, drop, Option, Some, None, sym, ap, subst, ◌∙◌, append_assoc, length, length-append, arith}
+use Rattle.std.specs.Io.KnownBytes.{Appends}
+use Rattle.std.proofs.Math.Seq.{take-add, take-append-add}
+use Rattle.std.proofs.lemmas.List.{take-append-le}
+use Rattle.wire.specs.Writes.{IsBeginning}
+
+pub appends_more : (old mid new : Option (List ℕ)) (text : List ℕ) (at n : ℕ) → Appends old mid (take at text)
+    → Appends mid new (take n (drop at text)) → Appends old new (take (at + n) text)
+appends_more None mid new text at n a b = tt
+appends_more (Some xs) None new text at n a b = absurd a
+appends_more (Some xs) (Some ys) None text at n a b = b
+appends_more (Some xs) (Some ys) (Some zs) text at n a b =
+    b ∙ ap (λ l. l ++ take n (drop at text)) a ∙ append_assoc xs (take at text) (take n (drop at text)) ∙ ap (λ l. xs ++ l) (sym (take-add at n text))
+
+pub appends_rest : (old mid new : Option (List ℕ)) (text piece : List ℕ) (at n : ℕ) → piece ≡ drop at text → Appends old mid (take at text)
+    → Appends mid new (take n piece) → Appends old new (take (at + n) text)
+appends_rest old mid new text piece at n e a b =
+    let P : List ℕ → Type 0 = λ p. Appends mid new (take n p) in appends_more old mid new text at n a (subst P e b)
+
+-- one text after the other
+pub appends_both : (old mid new : Option (List ℕ)) (front back : List ℕ) → Appends old mid front → Appends mid new back → Appends old new (front ++ back)
+appends_both None mid new front back a b = tt
+appends_both (Some xs) None new front back a b = absurd a
+appends_both (Some xs) (Some ys) None front back a b = b
+appends_both (Some xs) (Some ys) (Some zs) front back a b = b ∙ ap (λ l. l ++ back) a ∙ append_assoc xs front back
+
+pub begins_front : (old new : Option (List ℕ)) (front back : List ℕ) (n : ℕ) → IsBeginning old new front n → IsBeginning old new (front ++ back) n
+begins_front old new front back n is = record {
+  within = omega (arith, is.within, length-append front back);
+  taken = subst (Appends old new) (sym (take-append-le n front back is.within)) is.taken;
+}
+
+pub begins_back : (old mid new : Option (List ℕ)) (front back : List ℕ) (n size : ℕ) → size ≡ length front → Appends old mid front → IsBeginning mid new back n
+    → IsBeginning old new (front ++ back) (size + n)
+begins_back old mid new front back n size e a is = record {
+  within = omega (arith, is.within, e, length-append front back);
+  taken = subst (Appends old new) (sym (take-append-add front back n) ∙ ap (λ k. take (k + n) (front ++ back)) (sym e)) (appends_both old mid new front (take n back) a is.taken);
+}

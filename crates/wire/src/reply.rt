@@ -1,0 +1,148 @@
+//! The head of a reply (RFC 9112, Message Format). It takes no memory: it is written into a buffer
+//! of a fixed size, which holds the longest head that the server writes.
+
+ghost use Rattle.std.specs.Prelude.{◌≡◌, ◌+◌, ◌≤◌, ◌<◌, ◌++◌, ◌==◌, length, codes, decimal, not};
+ghost use Rattle.arrayvec.specs.ArrayString.{array_string_len};
+ghost use Rattle.model.specs.Replies.{line, line_if, type_line, phrases, phrase_in};
+ghost use Rattle.wire.specs.Heads.{content_view};
+ghost use Rattle.names.specs.Texts.{is_empty};
+
+use arrayvec::ArrayString;
+use itoa::Buffer;
+
+/// Room for the longest head.
+pub(crate) const ROOM: usize = 512;
+
+/// The longest list of methods that a reply names, in bytes.
+pub const ALLOW_LIMIT: usize = 128;
+
+/// The phrase of a status (RFC 9110, Status Codes); none for a status that the server never writes.
+fn phrase_of(status: u16) -> &'static str
+    ensures phrase { result.now ≡ phrase_in phrases status }
+    ensures short { length result.now ≤ 32 }
+{
+    match status {
+        200 => "OK",
+        201 => "Created",
+        400 => "Bad Request",
+        401 => "Unauthorized",
+        403 => "Forbidden",
+        404 => "Not Found",
+        405 => "Method Not Allowed",
+        406 => "Not Acceptable",
+        409 => "Conflict",
+        411 => "Length Required",
+        413 => "Content Too Large",
+        422 => "Unprocessable Content",
+        500 => "Internal Server Error",
+        501 => "Not Implemented",
+        507 => "Insufficient Storage",
+        _ => "",
+    }
+}
+
+/// Adds a line of a name and a value.
+fn push_line(text: &mut ArrayString<ROOM>, name: &str, value: &str)
+    requires { array_string_len text.old + (length name.now + length value.now) + 2 ≤ ROOM }
+    ensures bytes { text.new.bytes ≡ text.old.bytes ++ line (name.now ++ value.now) }
+    ensures len { array_string_len text.new ≡ array_string_len text.old + (length name.now + length value.now) + 2 }
+{
+    text.push_str(name);
+    text.push_str(value);
+    text.push_str("\r\n");
+}
+
+/// Adds a line, where it is wanted.
+fn push_line_if(text: &mut ArrayString<ROOM>, wanted: bool, name: &str, value: &str)
+    requires { array_string_len text.old + (length name.now + length value.now) + 2 ≤ ROOM }
+    ensures bytes { text.new.bytes ≡ text.old.bytes ++ line_if wanted (name.now ++ value.now) }
+    ensures len { array_string_len text.new ≤ array_string_len text.old + (length name.now + length value.now) + 2 }
+{
+    if wanted {
+        push_line(text, name, value);
+    }
+}
+
+/// What the body of a reply is.
+#[derive(Clone, Copy, Debug, PartialEq, Eq)]
+pub enum Content {
+    /// JSON of the Git LFS API.
+    Json,
+    /// The bytes of an object.
+    Octets,
+    /// Nothing.
+    Empty,
+}
+
+fn push_type(text: &mut ArrayString<ROOM>, content: Content)
+    requires { array_string_len text.old + 48 ≤ ROOM }
+    ensures bytes { text.new.bytes ≡ text.old.bytes ++ type_line (content_view content) }
+    ensures len { array_string_len text.new ≤ array_string_len text.old + 48 }
+{
+    match content {
+        Content::Json => push_line(text, "Content-Type: ", "application/vnd.git-lfs+json"),
+        Content::Octets => push_line(text, "Content-Type: ", "application/octet-stream"),
+        Content::Empty => {}
+    }
+}
+
+fn push_status(text: &mut ArrayString<ROOM>, status: u16)
+    requires { array_string_len text.old + 64 ≤ ROOM }
+    ensures bytes { text.new.bytes ≡ text.old.bytes ++ line (codes "HTTP/1.1 " ++ decimal status ++ codes " " ++ phrase_in phrases status) }
+    ensures len { array_string_len text.new ≤ array_string_len text.old + 64 }
+{
+    let mut buffer = Buffer::new();
+    text.push_str("HTTP/1.1 ");
+    text.push_str(buffer.format(status));
+    push_line(text, " ", phrase_of(status));
+}
+
+fn push_length(text: &mut ArrayString<ROOM>, size: u64)
+    requires { array_string_len text.old + 64 ≤ ROOM }
+    ensures bytes { text.new.bytes ≡ text.old.bytes ++ line (codes "Content-Length: " ++ decimal size) }
+    ensures len { array_string_len text.new ≤ array_string_len text.old + 64 }
+{
+    let mut buffer = Buffer::new();
+    push_line(text, "Content-Length: ", buffer.format(size));
+}
+
+/// The head of a reply, and what the server does after it.
+#[derive(Clone, Copy, Debug)]
+pub struct ReplyHead<'a> {
+    /// The status.
+    pub status: u16,
+    /// What the body is.
+    pub content: Content,
+    /// How many bytes the body has.
+    pub size: u64,
+    /// The methods of the route, for a method that it has not; else empty.
+    pub allow: &'a str,
+    /// Whether the server closes the connection after the reply.
+    pub close: bool,
+}
+
+impl ReplyHead<'_> {
+    ghost use Rattle.std.specs.Prelude.{◌≡◌, ◌≤◌, length};
+    ghost use Rattle.wire.specs.Heads.{head_of};
+
+    /// The lines of the head, with the empty line that ends it.
+    pub(crate) fn text(&self) -> ArrayString<ROOM>
+        requires { length self.now.allow.now ≤ ALLOW_LIMIT }
+        ensures { result.bytes ≡ head_of self.now }
+    {
+        let mut text = ArrayString::new();
+        push_status(&mut text, self.status);
+        push_type(&mut text, self.content);
+        push_length(&mut text, self.size);
+        push_line_if(&mut text, !self.allow.is_empty(), "Allow: ", self.allow);
+        push_line_if(
+            &mut text,
+            self.status == 401,
+            "LFS-Authenticate: Bearer realm=\"Git LFS\"",
+            "",
+        );
+        push_line_if(&mut text, self.close, "Connection: close", "");
+        text.push_str("\r\n");
+        text
+    }
+}

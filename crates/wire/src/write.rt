@@ -1,0 +1,85 @@
+//! Writing a reply: all of a text to a sink that takes some bytes at a time.
+
+ghost use Rattle.std.specs.Prelude.{◌≡◌, ◌≤◌, ◌++◌, length, drop, OnOk, IfErr};
+ghost use Rattle.std.specs.Io.KnownBytes.{Appends};
+ghost use Rattle.names.specs.Streams.{HasGrown};
+ghost use Rattle.wire.specs.Heads.{head_of};
+ghost use Rattle.wire.specs.Writes.{IsBeginning};
+
+use crate::reply::{ALLOW_LIMIT, ReplyHead};
+use names::Sink;
+use thiserror::Error;
+
+/// A write failed after so many bytes of the text were taken.
+#[derive(Clone, Copy, Debug, PartialEq, Eq, Error)]
+#[error("a write failed after {written} bytes")]
+pub struct WriteFault {
+    /// How many bytes of the text were taken.
+    pub written: usize,
+}
+
+fn rest_of(text: &[u8], at: usize) -> &[u8]
+    requires { at ≤ length text.now }
+    ensures { result.now ≡ drop at text.now }
+{
+    text.split_at(at).1
+}
+
+/// Writes all of the text.
+///
+/// # Errors
+///
+/// A [`WriteFault`] where the sink failed in this call; it took a beginning of the text.
+pub fn write_whole<K: Sink>(sink: &mut K, text: &[u8]) -> Result<(), WriteFault>
+    ensures ok { OnOk result (Appends (K.taken sink.old) (K.taken sink.new) text.now) }
+    ensures good { OnOk result (K.failed sink.new ≡ K.failed sink.old) }
+    ensures part { IfErr result (λ e. IsBeginning (K.taken sink.old) (K.taken sink.new) text.now e.written) }
+    ensures fault { IfErr result (λ _. HasGrown (K.failed sink.old) (K.failed sink.new)) }
+{
+    let mut at = 0;
+    'pieces: while at < text.len() {
+        match sink.write(rest_of(text, at)) {
+            Ok(n) => at += n,
+            Err(_) => return Err(WriteFault { written: at }),
+        }
+    }
+    Ok(())
+}
+
+/// Writes all of one text, and then all of another.
+fn write_both<K: Sink>(sink: &mut K, front: &[u8], back: &[u8]) -> Result<(), WriteFault>
+    ensures ok { OnOk result (Appends (K.taken sink.old) (K.taken sink.new) (front.now ++ back.now)) }
+    ensures good { OnOk result (K.failed sink.new ≡ K.failed sink.old) }
+    ensures part { IfErr result (λ e. IsBeginning (K.taken sink.old) (K.taken sink.new) (front.now ++ back.now) e.written) }
+    ensures fault { IfErr result (λ _. HasGrown (K.failed sink.old) (K.failed sink.new)) }
+{
+    match write_whole(sink, front) {
+        Ok(()) => {}
+        Err(fault) => return Err(fault),
+    }
+    match write_whole(sink, back) {
+        Ok(()) => Ok(()),
+        Err(fault) => Err(WriteFault {
+            written: front.len() + fault.written,
+        }),
+    }
+}
+
+/// Writes a reply: its head, and then its body.
+///
+/// # Errors
+///
+/// A [`WriteFault`] where the sink failed in this call; it took a beginning of the reply.
+pub fn write_reply<K: Sink>(
+    sink: &mut K,
+    head: &ReplyHead<'_>,
+    body: &[u8],
+) -> Result<(), WriteFault>
+    requires { length head.now.allow.now ≤ ALLOW_LIMIT }
+    ensures ok { OnOk result (Appends (K.taken sink.old) (K.taken sink.new) (head_of head.now ++ body.now)) }
+    ensures good { OnOk result (K.failed sink.new ≡ K.failed sink.old) }
+    ensures part { IfErr result (λ e. IsBeginning (K.taken sink.old) (K.taken sink.new) (head_of head.now ++ body.now) e.written) }
+    ensures fault { IfErr result (λ _. HasGrown (K.failed sink.old) (K.failed sink.new)) }
+{
+    write_both(sink, head.text().as_str().as_bytes(), body)
+}
