@@ -15,7 +15,7 @@ pub struct SliceSource<'a> {
 }
 
 impl<'a> SliceSource<'a> {
-    ghost use Rattle.names.specs.Memory.{slice_left, most_read};
+    ghost use Rattle.names.specs.Memory.{slice_left, most_read, size_of_read};
 
     /// Hands out `bytes`, at most `most` of them a read. 0 stands for 1.
     pub fn new(bytes: &'a [u8], most: usize) -> Self
@@ -26,6 +26,13 @@ impl<'a> SliceSource<'a> {
             left: bytes,
             most: most.max(1),
         }
+    }
+
+    /// How many bytes a read hands out where there is so much room.
+    fn size_of_read(&self, room: usize) -> usize
+        ensures { result ≡ size_of_read self.now room }
+    {
+        self.most.min(self.left.len()).min(room)
     }
 
     /// The bytes that are left.
@@ -44,7 +51,7 @@ impl Source for SliceSource<'_> {
     ghost failed = { λ _. 0 };
 
     fn read(&mut self, piece: &mut [u8]) -> Result<usize, DeviceFault> {
-        let size = self.most.min(self.left.len()).min(piece.len());
+        let size = self.size_of_read(piece.len());
         let (front, left) = self.left.split_at(size);
         piece[..size].copy_from_slice(front);
         self.left = left;
@@ -66,7 +73,7 @@ pub struct VecSink {
 }
 
 impl VecSink {
-    ghost use Rattle.names.specs.Memory.{vec_taken, most_written};
+    ghost use Rattle.names.specs.Memory.{vec_taken, most_written, size_of_write};
 
     /// Took nothing so far, and takes at most `most` bytes a write. 0 stands for 1.
     pub fn new(alloc: Global, most: usize) -> Self
@@ -78,6 +85,13 @@ impl VecSink {
             most: most.max(1),
             failures: 0,
         }
+    }
+
+    /// How many bytes of so many a write takes.
+    fn size_of_write(&self, offered: usize) -> usize
+        ensures { result ≡ size_of_write self.now offered }
+    {
+        self.most.min(offered)
     }
 
     /// The bytes that were taken.
@@ -94,7 +108,7 @@ impl Sink for VecSink {
     ghost failed = { λ k. k.failures };
 
     fn write(&mut self, piece: &[u8]) -> Result<usize, DeviceFault> {
-        let size = self.most.min(piece.len());
+        let size = self.size_of_write(piece.len());
         match self.taken.extend_from_slice(&piece[..size]) {
             Ok(()) => Ok(size),
             Err(_) => {
