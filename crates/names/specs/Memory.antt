@@ -20,6 +20,10 @@ size_of_read source room = min (min (most_read source) (length (slice_left sourc
 abbrev pub vec_taken : VecSink → List ℕ
 vec_taken sink = sink.taken.items
 
+-- how many writes found no memory
+abbrev pub vec_failures : VecSink → ℕ
+vec_failures sink = sink.failures
+
 -- the most bytes that a write takes
 abbrev pub most_written : VecSink → ℕ
 most_written sink = sink.most
