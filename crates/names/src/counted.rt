@@ -49,11 +49,13 @@ impl<T> Counted<T> {
 }
 
 impl<R: Read> Source for Counted<R> {
-    ghost left = { λ s. capped (most_handed_out - s.handed_out) (R.remaining s.inner) };
+    ghost use Rattle.names.specs.Counted.{device, handed_out, failures};
 
-    ghost budget = { λ s. most_handed_out - s.handed_out };
+    ghost left = { λ s. capped (most_handed_out - handed_out s) (R.remaining (device s)) };
 
-    ghost failed = { λ s. s.failures };
+    ghost budget = { λ s. most_handed_out - handed_out s };
+
+    ghost failed = { λ s. failures s };
 
     fn read(&mut self, piece: &mut [u8]) -> Result<usize, DeviceFault> {
         let room = MOST - self.handed_out;
@@ -79,9 +81,11 @@ impl<R: Read> Source for Counted<R> {
 }
 
 impl<W: Write> Sink for Counted<W> {
-    ghost taken = { λ s. W.contents s.inner };
+    ghost use Rattle.names.specs.Counted.{device, failures};
 
-    ghost failed = { λ s. s.failures };
+    ghost taken = { λ s. W.contents (device s) };
+
+    ghost failed = { λ s. failures s };
 
     fn write(&mut self, piece: &[u8]) -> Result<usize, DeviceFault> {
         match self.inner.write(piece) {

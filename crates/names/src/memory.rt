@@ -15,7 +15,7 @@ pub struct SliceSource<'a> {
 }
 
 impl<'a> SliceSource<'a> {
-    ghost use Rattle.names.specs.Memory.{slice_left, most_read};
+    ghost use Rattle.names.specs.Memory.{slice_left, most_read, size_of_read};
 
     /// Hands out `bytes`, at most `most` of them a read. 0 stands for 1.
     pub fn new(bytes: &'a [u8], most: usize) -> Self
@@ -28,6 +28,13 @@ impl<'a> SliceSource<'a> {
         }
     }
 
+    /// How many bytes a read hands out where there is so much room.
+    fn size_of_read(&self, room: usize) -> usize
+        ensures { result ≡ size_of_read self.now room }
+    {
+        self.most.min(self.left.len()).min(room)
+    }
+
     /// The bytes that are left.
     pub fn left(&self) -> &'a [u8]
         ensures { result.now ≡ slice_left self.now }
@@ -37,14 +44,16 @@ impl<'a> SliceSource<'a> {
 }
 
 impl Source for SliceSource<'_> {
-    ghost left = { λ s. Some s.left.now };
+    ghost use Rattle.names.specs.Memory.{slice_left};
 
-    ghost budget = { λ s. length s.left.now };
+    ghost left = { λ s. Some (slice_left s) };
+
+    ghost budget = { λ s. length (slice_left s) };
 
     ghost failed = { λ _. 0 };
 
     fn read(&mut self, piece: &mut [u8]) -> Result<usize, DeviceFault> {
-        let size = self.most.min(self.left.len()).min(piece.len());
+        let size = self.size_of_read(piece.len());
         let (front, left) = self.left.split_at(size);
         piece[..size].copy_from_slice(front);
         self.left = left;
@@ -66,11 +75,12 @@ pub struct VecSink {
 }
 
 impl VecSink {
-    ghost use Rattle.names.specs.Memory.{vec_taken, most_written};
+    ghost use Rattle.names.specs.Memory.{vec_taken, vec_failures, most_written, size_of_write};
 
     /// Took nothing so far, and takes at most `most` bytes a write. 0 stands for 1.
     pub fn new(alloc: Global, most: usize) -> Self
         ensures taken { vec_taken result ≡ [] }
+        ensures failures { vec_failures result ≡ 0 }
         ensures most { most_written result ≡ max 1 most }
     {
         VecSink {
@@ -78,6 +88,13 @@ impl VecSink {
             most: most.max(1),
             failures: 0,
         }
+    }
+
+    /// How many bytes of so many a write takes.
+    fn size_of_write(&self, offered: usize) -> usize
+        ensures { result ≡ size_of_write self.now offered }
+    {
+        self.most.min(offered)
     }
 
     /// The bytes that were taken.
@@ -89,12 +106,14 @@ impl VecSink {
 }
 
 impl Sink for VecSink {
-    ghost taken = { λ k. Some k.taken.items };
+    ghost use Rattle.names.specs.Memory.{vec_taken, vec_failures};
 
-    ghost failed = { λ k. k.failures };
+    ghost taken = { λ k. Some (vec_taken k) };
+
+    ghost failed = { λ k. vec_failures k };
 
     fn write(&mut self, piece: &[u8]) -> Result<usize, DeviceFault> {
-        let size = self.most.min(piece.len());
+        let size = self.size_of_write(piece.len());
         match self.taken.extend_from_slice(&piece[..size]) {
             Ok(()) => Ok(size),
             Err(_) => {
@@ -153,13 +172,15 @@ impl<T> FailAfter<T> {
 }
 
 impl<S: Source> Source for FailAfter<S> {
-    ghost left = { λ s. S.left s.inner };
+    ghost use Rattle.names.specs.Memory.{failing, failures_so_far};
 
-    ghost reference = { λ s. S.reference s.inner };
+    ghost left = { λ s. S.left (failing s) };
 
-    ghost budget = { λ s. S.budget s.inner };
+    ghost reference = { λ s. S.reference (failing s) };
 
-    ghost failed = { λ s. s.failures };
+    ghost budget = { λ s. S.budget (failing s) };
+
+    ghost failed = { λ s. failures_so_far s };
 
     fn read(&mut self, piece: &mut [u8]) -> Result<usize, DeviceFault> {
         if self.reaches_device()
@@ -177,9 +198,11 @@ impl<S: Source> Source for FailAfter<S> {
 }
 
 impl<K: Sink> Sink for FailAfter<K> {
-    ghost taken = { λ k. K.taken k.inner };
+    ghost use Rattle.names.specs.Memory.{failing, failures_so_far};
 
-    ghost failed = { λ k. k.failures };
+    ghost taken = { λ k. K.taken (failing k) };
+
+    ghost failed = { λ k. failures_so_far k };
 
     fn write(&mut self, piece: &[u8]) -> Result<usize, DeviceFault> {
         if self.reaches_device()

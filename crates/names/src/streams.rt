@@ -36,7 +36,7 @@ pub trait Source {
     ///
     /// # Errors
     ///
-    /// A [`DeviceFault`] leaves the bytes that are left as they were, and is counted.
+    /// A [`DeviceFault`] is counted, and leaves the bytes that are left as they were.
     fn read(&mut self, piece: &mut [u8]) -> Result<usize, DeviceFault>
         ensures within { IfOk result (λ n. n ≤ length piece.new) }
         ensures bytes { ReadConsumes (left self.old) (left self.new) result piece.new }
@@ -64,7 +64,7 @@ pub trait Sink {
     ///
     /// # Errors
     ///
-    /// A [`DeviceFault`] leaves the bytes that were taken as they were, and is counted.
+    /// A [`DeviceFault`] is counted, and leaves the bytes that were taken as they were.
     fn write(&mut self, piece: &[u8]) -> Result<usize, DeviceFault>
         ensures within { IfOk result (λ n. n ≤ length piece.now) }
         ensures some { IfOk result (λ n. 0 < length piece.now → 0 < n) }

@@ -1,5 +1,4 @@
-use crate::memory::{FailAfter, SliceSource, VecSink};
-use crate::{Counted, DeviceFault, Sink, Source};
+use crate::{Counted, DeviceFault, FailAfter, Sink, SliceSource, Source, VecSink};
 use std::cell::Cell;
 use std::io;
 use std::io::{Read, Write};
