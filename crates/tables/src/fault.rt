@@ -1,0 +1,30 @@
+use sqlite::{Error, ErrorCode};
+
+/// Why a call of this crate failed. The tables are then as before the call.
+#[derive(Clone, Copy, Debug, PartialEq, Eq, thiserror::Error)]
+pub enum StoreFault {
+    /// The database is not of this program's schema. It is left as it is.
+    #[error("store G1")]
+    UnknownSchema,
+    /// The store refused: the disk failed, the file is no database or is in use, or a value does not fit its table.
+    #[error("store G2")]
+    Refused,
+    /// No memory was left.
+    #[error("no memory")]
+    Memory,
+}
+
+impl From<Error> for StoreFault {
+    fn from(error: Error) -> StoreFault {
+        match error {
+            Error::SqliteFailure(ErrorCode::OutOfMemory) => StoreFault::Memory,
+            _ => StoreFault::Refused,
+        }
+    }
+}
+
+impl From<std::alloc::AllocError> for StoreFault {
+    fn from(_: std::alloc::AllocError) -> StoreFault {
+        StoreFault::Memory
+    }
+}
