@@ -7,8 +7,8 @@ use Rattle.sqlite.specs.Effect.{Database}
 use Rattle.sqlite.specs.Schema.{Schema}
 use Rattle.std.specs.Prelude.{pos}
 use Rattle.tables.specs.Layout.{custody}
-use Rattle.tables.specs.Making.{IsBlank}
-use Rattle.tables.specs.Rows.{AreTyped, Tables, tables_of}
+use Rattle.tables.specs.Making.{no_schema, IsBlank}
+use Rattle.tables.specs.Rows.{Meta, AreTyped, Tables, tables_of}
 use Rattle.tables.specs.Statements.{Write, IsRemoval, after, removed}
 
 -- the database has the tables, and rows of their types
@@ -58,6 +58,29 @@ pub record Blanks (before after : Schema) (old new : State) : Type 0 where
   pub blank : IsBlank before old.now → IsBlank after new.now
   pub inside : new.in_transaction ≡ true
 
+-- the one row of meta
+abbrev pub first_meta : Meta
+first_meta = record { one = pos 1; version = pos 1 }
+
 -- the tables of a database that was just made
+abbrev pub fresh : Tables
+fresh = record { meta = first_meta ∷ []; repos = []; tokens = []; uploads = []; chunks = []; locks = [] }
+
 unfoldable pub with_fresh : Tables → Tables
-with_fresh _ = record { meta = record { one = pos 1; version = pos 1 } ∷ []; repos = []; tokens = []; uploads = []; chunks = []; locks = [] }
+with_fresh _ = fresh
+
+-- it has no table
+abbrev pub HasNoTable : State → Type 0
+HasNoTable s = s.now.schema ≡ no_schema
+
+-- the trees of a database that was just made, where there was no table
+abbrev pub LeadsIfBlank : State → Trees → Type 0
+LeadsIfBlank old trees = HasNoTable old × Leads with_fresh old trees
+
+-- a database with no table was given the six, or nothing was changed
+abbrev pub MakesOrKeeps : State → State → Type 0
+MakesOrKeeps old new = (HasNoTable old × IsTrue old.is_open × IsAfter with_fresh old.now new.now) ⊎ Keeps old new
+
+-- whatever the next open finds after a crash now has the tables
+abbrev pub LeavesOurs : State → Type 0
+LeavesOurs s = (trees : Trees) → s.may_leave trees → (db : Database) × IsKept db × (trees ≡ db.trees)

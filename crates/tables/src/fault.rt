@@ -1,4 +1,9 @@
+ghost use Rattle.std.specs.Prelude.{◌≡◌};
+ghost use Rattle.tables.specs.Faults.{fault_of};
+ghost use Rattle.tables.specs.declared.fault.StoreFault.TheVariants.{Memory as WantsMemory};
+
 use sqlite::{Error, ErrorCode};
+use std::alloc::AllocError;
 
 /// Why a call of this crate failed. The tables are then as before the call.
 #[derive(Clone, Copy, Debug, PartialEq, Eq, thiserror::Error)]
@@ -15,6 +20,8 @@ pub enum StoreFault {
 }
 
 impl From<Error> for StoreFault {
+    ghost from_gives = { λ error fault. fault ≡ fault_of error };
+
     fn from(error: Error) -> StoreFault {
         match error {
             Error::SqliteFailure(ErrorCode::OutOfMemory) => StoreFault::Memory,
@@ -23,8 +30,10 @@ impl From<Error> for StoreFault {
     }
 }
 
-impl From<std::alloc::AllocError> for StoreFault {
-    fn from(_: std::alloc::AllocError) -> StoreFault {
+impl From<AllocError> for StoreFault {
+    ghost from_gives = { λ _ fault. fault ≡ WantsMemory };
+
+    fn from(_error: AllocError) -> StoreFault {
         StoreFault::Memory
     }
 }

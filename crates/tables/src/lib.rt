@@ -12,7 +12,7 @@ mod fault;
 // mod open;
 mod read;
 mod rows;
-// mod schema;
+mod schema;
 mod storage;
 // mod tokens;
 mod write;

@@ -7,7 +7,7 @@ ghost use Rattle.tables.specs.Steps.{lock_fields, read_lock, token_fields, read_
 
 use crate::fault::StoreFault;
 use sqlite::Row;
-use std::alloc::Global;
+use std::alloc::{AllocError, Global};
 
 /// A lock that is asked for.
 #[derive(Clone, Copy, Debug)]
@@ -145,9 +145,7 @@ pub(crate) fn all_locks(alloc: Global, rows: &[Row]) -> Result<Vec<LockRow>, Sto
     let mut found = Vec::with_capacity(alloc, rows.len())?;
     for row in rows {
         let lock = lock_from(row)?;
-        if found.push(lock).is_err() {
-            return Err(StoreFault::Memory);
-        }
+        found.push(lock).map_err(AllocError::from)?;
     }
     Ok(found)
 }
@@ -158,9 +156,7 @@ pub(crate) fn all_tokens(alloc: Global, rows: &[Row]) -> Result<Vec<TokenRow>, S
     let mut found = Vec::with_capacity(alloc, rows.len())?;
     for row in rows {
         let token = token_from(row)?;
-        if found.push(token).is_err() {
-            return Err(StoreFault::Memory);
-        }
+        found.push(token).map_err(AllocError::from)?;
     }
     Ok(found)
 }
