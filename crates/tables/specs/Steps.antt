@@ -4,6 +4,7 @@ use Rattle.std.specs.Ordering.{int_eq}
 use Rattle.sqlite_keyed.specs.Keyed.{next_key}
 use Rattle.tables.specs.declared.rows.NewLock.{NewLock}
 use Rattle.tables.specs.declared.rows.LockRow.{LockRow}
+use Rattle.tables.specs.declared.locks.Count.{Count}
 use Rattle.tables.specs.declared.rows.NewToken.{NewToken}
 use Rattle.tables.specs.declared.rows.TokenRow.{TokenRow}
 use Rattle.tables.specs.declared.rows.Operation.{Operation}
@@ -49,9 +50,28 @@ read_token row = record { digest = row.digest.items; user = string_bytes row.use
 
 -- ---- locks
 
--- how many locks the repository ever made, 0 where it has no row
+-- the rowid of a repository's row, and how many locks the repository ever made
+pub record RepoCount : Type 0 where
+  pub rowid : ℤ
+  pub made : ℤ
+
+abbrev pub repo_count : Repo → RepoCount
+repo_count r = record { rowid = r.rowid; made = r.made }
+
+abbrev pub read_count : Count → RepoCount
+read_count c = record { rowid = c.rowid; made = pos c.made }
+
+-- the count is that of the row
+abbrev pub IsCountOf : Option Count → Option Repo → Type 0
+IsCountOf c r = option_map read_count c ≡ option_map repo_count r
+
+-- 0 where there is no row
+abbrev pub made_in : Option Repo → ℤ
+made_in r = unwrap_or (option_map (λ (x : Repo). x.made) r) (pos 0)
+
+-- how many locks the repository ever made
 abbrev pub made_of : List ℕ → Tables → ℤ
-made_of name t = unwrap_or (option_map (λ r. r.made) (find (is_named name) t.repos)) (pos 0)
+made_of name t = made_in (find (is_named name) t.repos)
 
 -- the number in the repository's first row, or in a new one at the end, which has this rowid
 abbrev pub set_made : List ℕ → ℤ → ℤ → List Repo → List Repo

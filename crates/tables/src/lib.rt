@@ -8,7 +8,7 @@ ghost use Rattle.std.specs.Prelude.{◌≡◌};
 use sqlite::Connection;
 
 mod fault;
-// mod locks;
+mod locks;
 // mod open;
 mod read;
 mod rows;
