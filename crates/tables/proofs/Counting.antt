@@ -72,7 +72,7 @@ pub made_at : (name : List ℕ) (n : ℤ) (t : Tables) (r : Repo) → IsKeyedBy 
 unfolding with_made_at with_made
 made_at name n t r up found = ap (λ rs. record t { repos = rs }) (named_at name n (next_key key t.repos) t.repos r up found)
 
-same_steps : (f h : Tables → Tables) (old new : State) → f (tables_in old) ≡ h (tables_in old) → Steps f old new → Steps h old new
+pub same_steps : (f h : Tables → Tables) (old new : State) → f (tables_in old) ≡ h (tables_in old) → Steps f old new → Steps h old new
 same_steps f h old new same s = record { was_open = s.was_open; is_open = s.is_open; kept = s.kept; tables = s.tables ∙ same; inside = s.inside }
 
 no_row : (o : Option Repo) → IsCountOf None o → o ≡ None

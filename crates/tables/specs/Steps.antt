@@ -1,5 +1,5 @@
 -- What the calls make of the tables, and what they answer.
-use Rattle.std.specs.Prelude.{◌≡◌, ◌+ℤ◌, ℕ, ℤ, pos, Bool, if◌then◌else◌, List, [], ◌∷◌, ◌++◌, string_bytes, filter, find, Option, Some, None, option_map, unwrap_or}
+use Rattle.std.specs.Prelude.{◌≡◌, ◌+ℤ◌, ℕ, ℤ, pos, Bool, if◌then◌else◌, List, [], ◌∷◌, ◌++◌, string_bytes, filter, find, Option, Some, None, is_some, option_map, unwrap_or}
 use Rattle.std.specs.Ordering.{int_eq}
 use Rattle.sqlite_keyed.specs.Keyed.{next_key}
 use Rattle.tables.specs.declared.rows.NewLock.{NewLock}
@@ -126,10 +126,10 @@ after_create l t = after_outcome l (outcome_of l t) t
 abbrev pub asked_token : NewToken → Token
 asked_token t = record { rowid = pos 0; digest = t.digest.now; user = t.user.now; repo = t.repo.now; op = code_of t.operation; expires = t.expires }
 
+-- a token with this digest is there
+abbrev pub has_token : List ℕ → Tables → Bool
+has_token digest t = is_some (find (has_digest digest) t.tokens)
+
 -- the token is there, unless one with its digest was
 unfoldable pub after_add : Token → Tables → Tables
-after_add k t = add_unless (find (has_digest k.digest) t.tokens)
-  where
-    add_unless : Option Token → Tables
-    add_unless (Some other) = t
-    add_unless None = with_token k t
+after_add k t = if has_token k.digest t then t else with_token k t

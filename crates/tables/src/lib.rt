@@ -14,7 +14,7 @@ mod read;
 mod rows;
 mod schema;
 mod storage;
-// mod tokens;
+mod tokens;
 mod write;
 
 pub use fault::StoreFault;
