@@ -1,0 +1,21 @@
+use Rattle.std.proofs.Common.{arith, pos, find, sym, subst}
+use Rattle.sqlite.specs.Held.{state}
+use Rattle.sqlite.specs.State.{HasCleanDisk}
+use Rattle.tables.specs.Rows.{Tables}
+use Rattle.tables.specs.Statements.{is_named, with_lock}
+use Rattle.tables.specs.Steps.{IsCountOf, asked_lock, with_made, with_new_lock}
+use Rattle.tables.proofs.Calls.{steps_then, ready_after}
+use Rattle.tables.proofs.locks.keep_into.Goals as goal
+
+pub returns-clause-ok : goal.returns-clause-ok
+unfolding with_new_lock with_lock
+returns-clause-ok g c clean inside ready counts =
+    let old = state g.S.Store c.args.tx.now.conn.now in
+    let mid = state g.S.Store c.lock_into.new.tx.conn.now in
+    let new = state g.S.Store c.set_count.new.tx.conn.now in
+    let clean_mid : HasCleanDisk mid = omega (arith, clean, c.set_count.ensures.survives.clean) in
+    let keep = with_lock record (asked_lock c.args.lock.now) { id = pos c.args.id } in
+    let first = c.in_ok-lock_into.ensures.ok clean_mid inside ready in
+    let still = subst (λ (t : Tables). IsCountOf c.args.count (find (is_named c.args.lock.now.repo.now) t.repos)) (sym first.tables) counts in
+    steps_then keep (with_made c.args.lock.now.repo.now (pos c.args.id)) old mid new first
+    (c.in_ok-set_count.ensures.ok clean (c.in_ok-lock_into.ensures.inside clean_mid inside) (ready_after keep old mid first) still)

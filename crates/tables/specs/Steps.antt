@@ -1,0 +1,135 @@
+-- What the calls make of the tables, and what they answer.
+use Rattle.std.specs.Prelude.{◌≡◌, ◌+ℤ◌, ℕ, ℤ, pos, Bool, if◌then◌else◌, List, [], ◌∷◌, ◌++◌, string_bytes, filter, find, Option, Some, None, is_some, option_map, unwrap_or}
+use Rattle.std.specs.Ordering.{int_eq}
+use Rattle.sqlite_keyed.specs.Keyed.{next_key}
+use Rattle.tables.specs.declared.rows.NewLock.{NewLock}
+use Rattle.tables.specs.declared.rows.LockRow.{LockRow}
+use Rattle.tables.specs.declared.locks.Count.{Count}
+use Rattle.tables.specs.declared.rows.NewToken.{NewToken}
+use Rattle.tables.specs.declared.rows.TokenRow.{TokenRow}
+use Rattle.tables.specs.declared.rows.Operation.{Operation}
+use Rattle.tables.specs.declared.rows.Operation.TheVariants as operation
+use Rattle.tables.specs.declared.rows.Creation.{Creation}
+use Rattle.tables.specs.declared.rows.Creation.TheVariants as creation
+use Rattle.tables.specs.Rows.{Repo, Token, Lock, Tables}
+use Rattle.tables.specs.Statements.{is_named, is_at, has_digest, with_lock, with_token}
+
+-- ---- rows as the calls answer them
+
+-- a lock less its repository and its rowid
+pub record LockFields : Type 0 where
+  pub id : ℤ
+  pub ref_name : List ℕ
+  pub path : List ℕ
+  pub owner : List ℕ
+  pub moment : ℤ
+
+abbrev pub lock_fields : Lock → LockFields
+lock_fields l = record { id = l.id; ref_name = l.ref_name; path = l.path; owner = l.owner; moment = l.moment }
+
+abbrev pub read_lock : LockRow → LockFields
+read_lock row = record { id = pos row.id; ref_name = string_bytes row.ref_name; path = string_bytes row.path; owner = string_bytes row.owner; moment = row.moment }
+
+-- a token less its rowid
+pub record TokenFields : Type 0 where
+  pub digest : List ℕ
+  pub user : List ℕ
+  pub repo : List ℕ
+  pub op : ℤ
+  pub expires : ℤ
+
+abbrev pub token_fields : Token → TokenFields
+token_fields t = record { digest = t.digest; user = t.user; repo = t.repo; op = t.op; expires = t.expires }
+
+abbrev pub code_of : Operation → ℤ
+code_of operation.Download = pos 1
+code_of operation.Upload = pos 2
+
+abbrev pub read_token : TokenRow → TokenFields
+read_token row = record { digest = row.digest.items; user = string_bytes row.user; repo = string_bytes row.repo; op = code_of row.operation; expires = row.expires }
+
+-- ---- locks
+
+-- the rowid of a repository's row, and how many locks the repository ever made
+pub record RepoCount : Type 0 where
+  pub rowid : ℤ
+  pub made : ℤ
+
+abbrev pub repo_count : Repo → RepoCount
+repo_count r = record { rowid = r.rowid; made = r.made }
+
+abbrev pub read_count : Count → RepoCount
+read_count c = record { rowid = c.rowid; made = pos c.made }
+
+-- the count is that of the row
+abbrev pub IsCountOf : Option Count → Option Repo → Type 0
+IsCountOf c r = option_map read_count c ≡ option_map repo_count r
+
+-- 0 where there is no row
+abbrev pub made_in : Option Repo → ℤ
+made_in r = unwrap_or (option_map (λ (x : Repo). x.made) r) (pos 0)
+
+-- how many locks the repository ever made
+abbrev pub made_of : List ℕ → Tables → ℤ
+made_of name t = made_in (find (is_named name) t.repos)
+
+-- the number in the repository's first row, or in a new one at the end, which has this rowid
+abbrev pub set_made : List ℕ → ℤ → ℤ → List Repo → List Repo
+set_made name made next [] = record { rowid = next; name = name; made = made; used = pos 0 } ∷ []
+set_made name made next (r ∷ rs) = if is_named name r then record r { made = made } ∷ rs else r ∷ set_made name made next rs
+
+unfoldable pub with_made : List ℕ → ℤ → Tables → Tables
+with_made name made t = record t { repos = set_made name made (next_key (λ x. x.rowid) t.repos) t.repos }
+
+-- a lock that is asked for, as it is kept, but for its rowid and id
+abbrev pub asked_lock : NewLock → Lock
+asked_lock l = record { rowid = pos 0; repo = l.repo.now; id = pos 0; ref_name = l.ref_name.now; path = l.path.now; owner = l.owner.now; moment = l.moment }
+
+-- what comes of a lock that is asked for: the one that stands there, no more ids, or a lock with this id
+pub data Outcome : Type 0 where
+  held : LockFields → Outcome
+  used_up : Outcome
+  created : ℤ → Outcome
+
+abbrev pub greatest_id : ℤ
+greatest_id = pos 4294967295
+
+abbrev pub next_outcome : ℤ → Outcome
+next_outcome made_so_far = if int_eq made_so_far greatest_id then used_up else created (made_so_far +ℤ pos 1)
+
+abbrev pub outcome_by : Option Lock → ℤ → Outcome
+outcome_by (Some l) made_so_far = held (lock_fields l)
+outcome_by None made_so_far = next_outcome made_so_far
+
+abbrev pub outcome_of : Lock → Tables → Outcome
+outcome_of l t = outcome_by (find (is_at l.repo l.ref_name l.path) t.locks) (made_of l.repo t)
+
+abbrev pub read_creation : Creation → Outcome
+read_creation (creation.Created id) = created (pos id)
+read_creation (creation.Held row) = held (read_lock row)
+read_creation creation.UsedUp = used_up
+
+-- the lock is there, and counted
+unfoldable pub with_new_lock : Lock → ℤ → Tables → Tables
+with_new_lock l id t = with_made l.repo id (with_lock (record l { id = id }) t)
+
+abbrev pub after_outcome : Lock → Outcome → Tables → Tables
+after_outcome l (held other) t = t
+after_outcome l used_up t = t
+after_outcome l (created id) t = with_new_lock l id t
+
+unfoldable pub after_create : Lock → Tables → Tables
+after_create l t = after_outcome l (outcome_of l t) t
+
+-- ---- tokens
+
+abbrev pub asked_token : NewToken → Token
+asked_token t = record { rowid = pos 0; digest = t.digest.now; user = t.user.now; repo = t.repo.now; op = code_of t.operation; expires = t.expires }
+
+-- a token with this digest is there
+abbrev pub has_token : List ℕ → Tables → Bool
+has_token digest t = is_some (find (has_digest digest) t.tokens)
+
+-- the token is there, unless one with its digest was
+unfoldable pub after_add : Token → Tables → Tables
+after_add k t = if has_token k.digest t then t else with_token k t

@@ -1,0 +1,39 @@
+ghost use Rattle.std.specs.Prelude.{◌≡◌};
+ghost use Rattle.tables.specs.Faults.{fault_of};
+ghost use Rattle.tables.specs.declared.fault.StoreFault.TheVariants.{Memory as WantsMemory};
+
+use sqlite::{Error, ErrorCode};
+use std::alloc::AllocError;
+
+/// Why a call of this crate failed. The tables are then as before the call.
+#[derive(Clone, Copy, Debug, PartialEq, Eq, thiserror::Error)]
+pub enum StoreFault {
+    /// The database is not of this program's schema. It is left as it is.
+    #[error("store G1")]
+    UnknownSchema,
+    /// The store refused: the disk failed, the file is no database or is in use, or a value does not fit its table.
+    #[error("store G2")]
+    Refused,
+    /// No memory was left.
+    #[error("no memory")]
+    Memory,
+}
+
+impl From<Error> for StoreFault {
+    ghost from_gives = { λ error fault. fault ≡ fault_of error };
+
+    fn from(error: Error) -> StoreFault {
+        match error {
+            Error::SqliteFailure(ErrorCode::OutOfMemory) => StoreFault::Memory,
+            _ => StoreFault::Refused,
+        }
+    }
+}
+
+impl From<AllocError> for StoreFault {
+    ghost from_gives = { λ _ fault. fault ≡ WantsMemory };
+
+    fn from(_error: AllocError) -> StoreFault {
+        StoreFault::Memory
+    }
+}
