@@ -4,10 +4,10 @@ use Rattle.std.proofs.lemmas.Int.{ints}
 use Rattle.std.specs.Ordering.{int_eq}
 use Rattle.sqlite.specs.State.{State}
 use Rattle.tables.specs.declared.rows.LockRow.{LockRow}
-use Rattle.tables.specs.Rows.{Lock, Tables}
-use Rattle.tables.specs.Statements.{is_at}
+use Rattle.tables.specs.Rows.{Token, Lock}
+use Rattle.tables.specs.Statements.{is_at, with_token}
 use Rattle.tables.specs.Runs.{Steps, tables_in}
-use Rattle.tables.specs.Steps.{LockFields, lock_fields, read_lock, Outcome, held, used_up, created, greatest_id, next_outcome, outcome_by, outcome_of, made_of, after_outcome, after_create, with_new_lock}
+use Rattle.tables.specs.Steps.{LockFields, lock_fields, read_lock, Outcome, held, used_up, created, greatest_id, next_outcome, outcome_by, outcome_of, made_of, after_outcome, after_create, with_new_lock, has_token, after_add}
 use Rattle.tables.proofs.Counting.{same_steps}
 use Rattle.tables.proofs.Calls.{steps_then}
 
@@ -51,3 +51,12 @@ module _ (l : Lock) (old mid new : State) where
     step_if_created late some s t =
         step_by (created (pos (n + 1))) (free _ _ none ∙ ap next_outcome made_before ∙ next_id n some)
         (steps_then (λ t. t) (with_new_lock l (pos (n + 1))) old late new (steps_then (λ t. t) (λ t. t) old mid late first s) t)
+
+module _ (k : Token) (old : State) where
+  pub step_if_there : (new : State) → has_token k.digest (tables_in old) ≡ true → Steps (λ t. t) old new → Steps (after_add k) old new
+  unfolding after_add
+  step_if_there new there s = same_steps (λ t. t) (after_add k) old new (rw there) s
+
+  pub step_if_new : (mid new : State) → has_token k.digest (tables_in old) ≡ false → Steps (λ t. t) old mid → Steps (with_token k) mid new → Steps (after_add k) old new
+  unfolding after_add
+  step_if_new mid new none first s = same_steps (with_token k) (after_add k) old new (rw none) (steps_then (λ t. t) (with_token k) old mid new first s)

@@ -84,3 +84,7 @@ MakesOrKeeps old new = (HasNoTable old × IsTrue old.is_open × IsAfter with_fre
 -- whatever the next open finds after a crash now has the tables
 abbrev pub LeavesOurs : State → Type 0
 LeavesOurs s = (trees : Trees) → s.may_leave trees → (db : Database) × IsKept db × (trees ≡ db.trees)
+
+-- and what it finds are the six new tables, where there was none, or the tables as they were
+abbrev pub LeavesOnly : State → State → Type 0
+LeavesOnly old new = (trees : Trees) → new.may_leave trees → (HasNoTable old × (tables_of trees ≡ fresh)) ⊎ (tables_of trees ≡ tables_in old)

@@ -9,7 +9,7 @@ use sqlite::Connection;
 
 mod fault;
 mod locks;
-// mod open;
+mod open;
 mod read;
 mod rows;
 mod schema;

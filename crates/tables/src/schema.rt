@@ -7,7 +7,7 @@ ghost use Rattle.tables.specs.Rows.{Meta};
 ghost use Rattle.tables.specs.Layout.{custody};
 ghost use Rattle.tables.specs.Making.{Part, text_for, before, after, no_schema, with_tokens, with_locks, IsBlank};
 ghost use Rattle.tables.specs.Statements.{show_meta};
-ghost use Rattle.tables.specs.Runs.{IsReady, IsKept, Keeps, Blanks, Steps, with_fresh, first_meta, tables_in, IsAfter, Leads, LeadsIfBlank, LeavesOurs, MakesOrKeeps};
+ghost use Rattle.tables.specs.Runs.{IsReady, IsKept, Keeps, Blanks, Steps, with_fresh, first_meta, tables_in, IsAfter, Leads, LeadsIfBlank, LeavesOurs, LeavesOnly, MakesOrKeeps};
 
 use crate::fault::StoreFault;
 use crate::read::read;
@@ -170,6 +170,7 @@ pub(crate) fn create_or_check<S: Storage>(
     ensures ok { HasCleanDisk (state S.Store conn.new) → OnOk result (MakesOrKeeps (state S.Store conn.old) (state S.Store conn.new)) }
     ensures err { HasCleanDisk (state S.Store conn.new) → OnErr result (Keeps (state S.Store conn.old) (state S.Store conn.new)) }
     ensures safe { HasCleanDisk (state S.Store conn.new) → OnOk result (LeavesOurs (state S.Store conn.new)) }
+    ensures only { HasCleanDisk (state S.Store conn.new) → OnOk result (LeavesOnly (state S.Store conn.old) (state S.Store conn.new)) }
     ensures survives { Survives (state S.Store conn.old) (state S.Store conn.new) (LeadsIfBlank (state S.Store conn.old)) }
 {
     if !conn.is_autocommit() {

@@ -1,10 +1,17 @@
-use Rattle.std.proofs.Common.{sym, ap, ◌∙◌}
+use Rattle.std.proofs.Common.{inl, sym, ap, ◌∙◌}
 use Rattle.std.proofs.lemmas.Result.{IfOk-weaker}
-use Rattle.tables.specs.Rows.{Tables}
+use Rattle.tables.specs.Rows.{Tables, tables_of}
 use Rattle.tables.specs.Runs.{with_fresh}
+use Rattle.tables.proofs.Found.{both_ok}
 use Rattle.tables.proofs.schema.create_or_check.Goals as goal
 
 pub returns-then-is_blank-clause-version : goal.returns-then-is_blank-clause-version
 unfolding with_fresh
 returns-then-is_blank-clause-version g c clean =
     IfOk-weaker c.create.result _ _ (λ _ made _. ap (λ (t : Tables). t.meta) made.1.tables) (c.create.ensures.ok clean record { schema_is = sym c.schema.ensures.value ∙ c.is_blank.ensures c.if-is_blank.true; empty = tt })
+
+pub returns-then-is_blank-clause-only : goal.returns-then-is_blank-clause-only
+unfolding with_fresh
+returns-then-is_blank-clause-only g c clean =
+    let none = sym c.schema.ensures.value ∙ c.is_blank.ensures c.if-is_blank.true in
+    IfOk-weaker c.create.result _ _ (λ _ both trees left. inl (none, ap tables_of (both.0 trees left) ∙ both.1.1.tables)) (both_ok _ _ c.create.result (c.create.ensures.only clean) (c.create.ensures.ok clean record { schema_is = none; empty = tt }))

@@ -1,0 +1,19 @@
+use Rattle.std.proofs.Common.{arith, inl, inr, ap, ◌∙◌}
+use Rattle.std.proofs.lemmas.Result.{IfOk-weaker}
+use Rattle.tables.specs.Rows.{tables_of}
+use Rattle.tables.specs.Runs.{with_fresh}
+use Rattle.tables.proofs.Store.create_or_check.Goals as goal
+
+pub returns-clause-ok : goal.returns-clause-ok
+unfolding with_fresh
+returns-clause-ok g c clean = IfOk-weaker c.create_or_check.result _ _ (λ _ h. elim h [ inl made ↦ inl (made.0, made.2.tables) | inr kept ↦ inr kept ]) (c.create_or_check.ensures.ok clean)
+
+pub returns-clause-stop : goal.returns-clause-stop
+unfolding with_fresh
+returns-clause-stop g c = record {
+  was_honest = λ clean. omega (arith, clean, c.create_or_check.ensures.survives.clean);
+  outcomes = λ clean t left. elim (c.create_or_check.ensures.survives.crash clean left.0.trees left.2) [
+    | inl old ↦ inl (left.0, left.1, old, left.3)
+    | inr new ↦ inr (new.0, left.3 ∙ ap tables_of new.1.3 ∙ new.1.2.tables)
+  ];
+}

@@ -1,0 +1,9 @@
+use Rattle.std.proofs.Common.{sym, subst}
+use Rattle.sqlite_wal.specs.Files.{image_at}
+use Rattle.sqlite.specs.State.{HasCleanDisk}
+use Rattle.sqlite.specs.Start.{FindsIn}
+use Rattle.sqlite.specs.Files.{file_state}
+use Rattle.tables.proofs.open.Store+FileStore+FileFrom+S.open_from.Goals as goal
+
+pub returns-in-Ok-clause-found : goal.returns-in-Ok-clause-found
+returns-in-Ok-clause-found g c = subst (λ h. HasCleanDisk (file_state h) → FindsIn (image_at g.S.Start) (file_state h)) (sym c.adopt.ensures) c.in-Ok.ensures.found
