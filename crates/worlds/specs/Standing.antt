@@ -1,0 +1,46 @@
+-- Which worlds the tables stand for.
+use Rattle.std.specs.Prelude.{◌≡◌, ℕ, ℤ, pos, List, [], map, IsPermutation}
+use Rattle.sha2.specs.Sha256.{sha256}
+use Rattle.sqlite_trees.specs.declared.store.Store.{Ghosts}
+use Rattle.model.specs.declared.Operation.{Operation}
+use Rattle.model.specs.declared.Operation.TheVariants.{Download, Upload}
+use Rattle.model.specs.World.{World, IsWorld, Lock, Issued}
+use Rattle.tables.specs.Rows as row
+use Rattle.tables.specs.Rows.{Tables}
+use Rattle.tables.specs.Steps.{made_of}
+use Rattle.tables.specs.Shown.{IsHonest, IsOpen, Stands, shown}
+use Rattle.tables.specs.declared.Store.{Store}
+
+-- a row of the table, wherever it stands there
+abbrev pub lock_kept : row.Lock → row.Lock
+lock_kept l = record l { rowid = pos 0 }
+
+abbrev pub token_kept : row.Token → row.Token
+token_kept t = record t { rowid = pos 0 }
+
+-- the row of a lock
+abbrev pub lock_row : Lock → row.Lock
+lock_row l = record { rowid = pos 0; repo = l.repo; id = pos l.id; ref_name = l.ref; path = l.path; owner = l.owner; moment = pos l.at }
+
+abbrev pub operation_code : Operation → ℤ
+operation_code Download = pos 1
+operation_code Upload = pos 2
+
+-- the row of an issued token, of which the digest alone is kept
+abbrev pub token_row : Issued → row.Token
+token_row i = record { rowid = pos 0; digest = sha256 i.text; user = i.user; repo = i.repo; op = operation_code i.operation; expires = pos i.expires }
+
+-- the rows are those of the world's locks and tokens, in any order, and of no object
+pub record StandsFor (t : Tables) (world : World) : Type 0 where
+  pub locks : IsPermutation (map lock_kept t.locks) (map lock_row world.locks)
+  pub made : (repo : List ℕ) → made_of repo t ≡ pos (world.made repo)
+  pub issued : IsPermutation (map token_kept t.tokens) (map token_row world.issued)
+  pub uploads : t.uploads ≡ []
+  pub chunks : t.chunks ≡ []
+  pub objects : world.objects ≡ []
+
+-- the store holds the world: while the disk is honest and the store open, its tables stand for it
+pub record Holds {S : Type 0} (g : Ghosts S) (s : Store S) (world : World) : Type 0 where
+  pub stands : Stands g s
+  pub world : IsWorld world
+  pub shows : IsHonest g s → IsOpen g s → StandsFor (shown g s) world
