@@ -28,5 +28,5 @@ pub struct Store<S: Alter> {
     conn: Connection<S>,
 }
 
-// cfg
-// mod tests;
+#[cfg(test)]
+mod tests;
