@@ -2,3 +2,4 @@ pub mod Tests
 pub mod Computed
 pub mod Firsts
 pub mod Keeping
+pub mod Progress

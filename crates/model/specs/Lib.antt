@@ -7,5 +7,6 @@ pub mod Steps
 pub mod Stream
 pub mod Replies
 pub mod Sessions
+pub mod Progress
 pub mod Laws
 pub mod Examples

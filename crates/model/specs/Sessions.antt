@@ -3,7 +3,7 @@ use Rattle.std.specs.Prelude.{◌≡◌, ℕ, Bool, List, [], ◌∷◌, ◌++�
 use Rattle.model.specs.Policy.{Policy}
 use Rattle.model.specs.World.{World}
 use Rattle.model.specs.Steps.{Exchange, exchanged, Run, allow, closes, store_refused}
-use Rattle.model.specs.Stream.{Ended, closed, Answers}
+use Rattle.model.specs.Stream.{Ended, closed, Answers, AnswersFirst}
 use Rattle.model.specs.Replies.{IsReply}
 
 -- the texts of the replies, one after the other
@@ -21,6 +21,15 @@ pub record IsSession
     (policy : Policy) (now : ℕ) (bytes : List ℕ) (old : World)
     (exchanges : List Exchange) (text : List ℕ) (new : World) (end : Ended) : Type 0 where
   pub answers : Answers bytes exchanges end
+  pub under : AreUnder policy now exchanges
+  pub run : Run old (map exchanged exchanges) new
+  pub written : IsText exchanges text
+
+-- a session that broke off: what was answered of the stream so far
+pub record IsBrokenOff
+    (policy : Policy) (now : ℕ) (bytes : List ℕ) (old : World)
+    (exchanges : List Exchange) (text : List ℕ) (new : World) : Type 0 where
+  pub answers : AnswersFirst bytes exchanges
   pub under : AreUnder policy now exchanges
   pub run : Run old (map exchanged exchanges) new
   pub written : IsText exchanges text

@@ -15,7 +15,7 @@ use Rattle.model.specs.Reading.{◌>>=◌, check, found, none_of, or_default}
 use Rattle.model.specs.Policy.{Policy, IsPolicy, Repo, Question, Decision, allowed, denied, decide, repo_named}
 use Rattle.model.specs.World.{World, Lock, Issued, lock_at, with_lock}
 use Rattle.model.specs.Forms.{LockForm, Request, asks_lock, request_of, needs_upload}
-use Rattle.model.specs.Heads.{values, judged, query_of, methods_at, asks_close}
+use Rattle.model.specs.Heads.{Target, values, judged, query_of, methods_at, asks_close}
 
 -- ---- what is asked, and what is answered
 
@@ -58,13 +58,16 @@ bearer _ = None
 abbrev pub issued_as : List ℕ → World → Option Issued
 issued_as text world = find (λ i. bytes_eq (sha256 i.text) (sha256 text)) world.issued
 
--- whose token the head bears; it is good before it expires
-abbrev pub caller_of : World → ℕ → RequestHead → Result Issued Rule
-caller_of world now head = do
-  text ← found (bearer (values (codes "authorization") head)) rule.A1
+-- whose token the values of Authorization bear; it is good before it expires
+abbrev pub caller_by : World → ℕ → List (List ℕ) → Result Issued Rule
+caller_by world now values = do
+  text ← found (bearer values) rule.A1
   issued ← found (issued_as text world) rule.A2
   good ← check (nat_lt now issued.expires) rule.A3
   Ok issued
+
+abbrev pub caller_of : World → ℕ → RequestHead → Result Issued Rule
+caller_of world now head = caller_by world now (values (codes "authorization") head)
 
 abbrev pub is_upload : Operation → Bool
 is_upload operation.Upload = Bool.true
@@ -119,16 +122,19 @@ lock_verdict world policy now caller repo asked = do
 abbrev pub state_verdict : World → Policy → ℕ → Issued → Repo → Request → Answer
 state_verdict world policy now caller repo (asks_lock asked) = lock_verdict world policy now caller repo asked
 
--- the first refusal of a message, in the order of the rules, or what it is granted
-unfoldable pub verdict : World → Policy → ℕ → RequestHead → List ℕ → Answer
-verdict world policy now head body = do
-  target ← by_rules (judged head)
+-- the first refusal of a request whose head is not refused, in the order of the rules, or what it is granted
+abbrev pub target_verdict : World → Policy → ℕ → RequestHead → Target → List ℕ → Answer
+target_verdict world policy now head target body = do
   caller ← by_rules (caller_of world now head)
   own ← by_rules (check (bytes_eq caller.repo target.repo) rule.A4)
   repo ← by_rules (found (repo_named target.repo policy) rule.R1)
   request ← by_rules (request_of target.form target.parameter (query_of head.target) body)
   covered ← by_rules (check (not (needs_upload request) || is_upload caller.operation) rule.A5)
   state_verdict world policy now caller repo request
+
+-- the same of any message that is a head and a body
+unfoldable pub verdict : World → Policy → ℕ → RequestHead → List ℕ → Answer
+verdict world policy now head body = by_rules (judged head) >>= λ target. target_verdict world policy now head target body
 
 -- the verdict on any message; a broken one is answered only where the store or memory refused
 abbrev pub verdict_on : World → Policy → ℕ → Message → Answer

@@ -1,5 +1,5 @@
 -- The messages of a stream of bytes, and which of them a connection answers.
-use Rattle.std.specs.Prelude.{◌≡◌, ℕ, ◌<◌, ◌≤◌, ◌⊎◌, List, [], ◌∷◌, ◌++◌, length, IsOk, IsErr, MatchBool}
+use Rattle.std.specs.Prelude.{◌≡◌, ℕ, ◌<◌, ◌≤◌, ◌⊎◌, List, [], ◌∷◌, ◌++◌, length, IsOk, IsErr, MatchBool, ⊤}
 use Rattle.httparse.specs.Grammar.{RequestHead, print_request, ReadsRequest}
 use Rattle.model.specs.Heads.{judged, content_length}
 use Rattle.model.specs.Steps.{Message, bad_head, broken, message, Exchange, closes}
@@ -69,3 +69,9 @@ Answers bytes [] end = IsUnfinished bytes × (end ≡ input_ended)
 Answers bytes (e ∷ exchanges) end =
     (rest : List ℕ) × BeginsWith bytes e.asked rest
     × MatchBool (closes e) ((exchanges ≡ []) × (end ≡ closed)) (Answers rest exchanges end)
+
+-- the exchanges answer the first messages of the stream in order, and more may follow
+abbrev pub AnswersFirst : List ℕ → List Exchange → Type 0
+AnswersFirst bytes [] = ⊤
+AnswersFirst bytes (e ∷ exchanges) =
+    (rest : List ℕ) × BeginsWith bytes e.asked rest × MatchBool (closes e) (exchanges ≡ []) (AnswersFirst rest exchanges)
