@@ -104,4 +104,90 @@ impl Rule {
         };
         Some(status)
     }
+
+    /// Why the request is refused, in words; `None` for a denial by the policy, whose words name
+    /// the right that was denied.
+    pub fn reason(&self) -> Option<&'static str>
+        ensures { option_map (λ text. text.now) result ≡ (row_of self.now).reason }
+    {
+        let reason = match self {
+            Rule::H1 => "bad request head",
+            Rule::H2 => "transfer codings are not served",
+            Rule::H3 => "a length is needed",
+            Rule::H4 => "a field or body is not allowed here",
+            Rule::H5 => "the body is too large",
+            Rule::H6 => "no such route",
+            Rule::H7 => "the method is not served here",
+            Rule::H8 => "the reply type is not accepted",
+            Rule::A1 => "a bearer token is needed",
+            Rule::A2 => "the token is unknown",
+            Rule::A3 => "the token has expired",
+            Rule::A4 | Rule::R1 => "no such repository",
+            Rule::A5 => "the token does not cover this",
+            Rule::J1 => "the body has the wrong shape",
+            Rule::J2 => "a field is out of range",
+            Rule::J3 => "too many objects",
+            Rule::J4 => "no transfer in common",
+            Rule::B1 | Rule::X1 | Rule::V1 => "the object is not stored",
+            Rule::B2 => "the object name or size is not valid",
+            Rule::B3 => "the hash algorithm is not served",
+            Rule::B4 | Rule::V2 => "the stored size differs",
+            Rule::B5 | Rule::X3 => "the quota does not hold the object",
+            Rule::X2 => "the bytes do not have this name",
+            Rule::L1 => "the path is already locked",
+            Rule::L2 => "no such lock",
+            Rule::L3 => "the lock belongs to another user",
+            Rule::L4 => "the cursor is no lock id",
+            Rule::L5 => "the lock ids are used up",
+            Rule::S1 => "the store refused",
+            Rule::P(_) => return None,
+        };
+        Some(reason)
+    }
+}
+
+/// Writes the code, like `H1` or `P12`.
+impl fmt::Display for Rule {
+    ghost output = { λ rule. Some (row_of rule).code };
+
+    fn fmt<W: fmt::Write>(&self, f: &mut fmt::Formatter<W>) -> fmt::Result {
+        let code = match self {
+            Rule::H1 => "H1",
+            Rule::H2 => "H2",
+            Rule::H3 => "H3",
+            Rule::H4 => "H4",
+            Rule::H5 => "H5",
+            Rule::H6 => "H6",
+            Rule::H7 => "H7",
+            Rule::H8 => "H8",
+            Rule::A1 => "A1",
+            Rule::A2 => "A2",
+            Rule::A3 => "A3",
+            Rule::A4 => "A4",
+            Rule::A5 => "A5",
+            Rule::R1 => "R1",
+            Rule::J1 => "J1",
+            Rule::J2 => "J2",
+            Rule::J3 => "J3",
+            Rule::J4 => "J4",
+            Rule::B1 => "B1",
+            Rule::B2 => "B2",
+            Rule::B3 => "B3",
+            Rule::B4 => "B4",
+            Rule::B5 => "B5",
+            Rule::X1 => "X1",
+            Rule::X2 => "X2",
+            Rule::X3 => "X3",
+            Rule::V1 => "V1",
+            Rule::V2 => "V2",
+            Rule::L1 => "L1",
+            Rule::L2 => "L2",
+            Rule::L3 => "L3",
+            Rule::L4 => "L4",
+            Rule::L5 => "L5",
+            Rule::S1 => "S1",
+            Rule::P(row) => return write!(f, "P{row}"),
+        };
+        f.write_str(code)
+    }
 }

@@ -1,0 +1,4 @@
+pub mod Capped
+pub mod Days
+pub mod Digits
+pub mod Splits

@@ -1,0 +1,12 @@
+use Rattle.std.proofs.Common.{rules, lit<}
+use Rattle.std.specs.Prelude.{not}
+use Rattle.std.proofs.lemmas.Iterator.Search.{all_from_yields_List}
+use Rattle.std.proofs.lemmas.Iterator.Splits.{YieldsList-from_str_split}
+use Rattle.names.specs.Texts.{is_empty}
+use Rattle.names.proofs.texts.has_no_empty_part.Goals as goal
+
+pub returns : goal.returns
+returns c =
+    all_from_yields_List (λ part. not (is_empty part)) _ _ _ c.all.ensures.ran
+    (YieldsList-from_str_split 47 c.args.text.now (lit< tt) c.split.ensures.text c.split.ensures.has_more c.split.ensures.pattern)
+    (λ x b q h. search rules)

@@ -1,0 +1,98 @@
+//! Any reader of the standard library as a source, and any writer as a sink.
+
+ghost use Rattle.std.specs.Prelude.{◌≡◌, ◌≤◌, ◌-◌};
+ghost use Rattle.names.specs.Streams.{capped, most_handed_out};
+
+use crate::{DeviceFault, Sink, Source};
+use std::io::{Read, Write};
+
+/// The most bytes that a source hands out in its life.
+const MOST: u64 = 1_099_511_627_776;
+
+/// A reader or a writer, with the count of its failures.
+///
+/// As a source it hands out at most 1,099,511,627,776 bytes and then the end, for which it does
+/// not ask the reader again. An error counts as one failure, and so does a write that takes none
+/// of some bytes.
+#[derive(Debug, Drop)]
+pub struct Counted<T> {
+    inner: T,
+    handed_out: u64,
+    failures: u64,
+    pub ghost in_bounds: { handed_out ≤ most_handed_out },
+}
+
+impl<T> Counted<T> {
+    ghost use Rattle.names.specs.Counted.{device, handed_out, failures};
+
+    /// Nothing was handed out so far, and nothing failed.
+    pub fn new(inner: T) -> Self
+        ensures device { device result ≡ inner }
+        ensures handed_out { handed_out result ≡ 0 }
+        ensures failures { failures result ≡ 0 }
+    {
+        Counted {
+            inner,
+            handed_out: 0,
+            failures: 0,
+        }
+    }
+
+    /// The reader or the writer.
+    pub fn into_inner(self) -> T
+        ensures { result ≡ device self }
+    {
+        let Counted { inner, .. } = self;
+        inner
+    }
+}
+
+impl<R: Read> Source for Counted<R> {
+    ghost left = { λ s. capped (most_handed_out - s.handed_out) (R.remaining s.inner) };
+
+    ghost budget = { λ s. most_handed_out - s.handed_out };
+
+    ghost failed = { λ s. s.failures };
+
+    fn read(&mut self, piece: &mut [u8]) -> Result<usize, DeviceFault> {
+        let room = MOST - self.handed_out;
+        if room == 0 {
+            return Ok(0);
+        }
+        let size = (piece.len() as u64).min(room) as usize;
+        match self.inner.read(&mut piece[..size]) {
+            Ok(n) => {
+                self.handed_out += n as u64;
+                Ok(n)
+            }
+            Err(_) => {
+                self.failures = self.failures.saturating_add(1);
+                Err(DeviceFault)
+            }
+        }
+    }
+
+    fn failures(&self) -> u64 {
+        self.failures
+    }
+}
+
+impl<W: Write> Sink for Counted<W> {
+    ghost taken = { λ s. W.contents s.inner };
+
+    ghost failed = { λ s. s.failures };
+
+    fn write(&mut self, piece: &[u8]) -> Result<usize, DeviceFault> {
+        match self.inner.write(piece) {
+            Ok(n) if n > 0 || piece.is_empty() => Ok(n),
+            _ => {
+                self.failures = self.failures.saturating_add(1);
+                Err(DeviceFault)
+            }
+        }
+    }
+
+    fn failures(&self) -> u64 {
+        self.failures
+    }
+}
