@@ -30,7 +30,7 @@ fn named<'a>(repos: &'a [Repo], name: &str) -> Option<&'a Repo>
 
 impl Policy {
     ghost use Rattle.std.specs.Prelude.{option_map};
-    ghost use Rattle.model.specs.Policy.{repo_named};
+    ghost use Rattle.model.specs.Policy.{IsPolicy, repo_named};
     ghost use Rattle.policy.specs.Values.{policy_view, repo_view};
 
     /// The address below which the server's repositories lie, as `https://lfs.example`.
@@ -51,7 +51,8 @@ impl Policy {
 
     /// The repository of that name; `None` exactly where there is none.
     pub fn repo(&self, name: &str) -> Option<&Repo>
-        ensures { option_map (λ r. repo_view r.now) result ≡ repo_named name.now (policy_view self.now) }
+        ensures value { option_map (λ r. repo_view r.now) result ≡ repo_named name.now (policy_view self.now) }
+        ensures in_range { IsPolicy (policy_view self.now) }
     {
         named(&self.repos, name)
     }
