@@ -1,2 +1,4 @@
-pub mod Lists
 pub mod InRange
+pub mod Lists
+pub mod Slashes
+pub mod Documents

@@ -1,2 +1,5 @@
 pub mod Ranges
 pub mod Values
+pub mod Language
+pub mod Reading
+pub mod Lines

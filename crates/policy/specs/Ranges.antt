@@ -1,5 +1,5 @@
 -- Which values a policy may hold.
-use Rattle.std.specs.Prelude.{ℕ, ◌-◌, Bool, true, false, ◌&&◌, ◌||◌, not, ◌==◌, nat_lt, List, [], ◌∷◌, length, map, take, codes, bytes_eq, String, string_bytes}
+use Rattle.std.specs.Prelude.{ℕ, ◌-◌, Bool, true, false, ◌&&◌, ◌||◌, not, ◌==◌, nat_lt, List, [], ◌∷◌, length, map, take, codes, bytes_eq, String, string_bytes, Option, Some, None, if◌then◌else◌}
 use Rattle.std.specs.List.{list_all, list_any, ends_with}
 use Rattle.std.specs.Char.{is_ascii_uppercase}
 use Rattle.std.specs.declared.alloc.Global.{Global}
@@ -54,9 +54,17 @@ is_base text =
 
 -- ---- entries of a row
 
--- a text for which the test holds, and a slash
+-- the text before a slash at its end
+abbrev pub before_slash : List ℕ → Option (List ℕ)
+before_slash text = if ends_in_slash text then Some (take (length text - 1) text) else None
+
+abbrev pub passes : {A : Type 0} → Option A → (A → Bool) → Bool
+passes None test = false
+passes (Some x) test = test x
+
+-- a text that passes the test, and a slash
 abbrev pub is_front : (List ℕ → Bool) → List ℕ → Bool
-is_front test text = ends_in_slash text && test (take (length text - 1) text)
+is_front test text = passes (before_slash text) test
 
 -- * or a user
 abbrev pub is_user_entry : List ℕ → Bool

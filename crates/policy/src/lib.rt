@@ -7,12 +7,18 @@
 #![tactic(auto)]
 
 mod decisions;
+mod entries;
+mod faults;
+mod keys;
 mod policies;
 mod questions;
 mod repos;
 mod rows;
+mod tables;
 
 pub use decisions::decide;
+pub use faults::{Fault, FaultCode, Place, PolicyFault};
+pub use keys::Key;
 pub use policies::Policy;
 pub use questions::{Question, Verdict};
 pub use repos::Repo;
