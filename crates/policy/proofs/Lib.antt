@@ -2,3 +2,6 @@ pub mod InRange
 pub mod Lists
 pub mod Slashes
 pub mod Documents
+pub mod Rights
+pub mod Steps
+pub mod WholeText

@@ -134,10 +134,16 @@ entries_at t k = entries_of (value_at t k)
 
 -- ---- tests of a table
 
--- the number is at least the first and at most the second
-abbrev pub is_within : ℕ → ℕ → ℤ → Bool
-is_within low high (pos n) = between low high n
-is_within low high (negsuc n) = false
+-- the number, where it is at least the first and at most the second
+abbrev pub natural_within : ℕ → ℕ → ℤ → Option ℕ
+natural_within low high (pos n) = if between low high n then Some n else None
+natural_within low high (negsuc n) = None
+
+-- the test of a text, or of each text
+abbrev pub test_of : Kind → List ℕ → Bool
+test_of (text test) = test
+test_of (texts test) = test
+test_of _ = λ _. false
 
 -- what stands at the key has the kind
 abbrev pub has_kind : Kind → Members → Key → Bool
@@ -149,7 +155,7 @@ has_kind (tables most) t k = is_some (entries_at t k)
 -- and it is in the range of the kind
 abbrev pub is_in_range : Kind → Members → Key → Bool
 is_in_range (text test) t k = passes (text_at t k) test
-is_in_range (whole low high) t k = passes (whole_at t k) (is_within low high)
+is_in_range (whole low high) t k = passes (whole_at t k) (λ z. is_some (natural_within low high z))
 is_in_range (texts test) t k = passes (texts_at t k) (are_entries test)
 is_in_range (tables most) t k = passes (entries_at t k) (λ entries. nat_le (length entries) most)
 

@@ -1,4 +1,5 @@
 pub mod Ranges
+pub mod Repos
 pub mod Values
 pub mod Language
 pub mod Reading

@@ -93,7 +93,7 @@ are_entries test entries = is_count entries && list_all test entries
 -- ---- names
 
 abbrev pub is_among : List ℕ → List (List ℕ) → Bool
-is_among name names = list_any (bytes_eq name) names
+is_among name names = list_any (λ other. bytes_eq other name) names
 
 -- no name stands twice
 abbrev pub are_distinct : List (List ℕ) → Bool

@@ -46,10 +46,10 @@ abbrev pub rights_named : List (List ℕ) → List Right
 rights_named [] = []
 rights_named (name ∷ names) = unwrap_or (option_map (λ r. r ∷ rights_named names) (right_named name)) (rights_named names)
 
-abbrev pub repo_in : Members → model.Repo
+unfoldable pub repo_in : Members → model.Repo
 repo_in t = record { name = text_in t key.Name; default_ref = text_in t key.DefaultRef; quota = number_in t key.Quota }
 
-abbrev pub row_in : Members → model.Row
+unfoldable pub row_in : Members → model.Row
 row_in t = record {
   effect = unwrap_or (effect_named (text_in t key.Effect)) effect.Deny;
   users = texts_in t key.Users;
@@ -59,13 +59,19 @@ row_in t = record {
   rights = rights_named (texts_in t key.Rights);
 }
 
+abbrev pub repos_in : List Data → List model.Repo
+repos_in entries = map (λ d. repo_in (table_in d)) entries
+
+abbrev pub rows_in : List Data → List model.Row
+rows_in entries = map (λ d. row_in (table_in d)) entries
+
 -- the policy of a file's table
 abbrev pub policy_in : Members → model.Policy
 policy_in t = record {
   base = text_in t key.Base;
   token_seconds = number_in t key.TokenSeconds;
-  repos = map (λ d. repo_in (table_in d)) (entries_in t key.Repo);
-  rows = map (λ d. row_in (table_in d)) (entries_in t key.Row);
+  repos = repos_in (entries_in t key.Repo);
+  rows = rows_in (entries_in t key.Row);
 }
 
 -- the table that a text is
@@ -78,14 +84,20 @@ spelled source = policy_in (document source)
 
 -- ---- its first fault
 
--- a test, and the fault where it fails
-pub record Check : Type 0 where
-  pub passed : Bool
-  pub fault : Fault
+-- the first fault of the two
+infixr 10 ◌or◌
+abbrev pub ◌or◌ : Option Fault → Option Fault → Option Fault
+None or more = more
+(Some fault) or more = Some fault
 
-abbrev pub first_fault : List Check → Option Fault
-first_fault [] = None
-first_fault (check ∷ checks) = if check.passed then first_fault checks else Some check.fault
+-- the first fault of all
+abbrev pub first_of : List (Option Fault) → Option Fault
+first_of [] = None
+first_of (fault ∷ more) = fault or first_of more
+
+-- this fault, where the test fails
+abbrev pub unless : Bool → Fault → Option Fault
+unless passed fault = if passed then None else Some fault
 
 abbrev pub at_place : FaultCode → Place → Fault
 at_place code place = record { code = code; place = place; key = None }
@@ -93,53 +105,49 @@ at_place code place = record { code = code; place = place; key = None }
 abbrev pub at_key : FaultCode → Place → Key → Fault
 at_key code place k = record { code = code; place = place; key = Some k }
 
--- the fault of a value out of range
+-- the code of a value out of range
 abbrev pub range_code : Kind → FaultCode
 range_code (tables most) = Y5
 range_code _ = Y3
 
--- each key is there and of its kind; there is no other key; each value is in range
-abbrev pub table_checks : Place → List Key → Members → List Check
-table_checks place keys t =
-    map (λ k. record { passed = has_kind (kind_of k) t k; fault = at_key Y2 place k }) keys
-    ++ record { passed = has_only keys t; fault = at_place Y2 place }
-    ∷ map (λ k. record { passed = is_in_range (kind_of k) t k; fault = at_key (range_code (kind_of k)) place k }) keys
+-- each key is there and of its kind, there is no other key, and each value is in range
+unfoldable pub table_fault : Place → List Key → Members → Option Fault
+table_fault place keys t =
+    first_of (map (λ k. unless (has_kind (kind_of k) t k) (at_key Y2 place k)) keys)
+    or unless (has_only keys t) (at_place Y2 place)
+    or first_of (map (λ k. unless (is_in_range (kind_of k) t k) (at_key (range_code (kind_of k)) place k)) keys)
 
--- an entry is a table, and that table passes
-abbrev pub entry_checks : Place → List Key → Data → List Check
-entry_checks place keys d =
-    record { passed = is_some (as_table d); fault = at_place Y2 place } ∷ table_checks place keys (table_in d)
+-- an entry is a table, and one without a fault
+unfoldable pub entry_fault : Place → List Key → Data → Option Fault
+entry_fault place keys d = unless (is_some (as_table d)) (at_place Y2 place) or table_fault place keys (table_in d)
 
 -- the repositories from number n on, each with another name than those before
-abbrev pub repo_checks : ℕ → List (List ℕ) → List Data → List Check
-repo_checks n before [] = []
-repo_checks n before (d ∷ ds) =
-    let name = text_in (table_in d) key.Name in
-    entry_checks (place.Repo n) repo_keys d
-    ++ record { passed = not (is_among name before); fault = at_key Y4 (place.Repo n) key.Name }
-    ∷ repo_checks (n + 1) (before ++ name ∷ []) ds
+abbrev pub repos_fault : ℕ → List (List ℕ) → List Data → Option Fault
+repos_fault n before [] = None
+repos_fault n before (d ∷ ds) =
+    let name = (repo_in (table_in d)).name in
+    entry_fault (place.Repo n) repo_keys d
+    or unless (not (is_among name before)) (at_key Y4 (place.Repo n) key.Name)
+    or repos_fault (n + 1) (before ++ name ∷ []) ds
 
 -- the rows from number n on
-abbrev pub row_checks : ℕ → List Data → List Check
-row_checks n [] = []
-row_checks n (d ∷ ds) = entry_checks (place.Row n) row_keys d ++ row_checks (n + 1) ds
+abbrev pub rows_fault : ℕ → List Data → Option Fault
+rows_fault n [] = None
+rows_fault n (d ∷ ds) = entry_fault (place.Row n) row_keys d or rows_fault (n + 1) ds
 
 -- the file's keys, then its repositories, then its rows
-abbrev pub document_checks : Members → List Check
-document_checks t =
-    table_checks place.Top top_keys t
-    ++ repo_checks 1 [] (entries_in t key.Repo)
-    ++ row_checks 1 (entries_in t key.Row)
+abbrev pub document_fault : Members → Option Fault
+document_fault t =
+    table_fault place.Top top_keys t
+    or repos_fault 1 [] (entries_in t key.Repo)
+    or rows_fault 1 (entries_in t key.Row)
 
--- the length, then whether it is TOML in UTF-8, then the document
-abbrev pub text_checks : List ℕ → List Check
-text_checks source =
-    record { passed = nat_le (length source) longest_file; fault = at_place Y5 place.File }
-    ∷ record { passed = is_utf8 source && is_some (parse_document source); fault = at_place Y1 place.File }
-    ∷ document_checks (document source)
-
+-- the length, then whether it is TOML in UTF-8, then what it says
 abbrev pub fault_in : List ℕ → Option Fault
-fault_in source = first_fault (text_checks source)
+fault_in source =
+    unless (nat_le (length source) longest_file) (at_place Y5 place.File)
+    or unless (is_utf8 source && is_some (parse_document source)) (at_place Y1 place.File)
+    or document_fault (document source)
 
 -- ---- what the reader's steps answer
 
@@ -160,7 +168,6 @@ FindsInMemory seen found fault r =
 abbrev pub Tests : Bool → Fault → Result ⊤ Fault → Type 0
 Tests passed fault r = MatchResult r (λ _. passed ≡ true) (λ f. (passed ≡ false) × (f ≡ fault))
 
--- all checks pass and the value is as told, or the fault of the first that fails
-abbrev pub Reads : {A : Type 0} → List Check → (A → Type 0) → Result A PolicyFault → Type 0
-Reads checks P r =
-    MatchResult r (λ x. (first_fault checks ≡ None) × P x) (λ e. IfRefused e (λ f. first_fault checks ≡ Some f))
+-- there is no fault and the value is as told, or the fault is this
+abbrev pub Reads : {A : Type 0} → Option Fault → (A → Type 0) → Result A PolicyFault → Type 0
+Reads fault P r = MatchResult r (λ x. (fault ≡ None) × P x) (λ e. IfRefused e (λ f. fault ≡ Some f))

@@ -1,8 +1,15 @@
 -- What the crate's values stand for among the definitions of the model.
-use Rattle.std.specs.Prelude.{map, string_bytes, option_map}
+use Rattle.std.specs.Prelude.{◌≡◌, ◌≤◌, List, IsTrue, length, map, string_bytes, option_map}
 use Rattle.names.specs.Names.{user_text, repo_text, ref_text, path_text}
 use Rattle.model.specs.Policy as model
-use Rattle.policy.specs.Ranges.{texts}
+use Rattle.policy.specs.Ranges.{texts, are_distinct, is_base, longest_life, most_repos, most_rows}
+use Rattle.policy.specs.Reading.{text_in, number_in, entries_in}
+use Rattle.policy.specs.declared.keys.Key.TheVariants as key
+use Rattle.policy.specs.declared.reading.Top.{Top}
+use Rattle.names.specs.Texts.{between}
+use Rattle.toml.specs.Data.{Members}
+use Rattle.toml.specs.View.{view}
+use Rattle.policy.specs.Repos.{names_of}
 use Rattle.policy.specs.declared.repos.Repo.{Repo}
 use Rattle.policy.specs.declared.rows.Row.{Row}
 use Rattle.policy.specs.declared.questions.Question.{Question}
@@ -43,3 +50,19 @@ question_view q = record {
 abbrev pub decision_view : Verdict → model.Decision
 decision_view (Allow n) = model.allowed n
 decision_view (Deny n) = model.denied n
+
+-- these are the repositories, and no name stands twice
+pub record AreRepos (repos : List model.Repo) (held : List Repo) : Type 0 where
+  pub values : map repo_view held ≡ repos
+  pub distinct : IsTrue (are_distinct (names_of held))
+
+-- this is what the keys at the top of the table hold, and it is in range
+pub record IsTop (t : Members) (top : Top) : Type 0 where
+  pub base : text_in t key.Base ≡ top.base.now
+  pub token_seconds : number_in t key.TokenSeconds ≡ top.token_seconds
+  pub repos : entries_in t key.Repo ≡ map view top.repos.now
+  pub rows : entries_in t key.Row ≡ map view top.rows.now
+  pub base_in_range : IsTrue (is_base top.base.now)
+  pub token_seconds_in_range : IsTrue (between 1 longest_life top.token_seconds)
+  pub few_repos : length top.repos.now ≤ most_repos
+  pub few_rows : length top.rows.now ≤ most_rows

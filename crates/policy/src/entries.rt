@@ -5,8 +5,9 @@ ghost use Rattle.std.specs.List.{list_all};
 ghost use Rattle.names.specs.Texts.{is_user, is_repo, is_ref, is_lock_path};
 ghost use Rattle.model.specs.Policy.{is_any};
 ghost use Rattle.policy.specs.Ranges.{is_base_byte, ends_in_slash, goes_on, is_base, before_slash, is_front, is_user_entry, is_repo_entry, is_ref_entry, is_path_entry};
-ghost use Rattle.policy.specs.Language.{effect_named, right_named};
+ghost use Rattle.policy.specs.Language.{effect_named, right_named, kind_of, test_of};
 
+use crate::keys::Key;
 use model::{Effect, Right};
 use names::{LockPath, RefName, RepoName, UserName};
 
@@ -36,7 +37,7 @@ fn goes_on(text: &str, front: &str) -> bool
 
 /// Whether the text may be the server's address: 8 to 200 bytes of `A-Z a-z 0-9 . : _ / -` that
 /// begin with `http://` or `https://`, go on after it, and do not end in `/`.
-pub fn is_base(text: &str) -> bool
+fn is_base(text: &str) -> bool
     ensures { result ≡ is_base text.now }
 {
     text.len() >= 8
@@ -59,14 +60,14 @@ fn is_user(text: &str) -> bool
 }
 
 /// Whether the text is a repository: `owner/name`.
-pub fn is_repo(text: &str) -> bool
+fn is_repo(text: &str) -> bool
     ensures { result ≡ is_repo text.now }
 {
     RepoName::read(text).is_some()
 }
 
 /// Whether the text is a ref.
-pub fn is_ref(text: &str) -> bool
+fn is_ref(text: &str) -> bool
     ensures { result ≡ is_ref text.now }
 {
     RefName::read(text).is_some()
@@ -104,7 +105,7 @@ fn is_path_front(text: &str) -> bool
 }
 
 /// Whether the text may stand among the users of a row: `*`, or a user.
-pub fn is_user_entry(text: &str) -> bool
+fn is_user_entry(text: &str) -> bool
     ensures { result ≡ is_user_entry text.now }
 {
     is_any(text) || is_user(text)
@@ -112,21 +113,21 @@ pub fn is_user_entry(text: &str) -> bool
 
 /// Whether the text may stand among the repositories of a row: `*`, an owner and `/`, or a
 /// repository.
-pub fn is_repo_entry(text: &str) -> bool
+fn is_repo_entry(text: &str) -> bool
     ensures { result ≡ is_repo_entry text.now }
 {
     is_any(text) || is_owner_front(text) || is_repo(text)
 }
 
 /// Whether the text may stand among the refs of a row: `*`, `refs/`, a ref and `/`, or a ref.
-pub fn is_ref_entry(text: &str) -> bool
+fn is_ref_entry(text: &str) -> bool
     ensures { result ≡ is_ref_entry text.now }
 {
     is_any(text) || text == "refs/" || is_ref_front(text) || is_ref(text)
 }
 
 /// Whether the text may stand among the paths of a row: `*`, a path and `/`, or a path.
-pub fn is_path_entry(text: &str) -> bool
+fn is_path_entry(text: &str) -> bool
     ensures { result ≡ is_path_entry text.now }
 {
     is_any(text) || is_path_front(text) || is_lock_path(text)
@@ -154,5 +155,23 @@ pub fn right_named(name: &str) -> Option<Right>
         "lock" => Some(Right::Lock),
         "force" => Some(Right::Force),
         _ => None,
+    }
+}
+
+/// Whether the text may stand at the key, or among the texts there; false at a key that has none.
+pub fn is_text_for(key: Key, text: &str) -> bool
+    ensures { result ≡ test_of (kind_of key) text.now }
+{
+    match key {
+        Key::Base => is_base(text),
+        Key::Name => is_repo(text),
+        Key::DefaultRef => is_ref(text),
+        Key::Effect => effect_named(text).is_some(),
+        Key::Users => is_user_entry(text),
+        Key::Repos => is_repo_entry(text),
+        Key::Refs => is_ref_entry(text),
+        Key::Paths => is_path_entry(text),
+        Key::Rights => right_named(text).is_some(),
+        Key::TokenSeconds | Key::Repo | Key::Row | Key::Quota => false,
     }
 }

@@ -3,7 +3,7 @@
 ghost use Rattle.std.specs.Prelude.{◌≡◌, Some};
 
 use crate::keys::Key;
-use std::alloc::AllocError;
+use std::alloc::{AllocError, AllocFailed};
 use std::error::Error;
 use std::fmt;
 
@@ -122,6 +122,16 @@ impl From<AllocError> for PolicyFault {
     ghost from_gives = { λ _ result. result ≡ Memory };
 
     fn from(_refused: AllocError) -> PolicyFault {
+        PolicyFault::Memory
+    }
+}
+
+impl<T: Drop> From<AllocFailed<T>> for PolicyFault {
+    ghost use Rattle.policy.specs.declared.faults.PolicyFault.TheVariants.{Memory};
+
+    ghost from_gives = { λ _ result. result ≡ Memory };
+
+    fn from(_refused: AllocFailed<T>) -> PolicyFault {
         PolicyFault::Memory
     }
 }

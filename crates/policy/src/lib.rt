@@ -12,6 +12,7 @@ mod faults;
 mod keys;
 mod policies;
 mod questions;
+mod reading;
 mod repos;
 mod rows;
 mod tables;

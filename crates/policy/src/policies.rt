@@ -1,8 +1,9 @@
 //! The policy as a value.
 
-ghost use Rattle.std.specs.Prelude.{◌≡◌, ◌≤◌, IsTrue, length, map, option_copied, find, bytes_eq, string_bytes};
+ghost use Rattle.std.specs.Prelude.{◌≡◌, ◌≤◌, IsTrue, length, option_copied, find, bytes_eq, string_bytes};
 ghost use Rattle.names.specs.Texts.{between};
 ghost use Rattle.policy.specs.Ranges.{is_base, longest_life, most_repos, most_rows, are_distinct};
+ghost use Rattle.policy.specs.Repos.{names_of};
 
 use crate::repos::Repo;
 use crate::rows::Row;
@@ -18,11 +19,11 @@ pub struct Policy {
     pub ghost token_seconds_in_range: { IsTrue (between 1 longest_life token_seconds) },
     pub ghost repos_in_range: { length repos.items ≤ most_repos },
     pub ghost rows_in_range: { length rows.items ≤ most_rows },
-    pub ghost repos_are_distinct: { IsTrue (are_distinct (map (λ r. string_bytes r.name) repos.items)) },
+    pub ghost repos_are_distinct: { IsTrue (are_distinct (names_of repos.items)) },
 }
 
 /// The first of the repositories that has the name.
-fn named<'a>(repos: &'a [Repo], name: &str) -> Option<&'a Repo>
+pub(crate) fn named<'a>(repos: &'a [Repo], name: &str) -> Option<&'a Repo>
     ensures { option_copied result ≡ find (λ repo. bytes_eq (string_bytes repo.name) name.now) repos.entry.now }
 {
     repos.iter().find(|repo| repo.name.as_str() == name)

@@ -1,14 +1,16 @@
 //! The tables of a policy file, and what stands at their keys.
 
-ghost use Rattle.std.specs.Prelude.{◌≡◌, IfOk, map, option_map, string_bytes};
+ghost use Rattle.std.specs.Prelude.{◌≡◌, IfOk, MatchResult, Some, None, nat_le, length, map, option_map, string_bytes};
 ghost use Rattle.std.specs.BTreeMap.{keys as btree_keys};
 ghost use Rattle.std.specs.List.{list_all};
+ghost use Rattle.toml.specs.Data.{as_table};
 ghost use Rattle.toml.specs.View.{view, table_view};
-ghost use Rattle.policy.specs.declared.faults.FaultCode.TheVariants.{Y2};
-ghost use Rattle.policy.specs.Ranges.{texts};
-ghost use Rattle.policy.specs.Language.{value_at, text_at, whole_at, texts_at, entries_at, as_values, all_texts, is_name_of, has_only};
+ghost use Rattle.policy.specs.declared.faults.FaultCode.TheVariants.{Y2, Y3, Y5};
+ghost use Rattle.policy.specs.Ranges.{texts, is_count, are_entries};
+ghost use Rattle.policy.specs.Language.{value_at, text_at, whole_at, texts_at, entries_at, as_values, all_texts, is_name_of, has_only, kind_of, test_of, natural_within};
 ghost use Rattle.policy.specs.Reading.{at_key, at_place, Finds, FindsInMemory, Tests};
 
+use crate::entries::is_text_for;
 use crate::faults::{Fault, FaultCode, Place, PolicyFault};
 use crate::keys::Key;
 use std::alloc::{AllocError, Global};
@@ -98,6 +100,26 @@ fn is_name_of(keys: &[Key], name: &str) -> bool
     keys.iter().any(|key| key.name() == name)
 }
 
+/// Whether each of the texts may stand among those at the key.
+fn all_texts_for(key: Key, texts: &[String]) -> bool
+    ensures { result ≡ list_all (λ text. test_of (kind_of key) (string_bytes text)) texts.now }
+{
+    texts.iter().all(|text| is_text_for(key, text.as_str()))
+}
+
+fn is_count(entries: &[String]) -> bool
+    ensures { result ≡ is_count entries.now }
+{
+    !entries.is_empty() && entries.len() <= 64
+}
+
+/// Whether these may be the texts at the key: 1 to 64, each of which may stand there.
+fn are_texts_for(key: Key, entries: &[String]) -> bool
+    ensures { result ≡ are_entries (test_of (kind_of key)) (texts entries.now) }
+{
+    is_count(entries) && all_texts_for(key, entries)
+}
+
 /// Whether the table has no other keys.
 fn has_only(keys: &[Key], table: &Table) -> bool
     ensures { result ≡ list_all (λ name. is_name_of keys.now (string_bytes name)) (btree_keys table.now) }
@@ -113,6 +135,20 @@ pub struct TableAt<'a> {
 }
 
 impl<'a> TableAt<'a> {
+    /// The entry as a table, at this place.
+    pub fn read(entry: &'a Value, place: Place) -> Result<Self, Fault>
+        ensures { MatchResult result (λ table. (as_table (view entry.entry.now) ≡ Some (table_view table.table.now)) × (table.place ≡ place)) (λ fault. (as_table (view entry.entry.now) ≡ None) × (fault ≡ at_place Y2 place)) }
+    {
+        match entry.as_table() {
+            Some(table) => Ok(TableAt { table, place }),
+            None => Err(Fault {
+                code: FaultCode::Y2,
+                place,
+                key: None,
+            }),
+        }
+    }
+
     /// The text at the key.
     pub fn text(&self, key: Key) -> Result<&'a str, Fault>
         ensures { Finds (λ text. text.now) (text_at (table_view self.now.table.now) key) (at_key Y2 self.now.place key) result }
@@ -159,18 +195,51 @@ impl<'a> TableAt<'a> {
         }
     }
 
-    /// That the test of the key's value passed, else the fault of that code.
-    pub fn passes(&self, passed: bool, code: FaultCode, key: Key) -> Result<(), Fault>
-        ensures { Tests passed (at_key code self.now.place key) result }
+    /// That the text may stand at the key.
+    pub fn check_text(&self, key: Key, text: &str) -> Result<(), Fault>
+        ensures { Tests (test_of (kind_of key) text.now) (at_key Y3 self.now.place key) result }
     {
-        if passed {
+        if is_text_for(key, text) {
             Ok(())
         } else {
-            Err(self.fault(code, key))
+            Err(self.fault(FaultCode::Y3, key))
         }
     }
 
-    fn fault(&self, code: FaultCode, key: Key) -> Fault
+    /// That these may be the texts at the key: 1 to 64, each of which may stand there.
+    pub fn check_texts(&self, key: Key, entries: &[String]) -> Result<(), Fault>
+        ensures { Tests (are_entries (test_of (kind_of key)) (texts entries.now)) (at_key Y3 self.now.place key) result }
+    {
+        if are_texts_for(key, entries) {
+            Ok(())
+        } else {
+            Err(self.fault(FaultCode::Y3, key))
+        }
+    }
+
+    /// The number as a natural one that is at least `low` and at most `high`.
+    pub fn check_whole(&self, key: Key, number: i64, low: u64, high: u64) -> Result<u64, Fault>
+        ensures { Finds (λ n. n) (natural_within low high number) (at_key Y3 self.now.place key) result }
+    {
+        match u64::try_from(number) {
+            Ok(natural) if low <= natural && natural <= high => Ok(natural),
+            _ => Err(self.fault(FaultCode::Y3, key)),
+        }
+    }
+
+    /// That there are at most so many entries.
+    pub fn check_count(&self, key: Key, entries: &[Value], most: usize) -> Result<(), Fault>
+        ensures { Tests (nat_le (length entries.now) most) (at_key Y5 self.now.place key) result }
+    {
+        if entries.len() <= most {
+            Ok(())
+        } else {
+            Err(self.fault(FaultCode::Y5, key))
+        }
+    }
+
+    /// A fault at the key.
+    pub fn fault(&self, code: FaultCode, key: Key) -> Fault
         ensures { result ≡ at_key code self.now.place key }
     {
         Fault {
