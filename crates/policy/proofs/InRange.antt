@@ -1,0 +1,14 @@
+-- What every policy keeps, for the proofs of whoever holds one.
+use Rattle.std.proofs.Common.{get_or}
+use Rattle.std.proofs.lemmas.List.Elements.{All-map}
+use Rattle.names.specs.Texts.{is_repo, is_ref}
+use Rattle.std.specs.Prelude.{IsTrue}
+use Rattle.model.specs.Policy as model
+use Rattle.policy.specs.declared.policies.Policy.{Policy}
+use Rattle.policy.specs.Values.{repo_view, policy_view}
+
+-- the names of its repositories are in range
+pub IsPolicy-policy_view : (p : Policy) → model.IsPolicy (policy_view p)
+IsPolicy-policy_view p =
+    All-map (λ r. IsTrue (is_repo r.name) × IsTrue (is_ref r.default_ref)) repo_view p.repos.items
+    (λ k r inside. ((get_or p.repos.items k r).name_in_range, (get_or p.repos.items k r).default_ref_in_range))

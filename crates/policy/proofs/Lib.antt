@@ -1,0 +1,7 @@
+pub mod InRange
+pub mod Lists
+pub mod Slashes
+pub mod Documents
+pub mod Rights
+pub mod Steps
+pub mod WholeText

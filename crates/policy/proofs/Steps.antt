@@ -1,0 +1,73 @@
+-- The repositories and rows of a file, one after the other.
+use Rattle.std.proofs.Common.{◌≡◌, ◌∙◌, ℕ, ◌+◌, ◌<◌, List, [], ◌∷◌, ◌++◌, length, map, drop, get_or, Bool, true, false, not, ◌||◌, ◌&&◌, Option, Some, None, is_some, cond, refl, sym, ap, string_bytes, bytes_eq, Bor, append_assoc}
+use Rattle.std.specs.Bool.{IsTrue}
+use Rattle.std.proofs.lemmas.List.{drop_more, map-append}
+use Rattle.std.proofs.lemmas.List.Folds.{list_any-append}
+use Rattle.std.proofs.lemmas.Bool.{true≢false, and_parts, or_parts, or_from, not-true, false_from_ne_true}
+use Rattle.std.proofs.lemmas.Slice.Eq.{bytes_eq-Decides}
+use Rattle.std.specs.List.{find}
+use Rattle.std.specs.Option.{option_copied}
+use Rattle.policy.specs.declared.faults.Place.TheVariants as place
+use Rattle.policy.specs.Language.{repo_keys}
+use Rattle.policy.proofs.Lists.{list_any-map, is_some-find, is_some-copied}
+use Rattle.toml.specs.Data.{Data}
+use Rattle.policy.specs.declared.repos.Repo.{Repo}
+use Rattle.policy.specs.declared.rows.Row.{Row}
+use Rattle.policy.specs.Ranges.{is_among, are_distinct}
+use Rattle.policy.specs.Repos.{names_of}
+use Rattle.policy.specs.Values.{repo_view, row_view}
+use Rattle.policy.specs.Reading.{entry_fault, repos_fault, rows_fault, repo_in, table_in, repos_in, rows_in}
+
+-- the entries before number index + 1 are read, without a fault
+pub record ReposSoFar (all : List Data) (index : ℕ) (repos : List Repo) (rest : List Data) : Type 0 where
+  pub faults : repos_fault 1 [] all ≡ repos_fault (index + 1) (names_of repos) rest
+  pub values : repos_in all ≡ map repo_view repos ++ repos_in rest
+  pub distinct : IsTrue (are_distinct (names_of repos))
+
+pub record RowsSoFar (all : List Data) (index : ℕ) (rows : List Row) (rest : List Data) : Type 0 where
+  pub faults : rows_fault 1 all ≡ rows_fault (index + 1) rest
+  pub values : rows_in all ≡ map row_view rows ++ rows_in rest
+
+-- the entry at an index, and those after it
+pub map-drop : {A B : Type 0} (f : A → B) (xs : List A) (i : ℕ) (x : A) → i < length xs → x ≡ get_or xs i x
+    → map f (drop i xs) ≡ f x ∷ map f (drop (i + 1) xs)
+map-drop f xs i x inside same = rw (drop_more xs i x inside) (ap (λ y. f y ∷ map f (drop (i + 1) xs)) (sym same))
+
+-- ---- names
+
+same_text : (x y : List ℕ) → bytes_eq x y ≡ false → bytes_eq y x ≡ false
+same_text x y other =
+    false_from_ne_true (bytes_eq y x)
+    (λ same. true≢false (sym ((bytes_eq-Decides x y).1 (sym ((bytes_eq-Decides y x).0 same))) ∙ other))
+
+-- one more name, which is not among the others
+are_distinct-append : (names : List (List ℕ)) (name : List ℕ) → are_distinct names ≡ true → is_among name names ≡ false → are_distinct (names ++ name ∷ []) ≡ true
+are_distinct-append [] name distinct new = refl
+are_distinct-append (x ∷ xs) name distinct new =
+    let (apart, later) = and_parts (not (is_among x xs)) (are_distinct xs) distinct in
+    let (other, others) = or_parts (bytes_eq x name) (is_among name xs) new in
+    let alone : is_among x (xs ++ name ∷ []) ≡ false =
+    list_any-append (λ y. bytes_eq y x) xs (name ∷ [])
+    ∙ or_from (is_among x xs) (bytes_eq name x || false) (not-true (is_among x xs) apart) (or_from (bytes_eq name x) false (same_text x name other) refl) in
+    rw (alone, are_distinct-append xs name later others)
+
+pub is_among-names_of : (repos : List Repo) (name : List ℕ) (r : Option (Bor Repo)) → option_copied r ≡ find (λ repo. bytes_eq (string_bytes repo.name) name) repos
+    → is_some r ≡ is_among name (names_of repos)
+is_among-names_of repos name r found =
+    is_some-copied r ∙ ap is_some found ∙ is_some-find (λ repo. bytes_eq (string_bytes repo.name) name) repos
+    ∙ sym (list_any-map (λ other. bytes_eq other name) (λ repo. string_bytes repo.name) repos)
+
+-- ---- the next entry
+
+-- the next repository, which has no fault
+pub repos_next : (all : List Data) (i : ℕ) (repos : List Repo) (rest later : List Data) (d : Data) (repo : Repo) → ReposSoFar all i repos rest
+    → rest ≡ d ∷ later → entry_fault (place.Repo (i + 1)) repo_keys d ≡ None → repo_view repo ≡ repo_in (table_in d)
+    → is_among (string_bytes repo.name) (names_of repos) ≡ false → ReposSoFar all (i + 1) (repos ++ repo ∷ []) later
+repos_next all i repos rest later d repo so_far here fine value new =
+    let name : (repo_in (table_in d)).name ≡ string_bytes repo.name = ap (λ r. r.name) (sym value) in
+    let free : is_among (repo_in (table_in d)).name (names_of repos) ≡ false = rw name new in
+    record {
+      faults = so_far.faults ∙ rw (here, fine, free, name, map-append (λ r. string_bytes r.name) repos (repo ∷ [])) refl;
+      values = so_far.values ∙ rw (here, map-append repo_view repos (repo ∷ []), ← value, append_assoc) refl;
+      distinct = rw (map-append (λ r. string_bytes r.name) repos (repo ∷ [])) (are_distinct-append (names_of repos) (string_bytes repo.name) so_far.distinct new);
+    }

@@ -1,0 +1,27 @@
+-- What a text's table answers, the text answers.
+use Rattle.std.proofs.Common.{◌≡◌, ◌∙◌, ℕ, ◌≤◌, List, length, Bool, true, Option, Some, None, is_some, Result, Ok, Err, refl, ap, le-leb}
+use Rattle.std.specs.Str.{IsUtf8}
+use Rattle.std.proofs.lemmas.Str.{is_utf8-from_IsUtf8}
+use Rattle.std.specs.Result.{OnOk, IfErr}
+use Rattle.toml.specs.Data.{Members}
+use Rattle.toml.specs.Parse.{parse_document}
+use Rattle.policy.specs.declared.faults.Fault.{Fault}
+use Rattle.policy.specs.declared.faults.PolicyFault.{PolicyFault}
+use Rattle.policy.specs.declared.faults.PolicyFault.TheVariants.{Refused, Memory}
+use Rattle.policy.specs.Ranges.{longest_file}
+use Rattle.policy.specs.Reading.{Reads, IfRefused, fault_in, document_fault}
+
+-- the faults of a text that is short enough and TOML are those of its table
+pub fault_in-document : (source : List ℕ) (t : Members) → length source ≤ longest_file → IsUtf8 source → parse_document source ≡ Some t
+    → fault_in source ≡ document_fault t
+fault_in-document source t short text parsed = rw (le-leb (length source) longest_file short, is_utf8-from_IsUtf8 source text, parsed) refl
+
+pub without_fault-from : {A : Type 0} (fault same : Option Fault) (P : A → Type 0) (r : Result A PolicyFault) → fault ≡ same → Reads same P r → OnOk r (fault ≡ None)
+without_fault-from fault same P (Ok x) e reads = e ∙ reads.0
+without_fault-from fault same P (Err f) e reads = tt
+
+pub refused-from : {A : Type 0} (fault same : Option Fault) (P : A → Type 0) (r : Result A PolicyFault) → fault ≡ same → Reads same P r
+    → IfErr r (λ f. IfRefused f (λ first. fault ≡ Some first))
+refused-from fault same P (Ok x) e reads = tt
+refused-from fault same P (Err (Refused f)) e reads = e ∙ reads
+refused-from fault same P (Err Memory) e reads = tt

@@ -1,0 +1,15 @@
+use Rattle.std.proofs.Common.{◌≡◌}
+use Rattle.toml.specs.View.{table_view}
+use Rattle.policy.specs.Reading.{fault_in, document_fault}
+use Rattle.policy.proofs.WholeText.{fault_in-document, without_fault-from, refused-from}
+use Rattle.policy.proofs.policies.Policy.read.Goals as goal
+
+pub returns-in-Ok-clause-without_fault : goal.returns-in-Ok-clause-without_fault
+returns-in-Ok-clause-without_fault c =
+    let same = fault_in-document c.args.source.now (table_view c.in-Ok.table) c.if-source-gt-LONGEST_FILE.false c.utf8.source c.in-Ok.ensures.ok in
+    without_fault-from _ _ _ _ same c.read_document.ensures
+
+pub returns-in-Ok-clause-refused : goal.returns-in-Ok-clause-refused
+returns-in-Ok-clause-refused c =
+    let same = fault_in-document c.args.source.now (table_view c.in-Ok.table) c.if-source-gt-LONGEST_FILE.false c.utf8.source c.in-Ok.ensures.ok in
+    refused-from _ _ _ _ same c.read_document.ensures

@@ -1,0 +1,11 @@
+use Rattle.std.proofs.Common.{◌≡◌, ◌++◌, drop, map, option_map}
+use Rattle.toml.specs.View.{view}
+use Rattle.policy.specs.Ranges.{texts}
+use Rattle.policy.specs.Language.{all_texts}
+use Rattle.policy.proofs.tables.copied_texts.Given as goal
+
+-- the copies so far, and what is to come
+abbrev pub invariant-loop-value : goal.invariant-loop-value
+invariant-loop-value l =
+    all_texts (map view l.values)
+    ≡ option_map (λ more. texts l.copies.items ++ more) (all_texts (map view (drop l.value-index l.values)))

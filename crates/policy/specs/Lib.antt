@@ -1,0 +1,6 @@
+pub mod Ranges
+pub mod Repos
+pub mod Values
+pub mod Language
+pub mod Reading
+pub mod Lines

@@ -1,0 +1,60 @@
+//! The policy as a value.
+
+ghost use Rattle.std.specs.Prelude.{◌≡◌, ◌≤◌, IsTrue, length, option_copied, find, bytes_eq, string_bytes};
+ghost use Rattle.names.specs.Texts.{between};
+ghost use Rattle.policy.specs.Ranges.{is_base, longest_life, most_repos, most_rows, are_distinct};
+ghost use Rattle.policy.specs.Repos.{names_of};
+
+use crate::repos::Repo;
+use crate::rows::Row;
+
+/// A policy, whose every value is in range.
+#[derive(Debug, Drop)]
+pub struct Policy {
+    pub(crate) base: String,
+    pub(crate) token_seconds: u64,
+    pub(crate) repos: Vec<Repo>,
+    pub(crate) rows: Vec<Row>,
+    pub ghost base_in_range: { IsTrue (is_base (string_bytes base)) },
+    pub ghost token_seconds_in_range: { IsTrue (between 1 longest_life token_seconds) },
+    pub ghost repos_in_range: { length repos.items ≤ most_repos },
+    pub ghost rows_in_range: { length rows.items ≤ most_rows },
+    pub ghost repos_are_distinct: { IsTrue (are_distinct (names_of repos.items)) },
+}
+
+/// The first of the repositories that has the name.
+pub(crate) fn named<'a>(repos: &'a [Repo], name: &str) -> Option<&'a Repo>
+    ensures { option_copied result ≡ find (λ repo. bytes_eq (string_bytes repo.name) name.now) repos.entry.now }
+{
+    repos.iter().find(|repo| repo.name.as_str() == name)
+}
+
+impl Policy {
+    ghost use Rattle.std.specs.Prelude.{option_map};
+    ghost use Rattle.model.specs.Policy.{IsPolicy, repo_named};
+    ghost use Rattle.policy.specs.Values.{policy_view, repo_view};
+
+    /// The address below which the server's repositories lie, as `https://lfs.example`.
+    pub fn base(&self) -> &str
+        ensures value { result.now ≡ (policy_view self.now).base }
+        ensures in_range { IsTrue (is_base result.now) }
+    {
+        self.base.as_str()
+    }
+
+    /// For how many seconds a token is good, from 1 to 86,400.
+    pub fn token_seconds(&self) -> u64
+        ensures value { result ≡ (policy_view self.now).token_seconds }
+        ensures in_range { IsTrue (between 1 longest_life result) }
+    {
+        self.token_seconds
+    }
+
+    /// The repository of that name; `None` exactly where there is none.
+    pub fn repo(&self, name: &str) -> Option<&Repo>
+        ensures value { option_map (λ r. repo_view r.now) result ≡ repo_named name.now (policy_view self.now) }
+        ensures in_range { IsPolicy (policy_view self.now) }
+    {
+        named(&self.repos, name)
+    }
+}

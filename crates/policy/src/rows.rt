@@ -1,0 +1,89 @@
+//! A row of the policy, and whether it matches a question.
+//!
+//! A row matches where each of its five lists holds that part of the question. Of users,
+//! repositories, refs and paths, `*` holds every text, a text that ends in `/` all that begin with
+//! it, and any other text itself. What a question does not name is held by `*` alone.
+
+ghost use Rattle.std.specs.Prelude.{◌≡◌, IsTrue, option_map, string_bytes};
+ghost use Rattle.std.specs.List.{list_any};
+ghost use Rattle.model.specs.Policy.{holds, held_if_named, matches, is_any, same_right};
+ghost use Rattle.policy.specs.Ranges.{texts, are_entries, is_count, is_user_entry, is_repo_entry, is_ref_entry, is_path_entry};
+
+use crate::questions::Question;
+use model::{Effect, Right};
+
+/// A row: what it allows or denies.
+#[derive(Debug, Drop)]
+pub struct Row {
+    pub effect: Effect,
+    pub users: Vec<String>,
+    pub repos: Vec<String>,
+    pub refs: Vec<String>,
+    pub paths: Vec<String>,
+    pub rights: Vec<Right>,
+    pub ghost users_in_range: { IsTrue (are_entries is_user_entry (texts users.items)) },
+    pub ghost repos_in_range: { IsTrue (are_entries is_repo_entry (texts repos.items)) },
+    pub ghost refs_in_range: { IsTrue (are_entries is_ref_entry (texts refs.items)) },
+    pub ghost paths_in_range: { IsTrue (are_entries is_path_entry (texts paths.items)) },
+    pub ghost rights_in_range: { IsTrue (is_count rights.items) },
+}
+
+/// Whether the pattern holds every text.
+fn is_any(pattern: &str) -> bool
+    ensures { result ≡ is_any pattern.now }
+{
+    pattern == "*"
+}
+
+/// Whether the pattern holds the text.
+fn holds(pattern: &str, text: &str) -> bool
+    ensures { result ≡ holds text.now pattern.now }
+{
+    let bytes = pattern.as_bytes();
+    is_any(pattern)
+        || pattern == text
+        || (bytes.ends_with(b"/") && text.as_bytes().starts_with(bytes))
+}
+
+fn has_holder(patterns: &[String], text: &str) -> bool
+    ensures { result ≡ list_any (λ pattern. holds text.now (string_bytes pattern)) patterns.now }
+{
+    patterns.iter().any(|pattern| holds(pattern.as_str(), text))
+}
+
+fn has_any(patterns: &[String]) -> bool
+    ensures { result ≡ list_any (λ pattern. is_any (string_bytes pattern)) patterns.now }
+{
+    patterns.iter().any(|pattern| is_any(pattern.as_str()))
+}
+
+/// Whether the patterns hold what the question names, or what it does not name.
+fn held_if_named(patterns: &[String], text: Option<&str>) -> bool
+    ensures { result ≡ held_if_named (texts patterns.now) (option_map (λ t. t.now) text.entry) }
+{
+    match text {
+        Some(text) => has_holder(patterns, text),
+        None => has_any(patterns),
+    }
+}
+
+fn has_right(rights: &[Right], asked: Right) -> bool
+    ensures { result ≡ list_any (same_right asked) rights.now }
+{
+    rights.iter().any(|right| *right == asked)
+}
+
+impl Row {
+    ghost use Rattle.policy.specs.Values.{row_view, question_view};
+
+    /// Whether all five lists hold the question.
+    pub fn matches(&self, question: &Question) -> bool
+        ensures { result ≡ matches (row_view self.now) (question_view question.now) }
+    {
+        held_if_named(&self.users, Some(question.user.as_str()))
+            && held_if_named(&self.repos, Some(question.repo.as_str()))
+            && held_if_named(&self.refs, question.ref_text())
+            && held_if_named(&self.paths, question.path_text())
+            && has_right(&self.rights, question.right)
+    }
+}
