@@ -2,6 +2,7 @@
 //! body is (RFC 9112).
 #![tactic(auto)]
 
+mod accept;
 mod cut;
 mod framing;
 mod head;
