@@ -89,9 +89,10 @@ module _ (old new : State) (count : ℕ) (kept : IsKept old.now) (inside : old.i
       it.2.applies.rows ∙ gone key lock_row lock_in (λ _. refl) (λ _. refl) params old.now.trees (is_given 1 0 ∷ is_given 2 1 ∷ []) 10 kept.typed.locks refl passes tested it.0 it.1 in
       let up = ascending-filter _ (λ x. not (passes x)) xs (keys_rise key lock_row lock_in (λ _. refl) (λ _. refl) (old.now.trees 10) kept.typed.locks) in
       let typed = typed_by key lock_row lock_in (λ _. refl) (λ _. refl) (new.now.trees 10) (delete_where passes xs) up row in
-      let all = locks_change old.now.trees new.now.trees kept.typed it.2.applies.tables typed (delete_where passes xs) (retyped key lock_row lock_in (λ _. refl) (λ _. refl) (delete_where passes xs) _ row) in
-      (record { was_open = it.2.shown.was_open; is_open = it.2.shown.is_open; kept = record { schema = it.2.schema_is; typed = all.0 }; tables = all.1; inside = it.2.shown.mode ∙ inside },
-      it.3 ∙ how_many key lock_row lock_in (λ _. refl) (λ _. refl) params old.now.trees (is_given 1 0 ∷ is_given 2 1 ∷ []) 10 kept.typed.locks refl passes tested it.0 it.1)
+      let all = locks_change old.now.trees new.now.trees kept.typed it.2.applies.tables typed (delete_where passes xs) (retyped key lock_row lock_in (λ _. refl) (λ _. refl) (delete_where passes xs) _ row) in (
+        record { was_open = it.2.shown.was_open; is_open = it.2.shown.is_open; kept = record { schema = it.2.schema_is; typed = all.0 }; tables = all.1; inside = it.2.shown.mode ∙ inside },
+        it.3 ∙ how_many key lock_row lock_in (λ _. refl) (λ _. refl) params old.now.trees (is_given 1 0 ∷ is_given 2 1 ∷ []) 10 kept.typed.locks refl passes tested it.0 it.1,
+      )
 
   tokens_removed : (moment : ℤ) → Executes (write_text (remove_expired moment)) (write_params (remove_expired moment)) old new (Ok count)
       → Steps (without_expired moment) old new × (count ≡ length (filter (has_expired moment) (map token_in (old.now.trees 3))))
@@ -109,9 +110,10 @@ module _ (old new : State) (count : ℕ) (kept : IsKept old.now) (inside : old.i
       it.2.applies.rows ∙ gone key token_row token_in (λ _. refl) (λ _. refl) params old.now.trees tests 3 kept.typed.tokens refl passes tested it.0 it.1 in
       let up = ascending-filter _ (λ x. not (passes x)) xs (keys_rise key token_row token_in (λ _. refl) (λ _. refl) (old.now.trees 3) kept.typed.tokens) in
       let typed = typed_by key token_row token_in (λ _. refl) (λ _. refl) (new.now.trees 3) (delete_where passes xs) up row in
-      let all = tokens_change old.now.trees new.now.trees kept.typed it.2.applies.tables typed (delete_where passes xs) (retyped key token_row token_in (λ _. refl) (λ _. refl) (delete_where passes xs) _ row) in
-      (record { was_open = it.2.shown.was_open; is_open = it.2.shown.is_open; kept = record { schema = it.2.schema_is; typed = all.0 }; tables = all.1; inside = it.2.shown.mode ∙ inside },
-      it.3 ∙ how_many key token_row token_in (λ _. refl) (λ _. refl) params old.now.trees tests 3 kept.typed.tokens refl passes tested it.0 it.1)
+      let all = tokens_change old.now.trees new.now.trees kept.typed it.2.applies.tables typed (delete_where passes xs) (retyped key token_row token_in (λ _. refl) (λ _. refl) (delete_where passes xs) _ row) in (
+        record { was_open = it.2.shown.was_open; is_open = it.2.shown.is_open; kept = record { schema = it.2.schema_is; typed = all.0 }; tables = all.1; inside = it.2.shown.mode ∙ inside },
+        it.3 ∙ how_many key token_row token_in (λ _. refl) (λ _. refl) params old.now.trees tests 3 kept.typed.tokens refl passes tested it.0 it.1,
+      )
 
   made_set : (id n : ℤ) → Executes (write_text (set_made id n)) (write_params (set_made id n)) old new (Ok count) → Steps (with_made_at id n) old new
   unfolding with_made_at tables_of write_params

@@ -12,7 +12,7 @@ use crate::Store;
 use crate::fault::StoreFault;
 use crate::read::{read, select};
 use crate::rows::{Creation, LockRow, NewLock, all_locks, first_lock};
-use crate::write::{change, finish};
+use crate::write::{change, finish, finish_with};
 use sqlite::{Alter, Connection, Error, Row, Transaction, params};
 use std::alloc::Global;
 
@@ -103,14 +103,7 @@ fn lock_into<S: Alter>(
     change(
         tx,
         "INSERT INTO locks (repo, id, ref, path, owner, moment) VALUES (?1, ?2, ?3, ?4, ?5, ?6)",
-        params![
-            lock.repo,
-            id,
-            lock.ref_name,
-            lock.path,
-            lock.owner,
-            moment
-        ],
+        params![lock.repo, id, lock.ref_name, lock.path, lock.owner, moment],
     )
 }
 
@@ -200,15 +193,10 @@ fn create<S: Alter>(conn: &mut Connection<S>, lock: &NewLock<'_>) -> Result<Crea
     }
     let mut tx = conn.transaction();
     let creation = create_into(&mut tx, lock)?;
-    finish(tx)?;
-    Ok(creation)
+    finish_with(tx, creation)
 }
 
-fn remove_into<S: Alter>(
-    tx: &mut Transaction<'_, S>,
-    repo: &str,
-    id: u32,
-) -> Result<usize, Error>
+fn remove_into<S: Alter>(tx: &mut Transaction<'_, S>, repo: &str, id: u32) -> Result<usize, Error>
     ensures same_reference { tx.new.conn.ghost_name ≡ tx.old.conn.ghost_name }
     ensures count { HasCleanDisk (state S.Store tx.new.conn.now) → IsTrue tx.old.conn.now.in_transaction → IsReady (state S.Store tx.old.conn.now) → IfOk result (λ n. n ≡ length (filter (has_id repo.now (pos id)) (tables_in (state S.Store tx.old.conn.now)).locks)) }
     ensures ok { HasCleanDisk (state S.Store tx.new.conn.now) → IsTrue tx.old.conn.now.in_transaction → IsReady (state S.Store tx.old.conn.now) → OnOk result (Steps (without_lock repo.now (pos id)) (state S.Store tx.old.conn.now) (state S.Store tx.new.conn.now)) }

@@ -8,10 +8,9 @@ ghost use Rattle.sqlite.specs.Files.{over_files, file_state};
 ghost use Rattle.tables.specs.Runs.{first_meta, fresh};
 ghost use Rattle.tables.specs.Shown.{connection, IsHonest, IsOpen, HasNoTable, Stands, shown, Leaves, IsSafe, Rests, AddsFresh};
 
-use crate::Store;
 use crate::fault::StoreFault;
-use crate::schema;
 use crate::storage::Storage;
+use crate::{Store, schema};
 use sqlite::{Alter, Connection, File, FileFrom, FileStore, MemStore, Start};
 use std::alloc::Global;
 use std::rt::HostRuntime;

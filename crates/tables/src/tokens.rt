@@ -33,10 +33,7 @@ fn is_free<S: Alter>(tx: &mut Transaction<'_, S>, digest: &[u8]) -> Result<bool,
     Ok(rows.is_empty())
 }
 
-fn token_into<S: Alter>(
-    tx: &mut Transaction<'_, S>,
-    token: &NewToken<'_>,
-) -> Result<usize, Error>
+fn token_into<S: Alter>(tx: &mut Transaction<'_, S>, token: &NewToken<'_>) -> Result<usize, Error>
     ensures same_reference { tx.new.conn.ghost_name ≡ tx.old.conn.ghost_name }
     ensures ok { HasCleanDisk (state S.Store tx.new.conn.now) → IsTrue tx.old.conn.now.in_transaction → IsReady (state S.Store tx.old.conn.now) → OnOk result (Steps (with_token (asked_token token.now)) (state S.Store tx.old.conn.now) (state S.Store tx.new.conn.now)) }
     ensures kept { HasCleanDisk (state S.Store tx.new.conn.now) → IsTrue tx.old.conn.now.in_transaction → KeepsCommit (state S.Store tx.old.conn.now) (state S.Store tx.new.conn.now) }
@@ -58,10 +55,7 @@ fn token_into<S: Alter>(
 }
 
 /// Keeps the token, unless one with its digest is there.
-fn add_into<S: Alter>(
-    tx: &mut Transaction<'_, S>,
-    token: &NewToken<'_>,
-) -> Result<bool, Error>
+fn add_into<S: Alter>(tx: &mut Transaction<'_, S>, token: &NewToken<'_>) -> Result<bool, Error>
     ensures same_reference { tx.new.conn.ghost_name ≡ tx.old.conn.ghost_name }
     ensures value { HasCleanDisk (state S.Store tx.new.conn.now) → IsReady (state S.Store tx.old.conn.now) → IfOk result (λ added. has_token token.now.digest.now (tables_in (state S.Store tx.old.conn.now)) ≡ not added) }
     ensures ok { HasCleanDisk (state S.Store tx.new.conn.now) → IsTrue tx.old.conn.now.in_transaction → IsReady (state S.Store tx.old.conn.now) → OnOk result (Steps (after_add (asked_token token.now)) (state S.Store tx.old.conn.now) (state S.Store tx.new.conn.now)) }
@@ -94,10 +88,7 @@ fn add<S: Alter>(conn: &mut Connection<S>, token: &NewToken<'_>) -> Result<bool,
     Ok(added)
 }
 
-fn remove_expired_into<S: Alter>(
-    tx: &mut Transaction<'_, S>,
-    moment: i64,
-) -> Result<usize, Error>
+fn remove_expired_into<S: Alter>(tx: &mut Transaction<'_, S>, moment: i64) -> Result<usize, Error>
     ensures same_reference { tx.new.conn.ghost_name ≡ tx.old.conn.ghost_name }
     ensures count { HasCleanDisk (state S.Store tx.new.conn.now) → IsTrue tx.old.conn.now.in_transaction → IsReady (state S.Store tx.old.conn.now) → IfOk result (λ n. n ≡ length (filter (has_expired moment) (tables_in (state S.Store tx.old.conn.now)).tokens)) }
     ensures ok { HasCleanDisk (state S.Store tx.new.conn.now) → IsTrue tx.old.conn.now.in_transaction → IsReady (state S.Store tx.old.conn.now) → OnOk result (Steps (without_expired moment) (state S.Store tx.old.conn.now) (state S.Store tx.new.conn.now)) }

@@ -36,3 +36,17 @@ pub(crate) fn finish<S: Alter>(tx: Transaction<'_, S>) -> Result<(), StoreFault>
     tx.commit()?;
     Ok(())
 }
+
+/// The same, and answers the value.
+pub(crate) fn finish_with<S: Alter, T: Drop>(
+    tx: Transaction<'_, S>,
+    answer: T,
+) -> Result<T, StoreFault>
+    ensures answer { IfOk result (λ x. x ≡ answer) }
+    ensures ok { HasCleanDisk (state S.Store tx.exit.0.now) → OnOk result (Shows (state S.Store tx.entry.conn.now) (state S.Store tx.exit.0.now) (state S.Store tx.entry.conn.now).now (state S.Store tx.entry.conn.now).now false) }
+    ensures err { HasCleanDisk (state S.Store tx.exit.0.now) → IsTrue (state S.Store tx.entry.conn.now).in_transaction → OnErr result (IsRolledBack (state S.Store tx.entry.conn.now) (state S.Store tx.exit.0.now)) }
+    ensures survives { Survives (state S.Store tx.entry.conn.now) (state S.Store tx.exit.0.now) (λ db. db ≡ (state S.Store tx.entry.conn.now).now.trees) }
+{
+    finish(tx)?;
+    Ok(answer)
+}
