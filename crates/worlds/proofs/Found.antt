@@ -1,5 +1,5 @@
 -- What is found in a list, whatever its order.
-use Rattle.std.proofs.Common.{◌≡◌, ℕ, suc, ◌<◌, ◌≤◌, Bool, true, false, List, [], ◌∷◌, ◌++◌, length, map, find, cond, Option, Some, None, option_map, IfSome, refl, sym, ap, ◌∙◌, subst, All, AllPairs, IsPermutation, arith, get_or}
+use Rattle.std.proofs.Common.{◌≡◌, suc, Bool, true, false, List, [], ◌∷◌, map, find, cond, Option, Some, None, option_map, IfSome, refl, sym, ap, ◌∙◌, All, AllPairs, IsPermutation, arith}
 use Rattle.std.specs.List.{AllByRecursion}
 use Rattle.std.proofs.lemmas.Bool.{true≢false, cond_both}
 use Rattle.std.proofs.lemmas.Option.{none-some}
@@ -78,9 +78,9 @@ pub only_first : {A : Type 0} (p : A → Bool) (R : A → A → Type 0) (xs : Li
 only_first p R [] excludes all = tt
 only_first p R (x ∷ xs) excludes all = at (p x) refl (only_first p R xs excludes (pairs_tail R x xs all))
   where
-  at : (v : Bool) → p x ≡ v → IfSome (find p xs) (λ y. IsOnly p y xs) → IfSome (cond v (Some x) (find p xs)) (λ y. IsOnly p y (x ∷ xs))
-  at true is rest = ((λ _. refl), rest_fails p R x xs excludes is (recursion_from_All (R x) xs (pairs_head R x xs all)))
-  at false is rest = also_first p x xs (find p xs) is rest
+    at : (v : Bool) → p x ≡ v → IfSome (find p xs) (λ y. IsOnly p y xs) → IfSome (cond v (Some x) (find p xs)) (λ y. IsOnly p y (x ∷ xs))
+    at true is rest = ((λ _. refl), rest_fails p R x xs excludes is (recursion_from_All (R x) xs (pairs_head R x xs all)))
+    at false is rest = also_first p x xs (find p xs) is rest
 
 only_map : {B C : Type 0} (g : B → C) (p : C → Bool) (b : B) (bs : List B) → IsOnly (λ y. p (g y)) b bs → IsOnly p (g b) (map g bs)
 only_map g p b [] only = tt

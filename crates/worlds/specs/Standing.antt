@@ -42,5 +42,5 @@ pub record StandsFor (t : Tables) (world : World) : Type 0 where
 -- the store holds the world: while the disk is honest and the store open, its tables stand for it
 pub record Holds {S : Type 0} (g : Ghosts S) (s : Store S) (world : World) : Type 0 where
   pub stands : Stands g s
-  pub world : IsWorld world
+  pub laws : IsWorld world
   pub shows : IsHonest g s → IsOpen g s → StandsFor (shown g s) world

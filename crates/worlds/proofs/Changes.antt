@@ -1,0 +1,108 @@
+-- What a change of the tables makes of the world.
+use Rattle.std.proofs.Common.{◌≡◌, ℕ, ◌+◌, ℤ, pos, Bool, true, false, List, [], ◌∷◌, ◌++◌, map, find, cond, Some, bytes_eq, refl, sym, ap, ◌∙◌, subst, IsPermutation}
+use Rattle.std.proofs.lemmas.Bool.{true≢false}
+use Rattle.std.proofs.lemmas.List.{map-append}
+use Rattle.std.proofs.lemmas.List.Sorted.{IsPermutation-refl, IsPermutation-trans, IsPermutation-cons, IsPermutation-to_front}
+use Rattle.std.proofs.lemmas.Map.Text.{is_eq-slice_cmp}
+use Rattle.std.proofs.lemmas.Slice.Eq.{bytes_eq-Decides}
+use Rattle.sqlite_keyed.specs.Keyed.{next_key}
+use Rattle.model.specs.World.{World, Lock, with_lock, counted, nothing}
+use Rattle.tables.specs.Rows as row
+use Rattle.tables.specs.Rows.{Repo, Tables}
+use Rattle.tables.specs.Statements.{is_named, same_bytes, with_lock as with_lock_row}
+use Rattle.tables.specs.Steps.{made_in, made_of, set_made, with_made, with_new_lock}
+use Rattle.tables.specs.Runs.{fresh}
+use Rattle.worlds.specs.Standing.{lock_kept, lock_row, StandsFor}
+
+-- ---- how many locks a repository made
+
+named_itself : (name : List ℕ) → same_bytes name name ≡ true
+named_itself name = is_eq-slice_cmp name name ∙ (bytes_eq-Decides name name).1 refl
+
+not_named : (name other : List ℕ) → bytes_eq other name ≡ false → same_bytes name other ≡ false
+not_named name other differ = at (same_bytes name other) refl
+  where
+    at : (v : Bool) → same_bytes name other ≡ v → same_bytes name other ≡ false
+    at false is = is
+    at true is =
+        let same : bytes_eq other name ≡ true = (bytes_eq-Decides other name).1 (sym ((bytes_eq-Decides name other).0 (sym (is_eq-slice_cmp name other) ∙ is))) in
+        absurd (true≢false (sym same ∙ differ))
+
+-- the count that was set is read
+made_set : (name : List ℕ) (made next : ℤ) (rs : List Repo) → made_in (find (is_named name) (set_made name made next rs)) ≡ made
+made_set name made next [] = rw (named_itself name) refl
+made_set name made next (r ∷ rs) = at (is_named name r) refl (made_set name made next rs)
+  where
+    at : (v : Bool) → is_named name r ≡ v → made_in (find (is_named name) (set_made name made next rs)) ≡ made
+        → made_in (find (is_named name) (cond v (record r { made = made } ∷ rs) (r ∷ set_made name made next rs))) ≡ made
+    at true is rest = rw is refl
+    at false is rest = rw is rest
+
+-- and no other is changed
+made_other : (name other : List ℕ) (made next : ℤ) (rs : List Repo) → bytes_eq other name ≡ false
+    → made_in (find (is_named other) (set_made name made next rs)) ≡ made_in (find (is_named other) rs)
+made_other name other made next [] differ = rw (not_named name other differ) refl
+made_other name other made next (r ∷ rs) differ = at (is_named name r) refl (made_other name other made next rs differ)
+  where
+    same_rest : (v : Bool) → made_in (find (is_named other) (set_made name made next rs)) ≡ made_in (find (is_named other) rs)
+        → made_in (cond v (Some r) (find (is_named other) (set_made name made next rs))) ≡ made_in (cond v (Some r) (find (is_named other) rs))
+    same_rest true e = refl
+    same_rest false e = e
+
+    at : (v : Bool) → is_named name r ≡ v → made_in (find (is_named other) (set_made name made next rs)) ≡ made_in (find (is_named other) rs)
+        → made_in (find (is_named other) (cond v (record r { made = made } ∷ rs) (r ∷ set_made name made next rs))) ≡ made_in (find (is_named other) (r ∷ rs))
+    at true is rest =
+        let is_name : r.name ≡ name = (bytes_eq-Decides r.name name).0 (sym (is_eq-slice_cmp r.name name) ∙ is) in
+        let none : is_named other r ≡ false = ap (λ n. same_bytes n other) is_name ∙ not_named name other differ in
+        rw none refl
+    at false is rest = same_rest (is_named other r) rest
+
+-- ---- the tables of a new database
+
+pub fresh_stands : StandsFor fresh nothing
+fresh_stands = record {
+  locks = IsPermutation-refl [];
+  made = λ repo. refl;
+  issued = IsPermutation-refl [];
+  uploads = refl;
+  chunks = refl;
+  objects = refl;
+}
+
+-- ---- a lock more
+
+count_made : (world : World) (repo other : List ℕ) (t : Tables) (id : ℤ) → ((r : List ℕ) → made_of r t ≡ pos (world.made r)) → id ≡ pos (world.made repo + 1)
+    → made_in (find (is_named other) (set_made repo id (next_key (λ x. x.rowid) t.repos) t.repos)) ≡ pos (counted repo world.made other)
+count_made world repo other t id made e = at (bytes_eq other repo) refl
+  where
+    at : (v : Bool) → bytes_eq other repo ≡ v
+        → made_in (find (is_named other) (set_made repo id (next_key (λ x. x.rowid) t.repos) t.repos)) ≡ pos (cond v (world.made other + 1) (world.made other))
+    at true is =
+        let same : other ≡ repo = (bytes_eq-Decides other repo).0 is in
+        ap (λ o. made_in (find (is_named o) (set_made repo id (next_key (λ x. x.rowid) t.repos) t.repos))) same
+        ∙ made_set repo id (next_key (λ x. x.rowid) t.repos) t.repos ∙ e ∙ ap (λ r. pos (world.made r + 1)) (sym same)
+    at false is = made_other repo other id (next_key (λ x. x.rowid) t.repos) t.repos is ∙ made other
+
+-- one row more at the end, one lock or token more at the front
+one_more : {A B K : Type 0} (kept : A → K) (row : B → K) (xs : List A) (ys : List B) (x : A) (y : B)
+    → IsPermutation (map kept xs) (map row ys) → kept x ≡ row y → IsPermutation (map kept (xs ++ x ∷ [])) (map row (y ∷ ys))
+one_more {K = K} kept row xs ys x y same e =
+    let P : List K → Type 0 = λ ks. IsPermutation ks (map row (y ∷ ys)) in
+    let Q : K → Type 0 = λ k. IsPermutation (map kept xs ++ k ∷ []) (map row (y ∷ ys)) in
+    subst P (sym (map-append kept xs (x ∷ [])))
+    (subst Q (sym e) (IsPermutation-trans (map kept xs ++ row y ∷ []) (row y ∷ map kept xs) (row y ∷ map row ys)
+    (IsPermutation-to_front (map kept xs) (row y)) (IsPermutation-cons (row y) (map kept xs) (map row ys) same)))
+
+pub new_lock_stands : (t : Tables) (world : World) (asked : row.Lock) (id : ℤ) (l : Lock) → StandsFor t world
+    → lock_kept (record asked { id = id }) ≡ lock_row l → asked.repo ≡ l.repo → id ≡ pos (world.made l.repo + 1)
+    → StandsFor (with_new_lock asked id t) (with_lock l world)
+unfolding with_new_lock with_made with_lock_row
+new_lock_stands t world asked id l s kept repo e = record {
+  locks = one_more lock_kept lock_row t.locks world.locks _ l s.locks kept;
+  made = λ other. subst (λ (r : List ℕ). made_in (find (is_named other) (set_made r id (next_key (λ x. x.rowid) t.repos) t.repos)) ≡ pos (counted l.repo world.made other)) (sym repo)
+      (count_made world l.repo other t id s.made e);
+  issued = s.issued;
+  uploads = s.uploads;
+  chunks = s.chunks;
+  objects = s.objects;
+}
