@@ -20,7 +20,7 @@ use Rattle.model.specs.Reading.{◌>>=◌, check, found, none_of, or_default}
 use Rattle.model.specs.Policy.{Policy, IsPolicy, Repo, decide, repo_named}
 use Rattle.model.specs.World.{World, Lock, Issued, IsWorld, IsLock, IsIssued, DiffersInId, DiffersInPlace, stands_at, lock_at, with_lock, counted, nothing}
 use Rattle.model.specs.Forms.{LockForm, Request, asks_lock, lock_form, is_ref_if_given, members_of, text_if_given, ref_if_given, required, request_of, needs_upload}
-use Rattle.model.specs.Steps.{Granted, makes_lock, Answer, Denial, by_lock, by_rules, permitted, is_upload, bearer, issued_as, caller_of, ref_asked, lock_question, new_lock, verdict, state_verdict, lock_verdict, after, Message, bad_head, broken, message, verdict_on, Carries, exchanged}
+use Rattle.model.specs.Steps.{Granted, makes_lock, Answer, Denial, by_lock, by_rules, permitted, is_upload, bearer, issued_as, caller_by, ref_asked, lock_question, new_lock, verdict, state_verdict, lock_verdict, after, Message, bad_head, broken, message, verdict_on, Carries, exchanged}
 use Rattle.model.proofs.Tests.{both_true}
 use Rattle.model.specs.Laws.{StepsKeepWorlds, RunsKeepWorlds, RunsMakeWorlds, NeverLocksTwice, DenialsChangeNothing}
 
@@ -68,10 +68,10 @@ pub record IsLockForm (asked : LockForm) : Type 0 where
 abbrev IsRequest : Request → Type 0
 IsRequest (asks_lock asked) = IsLockForm asked
 
-caller_in_range : (world : World) (now : ℕ) (head : RequestHead) → IsWorld world → IfOk (caller_of world now head) IsIssued
-caller_in_range world now head w =
+caller_in_range : (world : World) (now : ℕ) (values : List (List ℕ)) → IsWorld world → IfOk (caller_by world now values) IsIssued
+caller_in_range world now values w =
     let good : Issued → Result Issued Rule = λ issued. check (nat_lt now issued.expires) rule.A3 >>= λ _. Ok issued in
-    then_any IsIssued (found (bearer (values (codes "authorization") head)) rule.A1) _ (λ text.
+    then_any IsIssued (found (bearer values) rule.A1) _ (λ text.
     passed IsIssued IsIssued (found (issued_as text world) rule.A2) good (found_ok IsIssued (issued_as text world) rule.A2 (find_ok IsIssued _ world.issued (recursion_from_All IsIssued world.issued w.issued))) (λ issued is.
     then_any IsIssued (check (nat_lt now issued.expires) rule.A3) (λ _. Ok issued) (λ _. is)))
 
@@ -105,6 +105,7 @@ ref_in_range None default_ref given default = default
 
 -- ---- what may be granted in a world
 
+-- the lock is in range, its place is free, and its id is the next
 pub record IsNewLock (world : World) (l : Lock) : Type 0 where
   pub is : IsLock (counted l.repo world.made) l
   pub free : lock_at l.repo l.ref l.path world ≡ None
@@ -158,7 +159,7 @@ unfolding verdict
 verdict_grantable world policy now head body w p at =
     let P = IsGrantable world in
     then_any P (by_rules (judged head)) _ (λ target.
-    passed IsIssued P (by_rules (caller_of world now head)) _ (by_rules_ok IsIssued _ (caller_in_range world now head w)) (λ caller who.
+    passed IsIssued P (by_rules (caller_by world now (values (codes "authorization") head))) _ (by_rules_ok IsIssued _ (caller_in_range world now (values (codes "authorization") head) w)) (λ caller who.
     then_any P (by_rules (check (bytes_eq caller.repo target.repo) rule.A4)) _ (λ own.
     passed IsRepoInRange P (by_rules (found (repo_named target.repo policy) rule.R1)) _ (by_rules_ok IsRepoInRange _ (found_ok IsRepoInRange _ rule.R1 (repo_in_range target.repo policy p))) (λ repo entry.
     passed IsRequest P (by_rules (request_of target.form target.parameter (query_of head.target) body)) _ (by_rules_ok IsRequest _ (request_in_range target.form target.parameter (query_of head.target) body)) (λ request what.
@@ -213,7 +214,7 @@ still_within repo made other room within =
     cond_both (bytes_eq other repo) (made other + 1) (made other) (λ n. n ≤ last_lock_id)
     (λ e. omega (arith, room, ap made ((bytes_eq-Decides other repo).0 e))) (λ _. within)
 
-keeps_with_lock : (world : World) (l : Lock) → IsNewLock world l → IsWorld world → IsWorld (with_lock l world)
+pub keeps_with_lock : (world : World) (l : Lock) → IsNewLock world l → IsWorld world → IsWorld (with_lock l world)
 keeps_with_lock world l new w =
     let locks = recursion_from_All (IsLock world.made) world.locks w.locks in
     record {

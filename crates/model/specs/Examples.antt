@@ -9,7 +9,7 @@ use Rattle.model.specs.declared.Operation.{Operation}
 use Rattle.model.specs.declared.Operation.TheVariants as operation
 use Rattle.model.specs.Policy.{Policy, Row}
 use Rattle.model.specs.World.{World, Lock, Issued, nothing, with_lock}
-use Rattle.model.specs.Steps.{message, Answer, by_rule, by_row, by_lock, makes_lock, verdict, may_push, caller_of, allow, is_last}
+use Rattle.model.specs.Steps.{message, Answer, by_rule, by_row, by_lock, makes_lock, verdict, may_push, caller_by, allow, is_last}
 use Rattle.model.specs.Stream.{BeginsWith}
 use Rattle.model.specs.Replies.{IsReply}
 
@@ -258,8 +258,8 @@ expires_at_100 = record nothing { issued = issued_until 100 operation.Upload ∷
 -- a token is good before it expires, and not from then on
 abbrev pub TokenExpires : Type 0
 TokenExpires =
-    (caller_of expires_at_100 99 first_head ≡ Ok (issued_until 100 operation.Upload))
-    × (caller_of expires_at_100 100 first_head ≡ Err rule.A3)
+    (caller_by expires_at_100 99 (values (codes "authorization") first_head) ≡ Ok (issued_until 100 operation.Upload))
+    × (caller_by expires_at_100 100 (values (codes "authorization") first_head) ≡ Err rule.A3)
 
 -- a download token locks nothing
 abbrev pub DownloadLocksNothing : Type 0

@@ -66,9 +66,6 @@ caller_by world now values = do
   good ← check (nat_lt now issued.expires) rule.A3
   Ok issued
 
-abbrev pub caller_of : World → ℕ → RequestHead → Result Issued Rule
-caller_of world now head = caller_by world now (values (codes "authorization") head)
-
 abbrev pub is_upload : Operation → Bool
 is_upload operation.Upload = Bool.true
 is_upload operation.Download = Bool.false
@@ -122,15 +119,20 @@ lock_verdict world policy now caller repo asked = do
 abbrev pub state_verdict : World → Policy → ℕ → Issued → Repo → Request → Answer
 state_verdict world policy now caller repo (asks_lock asked) = lock_verdict world policy now caller repo asked
 
--- the first refusal of a request whose head is not refused, in the order of the rules, or what it is granted
-abbrev pub target_verdict : World → Policy → ℕ → RequestHead → Target → List ℕ → Answer
-target_verdict world policy now head target body = do
-  caller ← by_rules (caller_of world now head)
-  own ← by_rules (check (bytes_eq caller.repo target.repo) rule.A4)
-  repo ← by_rules (found (repo_named target.repo policy) rule.R1)
-  request ← by_rules (request_of target.form target.parameter (query_of head.target) body)
+-- the first refusal of a request in a repository, of whom the values of Authorization tell, or what it is granted
+abbrev pub desk_verdict : World → Policy → ℕ → List (List ℕ) → List ℕ → Result Request Rule → Answer
+desk_verdict world policy now values repo_asked asked = do
+  caller ← by_rules (caller_by world now values)
+  own ← by_rules (check (bytes_eq caller.repo repo_asked) rule.A4)
+  repo ← by_rules (found (repo_named repo_asked policy) rule.R1)
+  request ← by_rules asked
   covered ← by_rules (check (not (needs_upload request) || is_upload caller.operation) rule.A5)
   state_verdict world policy now caller repo request
+
+-- the same of a head that is not refused, and a body
+abbrev pub target_verdict : World → Policy → ℕ → RequestHead → Target → List ℕ → Answer
+target_verdict world policy now head target body =
+    desk_verdict world policy now (values (codes "authorization") head) target.repo (request_of target.form target.parameter (query_of head.target) body)
 
 -- the same of any message that is a head and a body
 unfoldable pub verdict : World → Policy → ℕ → RequestHead → List ℕ → Answer
