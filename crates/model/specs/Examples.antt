@@ -9,6 +9,7 @@ use Rattle.model.specs.declared.Operation.{Operation}
 use Rattle.model.specs.declared.Operation.TheVariants as operation
 use Rattle.model.specs.Policy.{Policy, Row}
 use Rattle.model.specs.World.{World, Lock, Issued, nothing, with_lock}
+use Rattle.model.specs.Heads.{values}
 use Rattle.model.specs.Steps.{message, Answer, by_rule, by_row, by_lock, makes_lock, verdict, may_push, caller_by, allow, is_last}
 use Rattle.model.specs.Stream.{BeginsWith}
 use Rattle.model.specs.Replies.{IsReply}

@@ -1,0 +1,4 @@
+//! The desk: one request comes in, one answer goes out, and what the server keeps takes one step.
+#![tactic(auto)]
+
+mod callers;
