@@ -12,7 +12,7 @@ use crate::Store;
 use crate::fault::StoreFault;
 use crate::read::{read, select};
 use crate::rows::{Creation, LockRow, NewLock, all_locks, first_lock};
-use crate::write::{change, finish, finish_with};
+use crate::write::{change, finish_with};
 use sqlite::{Alter, Connection, Error, Row, Transaction, params};
 use std::alloc::Global;
 
@@ -225,8 +225,7 @@ fn remove<S: Alter>(conn: &mut Connection<S>, repo: &str, id: u32) -> Result<usi
     }
     let mut tx = conn.transaction();
     let removed = remove_into(&mut tx, repo, id)?;
-    finish(tx)?;
-    Ok(removed)
+    finish_with(tx, removed)
 }
 
 impl<S: Alter> Store<S> {

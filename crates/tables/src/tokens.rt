@@ -12,7 +12,7 @@ use crate::Store;
 use crate::fault::StoreFault;
 use crate::read::{read, select};
 use crate::rows::{NewToken, TokenRow, all_tokens, first_token};
-use crate::write::{change, finish};
+use crate::write::{change, finish_with};
 use sqlite::{Alter, Connection, Error, Transaction, params};
 use std::alloc::Global;
 
@@ -84,8 +84,7 @@ fn add<S: Alter>(conn: &mut Connection<S>, token: &NewToken<'_>) -> Result<bool,
     }
     let mut tx = conn.transaction();
     let added = add_into(&mut tx, token)?;
-    finish(tx)?;
-    Ok(added)
+    finish_with(tx, added)
 }
 
 fn remove_expired_into<S: Alter>(tx: &mut Transaction<'_, S>, moment: i64) -> Result<usize, Error>
@@ -117,8 +116,7 @@ fn remove_expired<S: Alter>(conn: &mut Connection<S>, moment: i64) -> Result<usi
     }
     let mut tx = conn.transaction();
     let removed = remove_expired_into(&mut tx, moment)?;
-    finish(tx)?;
-    Ok(removed)
+    finish_with(tx, removed)
 }
 
 impl<S: Alter> Store<S> {
