@@ -2,6 +2,7 @@
 # Times the calls of crates/tables on locks beside the C library's, in one run, and holds them to two bars:
 # a look-up, a window and a new lock at 100,000 locks cost at most 4 times what they cost at 100,
 # and a new lock costs at most 2 times the C library's. It wants rt, and for the peer cc and sqlite3.h (libsqlite3-dev).
+# Where the C shell sqlite3 is there, it also reads the file that was made: its integrity check has to say ok, and its schema to be schema.sql.
 set -eu
 here=$(cd "$(dirname "$0")" && pwd)
 top=$(cd "$here/../.." && pwd)
@@ -20,6 +21,15 @@ if cc -O2 -o peer "$here/peer.c" -lsqlite3 2> /dev/null; then
     ./peer | tee -a times
 else
     echo "the peer did not run: no C compiler, or no sqlite3.h"
+fi
+if command -v sqlite3 > /dev/null; then
+    check=$(sqlite3 bench.db 'PRAGMA integrity_check')
+    echo "integrity_check by sqlite3 $(sqlite3 --version | cut -d' ' -f1): $check"
+    [ "$check" = ok ]
+    sqlite3 bench.db .schema | diff - "$here/schema.sql" && echo "the schema is schema.sql"
+    sqlite3 bench.db 'SELECT one, version FROM meta; SELECT count(*), max(id) FROM locks; SELECT made FROM repos'
+else
+    echo "sqlite3 did not run: it is not installed"
 fi
 awk '
     { for (i = 3; i < NF; i += 2) t[$1, $2, $i] = $(i + 1) }

@@ -3,8 +3,6 @@
 //! A studio keeps one file, `custody.db`, which sqlite3 reads too. It has the large files that the studio pushed, the locks that keep two artists off one file, and the tokens that let a client in. This crate is the only one that sees SQL. A call takes and answers rows with named fields, and each change is one transaction: after a stop, at whatever moment, the next open finds the rows before the call or those after it, and nothing between.
 #![tactic(auto)]
 
-ghost use Rattle.std.specs.Prelude.{◌≡◌};
-
 use sqlite::Connection;
 
 mod fault;

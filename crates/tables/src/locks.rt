@@ -6,13 +6,13 @@ ghost use Rattle.sqlite.specs.Held.{state};
 ghost use Rattle.tables.specs.Statements.{is_named, is_at, has_id, is_in, is_from, by_id, show_made, with_lock, without_lock};
 ghost use Rattle.tables.specs.Runs.{IsReady, Steps, Keeps, IsAfter, Leads, tables_in};
 ghost use Rattle.tables.specs.Steps.{lock_fields, read_lock, repo_count, read_count, IsCountOf, made_in, made_of, with_made, asked_lock, outcome_of, read_creation, with_new_lock, after_create};
-ghost use Rattle.tables.specs.Shown.{IsHonest, IsSafe, Stands, shown, Moves, Adds, AddsNothing, IsDurable};
+ghost use Rattle.tables.specs.Shown.{IsHonest, IsOpen, IsSafe, Stands, shown, Moves, Adds, AddsNothing, IsDurable};
 
 use crate::Store;
 use crate::fault::StoreFault;
 use crate::read::{read, select};
 use crate::rows::{Creation, LockRow, NewLock, all_locks, first_lock};
-use crate::write::{change, finish, finish_with};
+use crate::write::{change, finish_with};
 use sqlite::{Alter, Connection, Error, Row, Transaction, params};
 use std::alloc::Global;
 
@@ -225,13 +225,13 @@ fn remove<S: Alter>(conn: &mut Connection<S>, repo: &str, id: u32) -> Result<usi
     }
     let mut tx = conn.transaction();
     let removed = remove_into(&mut tx, repo, id)?;
-    finish(tx)?;
-    Ok(removed)
+    finish_with(tx, removed)
 }
 
 impl<S: Alter> Store<S> {
     /// How many locks the repository ever made.
     pub fn made(&mut self, repo: &str) -> Result<u32, StoreFault>
+        ensures open { IsHonest S.Store self.new → Stands S.Store self.old → OnOk result (IsOpen S.Store self.old) }
         ensures answer { IsHonest S.Store self.new → Stands S.Store self.old → IfOk result (λ n. pos n ≡ made_of repo.now (shown S.Store self.old)) }
         ensures same { Moves S.Store (λ t. t) self.old self.new }
         ensures stop { AddsNothing S.Store self.old self.new }
@@ -251,6 +251,7 @@ impl<S: Alter> Store<S> {
         ref_name: &str,
         path: &str,
     ) -> Result<Option<LockRow>, StoreFault>
+        ensures open { IsHonest S.Store self.new → Stands S.Store self.old → OnOk result (IsOpen S.Store self.old) }
         ensures answer { IsHonest S.Store self.new → Stands S.Store self.old → IfOk result (λ found. option_map read_lock found ≡ option_map lock_fields (find (is_at repo.now ref_name.now path.now) (shown S.Store self.old).locks)) }
         ensures same { Moves S.Store (λ t. t) self.old self.new }
         ensures stop { AddsNothing S.Store self.old self.new }
@@ -265,6 +266,7 @@ impl<S: Alter> Store<S> {
 
     /// The lock with this id.
     pub fn lock_with_id(&mut self, repo: &str, id: u32) -> Result<Option<LockRow>, StoreFault>
+        ensures open { IsHonest S.Store self.new → Stands S.Store self.old → OnOk result (IsOpen S.Store self.old) }
         ensures answer { IsHonest S.Store self.new → Stands S.Store self.old → IfOk result (λ found. option_map read_lock found ≡ option_map lock_fields (find (has_id repo.now (pos id)) (shown S.Store self.old).locks)) }
         ensures same { Moves S.Store (λ t. t) self.old self.new }
         ensures stop { AddsNothing S.Store self.old self.new }
@@ -279,6 +281,7 @@ impl<S: Alter> Store<S> {
 
     /// All locks of the repository, in rising ids.
     pub fn locks_in(&mut self, alloc: Global, repo: &str) -> Result<Vec<LockRow>, StoreFault>
+        ensures open { IsHonest S.Store self.new → Stands S.Store self.old → OnOk result (IsOpen S.Store self.old) }
         ensures answer { IsHonest S.Store self.new → Stands S.Store self.old → IfOk result (λ found. map read_lock found.items ≡ map lock_fields (by_id (filter (is_in repo.now) (shown S.Store self.old).locks))) }
         ensures same { Moves S.Store (λ t. t) self.old self.new }
         ensures stop { AddsNothing S.Store self.old self.new }
@@ -298,6 +301,7 @@ impl<S: Alter> Store<S> {
         repo: &str,
         id: u32,
     ) -> Result<Vec<LockRow>, StoreFault>
+        ensures open { IsHonest S.Store self.new → Stands S.Store self.old → OnOk result (IsOpen S.Store self.old) }
         ensures answer { IsHonest S.Store self.new → Stands S.Store self.old → IfOk result (λ found. map read_lock found.items ≡ map lock_fields (take 64 (by_id (filter (is_from repo.now (pos id)) (shown S.Store self.old).locks)))) }
         ensures same { Moves S.Store (λ t. t) self.old self.new }
         ensures stop { AddsNothing S.Store self.old self.new }
@@ -312,6 +316,7 @@ impl<S: Alter> Store<S> {
 
     /// Makes a lock under the repository's next id and counts it, both or neither. Nothing changes where one stands on its path, or no id is left.
     pub fn create_lock(&mut self, lock: &NewLock<'_>) -> Result<Creation, StoreFault>
+        ensures open { IsHonest S.Store self.new → Stands S.Store self.old → OnOk result (IsOpen S.Store self.old) }
         ensures answer { IsHonest S.Store self.new → Stands S.Store self.old → IfOk result (λ creation. read_creation creation ≡ outcome_of (asked_lock lock.now) (shown S.Store self.old)) }
         ensures ok { OnOk result (Moves S.Store (after_create (asked_lock lock.now)) self.old self.new) }
         ensures durable { Stands S.Store self.old → OnOk result (IsDurable S.Store self.new) }
@@ -323,6 +328,7 @@ impl<S: Alter> Store<S> {
 
     /// Removes the lock with this id, and says how many there were: one or none.
     pub fn remove_lock(&mut self, repo: &str, id: u32) -> Result<usize, StoreFault>
+        ensures open { IsHonest S.Store self.new → Stands S.Store self.old → OnOk result (IsOpen S.Store self.old) }
         ensures answer { IsHonest S.Store self.new → Stands S.Store self.old → IfOk result (λ n. n ≡ length (filter (has_id repo.now (pos id)) (shown S.Store self.old).locks)) }
         ensures ok { OnOk result (Moves S.Store (without_lock repo.now (pos id)) self.old self.new) }
         ensures durable { Stands S.Store self.old → OnOk result (IsDurable S.Store self.new) }

@@ -73,6 +73,7 @@ impl<S: Storage> Store<S> {
         ensures safe { IsHonest S.Store self.new → OnOk result (IsSafe S.Store self.new) }
         ensures only { IsHonest S.Store self.new → OnOk result ((t : _) → Leaves S.Store self.new t → (HasNoTable S.Store self.old × (t ≡ fresh)) ⊎ (t ≡ shown S.Store self.old)) }
         ensures err { IsHonest S.Store self.new → OnErr result (Rests S.Store self.old self.new) }
+        ensures unknown { result ≡ Err StoreFault.UnknownSchema → ¬ HasNoTable S.Store self.old }
         ensures stop { AddsFresh S.Store self.old self.new }
     {
         schema::create_or_check(alloc, &mut self.conn)

@@ -1,13 +1,13 @@
 //! The six tables: how an empty database gets them, and how another is told apart.
 
-ghost use Rattle.std.specs.Prelude.{◌≡◌, ◌⊎◌, [], ◌∷◌, map, IfOk, OnErr, OnOk, IsTrue};
+ghost use Rattle.std.specs.Prelude.{◌≡◌, ◌≢◌, ◌↔◌, ◌⊎◌, [], ◌∷◌, map, IfOk, OnErr, OnOk, IsTrue};
 ghost use Rattle.sqlite.specs.State.{HasCleanDisk, Survives, KeepsCommit};
 ghost use Rattle.sqlite.specs.Held.{state};
 ghost use Rattle.tables.specs.Rows.{Meta};
 ghost use Rattle.tables.specs.Layout.{custody};
 ghost use Rattle.tables.specs.Making.{Part, text_for, before, after, no_schema, with_tokens, with_locks, IsBlank};
 ghost use Rattle.tables.specs.Statements.{show_meta};
-ghost use Rattle.tables.specs.Runs.{IsReady, IsKept, Keeps, Blanks, Steps, with_fresh, first_meta, tables_in, IsAfter, Leads, LeadsIfBlank, LeavesOurs, LeavesOnly, MakesOrKeeps};
+ghost use Rattle.tables.specs.Runs.{HasNoTable, IsReady, IsKept, Keeps, Blanks, Steps, with_fresh, first_meta, tables_in, IsAfter, Leads, LeadsIfBlank, LeavesOurs, LeavesOnly, MakesOrKeeps};
 
 use crate::fault::StoreFault;
 use crate::read::read;
@@ -102,6 +102,7 @@ fn create<S: Alter>(conn: &mut Connection<S>) -> Result<(), StoreFault>
     ensures ok { HasCleanDisk (state S.Store conn.new) → IsBlank no_schema (state S.Store conn.old).now → OnOk result (IsTrue (state S.Store conn.old).is_open × IsAfter with_fresh (state S.Store conn.old).now (state S.Store conn.new).now) }
     ensures only { HasCleanDisk (state S.Store conn.new) → OnOk result ((trees : _) → (state S.Store conn.new).may_leave trees → trees ≡ (state S.Store conn.new).now.trees) }
     ensures err { HasCleanDisk (state S.Store conn.new) → OnErr result (Keeps (state S.Store conn.old) (state S.Store conn.new)) }
+    ensures known { result ≢ Err StoreFault.UnknownSchema }
     ensures clean { HasCleanDisk (state S.Store conn.new) → HasCleanDisk (state S.Store conn.old) }
     ensures crash { IsBlank no_schema (state S.Store conn.old).now → Survives (state S.Store conn.old) (state S.Store conn.new) (Leads with_fresh (state S.Store conn.old)) }
 {
@@ -114,7 +115,7 @@ fn create<S: Alter>(conn: &mut Connection<S>) -> Result<(), StoreFault>
 }
 
 fn is_blank(schema: &Schema) -> bool
-    ensures { IsTrue result → schema.now ≡ no_schema }
+    ensures { IsTrue result ↔ (schema.now ≡ no_schema) }
 {
     schema.tables.is_empty() && schema.indexes.is_empty() && schema.views.is_empty()
 }
@@ -169,6 +170,7 @@ pub(crate) fn create_or_check<S: Storage>(
     ensures version { HasCleanDisk (state S.Store conn.new) → OnOk result (IsTrue (state S.Store conn.new).is_open → (tables_in (state S.Store conn.new)).meta ≡ first_meta ∷ []) }
     ensures ok { HasCleanDisk (state S.Store conn.new) → OnOk result (MakesOrKeeps (state S.Store conn.old) (state S.Store conn.new)) }
     ensures err { HasCleanDisk (state S.Store conn.new) → OnErr result (Keeps (state S.Store conn.old) (state S.Store conn.new)) }
+    ensures unknown { result ≡ Err StoreFault.UnknownSchema → ¬ HasNoTable (state S.Store conn.old) }
     ensures safe { HasCleanDisk (state S.Store conn.new) → OnOk result (LeavesOurs (state S.Store conn.new)) }
     ensures only { HasCleanDisk (state S.Store conn.new) → OnOk result (LeavesOnly (state S.Store conn.old) (state S.Store conn.new)) }
     ensures survives { Survives (state S.Store conn.old) (state S.Store conn.new) (LeadsIfBlank (state S.Store conn.old)) }

@@ -6,13 +6,13 @@ ghost use Rattle.sqlite.specs.Held.{state};
 ghost use Rattle.tables.specs.Statements.{has_digest, is_held_by, has_expired, with_token, without_expired};
 ghost use Rattle.tables.specs.Runs.{IsReady, Steps, Keeps, IsAfter, Leads, tables_in};
 ghost use Rattle.tables.specs.Steps.{token_fields, read_token, asked_token, has_token, after_add};
-ghost use Rattle.tables.specs.Shown.{IsHonest, Stands, shown, Moves, Adds, AddsNothing, IsDurable};
+ghost use Rattle.tables.specs.Shown.{IsHonest, IsOpen, Stands, shown, Moves, Adds, AddsNothing, IsDurable};
 
 use crate::Store;
 use crate::fault::StoreFault;
 use crate::read::{read, select};
 use crate::rows::{NewToken, TokenRow, all_tokens, first_token};
-use crate::write::{change, finish};
+use crate::write::{change, finish_with};
 use sqlite::{Alter, Connection, Error, Transaction, params};
 use std::alloc::Global;
 
@@ -84,8 +84,7 @@ fn add<S: Alter>(conn: &mut Connection<S>, token: &NewToken<'_>) -> Result<bool,
     }
     let mut tx = conn.transaction();
     let added = add_into(&mut tx, token)?;
-    finish(tx)?;
-    Ok(added)
+    finish_with(tx, added)
 }
 
 fn remove_expired_into<S: Alter>(tx: &mut Transaction<'_, S>, moment: i64) -> Result<usize, Error>
@@ -117,13 +116,13 @@ fn remove_expired<S: Alter>(conn: &mut Connection<S>, moment: i64) -> Result<usi
     }
     let mut tx = conn.transaction();
     let removed = remove_expired_into(&mut tx, moment)?;
-    finish(tx)?;
-    Ok(removed)
+    finish_with(tx, removed)
 }
 
 impl<S: Alter> Store<S> {
     /// The token with this digest.
     pub fn token(&mut self, digest: &[u8; 32]) -> Result<Option<TokenRow>, StoreFault>
+        ensures open { IsHonest S.Store self.new → Stands S.Store self.old → OnOk result (IsOpen S.Store self.old) }
         ensures answer { IsHonest S.Store self.new → Stands S.Store self.old → IfOk result (λ found. option_map read_token found ≡ option_map token_fields (find (has_digest digest.now) (shown S.Store self.old).tokens)) }
         ensures same { Moves S.Store (λ t. t) self.old self.new }
         ensures stop { AddsNothing S.Store self.old self.new }
@@ -143,6 +142,7 @@ impl<S: Alter> Store<S> {
         user: &str,
         repo: &str,
     ) -> Result<Vec<TokenRow>, StoreFault>
+        ensures open { IsHonest S.Store self.new → Stands S.Store self.old → OnOk result (IsOpen S.Store self.old) }
         ensures answer { IsHonest S.Store self.new → Stands S.Store self.old → IfOk result (λ found. map read_token found.items ≡ map token_fields (filter (is_held_by user.now repo.now) (shown S.Store self.old).tokens)) }
         ensures same { Moves S.Store (λ t. t) self.old self.new }
         ensures stop { AddsNothing S.Store self.old self.new }
@@ -157,6 +157,7 @@ impl<S: Alter> Store<S> {
 
     /// Adds a token, unless one with its digest is there. It says whether it did.
     pub fn add_token(&mut self, token: &NewToken<'_>) -> Result<bool, StoreFault>
+        ensures open { IsHonest S.Store self.new → Stands S.Store self.old → OnOk result (IsOpen S.Store self.old) }
         ensures answer { IsHonest S.Store self.new → Stands S.Store self.old → IfOk result (λ added. has_token token.now.digest.now (shown S.Store self.old) ≡ not added) }
         ensures ok { OnOk result (Moves S.Store (after_add (asked_token token.now)) self.old self.new) }
         ensures durable { Stands S.Store self.old → OnOk result (IsDurable S.Store self.new) }
@@ -168,6 +169,7 @@ impl<S: Alter> Store<S> {
 
     /// Removes the tokens that have expired at this moment, and says how many there were.
     pub fn remove_expired(&mut self, moment: i64) -> Result<usize, StoreFault>
+        ensures open { IsHonest S.Store self.new → Stands S.Store self.old → OnOk result (IsOpen S.Store self.old) }
         ensures answer { IsHonest S.Store self.new → Stands S.Store self.old → IfOk result (λ n. n ≡ length (filter (has_expired moment) (shown S.Store self.old).tokens)) }
         ensures ok { OnOk result (Moves S.Store (without_expired moment) self.old self.new) }
         ensures durable { Stands S.Store self.old → OnOk result (IsDurable S.Store self.new) }

@@ -1,6 +1,6 @@
 //! Writing statements, inside a transaction, and its commit.
 
-ghost use Rattle.std.specs.Prelude.{◌≡◌, false, IfOk, OnOk, OnErr, IsTrue};
+ghost use Rattle.std.specs.Prelude.{◌≡◌, ◌≢◌, false, IfOk, OnOk, OnErr, IsTrue};
 ghost use Rattle.sqlite.specs.Values.{bound};
 ghost use Rattle.sqlite.specs.State.{HasCleanDisk, Survives, KeepsCommit, Shows, IsRolledBack};
 ghost use Rattle.sqlite.specs.Held.{state};
@@ -31,6 +31,7 @@ pub(crate) fn change<S: Alter>(
 pub(crate) fn finish<S: Alter>(tx: Transaction<'_, S>) -> Result<(), StoreFault>
     ensures ok { HasCleanDisk (state S.Store tx.exit.0.now) → OnOk result (Shows (state S.Store tx.entry.conn.now) (state S.Store tx.exit.0.now) (state S.Store tx.entry.conn.now).now (state S.Store tx.entry.conn.now).now false) }
     ensures err { HasCleanDisk (state S.Store tx.exit.0.now) → IsTrue (state S.Store tx.entry.conn.now).in_transaction → OnErr result (IsRolledBack (state S.Store tx.entry.conn.now) (state S.Store tx.exit.0.now)) }
+    ensures known { result ≢ Err StoreFault.UnknownSchema }
     ensures survives { Survives (state S.Store tx.entry.conn.now) (state S.Store tx.exit.0.now) (λ db. db ≡ (state S.Store tx.entry.conn.now).now.trees) }
 {
     tx.commit()?;

@@ -8,10 +8,10 @@ use Rattle.tables.proofs.schema.create_or_check.Goals as goal
 pub returns-then-is_blank-clause-version : goal.returns-then-is_blank-clause-version
 unfolding with_fresh
 returns-then-is_blank-clause-version g c clean =
-    IfOk-weaker c.create.result _ _ (λ _ made _. ap (λ (t : Tables). t.meta) made.1.tables) (c.create.ensures.ok clean record { schema_is = sym c.schema.ensures.value ∙ c.is_blank.ensures c.if-is_blank.true; empty = tt })
+    IfOk-weaker c.create.result _ _ (λ _ made _. ap (λ (t : Tables). t.meta) made.1.tables) (c.create.ensures.ok clean record { schema_is = sym c.schema.ensures.value ∙ c.is_blank.ensures.0 c.if-is_blank.true; empty = tt })
 
 pub returns-then-is_blank-clause-only : goal.returns-then-is_blank-clause-only
 unfolding with_fresh
 returns-then-is_blank-clause-only g c clean =
-    let none = sym c.schema.ensures.value ∙ c.is_blank.ensures c.if-is_blank.true in
+    let none = sym c.schema.ensures.value ∙ c.is_blank.ensures.0 c.if-is_blank.true in
     IfOk-weaker c.create.result _ _ (λ _ both trees left. inl (none, ap tables_of (both.0 trees left) ∙ both.1.1.tables)) (both_ok _ _ c.create.result (c.create.ensures.only clean) (c.create.ensures.ok clean record { schema_is = none; empty = tt }))
