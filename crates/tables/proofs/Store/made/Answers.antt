@@ -13,3 +13,7 @@ returns-clause-answer g c clean stands =
     c.made_so_far.ensures (slice_get (filter passes repos) 0)
     (c.in_ok-first_count.ensures (filter passes repos) (c.as_slice.ensures.value ∙ c.in_ok-rows.ensures.rows clean stands (made_by c.args.repo.now) refl (rw c.params-to_sql.ensures)))
     ∙ ap made_in (slice_get-filter passes repos)
+
+pub returns-clause-open : goal.returns-clause-open
+unfolding read_text
+returns-clause-open g c clean stands = c.in_ok-rows.ensures.open clean stands (made_by c.args.repo.now) refl
