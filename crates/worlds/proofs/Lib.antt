@@ -1,3 +1,5 @@
 pub mod Found
 pub mod Lookups
 pub mod Changes
+pub mod Outcomes
+pub mod Holding
