@@ -30,7 +30,7 @@ pub enum Content {
 }
 
 /// The head of a reply: what is told of it, and of what the server does behind it.
-#[derive(Clone, Copy, Debug)]
+#[derive(Clone, Copy, Debug, PartialEq, Eq)]
 pub struct ReplyHead<'a> {
     /// The status. Its phrase is that of RFC 9110, and empty for a status that the server never
     /// sends.
