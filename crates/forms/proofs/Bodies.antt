@@ -1,6 +1,7 @@
 -- What a body asks, by way of its value.
 use Rattle.std.proofs.Common.{◌≡◌, ℕ, Bool, true, false, ◌&&◌, List, Option, Some, None, Result, Ok, Err, refl, sym, ap, subst, ◌∙◌, codes, if◌then◌else◌, option_and_then}
 use Rattle.std.specs.Str.{is_utf8, IsUtf8}
+use Rattle.std.proofs.lemmas.Bool.{and_parts}
 use Rattle.std.proofs.lemmas.Str.{IsUtf8-from_is_utf8, is_utf8-from_IsUtf8}
 use Rattle.serde_json.specs.Data.{Data, null, boolean, number, string, array, object}
 use Rattle.serde_json.specs.Read.{read}
@@ -67,3 +68,26 @@ same_form path text ref name e f =
     let P : List ℕ → Type 0 = λ t. SameResult (Ok (form path ref)) (Ok (form t name)) in
     let Q : Option (List ℕ) → Type 0 = λ n. SameResult (Ok (form path ref)) (Ok (form path n)) in
     subst P e (subst Q f refl)
+
+-- ---- what is read is in range
+
+abbrev are_in_range : LockForm → Bool
+are_in_range asked = is_lock_path asked.path && is_ref_if_given asked.ref
+
+passed : (holds : Bool) (given asked : LockForm) → (check holds J2 >>= λ valid. Ok given) ≡ Ok asked → (holds ≡ true) × (given ≡ asked)
+passed true given asked e = (refl, cc)
+passed false given asked e = absurd (cc)
+
+read_in_range : (fields : Result LockForm Rule) (asked : LockForm) → (fields >>= in_range) ≡ Ok asked → are_in_range asked ≡ true
+read_in_range (Ok given) asked e =
+    let p = passed (are_in_range given) given asked e in
+    subst (λ (f : LockForm). are_in_range f ≡ true) p.1 p.0
+read_in_range (Err rule) asked e = absurd (cc)
+
+pub path_in_range : (d : Data) (path text : List ℕ) (ref : Option (List ℕ)) → lock_of_value d ≡ Ok (form path ref) → path ≡ text → is_lock_path text ≡ true
+path_in_range d path text ref e same =
+    subst (λ (t : List ℕ). is_lock_path t ≡ true) same (and_parts (is_lock_path path) (is_ref_if_given ref) (read_in_range (lock_fields d) (form path ref) e)).0
+
+pub ref_in_range : (d : Data) (path : List ℕ) (ref name : Option (List ℕ)) → lock_of_value d ≡ Ok (form path ref) → ref ≡ name → is_ref_if_given name ≡ true
+ref_in_range d path ref name e same =
+    subst (λ (n : Option (List ℕ)). is_ref_if_given n ≡ true) same (and_parts (is_lock_path path) (is_ref_if_given ref) (read_in_range (lock_fields d) (form path ref) e)).1

@@ -10,7 +10,7 @@ use Rattle.names.specs.declared.rules.Rule.TheVariants.{J2}
 use Rattle.model.specs.Reading.{◌>>=◌, check}
 use Rattle.model.specs.Forms.{LockForm, text_if_given, ref_if_given, required, is_ref_if_given}
 
--- what is answered, seen by view, is what the definitions read
+-- what is answered is what the definitions read: the same value, seen by view, or the same refusal
 abbrev pub Gives : {X Y : Type 0} → (X → Y) → Result X Rule → Result Y Rule → Type 0
 Gives view (Ok x) read = read ≡ Ok (view x)
 Gives view (Err e) read = read ≡ Err e

@@ -1,12 +1,14 @@
--- A request as the definitions see it.
+-- A request, as the definitions see it.
 use Rattle.std.specs.Prelude.{option_map, string_bytes}
 use Rattle.model.specs.Forms.{LockForm, Request, asks_lock}
 use Rattle.forms.specs.declared.lock.LockRequest.{LockRequest}
 use Rattle.forms.specs.declared.request.Request as code
 use Rattle.forms.specs.declared.request.Request.TheVariants.{Lock}
 
+-- the path and the ref
 abbrev pub lock_asked : LockRequest → LockForm
 lock_asked r = record { path = string_bytes r.path; ref = option_map string_bytes r.ref_name }
 
+-- what is asked
 abbrev pub request_asked : code.Request → Request
 request_asked (Lock r) = asks_lock (lock_asked r)

@@ -1,4 +1,4 @@
--- An answer as the definitions see it.
+-- What a client is told, as the definitions see it.
 use Rattle.std.specs.Prelude.{◌≡◌, ℕ, List, codes, decimal, Ok, Err}
 use Rattle.serde_json.specs.Data.{Data, object, member, string, no_members}
 use Rattle.names.specs.Names.{user_text, path_text}
@@ -14,14 +14,14 @@ use Rattle.forms.specs.declared.answer.ShownLock.{ShownLock}
 use Rattle.forms.specs.declared.answer.Answer.{Answer}
 use Rattle.forms.specs.declared.answer.Answer.TheVariants.{Locked, Held, Denied, DeniedByRow}
 
--- what is shown is of this lock
+-- what is shown of the lock
 pub record IsOf (shown : ShownLock) (l : Lock) : Type 0 where
   pub id : l.id ≡ shown.id
   pub at : l.at ≡ shown.locked_at
   pub owner : l.owner ≡ user_text shown.owner
   pub path : l.path ≡ path_text shown.path
 
--- the value tells the answer
+-- the value tells this answer
 abbrev pub Tells : Answer → model.Answer → Type 0
 Tells (Locked shown) given = (l : Lock) × IsOf shown l × (given ≡ Ok (makes_lock l))
 Tells (Held shown) given = (l : Lock) × IsOf shown l × (given ≡ Err (by_lock l))
@@ -30,24 +30,28 @@ Tells (DeniedByRow row right status) given = given ≡ Err (by_row row right sta
 
 -- ---- the JSON of a reply
 
+-- a lock, from its texts
 abbrev pub lock_of_texts : LockTexts → Data
 lock_of_texts t = lock_members t.id.now t.locked_at.now t.owner.now t.path.now
 
+-- the lock that was made
 abbrev pub locked_data : LockTexts → Data
 locked_data t = object (member (codes "lock") (lock_of_texts t) no_members)
 
+-- the lock that stands, with a message
 abbrev pub held_data : LockTexts → List ℕ → Data
 held_data t message = object (member (codes "lock") (lock_of_texts t) (member (codes "message") (string message) no_members))
 
--- the body of a 201, and of the 409 of a path that is locked, with a lock's id, its moment as text, owner and path
+-- the same, with a lock's id, its moment as text, its owner and its path
 abbrev pub locked_with : List ℕ → List ℕ → List ℕ → List ℕ → Data
 locked_with id at owner path = object (member (codes "lock") (lock_members id at owner path) no_members)
 
+-- the same of the lock that stands, with the message of L1
 abbrev pub held_with : List ℕ → List ℕ → List ℕ → List ℕ → Data
 held_with id at owner path =
     object (member (codes "lock") (lock_members id at owner path) (member (codes "message") (string (rule_message L1)) no_members))
 
--- the text is that body of the lock that is shown
+-- the text is that JSON, of the lock that is shown
 abbrev pub IsBodyOf : (List ℕ → List ℕ → List ℕ → List ℕ → Data) → ShownLock → List ℕ → Type 0
 IsBodyOf body shown text =
     (at : List ℕ) × IsMomentText shown.locked_at at

@@ -1,4 +1,4 @@
-//! What a client is told, as a status and a JSON body (Git LFS API, File Locking).
+//! What a client is told, as a status and a JSON body (Git LFS API, File Locking, "Create Lock").
 
 ghost use Rattle.std.specs.Prelude.{◌≡◌, ◌∷◌, [], codes, decimal, IfOk, string_bytes};
 ghost use Rattle.serde_json.specs.View.{view};
@@ -14,12 +14,12 @@ use names::{LockId, LockPath, Moment, Rule, UserName, moment_text};
 use serde_json::{Value, json};
 use std::alloc::{AllocError, Global};
 
-/// What a client is shown of a lock.
+/// What a client is shown of a lock: neither its repository nor its ref.
 #[derive(Clone, Copy, Debug)]
 pub struct ShownLock<'a> {
-    /// Its number in the repository.
+    /// Its number in the repository; told as a text.
     pub id: LockId,
-    /// Since when it stands.
+    /// When it was made; told as `2016-05-17T15:49:06Z`.
     pub locked_at: Moment,
     /// Who made it.
     pub owner: UserName<'a>,
@@ -30,16 +30,64 @@ pub struct ShownLock<'a> {
 /// What a client is told.
 #[derive(Clone, Copy, Debug)]
 pub enum Answer<'a> {
-    /// The lock was made: 201.
+    /// The lock was made: 201, with the lock.
     Locked(ShownLock<'a>),
-    /// The path is locked by this lock: L1, 409.
+    /// The path is locked already: L1, 409, with the lock that stands.
     Held(ShownLock<'a>),
-    /// The rule refuses.
+    /// The rule refuses: with its own status, and 403 for a rule that has none.
     Denied(Rule),
-    /// The policy's row of that number, or none at 0, denies the right, with that status.
-    DeniedByRow(u32, Right, u16),
+    /// The policy denies.
+    DeniedByRow {
+        /// The row that decides, counted from 1; 0 where no row matches.
+        row: u32,
+        /// The right that was asked.
+        right: Right,
+        /// The status that the request gives to such a denial.
+        status: u16,
+    },
 }
 
+impl Answer<'_> {
+    ghost use Rattle.std.specs.Prelude.{◌≡◌, IfOk, string_bytes};
+    ghost use Rattle.model.specs.Replies.{IsBody, status_of};
+    ghost use Rattle.forms.specs.Told.{Tells};
+
+    /// The status of the reply.
+    pub fn status(&self) -> u16
+        ensures { (given : _) → Tells self.now given → result ≡ status_of given }
+    {
+        match self {
+            Answer::Locked(_) => 201,
+            Answer::Held(_) => 409,
+            Answer::Denied(rule) => rule.status().unwrap_or(403),
+            Answer::DeniedByRow { status, .. } => *status,
+        }
+    }
+
+    /// The JSON body of the reply: without white space, its keys in the order of their bytes.
+    ///
+    /// # Errors
+    ///
+    /// Only where memory refused.
+    pub fn body(&self, alloc: Global) -> Result<String, AllocError>
+        ensures { IfOk result (λ text. (given : _) → Tells self.now given → IsBody given (string_bytes text)) }
+    {
+        match self {
+            Answer::Locked(lock) => locked_body(alloc, lock),
+            Answer::Held(lock) => held_body(alloc, lock),
+            Answer::Denied(rule) => {
+                let message = rule_message(alloc, *rule)?;
+                message_body(alloc, message.as_str())
+            }
+            Answer::DeniedByRow { row, right, .. } => {
+                let message = row_message(alloc, *row, *right)?;
+                message_body(alloc, message.as_str())
+            }
+        }
+    }
+}
+
+/// The word for the right.
 fn right_text(right: Right) -> &'static str
     ensures { result.now ≡ right_text right }
 {
@@ -62,12 +110,14 @@ fn told(alloc: Global, rule: Rule, reason: &str) -> Result<String, AllocError>
     Ok(text)
 }
 
+/// What is told of a rule.
 fn rule_message(alloc: Global, rule: Rule) -> Result<String, AllocError>
     ensures { IfOk result (λ text. string_bytes text ≡ rule_message rule) }
 {
     told(alloc, rule, rule.reason().unwrap_or(""))
 }
 
+/// Why the row, or no row, denies the right.
 fn row_reason(alloc: Global, row: u32, right: Right) -> Result<String, AllocError>
     ensures { IfOk result (λ text. string_bytes text ≡ row_reason row right) }
 {
@@ -82,6 +132,7 @@ fn row_reason(alloc: Global, row: u32, right: Right) -> Result<String, AllocErro
     Ok(text)
 }
 
+/// What is told of a row.
 fn row_message(alloc: Global, row: u32, right: Right) -> Result<String, AllocError>
     ensures { IfOk result (λ text. string_bytes text ≡ row_message row right) }
 {
@@ -89,20 +140,21 @@ fn row_message(alloc: Global, row: u32, right: Right) -> Result<String, AllocErr
     told(alloc, Rule::P(row), reason.as_str())
 }
 
-/// A JSON object with one text.
+/// A JSON object with the one text `message`.
 fn message_value(alloc: Global, message: &str) -> Result<Value, AllocError>
     ensures { IfOk result (λ value. view value ≡ object (member (codes "message") (string message.now) no_members)) }
 {
     json!(in alloc; {"message": message})
 }
 
+/// The JSON of a message.
 fn message_body(alloc: Global, message: &str) -> Result<String, AllocError>
     ensures { IfOk result (λ text. string_bytes text ≡ message_body message.now) }
 {
     message_value(alloc, message)?.to_string(alloc)
 }
 
-/// The parts of a lock that is shown, as texts.
+/// The parts of a lock, as the texts that stand in its JSON.
 #[derive(Clone, Copy)]
 struct LockTexts<'a> {
     id: &'a str,
@@ -111,30 +163,35 @@ struct LockTexts<'a> {
     path: &'a str,
 }
 
+/// The JSON value with the lock.
 fn locked_value(alloc: Global, lock: &LockTexts<'_>) -> Result<Value, AllocError>
     ensures { IfOk result (λ value. view value ≡ locked_data lock.now) }
 {
     json!(in alloc; {"lock": {"id": lock.id, "locked_at": lock.locked_at, "owner": {"name": lock.owner}, "path": lock.path}})
 }
 
+/// The text of that.
 fn locked_text(alloc: Global, lock: &LockTexts<'_>) -> Result<String, AllocError>
     ensures { IfOk result (λ text. string_bytes text ≡ compact_text (locked_data lock.now)) }
 {
     locked_value(alloc, lock)?.to_string(alloc)
 }
 
+/// The JSON value with the lock and a message.
 fn held_value(alloc: Global, lock: &LockTexts<'_>, message: &str) -> Result<Value, AllocError>
     ensures { IfOk result (λ value. view value ≡ held_data lock.now message.now) }
 {
     json!(in alloc; {"lock": {"id": lock.id, "locked_at": lock.locked_at, "owner": {"name": lock.owner}, "path": lock.path}, "message": message})
 }
 
+/// The text of that.
 fn held_text(alloc: Global, lock: &LockTexts<'_>, message: &str) -> Result<String, AllocError>
     ensures { IfOk result (λ text. string_bytes text ≡ compact_text (held_data lock.now message.now)) }
 {
     held_value(alloc, lock, message)?.to_string(alloc)
 }
 
+/// The body of a lock that was made.
 fn locked_body(alloc: Global, lock: &ShownLock<'_>) -> Result<String, AllocError>
     ensures { IfOk result (λ text. IsBodyOf locked_with lock.now (string_bytes text)) }
 {
@@ -149,6 +206,7 @@ fn locked_body(alloc: Global, lock: &ShownLock<'_>) -> Result<String, AllocError
     locked_text(alloc, &texts)
 }
 
+/// The body of a lock that stands in the way.
 fn held_body(alloc: Global, lock: &ShownLock<'_>) -> Result<String, AllocError>
     ensures { IfOk result (λ text. IsBodyOf held_with lock.now (string_bytes text)) }
 {
@@ -162,42 +220,4 @@ fn held_body(alloc: Global, lock: &ShownLock<'_>) -> Result<String, AllocError>
     };
     let message = rule_message(alloc, Rule::L1)?;
     held_text(alloc, &texts, message.as_str())
-}
-
-impl Answer<'_> {
-    ghost use Rattle.std.specs.Prelude.{◌≡◌, IfOk, string_bytes};
-    ghost use Rattle.model.specs.Replies.{IsBody, status_of};
-    ghost use Rattle.forms.specs.Told.{Tells};
-
-    /// The status of the reply.
-    pub fn status(&self) -> u16
-        ensures { (given : _) → Tells self.now given → result ≡ status_of given }
-    {
-        match self {
-            Answer::Locked(_) => 201,
-            Answer::Held(_) => 409,
-            Answer::Denied(rule) => rule.status().unwrap_or(403),
-            Answer::DeniedByRow(_, _, status) => *status,
-        }
-    }
-
-    /// The JSON body of the reply: compact, with keys in the order of their bytes.
-    ///
-    /// `Err` is told only where memory refused.
-    pub fn body(&self, alloc: Global) -> Result<String, AllocError>
-        ensures { IfOk result (λ text. (given : _) → Tells self.now given → IsBody given (string_bytes text)) }
-    {
-        match self {
-            Answer::Locked(lock) => locked_body(alloc, lock),
-            Answer::Held(lock) => held_body(alloc, lock),
-            Answer::Denied(rule) => {
-                let message = rule_message(alloc, *rule)?;
-                message_body(alloc, message.as_str())
-            }
-            Answer::DeniedByRow(row, right, _) => {
-                let message = row_message(alloc, *row, *right)?;
-                message_body(alloc, message.as_str())
-            }
-        }
-    }
 }

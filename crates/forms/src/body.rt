@@ -1,4 +1,4 @@
-//! Reading JSON: the value of a body, and the texts of its keys.
+//! What the bodies of all requests have in common: a JSON value, texts under keys, a ref.
 
 ghost use Rattle.std.specs.Prelude.{◌≡◌, option_map, IfOk};
 ghost use Rattle.serde_json.specs.View.{view};
@@ -9,8 +9,13 @@ use names::Rule;
 use serde_json::Value;
 use std::alloc::{AllocError, Global};
 
-/// The JSON value that a body is, where it is one (RFC 8259).
-pub(crate) fn value_read(alloc: Global, body: &[u8]) -> Result<Option<Value>, AllocError>
+/// The JSON value that the body is, with nothing but white space around it; `None` where it is not
+/// UTF-8 or no such value (RFC 8259).
+///
+/// # Errors
+///
+/// Only where memory refused.
+pub(crate) fn value_of(alloc: Global, body: &[u8]) -> Result<Option<Value>, AllocError>
     ensures { IfOk result (λ v. option_map view v ≡ value_of body.now) }
 {
     let Ok(text) = str::from_utf8(body) else {
@@ -28,7 +33,11 @@ pub(crate) fn value_read(alloc: Global, body: &[u8]) -> Result<Option<Value>, Al
     }
 }
 
-/// The text that an optional key holds; J1 where it holds anything else but null.
+/// The text under a key that may be missing.
+///
+/// # Errors
+///
+/// J1 where it is of another kind. `null` counts as missing.
 pub(crate) fn text_if_given(value: Option<&Value>) -> Result<Option<&str>, Rule>
     ensures { Gives (option_map (λ s. s.now)) result (text_if_given (option_map (λ v. view v.now) value.entry)) }
 {
@@ -39,7 +48,12 @@ pub(crate) fn text_if_given(value: Option<&Value>) -> Result<Option<&str>, Rule>
     }
 }
 
-/// The ref that an optional key holds: the text `name` of an object, else J1.
+/// The ref under a key that may be missing: an object with the text `name`.
+///
+/// # Errors
+///
+/// J1 where it is of another kind, or has no such text. `null` in its place counts as missing, and
+/// `null` as its `name` does not.
 pub(crate) fn ref_if_given(value: Option<&Value>) -> Result<Option<&str>, Rule>
     ensures { Gives (option_map (λ s. s.now)) result (ref_if_given (option_map (λ v. view v.now) value.entry)) }
 {

@@ -1,27 +1,51 @@
 //! The body of a request for a lock (Git LFS API, File Locking, "Create Lock").
 
-ghost use Rattle.std.specs.Prelude.{◌≡◌, option_map, IfOk, string_bytes};
+ghost use Rattle.std.specs.Prelude.{◌≡◌, IsTrue, option_map, IfOk, string_bytes};
 ghost use Rattle.serde_json.specs.View.{view};
 ghost use Rattle.names.specs.Texts.{is_lock_path, is_ref};
 ghost use Rattle.model.specs.Forms.{lock_form};
 ghost use Rattle.model.specs.Forms as asked;
 ghost use Rattle.forms.specs.Given.{Gives, lock_fields, lock_of_value};
 
-use crate::body::{ref_if_given, text_if_given, value_read};
+use crate::body::{ref_if_given, text_if_given, value_of};
 use names::{LockPath, RefName, Rule};
 use serde_json::Value;
 use std::alloc::{AllocError, Global};
 
-/// A path to lock, and perhaps its ref. Both are in range.
+/// A path to lock, and perhaps a ref.
 #[derive(Debug, Drop)]
 pub struct LockRequest {
-    /// The path.
+    /// The path: [`LockPath::read`] takes it.
     pub path: String,
-    /// The ref; where it is missing, the repository's default ref is meant.
+    /// The ref: [`RefName::read`] takes it. Where there is none, the repository's default ref is
+    /// meant.
     pub ref_name: Option<String>,
+    pub ghost path_in_range: { IsTrue (is_lock_path (string_bytes path)) },
+    pub ghost ref_in_range: { IsTrue (asked.is_ref_if_given (option_map string_bytes ref_name)) },
 }
 
-/// The path and the ref of a value, whatever their range.
+/// What the body asks, or the rule that refuses it: J1 before J2.
+///
+/// # Errors
+///
+/// Only where memory refused.
+pub(crate) fn read_lock(alloc: Global, body: &[u8]) -> Result<Result<LockRequest, Rule>, AllocError>
+    ensures { IfOk result (λ r. Gives (λ q. record { path = string_bytes q.path; ref = option_map string_bytes q.ref_name }) r (lock_form body.now)) }
+{
+    let Some(value) = value_of(alloc, body)? else {
+        return Ok(Err(Rule::J1));
+    };
+    match lock_of_value(&value) {
+        Err(rule) => Ok(Err(rule)),
+        Ok((path, name)) => {
+            let path = path.to_owned(alloc)?;
+            let ref_name = owned(alloc, name)?;
+            Ok(Ok(LockRequest { path, ref_name }))
+        }
+    }
+}
+
+/// The path and the ref of a value, whatever their range; else J1.
 fn lock_fields(value: &Value) -> Result<(&str, Option<&str>), Rule>
     ensures { Gives (λ p. record { path = p.0.now; ref = option_map (λ s. s.now) p.1 }) result (lock_fields (view value.now)) }
 {
@@ -32,12 +56,14 @@ fn lock_fields(value: &Value) -> Result<(&str, Option<&str>), Rule>
     Ok((path, name))
 }
 
+/// Whether the text is a ref.
 fn is_ref(name: &str) -> bool
     ensures { result ≡ is_ref name.now }
 {
     RefName::read(name).is_some()
 }
 
+/// Whether it is a ref, where there is one.
 fn is_ref_if_given(name: Option<&str>) -> bool
     ensures { result ≡ asked.is_ref_if_given (option_map (λ s. s.now) name.entry) }
 {
@@ -47,13 +73,14 @@ fn is_ref_if_given(name: Option<&str>) -> bool
     }
 }
 
+/// Whether the text is a path that may be locked.
 fn is_lock_path(path: &str) -> bool
     ensures { result ≡ is_lock_path path.now }
 {
     LockPath::read(path).is_some()
 }
 
-/// The path and the ref of a value, in range.
+/// The path and the ref of a value, in range; else J1, and then J2.
 fn lock_of_value(value: &Value) -> Result<(&str, Option<&str>), Rule>
     ensures { Gives (λ p. record { path = p.0.now; ref = option_map (λ s. s.now) p.1 }) result (lock_of_value (view value.now)) }
 {
@@ -72,22 +99,5 @@ fn owned(alloc: Global, text: Option<&str>) -> Result<Option<String>, AllocError
     match text {
         Some(text) => Ok(Some(text.to_owned(alloc)?)),
         None => Ok(None),
-    }
-}
-
-/// What the body asks, or the first rule that refuses it.
-pub(crate) fn read_lock(alloc: Global, body: &[u8]) -> Result<Result<LockRequest, Rule>, AllocError>
-    ensures { IfOk result (λ r. Gives (λ q. record { path = string_bytes q.path; ref = option_map string_bytes q.ref_name }) r (lock_form body.now)) }
-{
-    let Some(value) = value_read(alloc, body)? else {
-        return Ok(Err(Rule::J1));
-    };
-    match lock_of_value(&value) {
-        Err(rule) => Ok(Err(rule)),
-        Ok((path, name)) => {
-            let path = path.to_owned(alloc)?;
-            let ref_name = owned(alloc, name)?;
-            Ok(Ok(LockRequest { path, ref_name }))
-        }
     }
 }

@@ -1,5 +1,5 @@
 -- What the slices of a head show of its fields.
-use Rattle.std.proofs.Common.{◌≡◌, ℕ, ◌≤◌, Bool, true, false, ◌&&◌, ◌||◌, nat_le, ◌==◌, List, [], ◌∷◌, length, take, map, filter, find, count_by, cond, codes, Option, Some, option_map, refl, sym, ap, ◌∙◌, arith}
+use Rattle.std.proofs.Common.{◌≡◌, ℕ, ◌≤◌, Bool, true, false, ◌&&◌, ◌||◌, nat_le, ◌==◌, List, [], ◌∷◌, length, map, filter, find, count_by, cond, codes, Option, Some, option_map, refl, sym, ap, ◌∙◌, arith}
 use Rattle.std.specs.List.{AllByRecursion, list_any, slice_split}
 use Rattle.std.proofs.lemmas.List.Folds.{list_any-append}
 use Rattle.httparse.specs.Ascii.{comma}
@@ -14,7 +14,7 @@ use Rattle.httparse.specs.declared.spans.Span.{Span}
 use Rattle.httparse.specs.declared.spans.HeaderSpan.{HeaderSpan}
 use Rattle.model.specs.Heads.{values, first, items, asks_close}
 use Rattle.wire.specs.declared.head.Head.{Head}
-use Rattle.wire.specs.Fields.{covered, is_named, values_at, Shows, shown, lists_close, is_closing_field}
+use Rattle.wire.specs.Fields.{covered, is_named, values_at, Shows, head_bytes, field_spans, values_shown, lists_close, is_closing_field}
 
 leb_true : (a b : ℕ) → a ≤ b → nat_le a b ≡ true
 leb_true a b h = grind (arith, nat_tests)
@@ -55,11 +55,11 @@ values_same bytes name (f ∷ fs) (g ∷ gs) n fits within e =
     one_more bytes (is_named bytes name f) (str_eq_ignore_ascii_case g.name name) f g (filter (is_named bytes name) fs) (filter (λ h. str_eq_ignore_ascii_case h.name name) gs)
     (ap (λ k. str_eq_ignore_ascii_case k name) named) value (values_same bytes name fs gs n fits within.1 (tail_same e))
 
-pub shown_are : (h : Head) (head : RequestHead) (name : List ℕ) → Shows h head → shown h name ≡ values name head
+pub shown_are : (h : Head) (head : RequestHead) (name : List ℕ) → Shows h head → values_shown h name ≡ values name head
 shown_are h head name s =
     let section = s.within.section in
-    values_same h.bytes.now name (take h.spans.headers h.fields.now) head.fields h.spans.len section.len_fits
-    (recursion_from_All (IsHeaderWithin h.spans.len) (take h.spans.headers h.fields.now) section.headers_fit) s.fields_are
+    values_same (head_bytes h) name (field_spans h) head.fields h.spans.len section.len_fits
+    (recursion_from_All (IsHeaderWithin h.spans.len) (field_spans h) section.headers_fit) s.fields_are
 
 pub first_value : (bytes name : List ℕ) (fields : List HeaderSpan) → first (values_at bytes fields name) ≡ option_map (λ (f : HeaderSpan). covered bytes f.value) (find (is_named bytes name) fields)
 first_value bytes name [] = refl
@@ -72,16 +72,16 @@ first_value bytes name (f ∷ fs) =
 pub count_values : (bytes name : List ℕ) (fields : List HeaderSpan) → length (values_at bytes fields name) ≡ count_by (is_named bytes name) fields
 count_values bytes name fields = length-map (filter (is_named bytes name) fields) (value_at bytes) ∙ length-filter (is_named bytes name) fields
 
-pub count_shown : (h : Head) (head : RequestHead) (name : List ℕ) (fields : List HeaderSpan) (n : ℕ) → fields ≡ take h.spans.headers h.fields.now
-    → n ≡ count_by (is_named h.bytes.now name) fields → Shows h head → n ≡ length (values name head)
+pub count_shown : (h : Head) (head : RequestHead) (name : List ℕ) (fields : List HeaderSpan) (n : ℕ) → fields ≡ field_spans h
+    → n ≡ count_by (is_named (head_bytes h) name) fields → Shows h head → n ≡ length (values name head)
 count_shown h head name fields n e count s =
-    count ∙ sym (count_values h.bytes.now name fields) ∙ ap (λ fs. length (values_at h.bytes.now fs name)) e ∙ ap length (shown_are h head name s)
+    count ∙ sym (count_values (head_bytes h) name fields) ∙ ap (λ fs. length (values_at (head_bytes h) fs name)) e ∙ ap length (shown_are h head name s)
 
-pub first_shown : (h : Head) (head : RequestHead) (name : List ℕ) (fields : List HeaderSpan) (o : Option HeaderSpan) → fields ≡ take h.spans.headers h.fields.now
-    → o ≡ find (is_named h.bytes.now name) fields → Shows h head → option_map (value_at h.bytes.now) o ≡ first (values name head)
+pub first_shown : (h : Head) (head : RequestHead) (name : List ℕ) (fields : List HeaderSpan) (o : Option HeaderSpan) → fields ≡ field_spans h
+    → o ≡ find (is_named (head_bytes h) name) fields → Shows h head → option_map (value_at (head_bytes h)) o ≡ first (values name head)
 first_shown h head name fields o e found s =
-    ap (option_map (value_at h.bytes.now)) found ∙ sym (first_value h.bytes.now name fields)
-    ∙ ap (λ fs. first (values_at h.bytes.now fs name)) e ∙ ap first (shown_are h head name s)
+    ap (option_map (value_at (head_bytes h))) found ∙ sym (first_value (head_bytes h) name fields)
+    ∙ ap (λ fs. first (values_at (head_bytes h) fs name)) e ∙ ap first (shown_are h head name s)
 
 any_map : {X Y : Type 0} (p : Y → Bool) (h : X → Y) (xs : List X) → list_any p (map h xs) ≡ list_any (λ x. p (h x)) xs
 any_map p h [] = refl
@@ -110,9 +110,9 @@ closing bytes (f ∷ fs) =
     one_more_closing bytes (is_named bytes (codes "connection") f) f fs (filter (is_named bytes (codes "connection")) fs) (closing bytes fs)
 
 pub closes_shown : (h : Head) (head : RequestHead) (lists : Bool)
-    → lists ≡ list_any (is_closing_field h.bytes.now) (take h.spans.headers h.fields.now) → Shows h head → (head.minor == 0) ≡ false
+    → lists ≡ list_any (is_closing_field (head_bytes h)) (field_spans h) → Shows h head → (head.minor == 0) ≡ false
     → lists ≡ asks_close head
 closes_shown h head lists is s new =
-    is ∙ closing h.bytes.now (take h.spans.headers h.fields.now)
+    is ∙ closing (head_bytes h) (field_spans h)
     ∙ ap (λ vs. list_any close (items vs)) (shown_are h head (codes "connection") s)
     ∙ ap (λ b. b || list_any close (items (values (codes "connection") head))) (sym new)

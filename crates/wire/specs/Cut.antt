@@ -8,7 +8,7 @@ use Rattle.model.specs.Stream.{BeginsWithHead, BeginsBadly, HasNoHead, head_limi
 use Rattle.wire.specs.declared.cut.Cut.{Cut}
 use Rattle.wire.specs.declared.cut.Cut.TheVariants.{Head, Bad, Unfinished}
 
--- the spans cover the parts of the head
+-- the spans lie in the bytes, and cover the parts of that head
 pub record Covers (bytes : List ℕ) (fields : List HeaderSpan) (spans : RequestSpans) (head : RequestHead) : Type 0 where
   pub within : IsRequestWithin bytes fields spans
   pub method : span_bytes bytes spans.method ≡ head.method
@@ -16,7 +16,7 @@ pub record Covers (bytes : List ℕ) (fields : List HeaderSpan) (spans : Request
   pub version : spans.version ≡ head.minor
   pub fields_are : AreFieldsAt bytes fields spans.headers head.fields
 
--- what is cut is the head at the front, a bad one, or less than one
+-- the head at the front of the bytes, a bad one, or less than one
 abbrev pub IsCut : List ℕ → List HeaderSpan → Cut → Type 0
 IsCut bytes fields (Head spans) =
     (head : RequestHead) × BeginsWithHead bytes head (drop spans.len bytes) × Covers (take head_limit bytes) fields spans head

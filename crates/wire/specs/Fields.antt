@@ -1,14 +1,30 @@
--- The fields of a head, as slices show them.
+-- The fields of a head, read from the bytes that it was found in.
 use Rattle.std.specs.Prelude.{ℕ, Bool, ◌&&◌, nat_le, List, [], length, map, filter, take, if◌then◌else◌, codes, ◌==◌}
 use Rattle.std.specs.List.{list_any, slice_split}
-use Rattle.httparse.specs.Ascii.{comma}
 use Rattle.std.specs.Str.{str_eq_ignore_ascii_case}
+use Rattle.httparse.specs.Ascii.{comma}
 use Rattle.httparse.specs.Spans.{span_bytes}
 use Rattle.httparse.specs.Grammar.{RequestHead, trim_ows}
 use Rattle.httparse.specs.declared.spans.Span.{Span}
 use Rattle.httparse.specs.declared.spans.HeaderSpan.{HeaderSpan}
 use Rattle.wire.specs.Cut.{Covers}
 use Rattle.wire.specs.declared.head.Head.{Head}
+
+-- ---- what a value of Head is made of
+
+-- the bytes that the head lies in
+abbrev pub head_bytes : Head → List ℕ
+head_bytes h = h.bytes.now
+
+-- where its fields are, of all that there was room for
+abbrev pub field_spans : Head → List HeaderSpan
+field_spans h = take h.spans.headers h.fields.now
+
+-- the value shows this head
+abbrev pub Shows : Head → RequestHead → Type 0
+Shows h head = Covers h.bytes.now h.fields.now h.spans head
+
+-- ---- spans
 
 -- the bytes that the span covers; none where it reaches past the end
 abbrev pub covered : List ℕ → Span → List ℕ
@@ -23,18 +39,17 @@ is_named bytes name field = str_eq_ignore_ascii_case (covered bytes field.name) 
 abbrev pub values_at : List ℕ → List HeaderSpan → List ℕ → List (List ℕ)
 values_at bytes fields name = map (λ (f : HeaderSpan). covered bytes f.value) (filter (is_named bytes name) fields)
 
--- the slices show the head
-abbrev pub Shows : Head → RequestHead → Type 0
-Shows h head = Covers h.bytes.now h.fields.now h.spans head
+-- the values of that name that the value shows
+abbrev pub values_shown : Head → List ℕ → List (List ℕ)
+values_shown h name = values_at (head_bytes h) (field_spans h) name
 
--- the values of that name that the slices show
-abbrev pub shown : Head → List ℕ → List (List ℕ)
-shown h name = values_at h.bytes.now (take h.spans.headers h.fields.now) name
+-- ---- Connection: close (RFC 9110, Connection)
 
--- the text between two commas is close
+-- an item of a list is close, in any case
 abbrev pub is_close : List ℕ → Bool
 is_close item = str_eq_ignore_ascii_case (codes "close") (trim_ows item)
 
+-- the text between two commas is close
 abbrev pub lists_close : List ℕ → Bool
 lists_close value = list_any is_close (slice_split (λ b. b == comma) value)
 

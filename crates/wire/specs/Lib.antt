@@ -1,4 +1,4 @@
 pub mod Cut
 pub mod Fields
-pub mod Heads
+pub mod Replies
 pub mod Writes

@@ -1,4 +1,4 @@
-//! How long the body of a message is, and which heads do not say it well (RFC 9112, Message Body
+//! How many bytes of body follow a head, and which heads do not say it (RFC 9112, Message Body
 //! Length).
 
 ghost use Rattle.std.specs.Prelude.{◌≡◌, ◌&&◌, ◌||◌, true, false, Ok, Err, MatchOption, MatchResult};
@@ -13,54 +13,24 @@ use crate::head::Head;
 use names::Rule;
 
 /// The longest body of a POST, in bytes.
-const LARGEST_FORM: u64 = 1_048_576;
+pub const LARGEST_FORM: u64 = 1_048_576;
 
 /// The longest body of a PUT, in bytes: the largest object.
-const LARGEST_OBJECT: u64 = 268_435_456;
-
-fn are_digits(value: &[u8]) -> bool
-    ensures { result ≡ list_all is_ascii_digit value.now }
-{
-    value.iter().all(u8::is_ascii_digit)
-}
-
-/// The number that 1 to 18 digits write; `None` for any other text.
-fn length_in(value: &[u8]) -> Option<u64>
-    ensures { MatchOption result (is_length value.now ≡ false) (λ n. (is_length value.now ≡ true) × (n ≡ digits_value 10 value.now)) }
-{
-    if value.is_empty() || value.len() > 18 || !are_digits(value) {
-        return None;
-    }
-    let Ok(text) = str::from_utf8(value) else {
-        return None;
-    };
-    text.parse().ok()
-}
+pub const LARGEST_OBJECT: u64 = 268_435_456;
 
 impl<'a> Head<'a> {
-    /// The one length that the head states: 0 where it states none, and `None` where it states
-    /// two, or one that is not 1 to 18 digits.
-    fn stated_length(&self) -> Option<u64>
-        ensures { (head : RequestHead) → Shows self.now head → MatchOption result
-            ((at_most_one (lengths head) && list_all is_length (lengths head)) ≡ false)
-            (λ n. ((at_most_one (lengths head) && list_all is_length (lengths head)) ≡ true) × (n ≡ content_length head)) }
-    {
-        if self.count("content-length") > 1 {
-            return None;
-        }
-        match self.first("content-length") {
-            Some(value) => length_in(value),
-            None => Some(0),
-        }
-    }
-
-    /// How many bytes of body follow the head, or the first of H2 to H5 that refuses it:
+    /// How many bytes of body follow the head: what its `Content-Length` says, and 0 without one.
     ///
-    /// - H2: a transfer coding;
-    /// - H3: POST or PUT without a length;
-    /// - H4: a length that stands twice or is none, `Authorization` or `Accept` twice, a GET with a
-    ///   body;
-    /// - H5: a body over the limit of its method.
+    /// # Errors
+    ///
+    /// The first of these rules that holds. Where the body ends is then not known, or not of
+    /// interest, and nothing behind the head may be read.
+    ///
+    /// - H2: there is a `Transfer-Encoding`.
+    /// - H3: POST or PUT without `Content-Length`.
+    /// - H4: a `Content-Length` that stands twice or is not 1 to 18 digits; two `Authorization` or
+    ///   two `Accept`; a GET with a length above 0.
+    /// - H5: a POST over [`LARGEST_FORM`] bytes, or a PUT over [`LARGEST_OBJECT`].
     pub fn body_length(&self) -> Result<u64, Rule>
         ensures { (head : RequestHead) → Shows self.now head
             → MatchResult result (λ n. (framed head ≡ Ok tt) × (n ≡ content_length head)) (λ rule. framed head ≡ Err rule) }
@@ -87,4 +57,40 @@ impl<'a> Head<'a> {
         }
         Ok(length)
     }
+
+    /// The length that the head states: 0 where it states none, and `None` where it states two, or
+    /// one that is not 1 to 18 digits.
+    fn stated_length(&self) -> Option<u64>
+        ensures { (head : RequestHead) → Shows self.now head → MatchOption result
+            ((at_most_one (lengths head) && list_all is_length (lengths head)) ≡ false)
+            (λ n. ((at_most_one (lengths head) && list_all is_length (lengths head)) ≡ true) × (n ≡ content_length head)) }
+    {
+        if self.count("content-length") > 1 {
+            return None;
+        }
+        match self.first("content-length") {
+            Some(value) => length_in(value),
+            None => Some(0),
+        }
+    }
+}
+
+/// Whether each byte is a digit.
+fn are_digits(value: &[u8]) -> bool
+    ensures { result ≡ list_all is_ascii_digit value.now }
+{
+    value.iter().all(u8::is_ascii_digit)
+}
+
+/// The number that 1 to 18 digits write; `None` for any other text.
+fn length_in(value: &[u8]) -> Option<u64>
+    ensures { MatchOption result (is_length value.now ≡ false) (λ n. (is_length value.now ≡ true) × (n ≡ digits_value 10 value.now)) }
+{
+    if value.is_empty() || value.len() > 18 || !are_digits(value) {
+        return None;
+    }
+    let Ok(text) = str::from_utf8(value) else {
+        return None;
+    };
+    text.parse().ok()
 }

@@ -1,21 +1,105 @@
-//! The head of a message, as slices of the bytes that it was read from.
+//! What the head of a message asks, read from the bytes that it was found in.
 
-ghost use Rattle.std.specs.Prelude.{◌≡◌, ◌≤◌, ◌==◌, length, take, option_map, count_by, find};
-ghost use Rattle.httparse.specs.Grammar.{RequestHead};
-ghost use Rattle.httparse.specs.Spans.{span_bytes, header_bytes};
-ghost use Rattle.std.specs.List.{list_any};
-ghost use Rattle.model.specs.Heads.{values, first, asks_close};
-ghost use Rattle.wire.specs.Fields.{Shows, covered, is_named, is_close, lists_close, is_closing_field};
+ghost use Rattle.std.specs.Prelude.{◌≡◌, option_map, count_by, find};
+ghost use Rattle.wire.specs.Fields.{covered, is_named, is_close, lists_close, is_closing_field};
 
 use crate::ows::trim_ows;
 use httparse::spans::{HeaderSpan, RequestSpans, Span};
 
 /// The head of a message: its method, its target and its fields.
-#[derive(Clone, Copy)]
+///
+/// Nothing is copied: the texts that it answers are slices of the bytes of the stream.
+#[derive(Clone, Copy, Debug)]
 pub struct Head<'a> {
     bytes: &'a [u8],
     fields: &'a [HeaderSpan],
     spans: RequestSpans,
+}
+
+impl<'a> Head<'a> {
+    ghost use Rattle.std.specs.Prelude.{◌≡◌, ◌==◌, length, option_map};
+    ghost use Rattle.std.specs.List.{list_any};
+    ghost use Rattle.httparse.specs.Grammar.{RequestHead};
+    ghost use Rattle.model.specs.Heads.{values, first, asks_close};
+    ghost use Rattle.wire.specs.Cut.{Covers};
+    ghost use Rattle.wire.specs.Fields.{Shows, head_bytes, field_spans, is_closing_field};
+
+    /// The head that [`first_head`](crate::first_head) found: `bytes` is
+    /// [`front_of`](crate::front_of) the stream, `fields` what it wrote, and `spans` its answer.
+    pub fn new(bytes: &'a [u8], fields: &'a [HeaderSpan], spans: RequestSpans) -> Self
+        ensures { (head : RequestHead) → Covers bytes.now fields.now spans head → Shows result head }
+    {
+        Head {
+            bytes,
+            fields,
+            spans,
+        }
+    }
+
+    /// The method, as `POST`. Methods are told apart byte by byte (RFC 9110, Methods).
+    pub fn method(&self) -> &'a [u8]
+        ensures { (head : RequestHead) → Shows self.now head → result.now ≡ head.method }
+    {
+        covered(self.bytes, self.spans.method)
+    }
+
+    /// The target: a path, and perhaps a query behind a question mark. It is UTF-8, and not
+    /// decoded.
+    pub fn target(&self) -> &'a [u8]
+        ensures { (head : RequestHead) → Shows self.now head → result.now ≡ head.target }
+    {
+        covered(self.bytes, self.spans.path)
+    }
+
+    /// Whether the version is HTTP/1.0, and not HTTP/1.1. There is no other.
+    pub fn is_http_1_0(&self) -> bool
+        ensures { (head : RequestHead) → Shows self.now head → result ≡ (head.minor == 0) }
+    {
+        self.spans.version == 0
+    }
+
+    /// How many fields of that name there are. Names are compared without regard to ASCII case
+    /// (RFC 9110, Field Names).
+    pub fn count(&self, name: &str) -> usize
+        ensures { (head : RequestHead) → Shows self.now head → result ≡ length (values name.now head) }
+    {
+        count_of(self.bytes, self.field_spans(), name)
+    }
+
+    /// The value of the first field of that name, without the white space around it; `None` where
+    /// there is no such field.
+    pub fn first(&self, name: &str) -> Option<&'a [u8]>
+        ensures { (head : RequestHead) → Shows self.now head → option_map (λ v. v.now) result ≡ first (values name.now head) }
+    {
+        match first_of(self.bytes, self.field_spans(), name) {
+            Some(field) => Some(covered(self.bytes, field.value)),
+            None => None,
+        }
+    }
+
+    /// Whether the connection is to end behind the message: it is of HTTP/1.0, or one of its
+    /// `Connection` fields lists `close` (RFC 9112, Tear-down; RFC 9110, Connection).
+    pub fn asks_close(&self) -> bool
+        ensures { (head : RequestHead) → Shows self.now head → result ≡ asks_close head }
+    {
+        self.is_http_1_0() || self.lists_close()
+    }
+
+    /// Whether a `Connection` field lists `close`.
+    fn lists_close(&self) -> bool
+        ensures { result ≡ list_any (is_closing_field (head_bytes self.now)) (field_spans self.now) }
+    {
+        self.field_spans()
+            .iter()
+            .any(|field| is_closing_field(self.bytes, field))
+    }
+
+    /// The spans of the head's own fields, of all that there was room for.
+    fn field_spans(&self) -> &'a [HeaderSpan]
+        ensures { result.now ≡ field_spans self.now }
+    {
+        self.fields.get(..self.spans.headers).unwrap_or(self.fields)
+    }
 }
 
 /// The bytes that the span covers; none where it reaches past the end.
@@ -49,13 +133,14 @@ fn first_of<'f>(bytes: &[u8], fields: &'f [HeaderSpan], name: &str) -> Option<&'
     fields.iter().find(|field| is_named(bytes, field, name))
 }
 
+/// Whether an item of a list is `close`, in any case, with white space around it or without.
 fn is_close(item: &[u8]) -> bool
     ensures { result ≡ is_close item.now }
 {
     b"close".eq_ignore_ascii_case(trim_ows(item))
 }
 
-/// Whether the text between two commas is `close`, in any case.
+/// Whether what stands between two commas of a list is `close`.
 fn lists_close(value: &[u8]) -> bool
     ensures { result ≡ lists_close value.now }
 {
@@ -67,81 +152,4 @@ fn is_closing_field(bytes: &[u8], field: &HeaderSpan) -> bool
     ensures { result ≡ is_closing_field bytes.now field.now }
 {
     is_named(bytes, field, "connection") && lists_close(covered(bytes, field.value))
-}
-
-impl<'a> Head<'a> {
-    /// The head that the spans cover, of which as many fields count as the spans say.
-    pub fn new(bytes: &'a [u8], fields: &'a [HeaderSpan], spans: RequestSpans) -> Self
-        ensures bytes { result.bytes.now ≡ bytes.now }
-        ensures fields { result.fields.now ≡ fields.now }
-        ensures spans { result.spans ≡ spans }
-    {
-        Head {
-            bytes,
-            fields,
-            spans,
-        }
-    }
-
-    /// The method, as `POST`.
-    pub fn method(&self) -> &'a [u8]
-        ensures { (head : RequestHead) → Shows self.now head → result.now ≡ head.method }
-    {
-        covered(self.bytes, self.spans.method)
-    }
-
-    /// The target: a path, and perhaps a query behind a question mark.
-    pub fn target(&self) -> &'a [u8]
-        ensures { (head : RequestHead) → Shows self.now head → result.now ≡ head.target }
-    {
-        covered(self.bytes, self.spans.path)
-    }
-
-    /// Whether the version is HTTP/1.0, and not HTTP/1.1.
-    pub fn is_http_1_0(&self) -> bool
-        ensures { (head : RequestHead) → Shows self.now head → result ≡ (head.minor == 0) }
-    {
-        self.spans.version == 0
-    }
-
-    /// The fields that the spans say there are.
-    fn shown(&self) -> &'a [HeaderSpan]
-        ensures { result.now ≡ take self.now.spans.headers self.now.fields.now }
-    {
-        self.fields.get(..self.spans.headers).unwrap_or(self.fields)
-    }
-
-    /// How many fields of that name there are. Names are compared without regard to ASCII case.
-    pub fn count(&self, name: &str) -> usize
-        ensures { (head : RequestHead) → Shows self.now head → result ≡ length (values name.now head) }
-    {
-        count_of(self.bytes, self.shown(), name)
-    }
-
-    /// The value of the first field of that name, without the white space around it.
-    pub fn first(&self, name: &str) -> Option<&'a [u8]>
-        ensures { (head : RequestHead) → Shows self.now head → option_map (λ v. v.now) result ≡ first (values name.now head) }
-    {
-        match first_of(self.bytes, self.shown(), name) {
-            Some(field) => Some(covered(self.bytes, field.value)),
-            None => None,
-        }
-    }
-
-    /// Whether the connection is to end after the message: HTTP/1.0, or a `Connection` field that
-    /// lists `close` (RFC 9112, Tear-down).
-    pub fn asks_close(&self) -> bool
-        ensures { (head : RequestHead) → Shows self.now head → result ≡ asks_close head }
-    {
-        self.is_http_1_0() || self.lists_close()
-    }
-
-    /// Whether a `Connection` field lists `close`.
-    fn lists_close(&self) -> bool
-        ensures { result ≡ list_any (is_closing_field self.now.bytes.now) (take self.now.spans.headers self.now.fields.now) }
-    {
-        self.shown()
-            .iter()
-            .any(|field| is_closing_field(self.bytes, field))
-    }
 }

@@ -3,12 +3,21 @@
 ghost use Rattle.std.specs.Prelude.{◌≡◌, reverse};
 ghost use Rattle.httparse.specs.Grammar.{is_ows, skip_ows, trim_ows};
 
+/// The text without the spaces and tabs at its two ends.
+pub(crate) fn trim_ows(text: &[u8]) -> &[u8]
+    ensures { result.now ≡ trim_ows text.now }
+{
+    trim_back(trim_front(text))
+}
+
+/// Whether the byte is a space or a tab.
 fn is_ows(byte: u8) -> bool
     ensures { result ≡ is_ows byte }
 {
     byte == b' ' || byte == b'\t'
 }
 
+/// The text from its first byte on that is no white space.
 fn trim_front(text: &[u8]) -> &[u8]
     ensures { result.now ≡ skip_ows text.now }
 {
@@ -22,6 +31,7 @@ fn trim_front(text: &[u8]) -> &[u8]
     left
 }
 
+/// The text up to its last byte that is no white space.
 fn trim_back(text: &[u8]) -> &[u8]
     ensures { reverse result.now ≡ skip_ows (reverse text.now) }
 {
@@ -33,11 +43,4 @@ fn trim_back(text: &[u8]) -> &[u8]
         left = rest;
     }
     left
-}
-
-/// The text without the spaces and tabs at its two ends.
-pub(crate) fn trim_ows(text: &[u8]) -> &[u8]
-    ensures { result.now ≡ trim_ows text.now }
-{
-    trim_back(trim_front(text))
 }

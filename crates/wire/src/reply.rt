@@ -1,22 +1,78 @@
-//! The head of a reply (RFC 9112, Message Format). It takes no memory: it is written into a buffer
-//! of a fixed size, which holds the longest head that the server writes.
+//! The head of a reply (RFC 9112, Message Format; Git LFS API, Authentication).
+//!
+//! It takes no memory: it is written into a buffer of a fixed size, which holds the longest head
+//! that there is.
 
 ghost use Rattle.std.specs.Prelude.{◌≡◌, ◌+◌, ◌≤◌, ◌<◌, ◌++◌, ◌==◌, length, codes, decimal, not};
 ghost use Rattle.arrayvec.specs.ArrayString.{array_string_len};
 ghost use Rattle.model.specs.Replies.{line, line_if, type_line, phrases, phrase_in};
-ghost use Rattle.wire.specs.Heads.{content_view};
+ghost use Rattle.wire.specs.Replies.{content_of};
 ghost use Rattle.names.specs.Texts.{is_empty};
 
 use arrayvec::ArrayString;
 use itoa::Buffer;
 
-/// Room for the longest head.
-pub(crate) const ROOM: usize = 512;
-
-/// The longest list of methods that a reply names, in bytes.
+/// The longest list of methods that a reply can name, in bytes.
 pub const ALLOW_LIMIT: usize = 128;
 
-/// The phrase of a status (RFC 9110, Status Codes); none for a status that the server never writes.
+/// Room for the longest head.
+pub(crate) const HEAD_ROOM: usize = 512;
+
+/// What the body of a reply is.
+#[derive(Clone, Copy, Debug, PartialEq, Eq)]
+pub enum Content {
+    /// JSON of the Git LFS API: `application/vnd.git-lfs+json`.
+    Json,
+    /// The bytes of an object: `application/octet-stream`.
+    Octets,
+    /// Nothing, and no `Content-Type`.
+    Empty,
+}
+
+/// The head of a reply: what is told of it, and of what the server does behind it.
+#[derive(Clone, Copy, Debug, PartialEq, Eq)]
+pub struct ReplyHead<'a> {
+    /// The status. Its phrase is that of RFC 9110, and empty for a status that the server never
+    /// sends.
+    pub status: u16,
+    /// What the body is.
+    pub content: Content,
+    /// How many bytes the body has: `Content-Length`.
+    pub size: u64,
+    /// The methods that the route serves, where the request asked another; else empty, and then
+    /// there is no `Allow`.
+    pub allow: &'a str,
+    /// Whether the server closes the connection behind the reply.
+    pub close: bool,
+}
+
+impl ReplyHead<'_> {
+    ghost use Rattle.std.specs.Prelude.{◌≡◌, ◌≤◌, length};
+    ghost use Rattle.wire.specs.Replies.{head_of};
+
+    /// The lines of the head, with the empty line that ends it.
+    pub(crate) fn text(&self) -> ArrayString<HEAD_ROOM>
+        requires { length self.now.allow.now ≤ ALLOW_LIMIT }
+        ensures { result.bytes ≡ head_of self.now }
+    {
+        let mut text = ArrayString::new();
+        push_status(&mut text, self.status);
+        push_type(&mut text, self.content);
+        push_length(&mut text, self.size);
+        push_line_if(&mut text, !self.allow.is_empty(), "Allow: ", self.allow);
+        push_line_if(
+            &mut text,
+            self.status == 401,
+            "LFS-Authenticate: Bearer realm=\"Git LFS\"",
+            "",
+        );
+        push_line_if(&mut text, self.close, "Connection: close", "");
+        text.push_str("\r\n");
+        text
+    }
+}
+
+/// The phrase of a status (RFC 9110, Status Codes; 507: RFC 4918).
 fn phrase_of(status: u16) -> &'static str
     ensures phrase { result.now ≡ phrase_in phrases status }
     ensures short { length result.now ≤ 32 }
@@ -41,9 +97,9 @@ fn phrase_of(status: u16) -> &'static str
     }
 }
 
-/// Adds a line of a name and a value.
-fn push_line(text: &mut ArrayString<ROOM>, name: &str, value: &str)
-    requires { array_string_len text.old + (length name.now + length value.now) + 2 ≤ ROOM }
+/// Adds a line: a name with its colon, and a value.
+fn push_line(text: &mut ArrayString<HEAD_ROOM>, name: &str, value: &str)
+    requires { array_string_len text.old + (length name.now + length value.now) + 2 ≤ HEAD_ROOM }
     ensures bytes { text.new.bytes ≡ text.old.bytes ++ line (name.now ++ value.now) }
     ensures len { array_string_len text.new ≡ array_string_len text.old + (length name.now + length value.now) + 2 }
 {
@@ -53,8 +109,8 @@ fn push_line(text: &mut ArrayString<ROOM>, name: &str, value: &str)
 }
 
 /// Adds a line, where it is wanted.
-fn push_line_if(text: &mut ArrayString<ROOM>, wanted: bool, name: &str, value: &str)
-    requires { array_string_len text.old + (length name.now + length value.now) + 2 ≤ ROOM }
+fn push_line_if(text: &mut ArrayString<HEAD_ROOM>, wanted: bool, name: &str, value: &str)
+    requires { array_string_len text.old + (length name.now + length value.now) + 2 ≤ HEAD_ROOM }
     ensures bytes { text.new.bytes ≡ text.old.bytes ++ line_if wanted (name.now ++ value.now) }
     ensures len { array_string_len text.new ≤ array_string_len text.old + (length name.now + length value.now) + 2 }
 {
@@ -63,20 +119,10 @@ fn push_line_if(text: &mut ArrayString<ROOM>, wanted: bool, name: &str, value: &
     }
 }
 
-/// What the body of a reply is.
-#[derive(Clone, Copy, Debug, PartialEq, Eq)]
-pub enum Content {
-    /// JSON of the Git LFS API.
-    Json,
-    /// The bytes of an object.
-    Octets,
-    /// Nothing.
-    Empty,
-}
-
-fn push_type(text: &mut ArrayString<ROOM>, content: Content)
-    requires { array_string_len text.old + 48 ≤ ROOM }
-    ensures bytes { text.new.bytes ≡ text.old.bytes ++ type_line (content_view content) }
+/// Adds the line of the type, where there is a body.
+fn push_type(text: &mut ArrayString<HEAD_ROOM>, content: Content)
+    requires { array_string_len text.old + 48 ≤ HEAD_ROOM }
+    ensures bytes { text.new.bytes ≡ text.old.bytes ++ type_line (content_of content) }
     ensures len { array_string_len text.new ≤ array_string_len text.old + 48 }
 {
     match content {
@@ -86,8 +132,9 @@ fn push_type(text: &mut ArrayString<ROOM>, content: Content)
     }
 }
 
-fn push_status(text: &mut ArrayString<ROOM>, status: u16)
-    requires { array_string_len text.old + 64 ≤ ROOM }
+/// Adds the line of the status.
+fn push_status(text: &mut ArrayString<HEAD_ROOM>, status: u16)
+    requires { array_string_len text.old + 64 ≤ HEAD_ROOM }
     ensures bytes { text.new.bytes ≡ text.old.bytes ++ line (codes "HTTP/1.1 " ++ decimal status ++ codes " " ++ phrase_in phrases status) }
     ensures len { array_string_len text.new ≤ array_string_len text.old + 64 }
 {
@@ -97,52 +144,12 @@ fn push_status(text: &mut ArrayString<ROOM>, status: u16)
     push_line(text, " ", phrase_of(status));
 }
 
-fn push_length(text: &mut ArrayString<ROOM>, size: u64)
-    requires { array_string_len text.old + 64 ≤ ROOM }
+/// Adds the line of the length.
+fn push_length(text: &mut ArrayString<HEAD_ROOM>, size: u64)
+    requires { array_string_len text.old + 64 ≤ HEAD_ROOM }
     ensures bytes { text.new.bytes ≡ text.old.bytes ++ line (codes "Content-Length: " ++ decimal size) }
     ensures len { array_string_len text.new ≤ array_string_len text.old + 64 }
 {
     let mut buffer = Buffer::new();
     push_line(text, "Content-Length: ", buffer.format(size));
-}
-
-/// The head of a reply, and what the server does after it.
-#[derive(Clone, Copy, Debug)]
-pub struct ReplyHead<'a> {
-    /// The status.
-    pub status: u16,
-    /// What the body is.
-    pub content: Content,
-    /// How many bytes the body has.
-    pub size: u64,
-    /// The methods of the route, for a method that it has not; else empty.
-    pub allow: &'a str,
-    /// Whether the server closes the connection after the reply.
-    pub close: bool,
-}
-
-impl ReplyHead<'_> {
-    ghost use Rattle.std.specs.Prelude.{◌≡◌, ◌≤◌, length};
-    ghost use Rattle.wire.specs.Heads.{head_of};
-
-    /// The lines of the head, with the empty line that ends it.
-    pub(crate) fn text(&self) -> ArrayString<ROOM>
-        requires { length self.now.allow.now ≤ ALLOW_LIMIT }
-        ensures { result.bytes ≡ head_of self.now }
-    {
-        let mut text = ArrayString::new();
-        push_status(&mut text, self.status);
-        push_type(&mut text, self.content);
-        push_length(&mut text, self.size);
-        push_line_if(&mut text, !self.allow.is_empty(), "Allow: ", self.allow);
-        push_line_if(
-            &mut text,
-            self.status == 401,
-            "LFS-Authenticate: Bearer realm=\"Git LFS\"",
-            "",
-        );
-        push_line_if(&mut text, self.close, "Connection: close", "");
-        text.push_str("\r\n");
-        text
-    }
 }

@@ -1,35 +1,29 @@
-//! Writing a reply: all of a text to a sink that takes some bytes at a time.
+//! Writing to a sink that takes some bytes at a time.
 
 ghost use Rattle.std.specs.Prelude.{◌≡◌, ◌≤◌, ◌++◌, length, drop, OnOk, IfErr};
 ghost use Rattle.std.specs.Io.KnownBytes.{Appends};
 ghost use Rattle.names.specs.Streams.{HasGrown};
-ghost use Rattle.wire.specs.Heads.{head_of};
+ghost use Rattle.wire.specs.Replies.{head_of};
 ghost use Rattle.wire.specs.Writes.{IsBeginning};
 
 use crate::reply::{ALLOW_LIMIT, ReplyHead};
 use names::Sink;
 use thiserror::Error;
 
-/// A write failed after so many bytes of the text were taken.
+/// A write failed: of the text that was to be written, the sink took a beginning.
 #[derive(Clone, Copy, Debug, PartialEq, Eq, Error)]
 #[error("a write failed after {written} bytes")]
 pub struct WriteFault {
-    /// How many bytes of the text were taken.
+    /// How many bytes it took: fewer than the text has.
     pub written: usize,
 }
 
-fn rest_of(text: &[u8], at: usize) -> &[u8]
-    requires { at ≤ length text.now }
-    ensures { result.now ≡ drop at text.now }
-{
-    text.split_at(at).1
-}
-
-/// Writes all of the text.
+/// Writes all of the text, in as many writes as the sink needs.
 ///
 /// # Errors
 ///
-/// A [`WriteFault`] where the sink failed in this call; it took a beginning of the text.
+/// A [`WriteFault`] at the first write that fails: the sink counts it, and has taken as many bytes
+/// from the front of the text as the fault says. Nothing is written twice.
 pub fn write_whole<K: Sink>(sink: &mut K, text: &[u8]) -> Result<(), WriteFault>
     ensures ok { OnOk result (Appends (K.taken sink.old) (K.taken sink.new) text.now) }
     ensures good { OnOk result (K.failed sink.new ≡ K.failed sink.old) }
@@ -44,6 +38,28 @@ pub fn write_whole<K: Sink>(sink: &mut K, text: &[u8]) -> Result<(), WriteFault>
         }
     }
     Ok(())
+}
+
+/// Writes a reply: its head, and then its body.
+///
+/// The head says how long the body is; that it says so rightly is up to the caller.
+///
+/// # Errors
+///
+/// A [`WriteFault`] at the first write that fails, as of [`write_whole`]; head and body count as
+/// one text.
+pub fn write_reply<K: Sink>(
+    sink: &mut K,
+    head: &ReplyHead<'_>,
+    body: &[u8],
+) -> Result<(), WriteFault>
+    requires { length head.now.allow.now ≤ ALLOW_LIMIT }
+    ensures ok { OnOk result (Appends (K.taken sink.old) (K.taken sink.new) (head_of head.now ++ body.now)) }
+    ensures good { OnOk result (K.failed sink.new ≡ K.failed sink.old) }
+    ensures part { IfErr result (λ e. IsBeginning (K.taken sink.old) (K.taken sink.new) (head_of head.now ++ body.now) e.written) }
+    ensures fault { IfErr result (λ _. HasGrown (K.failed sink.old) (K.failed sink.new)) }
+{
+    write_both(sink, head.text().as_str().as_bytes(), body)
 }
 
 /// Writes all of one text, and then all of another.
@@ -65,21 +81,10 @@ fn write_both<K: Sink>(sink: &mut K, front: &[u8], back: &[u8]) -> Result<(), Wr
     }
 }
 
-/// Writes a reply: its head, and then its body.
-///
-/// # Errors
-///
-/// A [`WriteFault`] where the sink failed in this call; it took a beginning of the reply.
-pub fn write_reply<K: Sink>(
-    sink: &mut K,
-    head: &ReplyHead<'_>,
-    body: &[u8],
-) -> Result<(), WriteFault>
-    requires { length head.now.allow.now ≤ ALLOW_LIMIT }
-    ensures ok { OnOk result (Appends (K.taken sink.old) (K.taken sink.new) (head_of head.now ++ body.now)) }
-    ensures good { OnOk result (K.failed sink.new ≡ K.failed sink.old) }
-    ensures part { IfErr result (λ e. IsBeginning (K.taken sink.old) (K.taken sink.new) (head_of head.now ++ body.now) e.written) }
-    ensures fault { IfErr result (λ _. HasGrown (K.failed sink.old) (K.failed sink.new)) }
+/// The text behind its first bytes.
+fn rest_of(text: &[u8], at: usize) -> &[u8]
+    requires { at ≤ length text.now }
+    ensures { result.now ≡ drop at text.now }
 {
-    write_both(sink, head.text().as_str().as_bytes(), body)
+    text.split_at(at).1
 }

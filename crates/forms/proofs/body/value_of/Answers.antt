@@ -1,5 +1,5 @@
 use Rattle.forms.proofs.Bodies.{no_text, value_is}
-use Rattle.forms.proofs.body.value_read.Goals as goal
+use Rattle.forms.proofs.body.value_of.Goals as goal
 
 pub returns-in_default : goal.returns-in_default
 returns-in_default c = no_text c.args.body.now c.in_default.ensures.cases.0
