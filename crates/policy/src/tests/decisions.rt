@@ -4,7 +4,7 @@ use model::Right;
 use names::{LockPath, RefName, RepoName, UserName};
 
 /// The answer to a question of `studio/film`, by the policy of these rows.
-pub fn answer(
+fn answer(
     alloc: Global,
     rows: &str,
     user: &str,
@@ -16,7 +16,7 @@ pub fn answer(
 }
 
 /// The answer to a question, by the policy of these rows.
-pub fn answer_in(
+fn answer_in(
     alloc: Global,
     rows: &str,
     repo: &str,
@@ -26,6 +26,18 @@ pub fn answer_in(
     path: Option<&str>,
 ) -> Result<Verdict, Fail> {
     let policy = Policy::read(alloc, text(alloc, TOP, REPO, rows)?.as_str())?;
+    ask(&policy, user, repo, right, ref_name, path)
+}
+
+/// The answer to a question.
+pub fn ask(
+    policy: &Policy,
+    user: &str,
+    repo: &str,
+    right: Right,
+    ref_name: Option<&str>,
+    path: Option<&str>,
+) -> Result<Verdict, Fail> {
     let ref_name = match ref_name {
         Some(text) => Some(RefName::read(text).ok_or("no ref")?),
         None => None,
@@ -41,7 +53,7 @@ pub fn answer_in(
         ref_name,
         path,
     };
-    Ok(decide(&policy, &question))
+    Ok(decide(policy, &question))
 }
 
 const MAIN: Option<&str> = Some("refs/heads/main");
