@@ -1,6 +1,7 @@
 //! What the language of policy files and its decisions are held to, by example.
 use crate::*;
 use std::alloc::Global;
+use std::process::Abort;
 use std::test::Fail;
 
 mod decisions;
@@ -27,56 +28,58 @@ paths = ["*"]
 rights = ["pull", "push", "list", "lock"]
 "#;
 
-/// The text of three parts.
-fn text(alloc: Global, top: &str, repos: &str, rows: &str) -> Result<String, Fail> {
+/// The three parts, one after the other.
+fn join(alloc: Global, parts: [&str; 3]) -> Result<String, Fail> {
     let mut text = String::new(alloc);
-    text.push_str(top)?;
-    text.push_str(repos)?;
-    text.push_str(rows)?;
+    for part in parts {
+        text.push_str(part)?;
+    }
     Ok(text)
 }
 
-/// What the program prints of the text after `custody: policy `, or `none` where it spells a policy.
-fn line(alloc: Global, source: &str) -> Result<String, Fail> {
-    match Policy::read(alloc, source) {
-        Ok(_) => Ok(String::from_str(alloc, "none")?),
-        Err(fault) => Ok(format!(in alloc; "{fault}")?),
+/// A row that denies all to all but for one list, which is as given.
+fn row_with(alloc: Global, key: Key, list: &str) -> Result<String, Fail> {
+    let mut row = String::from_str(alloc, "[[row]]\neffect = \"deny\"\n")?;
+    for (other, any) in [
+        (Key::Users, "[\"*\"]"),
+        (Key::Repos, "[\"*\"]"),
+        (Key::Refs, "[\"*\"]"),
+        (Key::Paths, "[\"*\"]"),
+        (Key::Rights, "[\"pull\"]"),
+    ] {
+        row.push_str(other.name())?;
+        row.push_str(" = ")?;
+        row.push_str(if other == key { list } else { any })?;
+        row.push_str("\n")?;
     }
+    Ok(row)
 }
 
-/// The line of the plain policy with another top.
-fn line_of_top(alloc: Global, top: &str) -> Result<String, Fail> {
-    line(alloc, text(alloc, top, REPO, ROW)?.as_str())
+/// That the program prints this of the text after `custody: policy `, or that the text spells a
+/// policy, where `none` is expected.
+fn expect(rt: &impl Abort, alloc: Global, source: &str, expected: &str) -> Result<(), Fail> {
+    let line = match Policy::read(alloc, source) {
+        Ok(_) => String::from_str(alloc, "none")?,
+        Err(fault) => format!(in alloc; "{fault}")?,
+    };
+    assert_eq!(rt; line.as_str(), expected, "of {source}");
+    Ok(())
 }
 
-/// The line of the plain policy with other repositories.
-fn line_of_repos(alloc: Global, repos: &str) -> Result<String, Fail> {
-    line(alloc, text(alloc, TOP, repos, ROW)?.as_str())
-}
-
-/// The line of the plain policy with other rows.
-fn line_of_rows(alloc: Global, rows: &str) -> Result<String, Fail> {
-    line(alloc, text(alloc, TOP, REPO, rows)?.as_str())
-}
-
-/// The line of the plain policy where each list of its row is as given.
-fn line_of_lists(
+/// The same of a text in three parts: mostly the top, the repositories and the rows.
+fn expect_parts(
+    rt: &impl Abort,
     alloc: Global,
-    users: &str,
-    repos: &str,
-    refs: &str,
-    paths: &str,
-    rights: &str,
-) -> Result<String, Fail> {
-    let row = format!(in alloc;
-        "[[row]]\neffect = \"deny\"\nusers = {users}\nrepos = {repos}\nrefs = {refs}\npaths = {paths}\nrights = {rights}\n"
-    )?;
-    line_of_rows(alloc, row.as_str())
+    parts: [&str; 3],
+    expected: &str,
+) -> Result<(), Fail> {
+    expect(rt, alloc, join(alloc, parts)?.as_str(), expected)
 }
 
 #[test]
 fn reads_a_plain_policy(rt: HostRuntime) -> Result<(), Fail> {
-    let policy = Policy::read(rt.alloc(), text(rt.alloc(), TOP, REPO, ROW)?.as_str())?;
+    let source = join(rt.alloc(), [TOP, REPO, ROW])?;
+    let policy = Policy::read(rt.alloc(), source.as_str())?;
     assert_eq!(rt; policy.base(), "https://lfs.example");
     assert_eq!(rt; policy.token_seconds(), 3600);
     let repo = policy.repo("studio/film").ok_or("no repository")?;
@@ -89,19 +92,24 @@ fn reads_a_plain_policy(rt: HostRuntime) -> Result<(), Fail> {
 
 #[test]
 fn reads_bytes(rt: HostRuntime) -> Result<(), Fail> {
-    let source = text(rt.alloc(), TOP, REPO, ROW)?;
+    let source = join(rt.alloc(), [TOP, REPO, ROW])?;
     let policy = Policy::read_bytes(rt.alloc(), source.as_bytes())?;
     assert_eq!(rt; policy.token_seconds(), 3600);
-    assert!(rt; Policy::read_bytes(rt.alloc(), b"base = \"\xff\"").is_err());
-    let long = vec![in rt.alloc(); 0xffu8; 1_048_577]?;
-    let fault = Policy::read_bytes(rt.alloc(), long.as_slice())
-        .err()
-        .ok_or("read")?;
-    assert_eq!(rt; format!(in rt.alloc(); "{fault}")?.as_str(), "Y5");
-    let short = vec![in rt.alloc(); 0xffu8; 1_048_576]?;
-    let fault = Policy::read_bytes(rt.alloc(), short.as_slice())
-        .err()
-        .ok_or("read")?;
-    assert_eq!(rt; format!(in rt.alloc(); "{fault}")?.as_str(), "Y1");
+    Ok(())
+}
+
+/// Bytes that are no text, of the longest length and one more.
+#[test]
+fn reads_bytes_that_are_no_text(rt: HostRuntime) -> Result<(), Fail> {
+    for (length, code) in [(1_048_576, FaultCode::Y1), (1_048_577, FaultCode::Y5)] {
+        let bytes = vec![in rt.alloc(); 0xffu8; length]?;
+        let fault = Fault {
+            code,
+            place: Place::File,
+            key: None,
+        };
+        let read = Policy::read_bytes(rt.alloc(), bytes.as_slice());
+        assert_eq!(rt; read.err(), Some(PolicyFault::Refused(fault)));
+    }
     Ok(())
 }

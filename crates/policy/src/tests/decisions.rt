@@ -3,41 +3,18 @@ use super::*;
 use model::Right;
 use names::{LockPath, RefName, RepoName, UserName};
 
-/// The answer to a question of `studio/film`, by the policy of these rows.
-fn answer(
-    alloc: Global,
-    rows: &str,
-    user: &str,
-    right: Right,
-    ref_name: Option<&str>,
-    path: Option<&str>,
-) -> Result<Verdict, Fail> {
-    answer_in(alloc, rows, "studio/film", user, right, ref_name, path)
-}
-
-/// The answer to a question, by the policy of these rows.
-fn answer_in(
-    alloc: Global,
-    rows: &str,
-    repo: &str,
-    user: &str,
-    right: Right,
-    ref_name: Option<&str>,
-    path: Option<&str>,
-) -> Result<Verdict, Fail> {
-    let policy = Policy::read(alloc, text(alloc, TOP, REPO, rows)?.as_str())?;
-    ask(&policy, user, repo, right, ref_name, path)
-}
+/// A question of the tests: user, repository, right, ref and path, where it is about them.
+pub type Asked = (
+    &'static str,
+    &'static str,
+    Right,
+    Option<&'static str>,
+    Option<&'static str>,
+);
 
 /// The answer to a question.
-pub fn ask(
-    policy: &Policy,
-    user: &str,
-    repo: &str,
-    right: Right,
-    ref_name: Option<&str>,
-    path: Option<&str>,
-) -> Result<Verdict, Fail> {
+pub fn ask(policy: &Policy, asked: Asked) -> Result<Verdict, Fail> {
+    let (user, repo, right, ref_name, path) = asked;
     let ref_name = match ref_name {
         Some(text) => Some(RefName::read(text).ok_or("no ref")?),
         None => None,
@@ -56,7 +33,11 @@ pub fn ask(
     Ok(decide(policy, &question))
 }
 
+const FILM: &str = "studio/film";
+
 const MAIN: Option<&str> = Some("refs/heads/main");
+
+const BELOW_ART: Option<&str> = Some("art/x");
 
 /// No lock below art/; all else is allowed to all.
 const FROZEN_FOLDER: &str = r#"
@@ -79,23 +60,28 @@ rights = ["pull", "push", "list", "lock", "force"]
 
 #[test]
 fn the_first_row_that_matches(rt: HostRuntime) -> Result<(), Fail> {
-    let a = rt.alloc();
-    assert_eq!(rt;
-        answer(a, FROZEN_FOLDER, "ann", Right::Lock, MAIN, Some("art/x"))?,
-        Verdict::Deny(1)
-    );
-    assert_eq!(rt;
-        answer(a, FROZEN_FOLDER, "ann", Right::Lock, MAIN, Some("artx"))?,
-        Verdict::Allow(2)
-    );
-    assert_eq!(rt;
-        answer(a, FROZEN_FOLDER, "ann", Right::Lock, MAIN, Some("art"))?,
-        Verdict::Allow(2)
-    );
-    assert_eq!(rt;
-        answer(a, FROZEN_FOLDER, "ann", Right::Force, MAIN, Some("art/x"))?,
-        Verdict::Allow(2)
-    );
+    let source = join(rt.alloc(), [TOP, REPO, FROZEN_FOLDER])?;
+    let policy = Policy::read(rt.alloc(), source.as_str())?;
+    for (asked, expected) in [
+        (
+            ("ann", FILM, Right::Lock, MAIN, BELOW_ART),
+            Verdict::Deny(1),
+        ),
+        (
+            ("ann", FILM, Right::Lock, MAIN, Some("artx")),
+            Verdict::Allow(2),
+        ),
+        (
+            ("ann", FILM, Right::Lock, MAIN, Some("art")),
+            Verdict::Allow(2),
+        ),
+        (
+            ("ann", FILM, Right::Force, MAIN, BELOW_ART),
+            Verdict::Allow(2),
+        ),
+    ] {
+        assert_eq!(rt; ask(&policy, asked)?, expected);
+    }
     Ok(())
 }
 
@@ -112,19 +98,21 @@ rights = ["push"]
 
 #[test]
 fn a_question_without_a_path(rt: HostRuntime) -> Result<(), Fail> {
-    let a = rt.alloc();
-    assert_eq!(rt;
-        answer(a, PUSH_BELOW, "ann", Right::Push, MAIN, None)?,
-        Verdict::Deny(0)
-    );
-    assert_eq!(rt;
-        answer(a, PUSH_BELOW, "ann", Right::Push, MAIN, Some("art/x"))?,
-        Verdict::Allow(1)
-    );
-    assert_eq!(rt;
-        answer(a, PUSH_BELOW, "bob", Right::Push, MAIN, Some("art/x"))?,
-        Verdict::Deny(0)
-    );
+    let source = join(rt.alloc(), [TOP, REPO, PUSH_BELOW])?;
+    let policy = Policy::read(rt.alloc(), source.as_str())?;
+    for (asked, expected) in [
+        (("ann", FILM, Right::Push, MAIN, None), Verdict::Deny(0)),
+        (
+            ("ann", FILM, Right::Push, MAIN, BELOW_ART),
+            Verdict::Allow(1),
+        ),
+        (
+            ("bob", FILM, Right::Push, MAIN, BELOW_ART),
+            Verdict::Deny(0),
+        ),
+    ] {
+        assert_eq!(rt; ask(&policy, asked)?, expected);
+    }
     Ok(())
 }
 
@@ -141,31 +129,31 @@ rights = ["pull"]
 
 #[test]
 fn a_question_without_a_ref(rt: HostRuntime) -> Result<(), Fail> {
-    let a = rt.alloc();
-    assert_eq!(rt;
-        answer(a, PULL_REFS, "ann", Right::Pull, None, None)?,
-        Verdict::Deny(0)
-    );
-    assert_eq!(rt;
-        answer(a, PULL_REFS, "ann", Right::Pull, MAIN, None)?,
-        Verdict::Allow(1)
-    );
-    assert_eq!(rt;
-        answer(a, PULL_REFS, "ann", Right::Pull, Some("refs/tags/a"), None)?,
-        Verdict::Deny(0)
-    );
-    assert_eq!(rt;
-        answer_in(a, PULL_REFS, "studios/film", "ann", Right::Pull, MAIN, None)?,
-        Verdict::Deny(0)
-    );
+    let source = join(rt.alloc(), [TOP, REPO, PULL_REFS])?;
+    let policy = Policy::read(rt.alloc(), source.as_str())?;
+    for (asked, expected) in [
+        (("ann", FILM, Right::Pull, None, None), Verdict::Deny(0)),
+        (("ann", FILM, Right::Pull, MAIN, None), Verdict::Allow(1)),
+        (
+            ("ann", FILM, Right::Pull, Some("refs/tags/a"), None),
+            Verdict::Deny(0),
+        ),
+        (
+            ("ann", "studios/film", Right::Pull, MAIN, None),
+            Verdict::Deny(0),
+        ),
+    ] {
+        assert_eq!(rt; ask(&policy, asked)?, expected);
+    }
     Ok(())
 }
 
 #[test]
 fn no_row(rt: HostRuntime) -> Result<(), Fail> {
-    assert_eq!(rt;
-        answer(rt.alloc(), "", "ann", Right::Pull, None, None)?,
-        Verdict::Deny(0)
-    );
+    let source = join(rt.alloc(), [TOP, REPO, ""])?;
+    let policy = Policy::read(rt.alloc(), source.as_str())?;
+    for (asked, expected) in [(("ann", FILM, Right::Pull, None, None), Verdict::Deny(0))] {
+        assert_eq!(rt; ask(&policy, asked)?, expected);
+    }
     Ok(())
 }

@@ -1,4 +1,5 @@
-//! The largest and the longest that is allowed, and one more.
+//! The longest and the most that is allowed, and one more. Those of single numbers stand among the
+//! faults.
 use super::*;
 
 /// So many copies of the text.
@@ -22,164 +23,82 @@ fn repos(alloc: Global, count: u32) -> Result<String, Fail> {
     Ok(repos)
 }
 
-/// A list of so many `*`.
-fn stars(alloc: Global, count: u32) -> Result<String, Fail> {
-    let many = copies(alloc, "\"*\", ", count)?;
-    Ok(format!(in alloc; "[{}]", many.as_str())?)
-}
-
-/// The plain policy and a comment that fills it up to this length.
-fn filled(alloc: Global, length: usize) -> Result<String, Fail> {
-    let mut filled = text(alloc, TOP, REPO, ROW)?;
-    filled.push_str("#")?;
-    let missing = length.saturating_sub(filled.len());
-    for _ in 0..missing {
-        filled.push_str("x")?;
-    }
-    Ok(filled)
-}
-
 #[test]
 fn length_of_the_file(rt: HostRuntime) -> Result<(), Fail> {
-    let longest = filled(rt.alloc(), 1_048_576)?;
-    assert_eq!(rt; longest.len(), 1_048_576);
-    assert_eq!(rt; line(rt.alloc(), longest.as_str())?.as_str(), "none");
-    let longer = filled(rt.alloc(), 1_048_577)?;
-    assert_eq!(rt; longer.len(), 1_048_577);
-    assert_eq!(rt; line(rt.alloc(), longer.as_str())?.as_str(), "Y5");
+    let plain = join(rt.alloc(), [TOP, REPO, ROW])?;
+    for (length, expected) in [(1_048_576, "none"), (1_048_577, "Y5")] {
+        let mut source = plain.clone()?;
+        source.push_str("#")?;
+        for _ in source.len()..length {
+            source.push_str("x")?;
+        }
+        assert_eq!(rt; source.len(), length);
+        expect(&rt, rt.alloc(), source.as_str(), expected)?;
+    }
     Ok(())
 }
 
 #[test]
 fn repositories(rt: HostRuntime) -> Result<(), Fail> {
-    assert_eq!(rt;
-        line_of_repos(rt.alloc(), repos(rt.alloc(), 256)?.as_str())?.as_str(),
-        "none"
-    );
-    assert_eq!(rt;
-        line_of_repos(rt.alloc(), repos(rt.alloc(), 257)?.as_str())?.as_str(),
-        "Y5 at top"
-    );
+    for (count, expected) in [(256, "none"), (257, "Y5 at top")] {
+        let repos = repos(rt.alloc(), count)?;
+        expect_parts(&rt, rt.alloc(), [TOP, repos.as_str(), ROW], expected)?;
+    }
     Ok(())
 }
 
+/// One row too many is told before what is wrong with the first.
 #[test]
 fn rows(rt: HostRuntime) -> Result<(), Fail> {
-    let most = copies(rt.alloc(), ROW, 1000)?;
-    assert_eq!(rt; line_of_rows(rt.alloc(), most.as_str())?.as_str(), "none");
-    let no_users =
-        "[[row]]\neffect = \"allow\"\nusers = []\nrepos = [\"*\"]\nrefs = [\"*\"]\npaths = [\"*\"]\nrights = [\"pull\"]\n";
-    let more = text(rt.alloc(), no_users, most.as_str(), "")?;
-    assert_eq!(rt;
-        line_of_rows(rt.alloc(), more.as_str())?.as_str(),
-        "Y5 at top"
-    );
-    Ok(())
+    let no_users = row_with(rt.alloc(), Key::Users, "[]")?;
+    let most = copies(rt.alloc(), ROW, 999)?;
+    expect_parts(&rt, rt.alloc(), [TOP, most.as_str(), ROW], "none")?;
+    expect_parts(
+        &rt,
+        rt.alloc(),
+        [TOP, most.as_str(), no_users.as_str()],
+        "Y3 at row 1000",
+    )?;
+    let more = join(rt.alloc(), [no_users.as_str(), most.as_str(), ROW])?;
+    expect_parts(&rt, rt.alloc(), [TOP, REPO, more.as_str()], "Y5 at top")
 }
 
 #[test]
 fn entries_of_a_list(rt: HostRuntime) -> Result<(), Fail> {
-    let a = rt.alloc();
-    let most = stars(a, 64)?;
-    let more = stars(a, 65)?;
-    let (most, more) = (most.as_str(), more.as_str());
-    let right = "[\"pull\"]";
-    assert_eq!(rt;
-        line_of_lists(a, most, most, most, most, right)?.as_str(),
-        "none"
-    );
-    assert_eq!(rt;
-        line_of_lists(a, more, most, most, most, right)?.as_str(),
-        "Y3 at row 1"
-    );
-    assert_eq!(rt;
-        line_of_lists(a, most, more, most, most, right)?.as_str(),
-        "Y3 at row 1"
-    );
-    assert_eq!(rt;
-        line_of_lists(a, most, most, more, most, right)?.as_str(),
-        "Y3 at row 1"
-    );
-    assert_eq!(rt;
-        line_of_lists(a, most, most, most, more, right)?.as_str(),
-        "Y3 at row 1"
-    );
-    Ok(())
-}
-
-#[test]
-fn rights(rt: HostRuntime) -> Result<(), Fail> {
-    let a = rt.alloc();
-    let any = "[\"*\"]";
-    let most = format!(in a; "[{}]", copies(a, "\"pull\",", 64)?.as_str())?;
-    let more = format!(in a; "[{}]", copies(a, "\"pull\",", 65)?.as_str())?;
-    assert_eq!(rt;
-        line_of_lists(a, any, any, any, any, most.as_str())?.as_str(),
-        "none"
-    );
-    assert_eq!(rt;
-        line_of_lists(a, any, any, any, any, more.as_str())?.as_str(),
-        "Y3 at row 1"
-    );
-    Ok(())
-}
-
-#[test]
-fn numbers(rt: HostRuntime) -> Result<(), Fail> {
-    let a = rt.alloc();
-    assert_eq!(rt;
-        line_of_top(a, "base = \"https://lfs.example\"\ntoken_seconds = 1\n")?.as_str(),
-        "none"
-    );
-    assert_eq!(rt;
-        line_of_top(a, "base = \"https://lfs.example\"\ntoken_seconds = 86400\n")?.as_str(),
-        "none"
-    );
-    assert_eq!(rt;
-        line_of_repos(
-            a,
-            "[[repo]]\nname = \"a/b\"\ndefault_ref = \"refs/a\"\nquota = 0\n"
-        )?
-        .as_str(),
-        "none"
-    );
-    assert_eq!(rt;
-        line_of_repos(
-            a,
-            "[[repo]]\nname = \"a/b\"\ndefault_ref = \"refs/a\"\nquota = 1099511627776\n"
-        )?
-        .as_str(),
-        "none"
-    );
-    assert_eq!(rt;
-        line_of_repos(
-            a,
-            "[[repo]]\nname = \"a/b\"\ndefault_ref = \"refs/a\"\nquota = 1099511627777\n"
-        )?
-        .as_str(),
-        "Y3 at repo 1"
-    );
+    for (key, entry) in [
+        (Key::Users, "\"ann\", "),
+        (Key::Repos, "\"*\", "),
+        (Key::Refs, "\"*\", "),
+        (Key::Paths, "\"*\", "),
+        (Key::Rights, "\"pull\", "),
+    ] {
+        for (count, expected) in [(1, "none"), (64, "none"), (65, "Y3 at row 1")] {
+            let entries = copies(rt.alloc(), entry, count)?;
+            let list = join(rt.alloc(), ["[", entries.as_str(), "]"])?;
+            let row = row_with(rt.alloc(), key, list.as_str())?;
+            expect_parts(&rt, rt.alloc(), [TOP, REPO, row.as_str()], expected)?;
+        }
+    }
     Ok(())
 }
 
 #[test]
 fn addresses(rt: HostRuntime) -> Result<(), Fail> {
-    let a = rt.alloc();
-    assert_eq!(rt;
-        line_of_top(a, "base = \"http://a\"\ntoken_seconds = 1\n")?.as_str(),
-        "none"
-    );
-    assert_eq!(rt;
-        line_of_top(a, "base = \"http://\"\ntoken_seconds = 1\n")?.as_str(),
-        "Y3 at top"
-    );
-    let long = copies(a, "a", 192)?;
-    let longest = format!(in a; "base = \"https://{}\"\ntoken_seconds = 1\n", long.as_str())?;
-    let longer = format!(in a;
-        "base = \"https://{}a\"\ntoken_seconds = 1\n",
-        long.as_str()
-    )?;
-    assert_eq!(rt; line_of_top(a, longest.as_str())?.as_str(), "none");
-    assert_eq!(rt; line_of_top(a, longer.as_str())?.as_str(), "Y3 at top");
+    for (front, count, expected) in [
+        ("http://", 0, "Y3 at top"),
+        ("http://", 1, "none"),
+        ("http://", 193, "none"),
+        ("http://", 194, "Y3 at top"),
+        ("https://", 1, "none"),
+        ("https://", 192, "none"),
+        ("https://", 193, "Y3 at top"),
+    ] {
+        let rest = copies(rt.alloc(), "a", count)?;
+        let top = format!(in rt.alloc();
+            "base = \"{front}{}\"\ntoken_seconds = 1\n",
+            rest.as_str()
+        )?;
+        expect_parts(&rt, rt.alloc(), [top.as_str(), REPO, ROW], expected)?;
+    }
     Ok(())
 }

@@ -3,7 +3,11 @@ use super::decisions::ask;
 use super::*;
 use model::Right;
 
+const FILM: &str = "studio/film";
+
 const MAIN: Option<&str> = Some("refs/heads/main");
+
+const RELEASED: Option<&str> = Some("refs/heads/release/1.0");
 
 const VENDOR: &str = r#"
 base = "https://lfs.example"
@@ -36,11 +40,17 @@ rights = ["pull"]
 #[test]
 fn a_vendor_who_reads(rt: HostRuntime) -> Result<(), Fail> {
     let policy = Policy::read(rt.alloc(), VENDOR)?;
-    let film = "studio/film";
-    assert_eq!(rt; ask(&policy, "vendor", film, Right::Pull, None, None)?, Verdict::Allow(2));
-    assert_eq!(rt; ask(&policy, "vendor", film, Right::Push, MAIN, None)?, Verdict::Deny(0));
-    assert_eq!(rt; ask(&policy, "vendor", film, Right::List, MAIN, Some("art/hero.psd"))?, Verdict::Deny(0));
-    assert_eq!(rt; ask(&policy, "ann", film, Right::Push, MAIN, None)?, Verdict::Allow(1));
+    for (asked, expected) in [
+        (("vendor", FILM, Right::Pull, None, None), Verdict::Allow(2)),
+        (("vendor", FILM, Right::Push, MAIN, None), Verdict::Deny(0)),
+        (
+            ("vendor", FILM, Right::List, MAIN, Some("art/hero.psd")),
+            Verdict::Deny(0),
+        ),
+        (("ann", FILM, Right::Push, MAIN, None), Verdict::Allow(1)),
+    ] {
+        assert_eq!(rt; ask(&policy, asked)?, expected);
+    }
     Ok(())
 }
 
@@ -84,12 +94,33 @@ rights = ["lock"]
 #[test]
 fn artists_who_lock_their_folder(rt: HostRuntime) -> Result<(), Fail> {
     let policy = Policy::read(rt.alloc(), FOLDERS)?;
-    let film = "studio/film";
-    assert_eq!(rt; ask(&policy, "ann", film, Right::Lock, MAIN, Some("art/characters/hero.psd"))?, Verdict::Allow(2));
-    assert_eq!(rt; ask(&policy, "ann", film, Right::Lock, MAIN, Some("art/sets/street.psd"))?, Verdict::Deny(0));
-    assert_eq!(rt; ask(&policy, "ann", film, Right::Lock, MAIN, Some("art/characters.psd"))?, Verdict::Deny(0));
-    assert_eq!(rt; ask(&policy, "bob", film, Right::Lock, MAIN, Some("art/palette.aco"))?, Verdict::Allow(3));
-    assert_eq!(rt; ask(&policy, "bob", film, Right::Push, MAIN, None)?, Verdict::Allow(1));
+    for (asked, expected) in [
+        (
+            (
+                "ann",
+                FILM,
+                Right::Lock,
+                MAIN,
+                Some("art/characters/hero.psd"),
+            ),
+            Verdict::Allow(2),
+        ),
+        (
+            ("ann", FILM, Right::Lock, MAIN, Some("art/sets/street.psd")),
+            Verdict::Deny(0),
+        ),
+        (
+            ("ann", FILM, Right::Lock, MAIN, Some("art/characters.psd")),
+            Verdict::Deny(0),
+        ),
+        (
+            ("bob", FILM, Right::Lock, MAIN, Some("art/palette.aco")),
+            Verdict::Allow(3),
+        ),
+        (("bob", FILM, Right::Push, MAIN, None), Verdict::Allow(1)),
+    ] {
+        assert_eq!(rt; ask(&policy, asked)?, expected);
+    }
     Ok(())
 }
 
@@ -133,11 +164,26 @@ rights = ["force"]
 #[test]
 fn a_supervisor_who_may_force(rt: HostRuntime) -> Result<(), Fail> {
     let policy = Policy::read(rt.alloc(), SUPERVISOR)?;
-    let film = "studio/film";
-    assert_eq!(rt; ask(&policy, "sue", film, Right::Force, MAIN, Some("art/hero.psd"))?, Verdict::Allow(3));
-    assert_eq!(rt; ask(&policy, "sue", film, Right::Force, MAIN, Some("edit/cut.prproj"))?, Verdict::Deny(2));
-    assert_eq!(rt; ask(&policy, "ann", film, Right::Force, MAIN, Some("art/hero.psd"))?, Verdict::Deny(0));
-    assert_eq!(rt; ask(&policy, "ann", film, Right::Lock, MAIN, Some("art/hero.psd"))?, Verdict::Allow(1));
+    for (asked, expected) in [
+        (
+            ("sue", FILM, Right::Force, MAIN, Some("art/hero.psd")),
+            Verdict::Allow(3),
+        ),
+        (
+            ("sue", FILM, Right::Force, MAIN, Some("edit/cut.prproj")),
+            Verdict::Deny(2),
+        ),
+        (
+            ("ann", FILM, Right::Force, MAIN, Some("art/hero.psd")),
+            Verdict::Deny(0),
+        ),
+        (
+            ("ann", FILM, Right::Lock, MAIN, Some("art/hero.psd")),
+            Verdict::Allow(1),
+        ),
+    ] {
+        assert_eq!(rt; ask(&policy, asked)?, expected);
+    }
     Ok(())
 }
 
@@ -181,13 +227,21 @@ rights = ["pull", "push", "list", "lock"]
 #[test]
 fn a_frozen_release(rt: HostRuntime) -> Result<(), Fail> {
     let policy = Policy::read(rt.alloc(), RELEASE)?;
-    let film = "studio/film";
-    let release = Some("refs/heads/release/1.0");
-    assert_eq!(rt; ask(&policy, "rita", film, Right::Push, release, None)?, Verdict::Allow(1));
-    assert_eq!(rt; ask(&policy, "ann", film, Right::Push, release, None)?, Verdict::Deny(2));
-    assert_eq!(rt; ask(&policy, "ann", film, Right::Lock, release, Some("art/hero.psd"))?, Verdict::Deny(2));
-    assert_eq!(rt; ask(&policy, "ann", film, Right::Push, MAIN, None)?, Verdict::Allow(3));
-    assert_eq!(rt; ask(&policy, "ann", film, Right::Pull, None, None)?, Verdict::Allow(3));
+    for (asked, expected) in [
+        (
+            ("rita", FILM, Right::Push, RELEASED, None),
+            Verdict::Allow(1),
+        ),
+        (("ann", FILM, Right::Push, RELEASED, None), Verdict::Deny(2)),
+        (
+            ("ann", FILM, Right::Lock, RELEASED, Some("art/hero.psd")),
+            Verdict::Deny(2),
+        ),
+        (("ann", FILM, Right::Push, MAIN, None), Verdict::Allow(3)),
+        (("ann", FILM, Right::Pull, None, None), Verdict::Allow(3)),
+    ] {
+        assert_eq!(rt; ask(&policy, asked)?, expected);
+    }
     Ok(())
 }
 
@@ -241,10 +295,29 @@ rights = ["pull", "push", "list", "lock"]
 #[test]
 fn several_repositories(rt: HostRuntime) -> Result<(), Fail> {
     let policy = Policy::read(rt.alloc(), SEVERAL)?;
-    assert_eq!(rt; ask(&policy, "ann", "studio/tools", Right::Pull, None, None)?, Verdict::Allow(1));
-    assert_eq!(rt; ask(&policy, "ann", "studio/tools", Right::Push, MAIN, None)?, Verdict::Deny(0));
-    assert_eq!(rt; ask(&policy, "ann", "studio/film", Right::Push, MAIN, None)?, Verdict::Allow(2));
-    assert_eq!(rt; ask(&policy, "ann", "studio/game", Right::Pull, None, None)?, Verdict::Deny(0));
-    assert_eq!(rt; ask(&policy, "bob", "studio/game", Right::Push, MAIN, None)?, Verdict::Allow(3));
+    for (asked, expected) in [
+        (
+            ("ann", "studio/tools", Right::Pull, None, None),
+            Verdict::Allow(1),
+        ),
+        (
+            ("ann", "studio/tools", Right::Push, MAIN, None),
+            Verdict::Deny(0),
+        ),
+        (
+            ("ann", "studio/film", Right::Push, MAIN, None),
+            Verdict::Allow(2),
+        ),
+        (
+            ("ann", "studio/game", Right::Pull, None, None),
+            Verdict::Deny(0),
+        ),
+        (
+            ("bob", "studio/game", Right::Push, MAIN, None),
+            Verdict::Allow(3),
+        ),
+    ] {
+        assert_eq!(rt; ask(&policy, asked)?, expected);
+    }
     Ok(())
 }
