@@ -1,7 +1,8 @@
 -- What a text's table answers, the text answers.
 use Rattle.std.proofs.Common.{◌≡◌, ◌∙◌, ℕ, ◌≤◌, List, length, Bool, true, Option, Some, None, is_some, Result, Ok, Err, refl, ap, le-leb}
-use Rattle.std.specs.Str.{IsUtf8}
-use Rattle.std.proofs.lemmas.Str.{is_utf8-from_IsUtf8}
+use Rattle.std.specs.Str.{IsUtf8, is_utf8}
+use Rattle.std.proofs.lemmas.Bool.{false_from_ne_true}
+use Rattle.std.proofs.lemmas.Str.{is_utf8-from_IsUtf8, IsUtf8-from_is_utf8}
 use Rattle.std.specs.Result.{OnOk, IfErr}
 use Rattle.toml.specs.Data.{Members}
 use Rattle.toml.specs.Parse.{parse_document}
@@ -9,7 +10,9 @@ use Rattle.policy.specs.declared.faults.Fault.{Fault}
 use Rattle.policy.specs.declared.faults.PolicyFault.{PolicyFault}
 use Rattle.policy.specs.declared.faults.PolicyFault.TheVariants.{Refused, Memory}
 use Rattle.policy.specs.Ranges.{longest_file}
-use Rattle.policy.specs.Reading.{Reads, IfRefused, fault_in, document_fault}
+use Rattle.policy.specs.Reading.{Reads, IfRefused, at_place, fault_in, document_fault}
+use Rattle.policy.specs.declared.faults.FaultCode.TheVariants.{Y1}
+use Rattle.policy.specs.declared.faults.Place.TheVariants as place
 
 -- the faults of a text that is short enough and TOML are those of its table
 pub fault_in-document : (source : List ℕ) (t : Members) → length source ≤ longest_file → IsUtf8 source → parse_document source ≡ Some t
@@ -25,3 +28,8 @@ pub refused-from : {A : Type 0} (fault same : Option Fault) (P : A → Type 0) (
 refused-from fault same P (Ok x) e reads = tt
 refused-from fault same P (Err (Refused f)) e reads = e ∙ reads
 refused-from fault same P (Err Memory) e reads = tt
+
+-- the fault of bytes that are short enough and no text
+pub fault_in-not_utf8 : (source : List ℕ) → length source ≤ longest_file → ¬ IsUtf8 source → fault_in source ≡ Some (at_place Y1 place.File)
+fault_in-not_utf8 source short bytes =
+    rw (le-leb (length source) longest_file short, false_from_ne_true (is_utf8 source) (λ text. bytes (IsUtf8-from_is_utf8 source text))) refl

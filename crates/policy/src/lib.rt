@@ -15,7 +15,10 @@ mod questions;
 mod reading;
 mod repos;
 mod rows;
+mod sentences;
 mod tables;
+#[cfg(test)]
+mod tests;
 
 pub use decisions::decide;
 pub use faults::{Fault, FaultCode, Place, PolicyFault};
@@ -23,3 +26,4 @@ pub use keys::Key;
 pub use policies::Policy;
 pub use questions::{Question, Verdict};
 pub use repos::Repo;
+pub use sentences::Sentence;

@@ -243,4 +243,23 @@ impl Policy {
             Err(_) => Err(of_file(FaultCode::Y1).into()),
         }
     }
+
+    /// The policy that the bytes of a file spell, as [`Policy::read`] says of a text.
+    ///
+    /// # Errors
+    ///
+    /// Those of [`Policy::read`]. Bytes within the length that are no UTF-8 are no TOML.
+    pub fn read_bytes(alloc: Global, source: &[u8]) -> Result<Policy, PolicyFault>
+        ensures spelled { IfOk result (λ policy. policy_view policy ≡ spelled source.now) }
+        ensures without_fault { OnOk result (fault_in source.now ≡ None) }
+        ensures refused { IfErr result (λ fault. IfRefused fault (λ first. fault_in source.now ≡ Some first)) }
+    {
+        if source.len() > LONGEST_FILE {
+            return Err(of_file(FaultCode::Y5).into());
+        }
+        match str::from_utf8(source) {
+            Ok(text) => Policy::read(alloc, text),
+            Err(_) => Err(of_file(FaultCode::Y1).into()),
+        }
+    }
 }
