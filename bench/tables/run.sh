@@ -8,15 +8,17 @@ here=$(cd "$(dirname "$0")" && pwd)
 top=$(cd "$here/../.." && pwd)
 work=$(mktemp -d)
 trap 'rm -rf "$work"' EXIT
-mkdir -p "$work/repo/crates/bench/src" "$work/repo/crates/bench/specs" "$work/repo/crates/bench/proofs" "$work/run"
+mkdir -p "$work/repo/crates/bench/src" "$work/repo/crates/bench/specs" "$work/repo/crates/bench/proofs"
 for crate in schemas tables; do cp -r "$top/crates/$crate" "$work/repo/crates/"; done
 grep -E '^(schemas|tables):' "$top/crates.txt" > "$work/repo/crates.txt"
 echo 'bench: tables sqlite anyhow' >> "$work/repo/crates.txt"
 cp "$here/main.rt.txt" "$work/repo/crates/bench/src/main.rt"
 touch "$work/repo/crates/bench/specs/Lib.antt" "$work/repo/crates/bench/proofs/Lib.antt"
-(cd "$work/repo" && git init -q . && cd crates/bench && rt run --jobs 1 > "$work/build.log" 2>&1) || { tail -5 "$work/build.log"; exit 1; }
-cd "$work/run"
-"$work/repo/crates/bench/out/bench" | tee times
+cd "$work/repo"
+git init -q .
+cd crates/bench
+RT_SECONDS=900 rt run --jobs 1 > build.log 2>&1 || { tail -5 build.log; exit 1; }
+grep '^rattle ' build.log | grep filled | tee times
 if cc -O2 -o peer "$here/peer.c" -lsqlite3 2> /dev/null; then
     ./peer | tee -a times
 else
