@@ -1,1 +1,2 @@
 pub mod Bearers
+pub mod Callers

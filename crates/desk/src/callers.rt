@@ -1,12 +1,18 @@
 //! Who calls: the token that a request bears, and what the store knows of it (RFC 6750).
 
-ghost use Rattle.std.specs.Prelude.{◌≡◌, option_map, codes};
+ghost use Rattle.std.specs.Prelude.{◌≡◌, option_map, codes, Some, IfOk};
 ghost use Rattle.std.specs.List.{list_all};
 ghost use Rattle.sha2.specs.Sha256.{sha256};
 ghost use Rattle.model.specs.Steps.{bearer, is_visible};
+ghost use Rattle.model.specs.World.{World};
+ghost use Rattle.tables.specs.Shown.{IsHonest, Moves};
+ghost use Rattle.worlds.specs.Standing.{Holds};
 ghost use Rattle.desk.specs.Bearers.{the_one};
+ghost use Rattle.desk.specs.Callers.{IsCalling, IsGoodAt};
 
+use names::{Moment, Rule};
 use sha2::{Digest, Sha256};
+use tables::{Alter, Operation, Store, StoreFault, TokenRow};
 
 fn is_visible(byte: u8) -> bool
     ensures { result ≡ is_visible byte }
@@ -37,4 +43,57 @@ fn digest_of(text: &[u8]) -> [u8; 32]
     ensures { result ≡ sha256 text.now }
 {
     Sha256::digest(text)
+}
+
+/// Whose token a request bears.
+#[derive(Debug, Drop)]
+pub struct Caller {
+    /// The user.
+    pub user: String,
+    /// The repository that the token is for.
+    pub repo: String,
+    /// What the token was issued for.
+    pub operation: Operation,
+}
+
+/// Who calls, by the value of the `Authorization` field: A1 where it bears no token, A2 where the
+/// store has no such token, A3 where it has expired. The store is left as it is.
+///
+/// # Errors
+///
+/// A [`StoreFault`], which leaves the store as it is too.
+pub fn identify<S: Alter>(
+    store: &mut Store<S>,
+    authorization: Option<&[u8]>,
+    now: Moment,
+) -> Result<Result<Caller, Rule>, StoreFault>
+    ensures answer { IsHonest S.Store store.new → (world : World) → Holds S.Store store.old world
+        → IfOk result (IsCalling world now (the_one (option_map (λ v. v.now) authorization.entry))) }
+    ensures same { Moves S.Store (λ t. t) store.old store.new }
+{
+    let Some(value) = authorization else {
+        return Ok(Err(Rule::A1));
+    };
+    let Some(text) = bearer_in(value) else {
+        return Ok(Err(Rule::A1));
+    };
+    let Some(token) = store.token(&digest_of(text))? else {
+        return Ok(Err(Rule::A2));
+    };
+    Ok(good_at(token, now))
+}
+
+/// The token's caller, where it is good at the moment; else A3.
+fn good_at(token: TokenRow, now: Moment) -> Result<Caller, Rule>
+    ensures { IsGoodAt token now result }
+{
+    if (now.get() as i64) < token.expires {
+        Ok(Caller {
+            user: token.user,
+            repo: token.repo,
+            operation: token.operation,
+        })
+    } else {
+        Err(Rule::A3)
+    }
 }

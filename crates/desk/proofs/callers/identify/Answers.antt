@@ -1,0 +1,25 @@
+use Rattle.std.proofs.Common.{◌≡◌, ◌∷◌, [], sym, ap, ◌∙◌, option_map, subst, List, ℕ, Err}
+use Rattle.names.specs.declared.rules.Rule.TheVariants.{A2}
+use Rattle.model.specs.Steps.{caller_by}
+use Rattle.tables.specs.Shown.{shown}
+use Rattle.tables.specs.Steps.{read_token}
+use Rattle.desk.specs.Bearers.{the_one}
+use Rattle.desk.specs.Callers.{IsCalling}
+use Rattle.desk.proofs.Calling.{unknown_token, known_token}
+use Rattle.desk.proofs.callers.identify.Goals as goal
+
+pub returns-in_default-2-clause-answer : goal.returns-in_default-2-clause-answer
+returns-in_default-2-clause-answer g c honest world h =
+    let s = h.shows (c.token.ensures.same.was_honest honest) (c.in_ok-token.ensures.open honest h.stands) in
+    let values = ap (λ o. the_one (option_map (λ v. v.now) o)) c.in-Some.is in
+    subst (λ (vs : List (List ℕ)). caller_by world c.args.now vs ≡ Err A2) (sym values)
+    (unknown_token (shown g.S.Store c.args.store.now) world c.args.now (c.in-Some.value.now ∷ []) c.in-Some-bearer_in.text.now c.digest_of.result s h.laws
+    (sym c.in-Some-bearer_in.ensures) c.digest_of.ensures (ap (option_map read_token) (sym c.in_default-2.is) ∙ c.in_ok-token.ensures.answer honest h.stands))
+
+pub returns-clause-answer : goal.returns-clause-answer
+returns-clause-answer g c honest world h =
+    let s = h.shows (c.token.ensures.same.was_honest honest) (c.in_ok-token.ensures.open honest h.stands) in
+    let values = ap (λ o. the_one (option_map (λ v. v.now) o)) c.in-Some.is in
+    subst (λ (vs : List (List ℕ)). IsCalling world c.args.now vs c.good_at.result) (sym values)
+    (known_token (shown g.S.Store c.args.store.now) world c.args.now (c.in-Some.value.now ∷ []) c.in-Some-bearer_in.text.now c.digest_of.result c.in-Some-2.token c.good_at.result s h.laws
+    (sym c.in-Some-bearer_in.ensures) c.digest_of.ensures (ap (option_map read_token) (sym c.in-Some-2.is) ∙ c.in_ok-token.ensures.answer honest h.stands) c.good_at.ensures)
