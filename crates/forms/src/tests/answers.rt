@@ -1,10 +1,11 @@
 use crate::{Answer, ShownLock};
 use model::Right;
 use names::{LockId, LockPath, Moment, Rule, UserName};
+use std::alloc::{AllocError, Global};
 use std::test::Fail;
 
-/// The lock of the example in `docs/PROTOCOL.md`.
-fn shown(path: &str) -> Option<ShownLock<'_>> {
+/// The lock of the example in `docs/PROTOCOL.md`, on that path.
+fn lock_on(path: &str) -> Option<ShownLock<'_>> {
     Some(ShownLock {
         id: LockId::read("1")?,
         locked_at: Moment::read(1_463_500_146)?,
@@ -13,170 +14,138 @@ fn shown(path: &str) -> Option<ShownLock<'_>> {
     })
 }
 
+/// The status, a space and the body.
+fn told_as(alloc: Global, answer: &Answer<'_>) -> Result<String, AllocError> {
+    let body = answer.body(alloc)?;
+    let status = answer.status();
+    format!(in alloc; "{status} {body}")
+}
+
+/// What is told of a lock that was made, or of one that stands.
+fn told(alloc: Global, path: &str, stands: bool) -> Result<String, AllocError> {
+    let Some(lock) = lock_on(path) else {
+        return String::from_str(alloc, "no path");
+    };
+    let answer = if stands {
+        Answer::Held(lock)
+    } else {
+        Answer::Locked(lock)
+    };
+    told_as(alloc, &answer)
+}
+
 #[test]
 fn locks_are_told_with_their_owner(rt: HostRuntime) -> Result<(), Fail> {
-    let hero = shown("art/hero.psd").ok_or("hero")?;
-    let locked = Answer::Locked(hero);
-    assert_eq!(rt; locked.status(), 201);
-    assert_eq!(rt;
-        locked.body(rt.alloc())?.as_str(),
-        r#"{"lock":{"id":"1","locked_at":"2016-05-17T15:49:06Z","owner":{"name":"ann"},"path":"art/hero.psd"}}"#
-    );
-    let held = Answer::Held(hero);
-    assert_eq!(rt; held.status(), 409);
-    assert_eq!(rt;
-        held.body(rt.alloc())?.as_str(),
-        r#"{"lock":{"id":"1","locked_at":"2016-05-17T15:49:06Z","owner":{"name":"ann"},"path":"art/hero.psd"},"message":"L1: the path is already locked"}"#
-    );
-    let quoted = shown("\"\u{e9}\" & <b>").ok_or("quoted")?;
-    assert_eq!(rt;
-        Answer::Locked(quoted).body(rt.alloc())?.as_str(),
-        "{\"lock\":{\"id\":\"1\",\"locked_at\":\"2016-05-17T15:49:06Z\",\"owner\":{\"name\":\"ann\"},\"path\":\"\\\"\u{e9}\\\" & <b>\"}}"
-    );
+    for (path, stands, want) in [
+        (
+            "art/hero.psd",
+            false,
+            r#"201 {"lock":{"id":"1","locked_at":"2016-05-17T15:49:06Z","owner":{"name":"ann"},"path":"art/hero.psd"}}"#,
+        ),
+        (
+            "art/hero.psd",
+            true,
+            r#"409 {"lock":{"id":"1","locked_at":"2016-05-17T15:49:06Z","owner":{"name":"ann"},"path":"art/hero.psd"},"message":"L1: the path is already locked"}"#,
+        ),
+        (
+            "\"\u{e9}\" & <b>",
+            false,
+            "201 {\"lock\":{\"id\":\"1\",\"locked_at\":\"2016-05-17T15:49:06Z\",\"owner\":{\"name\":\"ann\"},\"path\":\"\\\"\u{e9}\\\" & <b>\"}}",
+        ),
+    ] {
+        assert_eq!(rt; told(rt.alloc(), path, stands)?.as_str(), want);
+    }
     Ok(())
 }
 
 #[test]
-fn denials_are_told_by_their_code(rt: HostRuntime) -> Result<(), Fail> {
-    for (answer, status, body) in [
+fn rules_are_told_by_their_code(rt: HostRuntime) -> Result<(), Fail> {
+    for (rule, want) in [
+        (Rule::H1, r#"400 {"message":"H1: bad request head"}"#),
         (
-            Answer::Denied(Rule::H1),
-            400,
-            r#"{"message":"H1: bad request head"}"#,
+            Rule::H2,
+            r#"501 {"message":"H2: transfer codings are not served"}"#,
+        ),
+        (Rule::H3, r#"411 {"message":"H3: a length is needed"}"#),
+        (
+            Rule::H4,
+            r#"400 {"message":"H4: a field or body is not allowed here"}"#,
+        ),
+        (Rule::H5, r#"413 {"message":"H5: the body is too large"}"#),
+        (Rule::H6, r#"404 {"message":"H6: no such route"}"#),
+        (
+            Rule::H7,
+            r#"405 {"message":"H7: the method is not served here"}"#,
         ),
         (
-            Answer::Denied(Rule::H2),
-            501,
-            r#"{"message":"H2: transfer codings are not served"}"#,
+            Rule::H8,
+            r#"406 {"message":"H8: the reply type is not accepted"}"#,
         ),
         (
-            Answer::Denied(Rule::H3),
-            411,
-            r#"{"message":"H3: a length is needed"}"#,
+            Rule::A1,
+            r#"401 {"message":"A1: a bearer token is needed"}"#,
+        ),
+        (Rule::A2, r#"401 {"message":"A2: the token is unknown"}"#),
+        (Rule::A3, r#"401 {"message":"A3: the token has expired"}"#),
+        (Rule::A4, r#"404 {"message":"A4: no such repository"}"#),
+        (
+            Rule::A5,
+            r#"403 {"message":"A5: the token does not cover this"}"#,
+        ),
+        (Rule::R1, r#"404 {"message":"R1: no such repository"}"#),
+        (
+            Rule::J1,
+            r#"422 {"message":"J1: the body has the wrong shape"}"#,
+        ),
+        (Rule::J2, r#"422 {"message":"J2: a field is out of range"}"#),
+        (
+            Rule::L5,
+            r#"507 {"message":"L5: the lock ids are used up"}"#,
+        ),
+        (Rule::S1, r#"500 {"message":"S1: the store refused"}"#),
+    ] {
+        let told = told_as(rt.alloc(), &Answer::Denied(rule))?;
+        assert_eq!(rt; told.as_str(), want);
+    }
+    Ok(())
+}
+
+#[test]
+fn rows_are_told_by_their_number(rt: HostRuntime) -> Result<(), Fail> {
+    for (row, right, status, want) in [
+        (
+            0,
+            Right::Lock,
+            403,
+            r#"403 {"message":"P0: no policy row allows lock"}"#,
         ),
         (
-            Answer::Denied(Rule::H4),
-            400,
-            r#"{"message":"H4: a field or body is not allowed here"}"#,
-        ),
-        (
-            Answer::Denied(Rule::H5),
-            413,
-            r#"{"message":"H5: the body is too large"}"#,
-        ),
-        (
-            Answer::Denied(Rule::H6),
+            1,
+            Right::Pull,
             404,
-            r#"{"message":"H6: no such route"}"#,
+            r#"404 {"message":"P1: policy row 1 denies pull"}"#,
         ),
         (
-            Answer::Denied(Rule::H7),
-            405,
-            r#"{"message":"H7: the method is not served here"}"#,
-        ),
-        (
-            Answer::Denied(Rule::H8),
-            406,
-            r#"{"message":"H8: the reply type is not accepted"}"#,
-        ),
-        (
-            Answer::Denied(Rule::A1),
-            401,
-            r#"{"message":"A1: a bearer token is needed"}"#,
-        ),
-        (
-            Answer::Denied(Rule::A2),
-            401,
-            r#"{"message":"A2: the token is unknown"}"#,
-        ),
-        (
-            Answer::Denied(Rule::A3),
-            401,
-            r#"{"message":"A3: the token has expired"}"#,
-        ),
-        (
-            Answer::Denied(Rule::A4),
-            404,
-            r#"{"message":"A4: no such repository"}"#,
-        ),
-        (
-            Answer::Denied(Rule::A5),
+            12,
+            Right::Push,
             403,
-            r#"{"message":"A5: the token does not cover this"}"#,
+            r#"403 {"message":"P12: policy row 12 denies push"}"#,
         ),
         (
-            Answer::Denied(Rule::R1),
-            404,
-            r#"{"message":"R1: no such repository"}"#,
-        ),
-        (
-            Answer::Denied(Rule::J1),
-            422,
-            r#"{"message":"J1: the body has the wrong shape"}"#,
-        ),
-        (
-            Answer::Denied(Rule::J2),
-            422,
-            r#"{"message":"J2: a field is out of range"}"#,
-        ),
-        (
-            Answer::Denied(Rule::L5),
-            507,
-            r#"{"message":"L5: the lock ids are used up"}"#,
-        ),
-        (
-            Answer::Denied(Rule::S1),
-            500,
-            r#"{"message":"S1: the store refused"}"#,
-        ),
-        (
-            Answer::DeniedByRow {
-                row: 0,
-                right: Right::Lock,
-                status: 403,
-            },
+            2,
+            Right::List,
             403,
-            r#"{"message":"P0: no policy row allows lock"}"#,
+            r#"403 {"message":"P2: policy row 2 denies list"}"#,
         ),
         (
-            Answer::DeniedByRow {
-                row: 1,
-                right: Right::Pull,
-                status: 404,
-            },
-            404,
-            r#"{"message":"P1: policy row 1 denies pull"}"#,
-        ),
-        (
-            Answer::DeniedByRow {
-                row: 12,
-                right: Right::Push,
-                status: 403,
-            },
+            u32::MAX,
+            Right::Force,
             403,
-            r#"{"message":"P12: policy row 12 denies push"}"#,
-        ),
-        (
-            Answer::DeniedByRow {
-                row: 2,
-                right: Right::List,
-                status: 403,
-            },
-            403,
-            r#"{"message":"P2: policy row 2 denies list"}"#,
-        ),
-        (
-            Answer::DeniedByRow {
-                row: u32::MAX,
-                right: Right::Force,
-                status: 403,
-            },
-            403,
-            r#"{"message":"P4294967295: policy row 4294967295 denies force"}"#,
+            r#"403 {"message":"P4294967295: policy row 4294967295 denies force"}"#,
         ),
     ] {
-        assert_eq!(rt; answer.status(), status, "{body}");
-        assert_eq!(rt; answer.body(rt.alloc())?.as_str(), body);
+        let told = told_as(rt.alloc(), &Answer::DeniedByRow { row, right, status })?;
+        assert_eq!(rt; told.as_str(), want);
     }
     Ok(())
 }
