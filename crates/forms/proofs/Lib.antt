@@ -1,2 +1,2 @@
 pub mod Bodies
-pub mod Tests
+pub mod Bools

@@ -1,11 +1,12 @@
 -- Where no two rows fit one path, the row that is found part by part is the first that fits.
-use Rattle.std.proofs.Common.{◌≡◌, ◌≢◌, ℕ, ◌<◌, List, [], ◌∷◌, length, Option, Some, None, Bool, true, false, cond, not, ◌&&◌, ◌||◌, refl, sym, ap, subst, ◌∙◌, arith, nat_lt, bytes_eq}
+use Rattle.std.proofs.Common.{◌≡◌, ℕ, List, [], ◌∷◌, Option, Some, None, Bool, true, false, cond, not, ◌&&◌, ◌||◌, refl, sym, ap, ◌∙◌, bytes_eq}
 use Rattle.std.specs.List.{list_all}
-use Rattle.std.proofs.lemmas.Bool.{and_parts, and_from, and_right, true≢false}
+use Rattle.std.proofs.lemmas.Bool.{and_parts, and_from, true≢false}
 use Rattle.std.proofs.lemmas.Slice.Eq.{bytes_eq-Decides}
 use Rattle.matchit.specs.Seek.{or_else}
 use Rattle.model.specs.Heads.{Segment, literal, parameter, fits}
-use Rattle.routes.specs.Patterns.{ended, after_literal, after_parameter, row_of, are_apart, is_apart_from, are_all_apart, fitting, is_some_text}
+use Rattle.routes.specs.Patterns.{fitting, is_some_text}
+use Rattle.routes.proofs.Rows.{ended, after_literal, after_parameter, row_by_parts, are_apart, is_apart_from, are_all_apart}
 
 -- no path fits both
 abbrev pub Apart : List Segment → List Segment → Type 0
@@ -40,7 +41,7 @@ module _ {K : Type 0} where
   ApartFrom ps [] = Unit {0}
   ApartFrom ps ((qs, k) ∷ rows) = Apart ps qs × ApartFrom ps rows
 
-  abbrev AllApart : List (List Segment × K) → Type 0
+  abbrev pub AllApart : List (List Segment × K) → Type 0
   AllApart [] = Unit {0}
   AllApart ((ps, k) ∷ rows) = ApartFrom ps rows × AllApart rows
 
@@ -65,9 +66,9 @@ module _ {K : Type 0} where
   none-literal s ss (([], k) ∷ rows) none = none-literal s ss rows none.1
   none-literal s ss ((literal t ∷ ps, k) ∷ rows) none = at (bytes_eq s t) none.0 (none-literal s ss rows none.1)
     where
-    at : (v : Bool) → (v && fits ps ss) ≡ false → fitting (after_literal s rows) ss ≡ None → fitting (cond v ((ps, k) ∷ after_literal s rows) (after_literal s rows)) ss ≡ None
-    at true e ih = ap (λ v. cond v (Some k) (fitting (after_literal s rows) ss)) e ∙ ih
-    at false e ih = ih
+      at : (v : Bool) → (v && fits ps ss) ≡ false → fitting (after_literal s rows) ss ≡ None → fitting (cond v ((ps, k) ∷ after_literal s rows) (after_literal s rows)) ss ≡ None
+      at true e ih = ap (λ v. cond v (Some k) (fitting (after_literal s rows) ss)) e ∙ ih
+      at false e ih = ih
   none-literal s ss ((parameter ∷ ps, k) ∷ rows) none = none-literal s ss rows none.1
 
   fitting-part : (s : List ℕ) (ss : List (List ℕ)) (rows : List (List Segment × K)) → AllApart rows
@@ -76,26 +77,26 @@ module _ {K : Type 0} where
   fitting-part s ss (([], k) ∷ rows) apart = fitting-part s ss rows apart.1
   fitting-part s ss ((literal t ∷ ps, k) ∷ rows) apart = at (bytes_eq s t) (fits ps ss) (fitting-part s ss rows apart.1) refl
     where
-    at : (v w : Bool) → or_else (fitting (after_literal s rows) ss) (fitting (after_parameter rows) ss) ≡ fitting rows (s ∷ ss)
-        → fits ps ss ≡ w → or_else (fitting (cond v ((ps, k) ∷ after_literal s rows) (after_literal s rows)) ss) (fitting (after_parameter rows) ss) ≡ cond (v && fits ps ss) (Some k) (fitting rows (s ∷ ss))
-    at true true ih e = rw e refl
-    at true false ih e = rw e ih
-    at false w ih e = ih
+      at : (v w : Bool) → or_else (fitting (after_literal s rows) ss) (fitting (after_parameter rows) ss) ≡ fitting rows (s ∷ ss)
+          → fits ps ss ≡ w → or_else (fitting (cond v ((ps, k) ∷ after_literal s rows) (after_literal s rows)) ss) (fitting (after_parameter rows) ss) ≡ cond (v && fits ps ss) (Some k) (fitting rows (s ∷ ss))
+      at true true ih e = rw e refl
+      at true false ih e = rw e ih
+      at false w ih e = ih
   fitting-part s ss ((parameter ∷ ps, k) ∷ rows) apart = at (fits ps ss) refl (fitting-part s ss rows apart.1)
     where
-    at : (w : Bool) → fits ps ss ≡ w → or_else (fitting (after_literal s rows) ss) (fitting (after_parameter rows) ss) ≡ fitting rows (s ∷ ss)
-        → or_else (fitting (after_literal s rows) ss) (cond w (Some k) (fitting (after_parameter rows) ss)) ≡ cond w (Some k) (fitting rows (s ∷ ss))
-    at true e ih = ap (λ o. or_else o (Some k)) (none-literal s ss rows (none-fits (parameter ∷ ps) rows (s ∷ ss) apart.0 e))
-    at false e ih = ih
+      at : (w : Bool) → fits ps ss ≡ w → or_else (fitting (after_literal s rows) ss) (fitting (after_parameter rows) ss) ≡ fitting rows (s ∷ ss)
+          → or_else (fitting (after_literal s rows) ss) (cond w (Some k) (fitting (after_parameter rows) ss)) ≡ cond w (Some k) (fitting rows (s ∷ ss))
+      at true e ih = ap (λ o. or_else o (Some k)) (none-literal s ss rows (none-fits (parameter ∷ ps) rows (s ∷ ss) apart.0 e))
+      at false e ih = ih
 
   literal-from : (s t : List ℕ) (ps : List Segment) (rows : List (List Segment × K)) → bytes_eq s t ≡ true → ApartFrom (literal t ∷ ps) rows → ApartFrom ps (after_literal s rows)
   literal-from s t ps [] e apart = tt
   literal-from s t ps (([], k) ∷ rows) e apart = literal-from s t ps rows e apart.1
   literal-from s t ps ((literal u ∷ qs, k) ∷ rows) e apart = at (bytes_eq s u) refl (literal-from s t ps rows e apart.1)
     where
-    at : (v : Bool) → bytes_eq s u ≡ v → ApartFrom ps (after_literal s rows) → ApartFrom ps (cond v ((qs, k) ∷ after_literal s rows) (after_literal s rows))
-    at true f ih = (λ parts a b. apart.0 (s ∷ parts) (and_from _ _ e a) (and_from _ _ f b), ih)
-    at false f ih = ih
+      at : (v : Bool) → bytes_eq s u ≡ v → ApartFrom ps (after_literal s rows) → ApartFrom ps (cond v ((qs, k) ∷ after_literal s rows) (after_literal s rows))
+      at true f ih = (λ parts a b. apart.0 (s ∷ parts) (and_from _ _ e a) (and_from _ _ f b), ih)
+      at false f ih = ih
   literal-from s t ps ((parameter ∷ qs, k) ∷ rows) e apart = literal-from s t ps rows e apart.1
 
   parameter-from : (ps : List Segment) (rows : List (List Segment × K)) → ApartFrom (parameter ∷ ps) rows → ApartFrom ps (after_parameter rows)
@@ -109,9 +110,9 @@ module _ {K : Type 0} where
   literal-apart s (([], k) ∷ rows) apart = literal-apart s rows apart.1
   literal-apart s ((literal t ∷ ps, k) ∷ rows) apart = at (bytes_eq s t) refl (literal-apart s rows apart.1)
     where
-    at : (v : Bool) → bytes_eq s t ≡ v → AllApart (after_literal s rows) → AllApart (cond v ((ps, k) ∷ after_literal s rows) (after_literal s rows))
-    at true e ih = (literal-from s t ps rows e apart.0, ih)
-    at false e ih = ih
+      at : (v : Bool) → bytes_eq s t ≡ v → AllApart (after_literal s rows) → AllApart (cond v ((ps, k) ∷ after_literal s rows) (after_literal s rows))
+      at true e ih = (literal-from s t ps rows e apart.0, ih)
+      at false e ih = ih
   literal-apart s ((parameter ∷ ps, k) ∷ rows) apart = literal-apart s rows apart.1
 
   parameter-apart : (rows : List (List Segment × K)) → AllApart rows → AllApart (after_parameter rows)
@@ -131,14 +132,14 @@ module _ {K : Type 0} where
 
   -- the first row that fits, where each part has a byte
   pub row-fitting : (rows : List (List Segment × K)) (parts : List (List ℕ)) → AllApart rows
-      → row_of rows parts ≡ cond (list_all is_some_text parts) (fitting rows parts) None
+      → row_by_parts rows parts ≡ cond (list_all is_some_text parts) (fitting rows parts) None
   row-fitting rows [] apart = ended-fitting rows
   row-fitting rows ([] ∷ ss) apart = refl
   row-fitting rows ((b ∷ s) ∷ ss) apart =
-      ap (λ o. or_else o (row_of (after_parameter rows) ss)) (row-fitting (after_literal (b ∷ s) rows) ss (literal-apart (b ∷ s) rows apart))
+      ap (λ o. or_else o (row_by_parts (after_parameter rows) ss)) (row-fitting (after_literal (b ∷ s) rows) ss (literal-apart (b ∷ s) rows apart))
       ∙ ap (λ o. or_else (cond (list_all is_some_text ss) (fitting (after_literal (b ∷ s) rows) ss) None) o) (row-fitting (after_parameter rows) ss (parameter-apart rows apart))
       ∙ at (list_all is_some_text ss)
     where
-    at : (v : Bool) → or_else (cond v (fitting (after_literal (b ∷ s) rows) ss) None) (cond v (fitting (after_parameter rows) ss) None) ≡ cond v (fitting rows ((b ∷ s) ∷ ss)) None
-    at true = fitting-part (b ∷ s) ss rows apart
-    at false = refl
+      at : (v : Bool) → or_else (cond v (fitting (after_literal (b ∷ s) rows) ss) None) (cond v (fitting (after_parameter rows) ss) None) ≡ cond v (fitting rows ((b ∷ s) ∷ ss)) None
+      at true = fitting-part (b ∷ s) ss rows apart
+      at false = refl

@@ -1,13 +1,13 @@
 -- The router's walk over bytes, part by part.
-use Rattle.std.proofs.Common.{◌≡◌, ◌≢◌, ℕ, zero, suc, ◌+◌, ◌-◌, ◌<◌, ◌≤◌, List, [], ◌∷◌, ◌++◌, length, drop, take, Option, Some, None, Bool, true, false, cond, not, ◌&&◌, refl, sym, ap, subst, ◌∙◌, arith, nat_eq, nat_lt, ◌==◌, bytes_eq, length-append, append-nil}
-use Rattle.std.specs.List.{ends_with, list_all}
+use Rattle.std.proofs.Common.{◌≡◌, ◌≢◌, ℕ, zero, suc, ◌+◌, ◌-◌, ◌<◌, ◌≤◌, List, [], ◌∷◌, ◌++◌, length, drop, Option, Some, None, Bool, true, false, cond, not, ◌&&◌, refl, sym, ap, subst, ◌∙◌, arith, nat_lt, ◌==◌, bytes_eq, length-append, append-nil}
 use Rattle.std.proofs.lemmas.Bool.{ltb-true, and_parts, and_right, and_from, lt-ltb, ne_eqb, eqb-false, not-true, true≢false}
 use Rattle.std.proofs.lemmas.Bool.Decides.{nat_tests}
 use Rattle.std.proofs.Math.Seq.{drop-append_seam}
 use Rattle.matchit.specs.Rows.{RowsOf, param_token, catch_all_token}
-use Rattle.matchit.specs.Seek.{own, step, or_else, seek, first, param_step, has_slash, segment, better, cuts, longest_from, longest_suffix, with_suffix, same_text}
+use Rattle.matchit.specs.Seek.{own, step, or_else, seek, first, param_step, has_slash, segment, cuts, longest_from, longest_suffix, with_suffix, same_text}
 use Rattle.model.specs.Heads.{Segment, literal, parameter}
-use Rattle.routes.specs.Patterns.{tokens, joined, is_clean_byte, is_clean, is_good, patterns, are_good, ended, after_literal, after_parameter, row_of}
+use Rattle.routes.specs.Patterns.{tokens, patterns}
+use Rattle.routes.proofs.Rows.{joined, is_clean_byte, is_clean, is_good, are_good, ended, after_literal, after_parameter, row_by_parts}
 
 -- a byte that is no slash
 abbrev pub IsPlain : ℕ → Type 0
@@ -407,20 +407,24 @@ module _ {K : Type 0} where
   unfolding goes param_step
   goes-slash rows b s r plain = at (has_going rows) refl
     where
-    found : longest_suffix (segment (b ∷ s ++ 47 ∷ r)) (patterns rows) ≡ cond (has_going rows) (47 ∷ []) []
-    found = ap (λ g. longest_suffix g (patterns rows)) (segment-slash (b ∷ s) r plain) ∙ longest-found (b ∷ s ++ 47 ∷ []) rows (cuts-slash b s)
-    seg : segment (b ∷ s ++ 47 ∷ r) ≡ b ∷ s ++ 47 ∷ []
-    seg = segment-slash (b ∷ s) r plain
-    size : (length (b ∷ s ++ 47 ∷ []) - 1) - 1 ≡ length s
-    size = omega (arith, length-append (b ∷ s) (47 ∷ []))
-    more : has_slash (b ∷ s ++ 47 ∷ r) ≡ true
-    more = some-slash (b ∷ s) r plain
-    at : (v : Bool) → has_going rows ≡ v → goes rows (b ∷ s ++ 47 ∷ r) ≡ seek 0 (patterns rows) (47 ∷ r)
-    at true e =
-        rw (found, e, seg) (ap (λ k. seek k (with_suffix (47 ∷ []) (patterns rows)) (s ++ 47 ∷ r)) size ∙ seek-drop (length s) (with_suffix (47 ∷ []) (patterns rows)) (s ++ 47 ∷ r)
-        ∙ ap (λ p. seek 0 (with_suffix (47 ∷ []) (patterns rows)) p) (drop-append_seam s (47 ∷ r)) ∙ ap (λ x. seek 0 x (47 ∷ r)) (with-going rows) ∙ seek-going rows r)
-    at false e =
-        rw (found, e, more) (seek-empty 0 (s ++ 47 ∷ r) ∙ sym (seek-step rows r ∙ ap (λ x. seek 0 x r) (step-none rows e) ∙ seek-empty 0 r))
+      found : longest_suffix (segment (b ∷ s ++ 47 ∷ r)) (patterns rows) ≡ cond (has_going rows) (47 ∷ []) []
+      found = ap (λ g. longest_suffix g (patterns rows)) (segment-slash (b ∷ s) r plain) ∙ longest-found (b ∷ s ++ 47 ∷ []) rows (cuts-slash b s)
+
+      seg : segment (b ∷ s ++ 47 ∷ r) ≡ b ∷ s ++ 47 ∷ []
+      seg = segment-slash (b ∷ s) r plain
+
+      size : (length (b ∷ s ++ 47 ∷ []) - 1) - 1 ≡ length s
+      size = omega (arith, length-append (b ∷ s) (47 ∷ []))
+
+      more : has_slash (b ∷ s ++ 47 ∷ r) ≡ true
+      more = some-slash (b ∷ s) r plain
+
+      at : (v : Bool) → has_going rows ≡ v → goes rows (b ∷ s ++ 47 ∷ r) ≡ seek 0 (patterns rows) (47 ∷ r)
+      at true e =
+          rw (found, e, seg) (ap (λ k. seek k (with_suffix (47 ∷ []) (patterns rows)) (s ++ 47 ∷ r)) size ∙ seek-drop (length s) (with_suffix (47 ∷ []) (patterns rows)) (s ++ 47 ∷ r)
+          ∙ ap (λ p. seek 0 (with_suffix (47 ∷ []) (patterns rows)) p) (drop-append_seam s (47 ∷ r)) ∙ ap (λ x. seek 0 x (47 ∷ r)) (with-going rows) ∙ seek-going rows r)
+      at false e =
+          rw (found, e, more) (seek-empty 0 (s ++ 47 ∷ r) ∙ sym (seek-step rows r ∙ ap (λ x. seek 0 x r) (step-none rows e) ∙ seek-empty 0 r))
 
   goes-next : (rows : List (List Segment × K)) (b : ℕ) (s rest : List ℕ) → ArePlain (b ∷ s) → IsNext rest → goes rows (b ∷ s ++ rest) ≡ seek 0 (patterns rows) rest
   goes-next rows b s [] plain next = goes-end rows b s plain
@@ -448,8 +452,8 @@ module _ {K : Type 0} where
   seek-empty-part rows (x ∷ r) good next =
       subst (λ (x : ℕ). seek 0 (starts rows) (x ∷ r) ≡ None) (sym next) (at_slash (longest-none (47 ∷ []) (after_parameter rows) refl))
     where
-    at_slash : longest_suffix (47 ∷ []) (patterns (after_parameter rows)) ≡ [] → seek 0 (starts rows) (47 ∷ r) ≡ None
-    at_slash none = rw (starts-slash rows good, starts-param rows good, starts-catch rows good, none, seek-empty 0 r) refl
+      at_slash : longest_suffix (47 ∷ []) (patterns (after_parameter rows)) ≡ [] → seek 0 (starts rows) (47 ∷ r) ≡ None
+      at_slash none = rw (starts-slash rows good, starts-param rows good, starts-catch rows good, none, seek-empty 0 r) refl
 
   after-literal-good : (s : List ℕ) (rows : List (List Segment × K)) → AreGoodRows rows → AreGoodRows (after_literal s rows)
   after-literal-good s [] good = tt
@@ -478,14 +482,14 @@ next-joined (s ∷ ss) = refl
 module _ {K : Type 0} where
   -- what the router finds for a path is what its rows give part by part
   pub walk : (rows : List (List Segment × K)) (parts : List (List ℕ)) → AreGoodRows rows → ArePlainParts parts
-      → first (patterns rows) (joined parts) ≡ row_of rows parts
+      → first (patterns rows) (joined parts) ≡ row_by_parts rows parts
   unfolding seek
   walk rows [] good plain = own-patterns rows
   walk rows ([] ∷ ss) good plain = seek-slash rows (joined ss) ∙ seek-empty-part rows (joined ss) good (next-joined ss)
   walk rows ((b ∷ s) ∷ ss) good plain =
       seek-slash rows (b ∷ s ++ joined ss) ∙ seek-part rows b s (joined ss) good plain.0 (next-joined ss)
       ∙ ap (λ o. or_else o (seek 0 (patterns (after_parameter rows)) (joined ss))) (walk (after_literal (b ∷ s) rows) ss (after-literal-good (b ∷ s) rows good) plain.1)
-      ∙ ap (λ o. or_else (row_of (after_literal (b ∷ s) rows) ss) o) (walk (after_parameter rows) ss (after-parameter-good rows good) plain.1)
+      ∙ ap (λ o. or_else (row_by_parts (after_literal (b ∷ s) rows) ss) o) (walk (after_parameter rows) ss (after-parameter-good rows good) plain.1)
 
   -- a path that does not begin with a slash has no route
   pub walk-none : (rows : List (List Segment × K)) (b : ℕ) (p : List ℕ) → b ≢ 47 → first (patterns rows) (b ∷ p) ≡ None
@@ -493,9 +497,9 @@ module _ {K : Type 0} where
       seek-byte (patterns rows) b p (wild-patterns param_token rows (omega arith)) (wild-patterns catch_all_token rows (omega arith))
       ∙ ap (λ r. seek 0 r p) (no-step rows) ∙ seek-empty 0 p
     where
-    no-step : (rows : List (List Segment × K)) → step b (patterns rows) ≡ []
-    no-step [] = refl
-    no-step ((ps, k) ∷ rows) = tokens_step b ps k (patterns rows) n ∙ no-step rows
+      no-step : (rows : List (List Segment × K)) → step b (patterns rows) ≡ []
+      no-step [] = refl
+      no-step ((ps, k) ∷ rows) = tokens_step b ps k (patterns rows) n ∙ no-step rows
 
 -- ---- which tables are good, by a test
 

@@ -1,30 +1,28 @@
--- The table of routes, with the router's values.
-use Rattle.std.specs.Prelude.{ℕ, Bool, List, [], ◌∷◌, map, cond, Option, Some, None, codes}
-use Rattle.std.specs.List.{list_all}
+-- The table of routes, with the resources that the router tells.
+use Rattle.std.specs.Prelude.{ℕ, Bool, List, [], ◌∷◌, map, Option, codes}
 use Rattle.names.specs.Texts.{parts}
 use Rattle.model.specs.Heads.{Segment, literal, parameter, RouteRow, under_lfs}
 use Rattle.model.specs.declared.Form.TheVariants as form
-use Rattle.routes.specs.declared.Place.{Place}
-use Rattle.routes.specs.declared.Place.TheVariants.{Locks}
-use Rattle.routes.specs.Patterns.{fitting, is_some_text}
+use Rattle.routes.specs.declared.table.Resource.{Resource}
+use Rattle.routes.specs.declared.table.Resource.TheVariants.{Locks}
+use Rattle.routes.specs.Patterns.{row_at}
 
-abbrev pub row_of_place : Place → RouteRow
-row_of_place Locks = record { rest = literal (codes "locks") ∷ []; requests = (codes "POST", form.Lock) ∷ []; is_json = Bool.true }
+-- the row of the definitions' table that a resource is
+abbrev pub row_of : Resource → RouteRow
+row_of Locks = record { rest = literal (codes "locks") ∷ []; requests = (codes "POST", form.Lock) ∷ []; is_json = Bool.true }
 
-abbrev pub places : List Place
-places = Locks ∷ []
+-- all resources, in the order of the definitions' table
+abbrev pub resources : List Resource
+resources = Locks ∷ []
 
--- a row's pattern from the path's beginning, with its place
-abbrev pub whole_row : Place → List Segment × Place
-whole_row place = (parameter ∷ parameter ∷ under_lfs (row_of_place place).rest, place)
+-- the pattern of a resource from the path's beginning
+abbrev pub whole_row : Resource → List Segment × Resource
+whole_row resource = (parameter ∷ parameter ∷ under_lfs (row_of resource).rest, resource)
 
-abbrev pub table : List (List Segment × Place)
-table = map whole_row places
+-- the patterns of all
+abbrev pub table : List (List Segment × Resource)
+table = map whole_row resources
 
-abbrev pub place_of_parts : List (List ℕ) → Option Place
-place_of_parts ([] ∷ parts) = cond (list_all is_some_text parts) (fitting table parts) None
-place_of_parts _ = None
-
--- the place of a path
-abbrev pub place_at : List ℕ → Option Place
-place_at path = place_of_parts (parts path)
+-- the resource that the path fits
+abbrev pub resource_at : List ℕ → Option Resource
+resource_at path = row_at table (parts path)

@@ -1,7 +1,7 @@
 ghost use Rattle.std.specs.Prelude.{◌≤◌, IfOk, vec_len};
 
 use crate::{Cut, FIELD_ROOM, Head, first_head, front_of};
-use httparse::spans::{EMPTY_HEADER_SPAN, HeaderSpan};
+use httparse::spans::{EMPTY_HEADER_SPAN, HeaderSpan, RequestSpans};
 use names::Rule;
 use std::alloc::{AllocError, Global};
 use std::test::Fail;

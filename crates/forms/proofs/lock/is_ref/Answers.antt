@@ -1,5 +1,5 @@
 use Rattle.std.proofs.Common.{◌∙◌}
-use Rattle.forms.proofs.Tests.{same_test}
+use Rattle.forms.proofs.Bools.{same_test}
 use Rattle.forms.proofs.lock.is_ref.Goals as goal
 
 pub returns : goal.returns

@@ -1,4 +1,4 @@
--- Tests that hold together.
+-- When two truth values are one.
 use Rattle.std.proofs.Common.{◌≡◌, Bool, true, false, refl, sym, IsTrue, ◌↔◌}
 
 pub same_test : (a b : Bool) → IsTrue a ↔ IsTrue b → a ≡ b
