@@ -1,8 +1,7 @@
 -- What is asked of a list's items under a function is asked of the items.
-use Rattle.std.proofs.Common.{◌≡◌, ◌∙◌, sym, length, Bool, true, false, ◌||◌, List, [], ◌∷◌, map, Option, Some, None, option_map, is_some, Bor, cond, refl, ap, inl, inr, ℕ, ◌&&◌, String, Global, string_bytes}
+use Rattle.std.proofs.Common.{◌≡◌, ◌∙◌, sym, length, Bool, true, false, ◌||◌, List, [], ◌∷◌, map, Option, Some, None, option_map, is_some, Bor, cond, refl, ap, ℕ, ◌&&◌, String, Global, string_bytes}
 use Rattle.std.proofs.lemmas.List.{length-map}
 use Rattle.std.proofs.lemmas.List.Folds.{list_all-map}
-use Rattle.std.proofs.lemmas.Bool.{cases_Bool}
 use Rattle.std.specs.List.{list_any, list_all, find}
 use Rattle.std.specs.Option.{option_copied}
 use Rattle.policy.specs.Ranges.{texts, is_count, are_entries}

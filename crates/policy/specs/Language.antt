@@ -1,7 +1,7 @@
 -- The language of policy files: the keys of its tables, and what stands at each.
-use Rattle.std.specs.Prelude.{ℕ, ◌+◌, Bool, true, false, ◌&&◌, nat_le, ℤ, pos, negsuc, List, [], ◌∷◌, ◌++◌, length, map, codes, bytes_eq, Option, Some, None, option_map, option_and_then, is_some, unwrap_or, if◌then◌else◌}
+use Rattle.std.specs.Prelude.{ℕ, Bool, false, nat_le, ℤ, pos, negsuc, List, [], ◌∷◌, length, codes, bytes_eq, Option, Some, None, option_map, option_and_then, is_some, if◌then◌else◌}
 use Rattle.std.specs.List.{list_all, list_any}
-use Rattle.toml.specs.Data.{Data, Items, no_items, item, Members, no_members, member, get_member, as_str, as_integer, as_array, as_table}
+use Rattle.toml.specs.Data.{Data, Items, no_items, item, Members, no_members, member, get_member, as_str, as_integer, as_array}
 use Rattle.names.specs.Texts.{between, is_repo, is_ref}
 use Rattle.model.specs.declared.Right.{Right}
 use Rattle.model.specs.declared.Right.TheVariants as right

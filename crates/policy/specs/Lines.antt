@@ -3,6 +3,8 @@ use Rattle.std.specs.Prelude.{ℕ, ◌++◌, List, [], codes, decimal}
 use Rattle.policy.specs.declared.faults.Fault.{Fault}
 use Rattle.policy.specs.declared.faults.FaultCode.{FaultCode}
 use Rattle.policy.specs.declared.faults.FaultCode.TheVariants.{Y1, Y2, Y3, Y4, Y5}
+use Rattle.policy.specs.declared.faults.PolicyFault.{PolicyFault}
+use Rattle.policy.specs.declared.faults.PolicyFault.TheVariants.{Refused, Memory}
 use Rattle.policy.specs.declared.faults.Place.{Place}
 use Rattle.policy.specs.declared.faults.Place.TheVariants.{File, Top, Repo, Row}
 
@@ -23,3 +25,7 @@ place_text (Row n) = codes " at row " ++ decimal n
 -- the code, and where it stands
 abbrev pub fault_text : Fault → List ℕ
 fault_text f = code_text f.code ++ place_text f.place
+
+abbrev pub policy_fault_text : PolicyFault → List ℕ
+policy_fault_text (Refused fault) = fault_text fault
+policy_fault_text Memory = codes "no memory"

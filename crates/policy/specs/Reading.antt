@@ -5,7 +5,6 @@ use Rattle.toml.specs.Data.{Data, Members, no_members, as_table}
 use Rattle.toml.specs.Parse.{parse_document}
 use Rattle.model.specs.Policy as model
 use Rattle.model.specs.declared.Right.{Right}
-use Rattle.model.specs.declared.Effect.{Effect}
 use Rattle.model.specs.declared.Effect.TheVariants as effect
 use Rattle.policy.specs.declared.keys.Key.{Key}
 use Rattle.policy.specs.declared.keys.Key.TheVariants as key
@@ -17,7 +16,7 @@ use Rattle.policy.specs.declared.faults.Place.TheVariants as place
 use Rattle.policy.specs.declared.faults.PolicyFault.{PolicyFault}
 use Rattle.policy.specs.declared.faults.PolicyFault.TheVariants.{Refused, Memory}
 use Rattle.policy.specs.Ranges.{longest_file, is_among}
-use Rattle.policy.specs.Language.{Kind, text, whole, texts, tables, kind_of, top_keys, repo_keys, row_keys, text_at, whole_at, texts_at, entries_at, has_kind, is_in_range, has_only, effect_named, right_named}
+use Rattle.policy.specs.Language.{Kind, tables, kind_of, top_keys, repo_keys, row_keys, text_at, whole_at, texts_at, entries_at, has_kind, is_in_range, has_only, effect_named, right_named}
 
 -- ---- the policy
 

@@ -96,6 +96,10 @@ impl fmt::Display for Fault {
 
 /// Writes the fault, or `no memory`.
 impl fmt::Display for PolicyFault {
+    ghost use Rattle.policy.specs.Lines.{policy_fault_text};
+
+    ghost output = { λ fault. Some (policy_fault_text fault) };
+
     fn fmt<W: fmt::Write>(&self, f: &mut fmt::Formatter<W>) -> fmt::Result {
         match self {
             PolicyFault::Refused(fault) => write!(f, "{fault}"),

@@ -29,12 +29,8 @@ rights = ["pull", "push", "list", "lock"]
 "#;
 
 /// The three parts, one after the other.
-fn join(alloc: Global, parts: [&str; 3]) -> Result<String, Fail> {
-    let mut text = String::new(alloc);
-    for part in parts {
-        text.push_str(part)?;
-    }
-    Ok(text)
+fn join(alloc: Global, first: &str, second: &str, third: &str) -> Result<String, Fail> {
+    Ok(format!(in alloc; "{first}{second}{third}")?)
 }
 
 /// A row that denies all to all but for one list, which is as given.
@@ -70,15 +66,18 @@ fn expect(rt: &impl Abort, alloc: Global, source: &str, expected: &str) -> Resul
 fn expect_parts(
     rt: &impl Abort,
     alloc: Global,
-    parts: [&str; 3],
+    top: &str,
+    repos: &str,
+    rows: &str,
     expected: &str,
 ) -> Result<(), Fail> {
-    expect(rt, alloc, join(alloc, parts)?.as_str(), expected)
+    let source = join(alloc, top, repos, rows)?;
+    expect(rt, alloc, source.as_str(), expected)
 }
 
 #[test]
 fn reads_a_plain_policy(rt: HostRuntime) -> Result<(), Fail> {
-    let source = join(rt.alloc(), [TOP, REPO, ROW])?;
+    let source = join(rt.alloc(), TOP, REPO, ROW)?;
     let policy = Policy::read(rt.alloc(), source.as_str())?;
     assert_eq!(rt; policy.base(), "https://lfs.example");
     assert_eq!(rt; policy.token_seconds(), 3600);
@@ -92,7 +91,7 @@ fn reads_a_plain_policy(rt: HostRuntime) -> Result<(), Fail> {
 
 #[test]
 fn reads_bytes(rt: HostRuntime) -> Result<(), Fail> {
-    let source = join(rt.alloc(), [TOP, REPO, ROW])?;
+    let source = join(rt.alloc(), TOP, REPO, ROW)?;
     let policy = Policy::read_bytes(rt.alloc(), source.as_bytes())?;
     assert_eq!(rt; policy.token_seconds(), 3600);
     Ok(())

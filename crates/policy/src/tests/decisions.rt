@@ -60,7 +60,7 @@ rights = ["pull", "push", "list", "lock", "force"]
 
 #[test]
 fn the_first_row_that_matches(rt: HostRuntime) -> Result<(), Fail> {
-    let source = join(rt.alloc(), [TOP, REPO, FROZEN_FOLDER])?;
+    let source = join(rt.alloc(), TOP, REPO, FROZEN_FOLDER)?;
     let policy = Policy::read(rt.alloc(), source.as_str())?;
     for (asked, expected) in [
         (
@@ -98,7 +98,7 @@ rights = ["push"]
 
 #[test]
 fn a_question_without_a_path(rt: HostRuntime) -> Result<(), Fail> {
-    let source = join(rt.alloc(), [TOP, REPO, PUSH_BELOW])?;
+    let source = join(rt.alloc(), TOP, REPO, PUSH_BELOW)?;
     let policy = Policy::read(rt.alloc(), source.as_str())?;
     for (asked, expected) in [
         (("ann", FILM, Right::Push, MAIN, None), Verdict::Deny(0)),
@@ -129,7 +129,7 @@ rights = ["pull"]
 
 #[test]
 fn a_question_without_a_ref(rt: HostRuntime) -> Result<(), Fail> {
-    let source = join(rt.alloc(), [TOP, REPO, PULL_REFS])?;
+    let source = join(rt.alloc(), TOP, REPO, PULL_REFS)?;
     let policy = Policy::read(rt.alloc(), source.as_str())?;
     for (asked, expected) in [
         (("ann", FILM, Right::Pull, None, None), Verdict::Deny(0)),
@@ -150,7 +150,7 @@ fn a_question_without_a_ref(rt: HostRuntime) -> Result<(), Fail> {
 
 #[test]
 fn no_row(rt: HostRuntime) -> Result<(), Fail> {
-    let source = join(rt.alloc(), [TOP, REPO, ""])?;
+    let source = join(rt.alloc(), TOP, REPO, "")?;
     let policy = Policy::read(rt.alloc(), source.as_str())?;
     for (asked, expected) in [(("ann", FILM, Right::Pull, None, None), Verdict::Deny(0))] {
         assert_eq!(rt; ask(&policy, asked)?, expected);

@@ -68,7 +68,7 @@ fn at_the_top(rt: HostRuntime) -> Result<(), Fail> {
         ),
     ];
     for (top, expected) in tops {
-        expect_parts(&rt, rt.alloc(), [top, REPO, ROW], expected)?;
+        expect_parts(&rt, rt.alloc(), top, REPO, ROW, expected)?;
     }
     Ok(())
 }
@@ -85,7 +85,7 @@ fn where_no_array_or_no_table_stands(rt: HostRuntime) -> Result<(), Fail> {
         ("row = [[]]\n", "Y2 at row 1"),
     ];
     for (rest, expected) in rests {
-        expect_parts(&rt, rt.alloc(), [TOP, rest, ""], expected)?;
+        expect_parts(&rt, rt.alloc(), TOP, rest, "", expected)?;
     }
     Ok(())
 }
@@ -138,8 +138,8 @@ fn of_a_repository(rt: HostRuntime) -> Result<(), Fail> {
         ),
     ];
     for (repo, expected) in repos {
-        let second = join(rt.alloc(), [REPO, "[[repo]]\n", repo])?;
-        expect_parts(&rt, rt.alloc(), [TOP, second.as_str(), ROW], expected)?;
+        let second = join(rt.alloc(), REPO, "[[repo]]\n", repo)?;
+        expect_parts(&rt, rt.alloc(), TOP, second.as_str(), ROW, expected)?;
     }
     Ok(())
 }
@@ -148,8 +148,8 @@ fn of_a_repository(rt: HostRuntime) -> Result<(), Fail> {
 #[test]
 fn of_a_repeated_name(rt: HostRuntime) -> Result<(), Fail> {
     let other = "[[repo]]\nname = \"a/b\"\ndefault_ref = \"refs/a\"\nquota = 1\n";
-    let repos = join(rt.alloc(), [REPO, other, REPO])?;
-    expect_parts(&rt, rt.alloc(), [TOP, repos.as_str(), ROW], "Y4 at repo 3")
+    let repos = join(rt.alloc(), REPO, other, REPO)?;
+    expect_parts(&rt, rt.alloc(), TOP, repos.as_str(), ROW, "Y4 at repo 3")
 }
 
 #[test]
@@ -194,8 +194,8 @@ fn of_the_keys_of_a_row(rt: HostRuntime) -> Result<(), Fail> {
         ),
     ];
     for (row, expected) in rows {
-        let second = join(rt.alloc(), [ROW, "[[row]]\n", row])?;
-        expect_parts(&rt, rt.alloc(), [TOP, REPO, second.as_str()], expected)?;
+        let second = join(rt.alloc(), ROW, "[[row]]\n", row)?;
+        expect_parts(&rt, rt.alloc(), TOP, REPO, second.as_str(), expected)?;
     }
     Ok(())
 }
@@ -242,7 +242,7 @@ fn of_the_lists_of_a_row(rt: HostRuntime) -> Result<(), Fail> {
     ];
     for (key, list, expected) in lists {
         let row = row_with(rt.alloc(), key, list)?;
-        expect_parts(&rt, rt.alloc(), [TOP, REPO, row.as_str()], expected)?;
+        expect_parts(&rt, rt.alloc(), TOP, REPO, row.as_str(), expected)?;
     }
     Ok(())
 }
@@ -253,18 +253,15 @@ fn the_first_of_several(rt: HostRuntime) -> Result<(), Fail> {
     let no_quota = "[[repo]]\nname = \"a\"\ndefault_ref = \"refs/a\"\n";
     let no_users =
         "[[row]]\neffect = \"allow\"\nusers = []\nrepos = [\"*\"]\nrefs = [\"*\"]\npaths = [\"*\"]\nrights = [\"pull\"]\n";
-    let texts = [
-        ([TOP, no_quota, no_users], "Y2 at repo 1"),
-        ([TOP, no_users, no_quota], "Y2 at repo 1"),
-        ([TOP, no_users, "[[row]]\n"], "Y3 at row 1"),
-        (
-            ["base = \"x\"\ntoken_seconds = 0\n", no_quota, no_users],
-            "Y3 at top",
-        ),
-        (["base = \"x\"\n", no_quota, no_users], "Y2 at top"),
-    ];
-    for (parts, expected) in texts {
-        expect_parts(&rt, rt.alloc(), parts, expected)?;
+    let bad_values = "base = \"x\"\ntoken_seconds = 0\n";
+    for (top, repos, rows, expected) in [
+        (TOP, no_quota, no_users, "Y2 at repo 1"),
+        (TOP, no_users, no_quota, "Y2 at repo 1"),
+        (TOP, no_users, "[[row]]\n", "Y3 at row 1"),
+        (bad_values, no_quota, no_users, "Y3 at top"),
+        ("base = \"x\"\n", no_quota, no_users, "Y2 at top"),
+    ] {
+        expect_parts(&rt, rt.alloc(), top, repos, rows, expected)?;
     }
     Ok(())
 }

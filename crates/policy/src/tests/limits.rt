@@ -25,7 +25,7 @@ fn repos(alloc: Global, count: u32) -> Result<String, Fail> {
 
 #[test]
 fn length_of_the_file(rt: HostRuntime) -> Result<(), Fail> {
-    let plain = join(rt.alloc(), [TOP, REPO, ROW])?;
+    let plain = join(rt.alloc(), TOP, REPO, ROW)?;
     for (length, expected) in [(1_048_576, "none"), (1_048_577, "Y5")] {
         let mut source = plain.clone()?;
         source.push_str("#")?;
@@ -42,7 +42,7 @@ fn length_of_the_file(rt: HostRuntime) -> Result<(), Fail> {
 fn repositories(rt: HostRuntime) -> Result<(), Fail> {
     for (count, expected) in [(256, "none"), (257, "Y5 at top")] {
         let repos = repos(rt.alloc(), count)?;
-        expect_parts(&rt, rt.alloc(), [TOP, repos.as_str(), ROW], expected)?;
+        expect_parts(&rt, rt.alloc(), TOP, repos.as_str(), ROW, expected)?;
     }
     Ok(())
 }
@@ -52,15 +52,17 @@ fn repositories(rt: HostRuntime) -> Result<(), Fail> {
 fn rows(rt: HostRuntime) -> Result<(), Fail> {
     let no_users = row_with(rt.alloc(), Key::Users, "[]")?;
     let most = copies(rt.alloc(), ROW, 999)?;
-    expect_parts(&rt, rt.alloc(), [TOP, most.as_str(), ROW], "none")?;
+    expect_parts(&rt, rt.alloc(), TOP, most.as_str(), ROW, "none")?;
     expect_parts(
         &rt,
         rt.alloc(),
-        [TOP, most.as_str(), no_users.as_str()],
+        TOP,
+        most.as_str(),
+        no_users.as_str(),
         "Y3 at row 1000",
     )?;
-    let more = join(rt.alloc(), [no_users.as_str(), most.as_str(), ROW])?;
-    expect_parts(&rt, rt.alloc(), [TOP, REPO, more.as_str()], "Y5 at top")
+    let more = join(rt.alloc(), no_users.as_str(), most.as_str(), ROW)?;
+    expect_parts(&rt, rt.alloc(), TOP, REPO, more.as_str(), "Y5 at top")
 }
 
 #[test]
@@ -74,9 +76,9 @@ fn entries_of_a_list(rt: HostRuntime) -> Result<(), Fail> {
     ] {
         for (count, expected) in [(1, "none"), (64, "none"), (65, "Y3 at row 1")] {
             let entries = copies(rt.alloc(), entry, count)?;
-            let list = join(rt.alloc(), ["[", entries.as_str(), "]"])?;
+            let list = join(rt.alloc(), "[", entries.as_str(), "]")?;
             let row = row_with(rt.alloc(), key, list.as_str())?;
-            expect_parts(&rt, rt.alloc(), [TOP, REPO, row.as_str()], expected)?;
+            expect_parts(&rt, rt.alloc(), TOP, REPO, row.as_str(), expected)?;
         }
     }
     Ok(())
@@ -98,7 +100,7 @@ fn addresses(rt: HostRuntime) -> Result<(), Fail> {
             "base = \"{front}{}\"\ntoken_seconds = 1\n",
             rest.as_str()
         )?;
-        expect_parts(&rt, rt.alloc(), [top.as_str(), REPO, ROW], expected)?;
+        expect_parts(&rt, rt.alloc(), top.as_str(), REPO, ROW, expected)?;
     }
     Ok(())
 }

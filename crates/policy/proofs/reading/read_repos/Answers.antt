@@ -1,4 +1,4 @@
-use Rattle.std.proofs.Common.{◌≡◌, ◌∙◌, ap, sym, false, ◌<◌, length, arith, string_bytes}
+use Rattle.std.proofs.Common.{◌≡◌, ◌∙◌, sym, false, ◌<◌, length, arith, string_bytes}
 use Rattle.toml.specs.View.{view}
 use Rattle.policy.specs.Ranges.{is_among}
 use Rattle.policy.specs.Repos.{names_of}

@@ -1,6 +1,4 @@
-use Rattle.std.proofs.Common.{◌≡◌}
 use Rattle.toml.specs.View.{table_view}
-use Rattle.policy.specs.Reading.{fault_in, document_fault}
 use Rattle.policy.proofs.WholeText.{fault_in-document, without_fault-from, refused-from}
 use Rattle.policy.proofs.policies.Policy.read.Goals as goal
 

@@ -1,4 +1,3 @@
-use Rattle.std.proofs.Common.{◌≡◌, ◌∙◌, ap, Some}
 use Rattle.policy.proofs.WholeText.{fault_in-not_utf8}
 use Rattle.policy.proofs.policies.Policy.read_bytes.Goals as goal
 
