@@ -11,6 +11,9 @@ use Rattle.tables.specs.Runs.{first_meta}
 same_int : {a b : ℤ} → ◌≡◌ {A = Value} (Int a) (Int b) → a ≡ b
 same_int h = cc
 
+same_pos : {a b : ℕ} → pos a ≡ pos b → a ≡ b
+same_pos h = cc
+
 module _ {A R F X : Type 0} (show : A → R) (fields : A → F) (read : X → F) where
   element : (row : R) (xs : List A) (i : ℕ) → i < length (map show xs) → (a : A) × (get_or (map show xs) i row ≡ show a) × (take (suc i) xs ≡ take i xs ++ a ∷ [])
   element row [] i within = absurd (omega arith)
@@ -38,3 +41,14 @@ one_meta rows row (m ∷ []) one version some few at all first second is_one is_
     let f : m.version ≡ pos 1 = same_int b ∙ ap pos is_version in
     λ i. record { one = e i; version = f i } ∷ []
 one_meta rows row (m ∷ n ∷ more) one version some few at all first second is_one is_version = absurd (let many : length rows ≡ length (map show_meta (m ∷ n ∷ more)) = ap length all in omega arith)
+
+-- and the other way round
+pub meta_one : (rows : List Row) (row : Row) (metas : List Meta) (one version : ℕ) → row ≡ get_or rows 0 row → rows ≡ map show_meta metas → column row 0 ≡ Int (pos one) → column row 1 ≡ Int (pos version) → metas ≡ first_meta ∷ [] → (one ≡ 1) × (version ≡ 1)
+meta_one rows row metas one version at all first second is =
+    let shown : row ≡ show_meta first_meta = at ∙ ap (λ l. get_or l 0 row) (all ∙ ap (map show_meta) is) in
+    let a : Int (pos one) ≡ Int (pos 1) = sym first ∙ ap (λ r. column r 0) shown in
+    let b : Int (pos version) ≡ Int (pos 1) = sym second ∙ ap (λ r. column r 1) shown in
+    (same_pos (same_int a), same_pos (same_int b))
+
+pub no_meta : (rows : List Row) (metas : List Meta) → rows ≡ map show_meta metas → ¬ (length rows ≡ 1) → ¬ (metas ≡ first_meta ∷ [])
+no_meta rows metas all none is = none (ap length (all ∙ ap (map show_meta) is))

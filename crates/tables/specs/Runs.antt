@@ -73,6 +73,11 @@ with_fresh _ = fresh
 abbrev pub HasNoTable : State → Type 0
 HasNoTable s = s.now.schema ≡ no_schema
 
+-- it has tables, which are not the six of version 1 with their version
+pub record IsForeign (s : State) : Type 0 where
+  pub some : ¬ HasNoTable s
+  pub other : s.now.schema ≡ custody → ¬ ((tables_in s).meta ≡ first_meta ∷ [])
+
 -- the trees of a database that was just made, where there was no table
 abbrev pub LeadsIfBlank : State → Trees → Type 0
 LeadsIfBlank old trees = HasNoTable old × Leads with_fresh old trees

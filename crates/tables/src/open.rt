@@ -6,7 +6,7 @@ ghost use Rattle.sqlite.specs.Start.{FindsIn};
 ghost use Rattle.sqlite.specs.Steps.{over_memory};
 ghost use Rattle.sqlite.specs.Files.{over_files, file_state};
 ghost use Rattle.tables.specs.Runs.{first_meta, fresh};
-ghost use Rattle.tables.specs.Shown.{connection, IsHonest, IsOpen, HasNoTable, Stands, shown, Leaves, IsSafe, Rests, AddsFresh};
+ghost use Rattle.tables.specs.Shown.{connection, IsHonest, IsOpen, HasNoTable, IsForeign, Stands, shown, Leaves, IsSafe, Rests, AddsFresh};
 
 use crate::fault::StoreFault;
 use crate::storage::Storage;
@@ -73,7 +73,7 @@ impl<S: Storage> Store<S> {
         ensures safe { IsHonest S.Store self.new → OnOk result (IsSafe S.Store self.new) }
         ensures only { IsHonest S.Store self.new → OnOk result ((t : _) → Leaves S.Store self.new t → (HasNoTable S.Store self.old × (t ≡ fresh)) ⊎ (t ≡ shown S.Store self.old)) }
         ensures err { IsHonest S.Store self.new → OnErr result (Rests S.Store self.old self.new) }
-        ensures unknown { result ≡ Err StoreFault.UnknownSchema → ¬ HasNoTable S.Store self.old }
+        ensures unknown { IsHonest S.Store self.new → result ≡ Err StoreFault.UnknownSchema → IsForeign S.Store self.old }
         ensures stop { AddsFresh S.Store self.old self.new }
     {
         schema::create_or_check(alloc, &mut self.conn)

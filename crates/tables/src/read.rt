@@ -1,6 +1,6 @@
 //! Reading statements, which leave the tables.
 
-ghost use Rattle.std.specs.Prelude.{◌≡◌, IfOk, OnOk, IsTrue};
+ghost use Rattle.std.specs.Prelude.{◌≡◌, ◌≢◌, IfOk, OnOk, IsTrue};
 ghost use Rattle.sqlite.specs.Values.{bound};
 ghost use Rattle.sqlite.specs.State.{HasCleanDisk, Survives, KeepsCommit};
 ghost use Rattle.sqlite.specs.Held.{state};
@@ -35,6 +35,7 @@ pub(crate) fn read<S: Alter>(
 ) -> Result<Vec<Row>, StoreFault>
     ensures rows { HasCleanDisk (state S.Store conn.new) → IsReady (state S.Store conn.old) → IfOk result (λ rows. Answered sql.now (bound params.now) (tables_in (state S.Store conn.old)) rows.items) }
     ensures open { HasCleanDisk (state S.Store conn.new) → IsReady (state S.Store conn.old) → (r : Read) → sql.now ≡ read_text r → OnOk result (IsTrue (state S.Store conn.old).is_open) }
+    ensures known { result ≢ Err StoreFault.UnknownSchema }
     ensures same { HasCleanDisk (state S.Store conn.new) → Keeps (state S.Store conn.old) (state S.Store conn.new) }
     ensures survives { Survives (state S.Store conn.old) (state S.Store conn.new) (λ _. ⊥) }
 {

@@ -7,7 +7,7 @@ ghost use Rattle.tables.specs.Rows.{Meta};
 ghost use Rattle.tables.specs.Layout.{custody};
 ghost use Rattle.tables.specs.Making.{Part, text_for, before, after, no_schema, with_tokens, with_locks, IsBlank};
 ghost use Rattle.tables.specs.Statements.{show_meta};
-ghost use Rattle.tables.specs.Runs.{HasNoTable, IsReady, IsKept, Keeps, Blanks, Steps, with_fresh, first_meta, tables_in, IsAfter, Leads, LeadsIfBlank, LeavesOurs, LeavesOnly, MakesOrKeeps};
+ghost use Rattle.tables.specs.Runs.{IsForeign, HasNoTable, IsReady, IsKept, Keeps, Blanks, Steps, with_fresh, first_meta, tables_in, IsAfter, Leads, LeadsIfBlank, LeavesOurs, LeavesOnly, MakesOrKeeps};
 
 use crate::fault::StoreFault;
 use crate::read::read;
@@ -122,7 +122,8 @@ fn is_blank(schema: &Schema) -> bool
 
 /// Whether the schema is the one that `create` makes.
 fn is_ours(alloc: Global, schema: &Schema) -> Result<bool, StoreFault>
-    ensures { IfOk result (λ same. IsTrue same → schema.now ≡ custody) }
+    ensures same { IfOk result (λ same. IsTrue same ↔ (schema.now ≡ custody)) }
+    ensures known { result ≢ Err StoreFault.UnknownSchema }
 {
     let Ok(mut ours) = Connection::open_in_memory(alloc) else {
         return Err(StoreFault::Memory);
@@ -133,7 +134,8 @@ fn is_ours(alloc: Global, schema: &Schema) -> Result<bool, StoreFault>
 
 /// Whether the rows of `meta` are the one of version 1.
 fn is_version_one(rows: &[Row]) -> Result<bool, StoreFault>
-    ensures { (metas : _) → rows.now ≡ map show_meta metas → IfOk result (λ is. IsTrue is → metas ≡ first_meta ∷ []) }
+    ensures one { (metas : _) → rows.now ≡ map show_meta metas → IfOk result (λ is. IsTrue is ↔ (metas ≡ first_meta ∷ [])) }
+    ensures known { result ≢ Err StoreFault.UnknownSchema }
 {
     let [row] = rows else {
         return Ok(false);
@@ -144,7 +146,8 @@ fn is_version_one(rows: &[Row]) -> Result<bool, StoreFault>
 }
 
 fn has_version_one<S: Alter>(conn: &mut Connection<S>) -> Result<bool, StoreFault>
-    ensures ok { HasCleanDisk (state S.Store conn.new) → IsReady (state S.Store conn.old) → IfOk result (λ is. IsTrue is → (tables_in (state S.Store conn.old)).meta ≡ first_meta ∷ []) }
+    ensures ok { HasCleanDisk (state S.Store conn.new) → IsReady (state S.Store conn.old) → IfOk result (λ is. IsTrue is ↔ ((tables_in (state S.Store conn.old)).meta ≡ first_meta ∷ [])) }
+    ensures known { result ≢ Err StoreFault.UnknownSchema }
     ensures open { HasCleanDisk (state S.Store conn.new) → IsReady (state S.Store conn.old) → OnOk result (IsTrue (state S.Store conn.old).is_open) }
     ensures same { HasCleanDisk (state S.Store conn.new) → Keeps (state S.Store conn.old) (state S.Store conn.new) }
     ensures survives { Survives (state S.Store conn.old) (state S.Store conn.new) (λ _. ⊥) }
@@ -156,7 +159,9 @@ fn has_version_one<S: Alter>(conn: &mut Connection<S>) -> Result<bool, StoreFaul
 /// Whether the tables are those that `create` makes.
 fn has_our_tables<S: Storage>(alloc: Global, conn: &Connection<S>) -> Result<bool, StoreFault>
     requires { IsTrue (state S.Store conn.now).is_open → (state S.Store conn.now).now ≡ (state S.Store conn.now).committed }
-    ensures { IfOk result (λ found. IsTrue found → IsReady (state S.Store conn.now)) }
+    ensures ready { IfOk result (λ found. IsTrue found → IsReady (state S.Store conn.now)) }
+    ensures same { IfOk result (λ found. IsTrue found ↔ ((state S.Store conn.now).now.schema ≡ custody)) }
+    ensures known { result ≢ Err StoreFault.UnknownSchema }
 {
     is_ours(alloc, conn.schema())
 }
@@ -170,7 +175,7 @@ pub(crate) fn create_or_check<S: Storage>(
     ensures version { HasCleanDisk (state S.Store conn.new) → OnOk result (IsTrue (state S.Store conn.new).is_open → (tables_in (state S.Store conn.new)).meta ≡ first_meta ∷ []) }
     ensures ok { HasCleanDisk (state S.Store conn.new) → OnOk result (MakesOrKeeps (state S.Store conn.old) (state S.Store conn.new)) }
     ensures err { HasCleanDisk (state S.Store conn.new) → OnErr result (Keeps (state S.Store conn.old) (state S.Store conn.new)) }
-    ensures unknown { result ≡ Err StoreFault.UnknownSchema → ¬ HasNoTable (state S.Store conn.old) }
+    ensures unknown { HasCleanDisk (state S.Store conn.new) → result ≡ Err StoreFault.UnknownSchema → IsForeign (state S.Store conn.old) }
     ensures safe { HasCleanDisk (state S.Store conn.new) → OnOk result (LeavesOurs (state S.Store conn.new)) }
     ensures only { HasCleanDisk (state S.Store conn.new) → OnOk result (LeavesOnly (state S.Store conn.old) (state S.Store conn.new)) }
     ensures survives { Survives (state S.Store conn.old) (state S.Store conn.new) (LeadsIfBlank (state S.Store conn.old)) }

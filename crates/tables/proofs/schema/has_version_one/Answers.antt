@@ -10,7 +10,7 @@ always P p (Err e) = tt
 
 pub returns-clause-ok : goal.returns-clause-ok
 unfolding read_text read_params answer
-returns-clause-ok g c clean ready = c.is_version_one.ensures (tables_in (state g.S.Store c.args.conn.now)).meta (c.as_slice.ensures.value ∙ c.in_ok-rows.ensures.rows clean ready meta refl refl)
+returns-clause-ok g c clean ready = c.is_version_one.ensures.one (tables_in (state g.S.Store c.args.conn.now)).meta (c.as_slice.ensures.value ∙ c.in_ok-rows.ensures.rows clean ready meta refl refl)
 
 pub returns-clause-open : goal.returns-clause-open
 unfolding read_text

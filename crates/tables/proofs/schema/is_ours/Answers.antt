@@ -1,5 +1,7 @@
-use Rattle.std.proofs.Common.{◌≡◌, true, refl, ◌∙◌}
+use Rattle.std.proofs.Common.{◌≡◌, true, refl, sym, ap, subst, ◌∙◌}
 use Rattle.sqlite_trees.specs.View.{doubt}
+use Rattle.schemas.specs.Plain.{is_plain}
+use Rattle.tables.proofs.Stages.{custody_is_plain}
 use Rattle.tables.proofs.schema.is_ours.Goals as goal
 
 -- memory is always clean
@@ -7,5 +9,7 @@ clean : doubt true ≡ 0
 unfolding doubt
 clean = refl
 
-pub returns : goal.returns
-returns c same = c.same_schema.ensures same ∙ c.schema.ensures.value ∙ (c.in_ok-create.ensures.ok clean record { schema_is = c.in-Ok.ensures.empty.2; empty = tt }).1.kept.schema
+pub returns-clause-same : goal.returns-clause-same
+returns-clause-same c =
+    let ours = c.schema.ensures.value ∙ (c.in_ok-create.ensures.ok clean record { schema_is = c.in-Ok.ensures.empty.2; empty = tt }).1.kept.schema in
+    (λ same. c.same_schema.ensures.same same ∙ ours, λ is. c.same_schema.ensures.told (ap is_plain is ∙ custody_is_plain) (is ∙ sym ours))
