@@ -1,2 +1,4 @@
 pub mod Bearers
 pub mod Callers
+pub mod Told
+pub mod Locking

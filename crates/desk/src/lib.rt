@@ -2,3 +2,5 @@
 #![tactic(auto)]
 
 mod callers;
+mod locking;
+mod replies;

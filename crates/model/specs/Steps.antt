@@ -107,13 +107,17 @@ abbrev pub new_lock : World → ℕ → Issued → Repo → LockForm → Lock
 new_lock world now caller repo asked =
     record { repo = repo.name; id = world.made repo.name + 1; ref = ref_asked asked repo; path = asked.path; owner = caller.user; at = now }
 
+-- the lock that stands in the place, or no id that is left, or else the lock is made
+abbrev pub place_verdict : World → Lock → Answer
+place_verdict world l = do
+  free ← none_of (lock_at l.repo l.ref l.path world) by_lock
+  left ← by_rules (check (nat_lt (world.made l.repo) last_lock_id) rule.L5)
+  Ok (makes_lock l)
+
 -- the first refusal of a lock by the policy and the state, or the lock that is made
 abbrev pub lock_verdict : World → Policy → ℕ → Issued → Repo → LockForm → Answer
-lock_verdict world policy now caller repo asked = do
-  may ← permitted (decide policy (lock_question caller repo asked)) right.Lock 403
-  free ← none_of (lock_at repo.name (ref_asked asked repo) asked.path world) by_lock
-  left ← by_rules (check (nat_lt (world.made repo.name) last_lock_id) rule.L5)
-  Ok (makes_lock (new_lock world now caller repo asked))
+lock_verdict world policy now caller repo asked =
+    permitted (decide policy (lock_question caller repo asked)) right.Lock 403 >>= λ may. place_verdict world (new_lock world now caller repo asked)
 
 -- the same of any request
 abbrev pub state_verdict : World → Policy → ℕ → Issued → Repo → Request → Answer
