@@ -1,6 +1,6 @@
 -- The head at the front of a stream.
 use Rattle.std.specs.Prelude.{◌≡◌, ℕ, ◌<◌, List, length, take, drop}
-use Rattle.httparse.specs.Grammar.{RequestHead}
+use Rattle.httparse.specs.Grammar.{RequestHead, MayBecomeRequest}
 use Rattle.httparse.specs.Spans.{span_bytes, IsRequestWithin, AreFieldsAt}
 use Rattle.httparse.specs.declared.spans.HeaderSpan.{HeaderSpan}
 use Rattle.httparse.specs.declared.spans.RequestSpans.{RequestSpans}
@@ -16,9 +16,9 @@ pub record Covers (bytes : List ℕ) (fields : List HeaderSpan) (spans : Request
   pub version : spans.version ≡ head.minor
   pub fields_are : AreFieldsAt bytes fields spans.headers head.fields
 
--- the head at the front of the bytes, a bad one, or less than one
+-- the head at the front of the bytes, a bad one, or less than one, which more bytes may make one
 abbrev pub IsCut : List ℕ → List HeaderSpan → Cut → Type 0
 IsCut bytes fields (Head spans) =
     (head : RequestHead) × BeginsWithHead bytes head (drop spans.len bytes) × Covers (take head_limit bytes) fields spans head
 IsCut bytes fields Bad = BeginsBadly bytes
-IsCut bytes fields Unfinished = HasNoHead bytes × (length bytes < head_limit)
+IsCut bytes fields Unfinished = HasNoHead bytes × (length bytes < head_limit) × MayBecomeRequest bytes
