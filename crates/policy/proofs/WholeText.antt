@@ -3,14 +3,15 @@ use Rattle.std.proofs.Common.{◌≡◌, ◌∙◌, ℕ, ◌≤◌, List, length
 use Rattle.std.specs.Str.{IsUtf8, is_utf8}
 use Rattle.std.proofs.lemmas.Bool.{false_from_ne_true}
 use Rattle.std.proofs.lemmas.Str.{is_utf8-from_IsUtf8, IsUtf8-from_is_utf8}
-use Rattle.std.specs.Result.{OnOk, IfErr}
+use Rattle.std.specs.Result.{IfOk, IfErr}
 use Rattle.toml.specs.Data.{Members}
 use Rattle.toml.specs.Parse.{parse_document}
 use Rattle.policy.specs.declared.faults.Fault.{Fault}
 use Rattle.policy.specs.declared.faults.PolicyFault.{PolicyFault}
 use Rattle.policy.specs.declared.faults.PolicyFault.TheVariants.{Refused, Memory}
 use Rattle.policy.specs.Ranges.{longest_file}
-use Rattle.policy.specs.Reading.{Reads, IfRefused, at_place, fault_in, document_fault}
+use Rattle.policy.specs.Reading.{Reads, IfRefused, Spells, at_place, fault_in, document_fault, policy_in}
+use Rattle.model.specs.Policy as model
 use Rattle.policy.specs.declared.faults.FaultCode.TheVariants.{Y1}
 use Rattle.policy.specs.declared.faults.Place.TheVariants as place
 
@@ -19,9 +20,11 @@ pub fault_in-document : (source : List ℕ) (t : Members) → length source ≤ 
     → fault_in source ≡ document_fault t
 fault_in-document source t short text parsed = rw (le-leb (length source) longest_file short, is_utf8-from_IsUtf8 source text, parsed) refl
 
-pub without_fault-from : {A : Type 0} (fault same : Option Fault) (P : A → Type 0) (r : Result A PolicyFault) → fault ≡ same → Reads same P r → OnOk r (fault ≡ None)
-without_fault-from fault same P (Ok x) e reads = e ∙ reads.0
-without_fault-from fault same P (Err f) e reads = tt
+pub Spells-from : {A : Type 0} (seen : A → model.Policy) (source : List ℕ) (t : Members) (r : Result A PolicyFault)
+    → fault_in source ≡ document_fault t → parse_document source ≡ Some t → Reads (document_fault t) (λ x. seen x ≡ policy_in t) r
+    → IfOk r (λ x. Spells source (seen x))
+Spells-from seen source t (Ok x) same parsed reads = (same ∙ reads.0, rw parsed reads.1)
+Spells-from seen source t (Err f) same parsed reads = tt
 
 pub refused-from : {A : Type 0} (fault same : Option Fault) (P : A → Type 0) (r : Result A PolicyFault) → fault ≡ same → Reads same P r
     → IfErr r (λ f. IfRefused f (λ first. fault ≡ Some first))

@@ -77,10 +77,6 @@ policy_in t = record {
 abbrev pub document : List ℕ → Members
 document source = unwrap_or (parse_document source) no_members
 
--- the policy that a text without a fault spells
-abbrev pub spelled : List ℕ → model.Policy
-spelled source = policy_in (document source)
-
 -- ---- its first fault
 
 -- the first fault of the two
@@ -147,6 +143,12 @@ fault_in source =
     unless (nat_le (length source) longest_file) (at_place Y5 place.File)
     or unless (is_utf8 source && is_some (parse_document source)) (at_place Y1 place.File)
     or document_fault (document source)
+
+-- ---- what it spells
+
+-- the text has no fault, and the policy is what stands in it
+abbrev pub Spells : List ℕ → model.Policy → Type 0
+Spells source policy = (fault_in source ≡ None) × (policy ≡ policy_in (document source))
 
 -- ---- what the reader's steps answer
 

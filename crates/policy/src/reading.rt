@@ -1,12 +1,12 @@
 //! A policy, read from its file's text.
 
-ghost use Rattle.std.specs.Prelude.{◌≡◌, ◌≤◌, IfOk, OnOk, IfErr, MatchResult, None, Some, [], length, map};
+ghost use Rattle.std.specs.Prelude.{◌≡◌, ◌≤◌, IfOk, IfErr, MatchResult, None, Some, [], length, map};
 ghost use Rattle.toml.specs.View.{view, table_view};
 ghost use Rattle.policy.specs.declared.faults.FaultCode.TheVariants.{Y4};
 ghost use Rattle.policy.specs.Ranges.{texts, most_repos, most_rows, is_among};
 ghost use Rattle.policy.specs.Repos.{names_of};
 ghost use Rattle.policy.specs.Language.{top_keys, repo_keys, row_keys};
-ghost use Rattle.policy.specs.Reading.{Reads, IfRefused, at_place, at_key, table_fault, entry_fault, repos_fault, rows_fault, document_fault, rights_named, repo_in, row_in, table_in, repos_in, rows_in, policy_in, spelled, fault_in};
+ghost use Rattle.policy.specs.Reading.{Reads, IfRefused, at_place, at_key, table_fault, entry_fault, repos_fault, rows_fault, document_fault, rights_named, repo_in, row_in, table_in, repos_in, rows_in, policy_in, Spells, fault_in};
 ghost use Rattle.policy.specs.Values.{repo_view, row_view, policy_view, AreRepos, IsTop};
 
 use crate::entries::{effect_named, right_named};
@@ -230,8 +230,7 @@ impl Policy {
     /// `Refused` with the first fault of a text that spells none, and `Memory` where memory was
     /// refused.
     pub fn read(alloc: Global, source: &str) -> Result<Policy, PolicyFault>
-        ensures spelled { IfOk result (λ policy. policy_view policy ≡ spelled source.now) }
-        ensures without_fault { OnOk result (fault_in source.now ≡ None) }
+        ensures spelled { IfOk result (λ policy. Spells source.now (policy_view policy)) }
         ensures refused { IfErr result (λ fault. IfRefused fault (λ first. fault_in source.now ≡ Some first)) }
     {
         if source.len() > LONGEST_FILE {
@@ -250,8 +249,7 @@ impl Policy {
     ///
     /// Those of [`Policy::read`]. Bytes within the length that are no UTF-8 are no TOML.
     pub fn read_bytes(alloc: Global, source: &[u8]) -> Result<Policy, PolicyFault>
-        ensures spelled { IfOk result (λ policy. policy_view policy ≡ spelled source.now) }
-        ensures without_fault { OnOk result (fault_in source.now ≡ None) }
+        ensures spelled { IfOk result (λ policy. Spells source.now (policy_view policy)) }
         ensures refused { IfErr result (λ fault. IfRefused fault (λ first. fault_in source.now ≡ Some first)) }
     {
         if source.len() > LONGEST_FILE {
