@@ -4,3 +4,9 @@
 mod callers;
 mod locking;
 mod replies;
+
+pub use callers::{Caller, identify};
+pub use replies::{Body, Reply};
+
+#[cfg(test)]
+mod tests;

@@ -41,7 +41,7 @@ fn shown(row: &LockRow) -> Option<ShownLock<'_>>
 }
 
 /// The reply to the lock that is made next, where an id is left for it.
-fn next_reply(alloc: Global, made: u32, wanted: &Wanted<'_>) -> Result<Option<Reply>, StoreFault>
+pub(crate) fn next_reply(alloc: Global, made: u32, wanted: &Wanted<'_>) -> Result<Option<Reply>, StoreFault>
     ensures { IfOk result (IsReadyAfter made wanted.entry.now) }
 {
     let Some(next) = made.checked_add(1) else {
@@ -63,7 +63,7 @@ fn next_reply(alloc: Global, made: u32, wanted: &Wanted<'_>) -> Result<Option<Re
 }
 
 /// The reply to a lock that another stands in the way of.
-fn held_reply(alloc: Global, row: &LockRow) -> Result<Reply, StoreFault>
+pub(crate) fn held_reply(alloc: Global, row: &LockRow) -> Result<Reply, StoreFault>
     ensures { IfOk result (TellsHeld row.now) }
 {
     let Some(lock) = shown(row) else {

@@ -1,0 +1,145 @@
+use super::*;
+use crate::locking::{Wanted, held_reply, next_reply};
+use names::{LockPath, Moment, RefName, RepoName, Rule, UserName};
+use sqlite::MemStore;
+use std::alloc::Global;
+use std::test::Fail;
+use tables::{Alter, LockRow, NewToken, Operation, Store, StoreFault};
+
+/// SHA-256 of `abc` (FIPS 180-2, appendix B.1).
+const ABC: [u8; 32] = [
+    0xba, 0x78, 0x16, 0xbf, 0x8f, 0x01, 0xcf, 0xea, 0x41, 0x41, 0x40, 0xde, 0x5d, 0xae, 0x22, 0x23,
+    0xb0, 0x03, 0x61, 0xa3, 0x96, 0x17, 0x7a, 0x9c, 0xb4, 0x10, 0xff, 0x61, 0xf2, 0x00, 0x15, 0xad,
+];
+
+/// A store in which ann's token `abc` for uploads to studio/film expires at 1,000.
+fn with_token(alloc: Global) -> Result<Store<MemStore>, StoreFault> {
+    let mut store = Store::open_memory(alloc)?;
+    store.create_or_check(alloc)?;
+    let token = NewToken {
+        digest: &ABC,
+        user: "ann",
+        repo: "studio/film",
+        operation: Operation::Upload,
+        expires: 1000,
+    };
+    store.add_token(&token)?;
+    Ok(store)
+}
+
+/// Whether ann calls, for uploads to studio/film; else the rule that refuses.
+fn calling<S: Alter>(
+    store: &mut Store<S>,
+    authorization: Option<&[u8]>,
+    second: u64,
+) -> Result<Result<bool, Rule>, StoreFault> {
+    let now = Moment::read(second).ok_or(StoreFault::Refused)?;
+    Ok(match identify(store, authorization, now)? {
+        Ok(caller) => Ok(caller.user.as_str() == "ann"
+            && caller.repo.as_str() == "studio/film"
+            && caller.operation == Operation::Upload),
+        Err(rule) => Err(rule),
+    })
+}
+
+#[test]
+fn tokens_name_their_caller(rt: HostRuntime) -> Result<(), Fail> {
+    let mut store = with_token(rt.alloc())?;
+    for (value, second, want) in [
+        (b"Bearer abc".as_slice(), 0, Ok(true)),
+        (b"bEARER abc".as_slice(), 999, Ok(true)),
+        (b"Bearer abc".as_slice(), 1000, Err(Rule::A3)),
+        (b"Bearer abd".as_slice(), 0, Err(Rule::A2)),
+        (b"Bearer  abc".as_slice(), 0, Err(Rule::A1)),
+        (b"Bearer abc d".as_slice(), 0, Err(Rule::A1)),
+        (b"Bearer ".as_slice(), 0, Err(Rule::A1)),
+        (b"Basic YW5uOg==".as_slice(), 0, Err(Rule::A1)),
+        (b"".as_slice(), 0, Err(Rule::A1)),
+    ] {
+        assert_eq!(rt; calling(&mut store, Some(value), second)?, want);
+    }
+    assert_eq!(rt; calling(&mut store, None, 0)?, Err(Rule::A1));
+    Ok(())
+}
+
+fn text_of(reply: &Reply) -> &str {
+    match &reply.body {
+        Body::Made(text) => text.as_str(),
+        Body::Fixed(text) => text,
+    }
+}
+
+/// Ann's wish to lock `art/hero.psd` at the second 1,463,500,146.
+fn wanted() -> Option<Wanted<'static>> {
+    Some(Wanted {
+        repo: RepoName::read("studio/film")?,
+        ref_name: RefName::read("refs/heads/main")?,
+        path: LockPath::read("art/hero.psd")?,
+        owner: UserName::read("ann")?,
+        now: Moment::read(1463500146)?,
+    })
+}
+
+/// The status and the text of the reply to the lock that is made next.
+fn next(alloc: Global, made: u32) -> Result<Option<Reply>, StoreFault> {
+    let Some(wanted) = wanted() else {
+        return Err(StoreFault::Refused);
+    };
+    next_reply(alloc, made, &wanted)
+}
+
+#[test]
+fn a_lock_that_is_made_is_told(rt: HostRuntime) -> Result<(), Fail> {
+    for (made, want) in [
+        (
+            0,
+            "{\"lock\":{\"id\":\"1\",\"locked_at\":\"2016-05-17T15:49:06Z\",\"owner\":{\"name\":\"ann\"},\"path\":\"art/hero.psd\"}}",
+        ),
+        (
+            4294967294,
+            "{\"lock\":{\"id\":\"4294967295\",\"locked_at\":\"2016-05-17T15:49:06Z\",\"owner\":{\"name\":\"ann\"},\"path\":\"art/hero.psd\"}}",
+        ),
+    ] {
+        let reply = next(rt.alloc(), made)?.ok_or("no id is left")?;
+        assert_eq!(rt; reply.status, 201);
+        assert_eq!(rt; text_of(&reply), want);
+    }
+    let none_left = next(rt.alloc(), 4294967295)?;
+    assert!(rt; none_left.is_none());
+    Ok(())
+}
+
+fn row(alloc: Global) -> Result<LockRow, StoreFault> {
+    let mut store = Store::open_memory(alloc)?;
+    store.create_or_check(alloc)?;
+    let lock = tables::NewLock {
+        repo: "studio/film",
+        ref_name: "refs/heads/main",
+        path: "art/hero.psd",
+        owner: "ann",
+        moment: 1463500146,
+    };
+    store.create_lock(&lock)?;
+    match store.lock_at("studio/film", "refs/heads/main", "art/hero.psd")? {
+        Some(row) => Ok(row),
+        None => Err(StoreFault::Refused),
+    }
+}
+
+#[test]
+fn a_lock_that_stands_is_told(rt: HostRuntime) -> Result<(), Fail> {
+    let held = row(rt.alloc())?;
+    let reply = held_reply(rt.alloc(), &held)?;
+    assert_eq!(rt; reply.status, 409);
+    assert_eq!(rt; text_of(&reply), "{\"lock\":{\"id\":\"1\",\"locked_at\":\"2016-05-17T15:49:06Z\",\"owner\":{\"name\":\"ann\"},\"path\":\"art/hero.psd\"},\"message\":\"L1: already locked\"}");
+    Ok(())
+}
+
+#[test]
+fn a_refusal_by_the_store_is_told(rt: HostRuntime) -> Result<(), Fail> {
+    let reply = Reply::store_refused();
+    assert_eq!(rt; reply.status, 500);
+    assert!(rt; reply.is_store_refusal);
+    assert_eq!(rt; text_of(&reply), "{\"message\":\"S1: the store refused\"}");
+    Ok(())
+}
