@@ -23,8 +23,8 @@ pub record IsOf (shown : ShownLock) (l : Lock) : Type 0 where
 
 -- the value tells this answer
 abbrev pub Tells : Answer → model.Answer → Type 0
-Tells (Locked shown) given = (l : Lock) × IsOf shown l × (given ≡ Ok (makes_lock l))
-Tells (Held shown) given = (l : Lock) × IsOf shown l × (given ≡ Err (by_lock l))
+Tells (Locked shown) given = (l : Lock) × IsOf shown.now l × (given ≡ Ok (makes_lock l))
+Tells (Held shown) given = (l : Lock) × IsOf shown.now l × (given ≡ Err (by_lock l))
 Tells (Denied rule) given = given ≡ Err (by_rule rule)
 Tells (DeniedByRow row right status) given = given ≡ Err (by_row row right status)
 

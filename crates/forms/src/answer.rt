@@ -31,9 +31,9 @@ pub struct ShownLock<'a> {
 #[derive(Clone, Copy, Debug)]
 pub enum Answer<'a> {
     /// The lock was made: 201, with the lock.
-    Locked(ShownLock<'a>),
+    Locked(&'a ShownLock<'a>),
     /// The path is locked already: L1, 409, with the lock that stands.
-    Held(ShownLock<'a>),
+    Held(&'a ShownLock<'a>),
     /// The rule refuses: with its own status, and 403 for a rule that has none.
     Denied(Rule),
     /// The policy denies.
