@@ -13,12 +13,14 @@ use Rattle.policy.specs.Ranges.{most_repos, most_rows, longest_life, largest_quo
 
 -- ---- words
 
+-- the effect of that name
 abbrev pub effect_named : List ℕ → Option Effect
 effect_named text =
     if bytes_eq text (codes "allow") then Some effect.Allow
     else if bytes_eq text (codes "deny") then Some effect.Deny
     else None
 
+-- the right of that name
 abbrev pub right_named : List ℕ → Option Right
 right_named text =
     if bytes_eq text (codes "pull") then Some right.Pull
@@ -47,6 +49,7 @@ pub data Kind : Type 0 where
   -- an array of at most so many tables; a missing key is as an empty one
   tables : ℕ → Kind
 
+-- the table of the language
 abbrev pub kind_of : Key → Kind
 kind_of key.Base = text is_base
 kind_of key.TokenSeconds = whole 1 longest_life
@@ -62,6 +65,7 @@ kind_of key.Refs = texts is_ref_entry
 kind_of key.Paths = texts is_path_entry
 kind_of key.Rights = texts is_right
 
+-- how each key is written
 abbrev pub key_name : Key → List ℕ
 key_name key.Base = codes "base"
 key_name key.TokenSeconds = codes "token_seconds"
@@ -89,10 +93,12 @@ row_keys = key.Effect ∷ key.Users ∷ key.Repos ∷ key.Refs ∷ key.Paths ∷
 
 -- ---- what stands at a key of a table
 
+-- the values of an array, as a list
 abbrev pub list_of : Items → List Data
 list_of no_items = []
 list_of (item d ds) = d ∷ list_of ds
 
+-- the keys of a table, as a list
 abbrev pub names_of : Members → List (List ℕ)
 names_of no_members = []
 names_of (member name d ms) = name ∷ names_of ms
@@ -102,13 +108,15 @@ abbrev pub all_texts : List Data → Option (List (List ℕ))
 all_texts [] = Some []
 all_texts (d ∷ ds) = option_and_then (λ text. option_map (λ more. text ∷ more) (all_texts ds)) (as_str d)
 
--- the values of an array
+-- the values, where it is an array
 abbrev pub as_values : Data → Option (List Data)
 as_values d = option_map list_of (as_array d)
 
+-- the texts, where it is an array of texts
 abbrev pub as_texts : Data → Option (List (List ℕ))
 as_texts d = option_and_then all_texts (as_values d)
 
+-- the value at the key
 abbrev pub value_at : Members → Key → Option Data
 value_at t k = get_member (key_name k) t
 
@@ -124,6 +132,7 @@ whole_at t k = option_and_then as_integer (value_at t k)
 unfoldable pub texts_at : Members → Key → Option (List (List ℕ))
 texts_at t k = option_and_then as_texts (value_at t k)
 
+-- the values of an array; none where nothing stands
 abbrev pub entries_of : Option Data → Option (List Data)
 entries_of None = Some []
 entries_of (Some d) = as_values d

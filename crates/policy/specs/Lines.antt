@@ -8,6 +8,7 @@ use Rattle.policy.specs.declared.faults.PolicyFault.TheVariants.{Refused, Memory
 use Rattle.policy.specs.declared.faults.Place.{Place}
 use Rattle.policy.specs.declared.faults.Place.TheVariants.{File, Top, Repo, Row}
 
+-- how a code is printed
 abbrev pub code_text : FaultCode → List ℕ
 code_text Y1 = codes "Y1"
 code_text Y2 = codes "Y2"
@@ -26,6 +27,7 @@ place_text (Row n) = codes " at row " ++ decimal n
 abbrev pub fault_text : Fault → List ℕ
 fault_text f = code_text f.code ++ place_text f.place
 
+-- what the reader of a policy prints
 abbrev pub policy_fault_text : PolicyFault → List ℕ
 policy_fault_text (Refused fault) = fault_text fault
 policy_fault_text Memory = codes "no memory"

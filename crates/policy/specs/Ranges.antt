@@ -12,6 +12,7 @@ use Rattle.model.specs.Policy.{is_any}
 abbrev pub longest_file : ℕ
 longest_file = 1048576
 
+-- the most repositories of a policy, and the most rows
 abbrev pub most_repos : ℕ
 most_repos = 256
 
@@ -43,6 +44,7 @@ is_base_byte b = is_name_byte b || is_ascii_uppercase b || b == dot || b == colo
 abbrev pub goes_on : List ℕ → List ℕ → Bool
 goes_on front text = begins front text && nat_lt (length front) (length text)
 
+-- the text ends in a slash
 abbrev pub ends_in_slash : List ℕ → Bool
 ends_in_slash text = ends_with (λ a b. a == b) text (codes "/")
 
@@ -58,6 +60,7 @@ is_base text =
 abbrev pub before_slash : List ℕ → Option (List ℕ)
 before_slash text = if ends_in_slash text then Some (take (length text - 1) text) else None
 
+-- it is there and passes the test
 abbrev pub passes : {A : Type 0} → Option A → (A → Bool) → Bool
 passes None test = false
 passes (Some x) test = test x
@@ -92,6 +95,7 @@ are_entries test entries = is_count entries && list_all test entries
 
 -- ---- names
 
+-- the name is one of these
 abbrev pub is_among : List ℕ → List (List ℕ) → Bool
 is_among name names = list_any (λ other. bytes_eq other name) names
 

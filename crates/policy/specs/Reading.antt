@@ -25,6 +25,7 @@ abbrev pub natural : ℤ → ℕ
 natural (pos n) = n
 natural (negsuc n) = 0
 
+-- what stands at a key, of a table where it does
 abbrev pub text_in : Members → Key → List ℕ
 text_in t k = unwrap_or (text_at t k) []
 
@@ -37,6 +38,7 @@ texts_in t k = unwrap_or (texts_at t k) []
 abbrev pub entries_in : Members → Key → List Data
 entries_in t k = unwrap_or (entries_at t k) []
 
+-- the table that an entry is
 abbrev pub table_in : Data → Members
 table_in d = unwrap_or (as_table d) no_members
 
@@ -45,6 +47,7 @@ abbrev pub rights_named : List (List ℕ) → List Right
 rights_named [] = []
 rights_named (name ∷ names) = unwrap_or (option_map (λ r. r ∷ rights_named names) (right_named name)) (rights_named names)
 
+-- the repository of a table, and the row of one
 unfoldable pub repo_in : Members → model.Repo
 repo_in t = record { name = text_in t key.Name; default_ref = text_in t key.DefaultRef; quota = number_in t key.Quota }
 
@@ -58,6 +61,7 @@ row_in t = record {
   rights = rights_named (texts_in t key.Rights);
 }
 
+-- those of a list of entries
 abbrev pub repos_in : List Data → List model.Repo
 repos_in entries = map (λ d. repo_in (table_in d)) entries
 
@@ -94,6 +98,7 @@ first_of (fault ∷ more) = fault or first_of more
 abbrev pub unless : Bool → Fault → Option Fault
 unless passed fault = if passed then None else Some fault
 
+-- a fault of a place as a whole, and one at a key of it
 abbrev pub at_place : FaultCode → Place → Fault
 at_place code place = record { code = code; place = place; key = None }
 
@@ -137,7 +142,7 @@ document_fault t =
     or repos_fault 1 [] (entries_in t key.Repo)
     or rows_fault 1 (entries_in t key.Row)
 
--- the length, then whether it is TOML in UTF-8, then what it says
+-- the first fault of a text: its length, then whether it is TOML in UTF-8, then what it says
 abbrev pub fault_in : List ℕ → Option Fault
 fault_in source =
     unless (nat_le (length source) longest_file) (at_place Y5 place.File)
@@ -152,6 +157,7 @@ Spells source policy = (fault_in source ≡ None) × (policy ≡ policy_in (docu
 
 -- ---- what the reader's steps answer
 
+-- the fault that was told is so; of refused memory nothing is said
 abbrev pub IfRefused : PolicyFault → (Fault → Type 0) → Type 0
 IfRefused (Refused fault) P = P fault
 IfRefused Memory P = ⊤

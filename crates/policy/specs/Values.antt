@@ -17,6 +17,7 @@ use Rattle.policy.specs.declared.questions.Verdict.{Verdict}
 use Rattle.policy.specs.declared.questions.Verdict.TheVariants.{Allow, Deny}
 use Rattle.policy.specs.declared.policies.Policy.{Policy}
 
+-- what a repository, a row and a policy in memory stand for
 abbrev pub repo_view : Repo → model.Repo
 repo_view r = record { name = string_bytes r.name; default_ref = string_bytes r.default_ref; quota = r.quota }
 
@@ -38,6 +39,7 @@ policy_view p = record {
   rows = map row_view p.rows.items;
 }
 
+-- what a question and an answer stand for
 abbrev pub question_view : Question → model.Question
 question_view q = record {
   user = user_text q.user;
