@@ -1,18 +1,18 @@
 -- What each writing statement does to the typed rows.
-use Rattle.std.proofs.Common.{◌≡◌, ◌≢◌, ◌≤◌, ℕ, ℤ, pos, negsuc, Bool, true, false, List, [], ◌∷◌, ◌++◌, length, map, filter, Ok, Err, Result, IfOk, IsTrue, refl, sym, ap, subst, ◌∙◌, arith}
-use Rattle.std.specs.List.{AllByRecursion, list_all}
+use Rattle.std.proofs.Common.{◌≡◌, ◌≤◌, ℕ, ℤ, pos, Bool, true, false, List, [], ◌∷◌, length, map, filter, Ok, Err, Result, IfOk, IsTrue, refl, subst, ◌∙◌}
+use Rattle.std.specs.List.{list_all}
 use Rattle.std.specs.Ordering.{int_eq}
-use Rattle.sqlite.specs.declared.types.Value.TheVariants.{Null, Int, Text, Blob}
+use Rattle.sqlite.specs.declared.types.Value.TheVariants.{Int, Text}
 use Rattle.sqlite.specs.Order.{Row}
-use Rattle.sqlite_trees.specs.Tree.{put_row, rowid}
-use Rattle.sqlite_sql.specs.Term.{holds, eval_all}
+use Rattle.sqlite_trees.specs.Tree.{put_row}
+use Rattle.sqlite_sql.specs.Term.{holds}
 use Rattle.sqlite_sql.specs.declared.ops.CompareOp.TheVariants.{Eq, Le}
 use Rattle.sqlite_rules.specs.Edit.{next_rowid}
-use Rattle.sqlite.specs.State.{State, Shows, Executes, ExecutesInside}
+use Rattle.sqlite.specs.State.{State, Executes, ExecutesInside}
 use Rattle.sqlite.specs.declared.error.Error.{Error}
-use Rattle.sqlite_keyed.specs.Keyed.{IsKeyedBy, next_key}
+use Rattle.sqlite_keyed.specs.Keyed.{IsKeyedBy}
 use Rattle.sqlite_keyed.specs.Lists.{update_where, delete_where}
-use Rattle.std.proofs.Common.{not, cond, ◌<ℤ◌, if◌then◌else◌}
+use Rattle.std.proofs.Common.{not, ◌<ℤ◌, if◌then◌else◌}
 use Rattle.sqlite_sql.specs.declared.ops.BinaryOp.TheVariants.{Compare}
 use Rattle.sqlite.specs.Collation.TheVariants.{Binary}
 use Rattle.sqlite.specs.Term.{col, op2}
@@ -20,9 +20,9 @@ use Rattle.sqlite_keyed.proofs.ListLemmas.{ascending-filter, ascending-map, asce
 use Rattle.sqlite_keyed.proofs.RuleLemmas.{at_most_one}
 use Rattle.sqlite_typed.proofs.TestLemmas.{at_texts, at_ints, then_term, last_term}
 use Rattle.tables.specs.Layout.{custody, repos_at, tokens_at, locks_at}
-use Rattle.tables.specs.Rows.{Repo, repo_row, repo_in, Token, token_row, token_in, Lock, lock_row, lock_in, AreTyped, Tables, tables_of}
-use Rattle.tables.specs.Statements.{Write, add_lock, add_repo, set_made, remove_lock, add_token, remove_expired, IsRemoval, write_text, write_params, after, removed, with_lock, with_repo, with_made_at, without_lock, with_token, without_expired, has_id, has_expired}
-use Rattle.tables.specs.Runs.{IsKept, Steps, IsWritten, tables_in}
+use Rattle.tables.specs.Rows.{Repo, repo_row, repo_in, Token, token_row, token_in, Lock, lock_row, lock_in, tables_of}
+use Rattle.tables.specs.Statements.{Write, add_lock, add_repo, set_made, remove_lock, add_token, remove_expired, write_text, write_params, after, removed, with_lock, with_repo, with_made_at, without_lock, with_token, without_expired, has_id, has_expired}
+use Rattle.tables.specs.Runs.{IsKept, Steps, IsWritten}
 use Rattle.tables.proofs.Meanings.{add_lock_is, lock_terms, add_repo_is, repo_terms, set_made_is, made_columns, is_given, remove_lock_is, add_token_is, token_terms, remove_expired_is}
 use Rattle.tables.proofs.Typed.{appended, keys_rise, typed_by, retyped}
 use Rattle.tables.proofs.Writes.{removes, replaces, how_many, gone, changed}

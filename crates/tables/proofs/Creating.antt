@@ -1,5 +1,5 @@
 -- What making a lock comes to, from what its statements found and did.
-use Rattle.std.proofs.Common.{◌≡◌, ◌≢◌, ℕ, ◌+◌, ℤ, pos, ◌+ℤ◌, true, false, cond, find, option_map, Option, Some, None, sym, ap, ◌∙◌, arith}
+use Rattle.std.proofs.Common.{◌≡◌, ◌≢◌, ℕ, ◌+◌, ℤ, pos, ◌+ℤ◌, true, false, find, option_map, Option, Some, None, sym, ap, ◌∙◌, arith}
 use Rattle.std.proofs.lemmas.Int.{ints}
 use Rattle.std.specs.Ordering.{int_eq}
 use Rattle.sqlite.specs.State.{State}
@@ -7,7 +7,7 @@ use Rattle.tables.specs.declared.rows.LockRow.{LockRow}
 use Rattle.tables.specs.Rows.{Token, Lock}
 use Rattle.tables.specs.Statements.{is_at, with_token}
 use Rattle.tables.specs.Runs.{Steps, tables_in}
-use Rattle.tables.specs.Steps.{LockFields, lock_fields, read_lock, Outcome, held, used_up, created, greatest_id, next_outcome, outcome_by, outcome_of, made_of, after_outcome, after_create, with_new_lock, has_token, after_add}
+use Rattle.tables.specs.Steps.{lock_fields, read_lock, Outcome, held, used_up, created, greatest_id, next_outcome, outcome_by, outcome_of, made_of, after_outcome, after_create, with_new_lock, has_token, after_add}
 use Rattle.tables.proofs.Counting.{same_steps}
 use Rattle.tables.proofs.Calls.{steps_then}
 

@@ -1,5 +1,5 @@
 -- What the steps and the answers come to, for the crates above.
-use Rattle.std.proofs.Common.{◌≡◌, ℕ, ℤ, pos, ◌≤ℤ◌, Bool, true, false, cond, List, [], ◌∷◌, ◌++◌, find, Option, Some, None, refl, sym, ap, subst, ◌∙◌, arith, Ordering, Less, Equal, Greater, int_cmp, is_gt}
+use Rattle.std.proofs.Common.{◌≡◌, ℕ, ℤ, ◌≤ℤ◌, Bool, true, false, cond, List, [], ◌∷◌, ◌++◌, find, Some, refl, sym, subst, arith, Ordering, Less, Equal, Greater, int_cmp, is_gt}
 use Rattle.std.specs.List.{AllByRecursion}
 use Rattle.std.specs.List.Sorted.{IsPermutation}
 use Rattle.std.specs.Ordering.{ordering_then}
@@ -8,7 +8,7 @@ use Rattle.std.proofs.lemmas.Cmp.{int_cmp_total, then_total, on_total}
 use Rattle.std.specs.Cmp.{IsTotalOrder}
 use Rattle.sqlite_trees.specs.Tree.{IsAscending}
 use Rattle.sqlite_keyed.specs.Keyed.{next_key}
-use Rattle.sqlite_keyed.specs.Lists.{insert_sorted, sort_by}
+use Rattle.sqlite_keyed.specs.Lists.{insert_sorted}
 use Rattle.sqlite_keyed.proofs.ListLemmas.{all_weaker}
 use Rattle.sqlite_keyed.proofs.SortLemmas.{IsPermutation-sort_by}
 use Rattle.sqlite_typed.proofs.TestLemmas.{bytes_eq_refl, same_bytes as equal_bytes}

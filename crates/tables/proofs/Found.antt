@@ -1,5 +1,5 @@
 -- From the rows that a statement answers to what a call finds.
-use Rattle.std.proofs.Common.{◌≡◌, ℕ, suc, ne_eqb, arith, Bool, true, false, not, cond, eqb, is_some, length, Some, refl, List, [], ◌∷◌, map, filter, find, slice_get, option_map, Option, Result, Ok, Err, IfOk, OnOk, sym, ap, subst, ◌∙◌}
+use Rattle.std.proofs.Common.{◌≡◌, ℕ, suc, ne_eqb, arith, Bool, true, false, not, cond, eqb, is_some, length, Some, refl, List, [], ◌∷◌, map, filter, find, slice_get, option_map, Option, Result, Ok, Err, IfOk, OnOk, sym, ap, ◌∙◌}
 use Rattle.sqlite_keyed.proofs.ListLemmas.{slice_get-filter}
 
 -- what holds, holds where a result is Ok

@@ -1,5 +1,5 @@
 -- What each statement means under the schema, which the texts compute.
-use Rattle.std.proofs.Common.{◌≡◌, ℕ, ℤ, pos, negsuc, List, [], ◌∷◌, None, Some, true, false, codes, refl}
+use Rattle.std.proofs.Common.{◌≡◌, ℕ, ℤ, pos, negsuc, List, [], ◌∷◌, None, false, codes, refl}
 use Rattle.sqlite.specs.declared.types.Value.TheVariants.{Null, Int}
 use Rattle.sqlite.specs.Term.{Term, lit, col, op2}
 use Rattle.sqlite.specs.Query.{Query, inner, end}
@@ -15,7 +15,7 @@ use Rattle.sqlite_tied.specs.Compute.{everything}
 use Rattle.sqlite.proofs.Callers.{IsPlain, command_of}
 use Rattle.tables.specs.Layout.{custody}
 use Rattle.tables.specs.Rows.{Lock, Token}
-use Rattle.tables.specs.Statements.{meta, made_by, lock_at, lock_with_id, locks_in, locks_from, token, tokens_of, read_text, Write, add_lock, add_repo, set_made, remove_lock, add_token, remove_expired, write_text}
+use Rattle.tables.specs.Statements.{meta, made_by, lock_at, lock_with_id, locks_in, locks_from, token, tokens_of, read_text, add_lock, add_repo, set_made, remove_lock, add_token, remove_expired, write_text}
 
 -- the rows of a table that pass the tests, in the order of their rowids
 abbrev pub query_of : List Term → List Term → ℕ → Query

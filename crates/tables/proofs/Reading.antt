@@ -1,12 +1,11 @@
 -- What each reading statement answers of the typed rows.
-use Rattle.std.proofs.Common.{◌≡◌, ℕ, ℤ, pos, false, List, [], ◌∷◌, map, filter, IsTrue, true, refl, sym, ap, subst, ◌∙◌}
+use Rattle.std.proofs.Common.{◌≡◌, ℕ, pos, false, List, [], ◌∷◌, map, filter, IsTrue, true, refl, sym, ap, subst, ◌∙◌}
 use Rattle.std.specs.List.{list_all}
-use Rattle.sqlite.specs.declared.types.Value.TheVariants.{Int, Text, Blob}
+use Rattle.sqlite.specs.declared.types.Value.TheVariants.{Text}
 use Rattle.sqlite.specs.Order.{Row}
 use Rattle.sqlite_sql.specs.Term.{holds}
 use Rattle.sqlite_sql.specs.declared.ops.CompareOp.TheVariants.{Eq, Ge}
 use Rattle.sqlite.specs.Listing.{understood}
-use Rattle.sqlite.specs.Query.{Query}
 use Rattle.sqlite.specs.State.{State, Shown}
 use Rattle.sqlite.proofs.Callers.{IsPlain}
 use Rattle.std.proofs.lemmas.List.{take-map}
@@ -14,7 +13,7 @@ use Rattle.sqlite.specs.Effect.{Database}
 use Rattle.sqlite_typed.proofs.TestLemmas.{at_texts, at_ints, at_blobs, then_term, last_term}
 use Rattle.sqlite_keyed.proofs.ListLemmas.{filter_all, all_of}
 use Rattle.tables.specs.Layout.{custody}
-use Rattle.tables.specs.Rows.{Meta, meta_row, meta_in, Repo, repo_row, repo_in, Token, token_row, token_in, Lock, lock_row, lock_in, IsTypedBy, tables_of}
+use Rattle.tables.specs.Rows.{Meta, meta_row, meta_in, Repo, repo_row, repo_in, Token, token_row, token_in, Lock, lock_row, lock_in, tables_of}
 use Rattle.tables.specs.Statements.{Read, meta, made_by, lock_at, lock_with_id, locks_in, locks_from, token, tokens_of, read_text, read_params, answer, Answered, by_id, show_meta, show_made, show_lock, show_token, is_named, is_at, has_id, is_in, is_from, has_digest, is_held_by}
 use Rattle.tables.specs.Runs.{IsKept, Steps, tables_in}
 use Rattle.tables.proofs.Calls.{shown_open, shown_same}

@@ -1,9 +1,8 @@
 -- What the next open finds after a stop.
-use Rattle.std.proofs.Common.{◌≡◌, IsTrue, refl, sym, ap, subst, ◌∙◌}
+use Rattle.std.proofs.Common.{IsTrue, ap, subst}
 use Rattle.std.proofs.Math.Logic.{∥∥₁_map}
 use Rattle.sqlite_disk.specs.declared.Disk.{Ghosts}
 use Rattle.sqlite_wal.specs.Recovery.{Image}
-use Rattle.sqlite_trees.specs.Tree.{Trees}
 use Rattle.sqlite_store.specs.declared.store.FileStore.{FileStore}
 use Rattle.sqlite_store.specs.FileStore.{state, view, recovers}
 use Rattle.sqlite.specs.State.{State}
@@ -20,5 +19,5 @@ pub left_again : {D : Type 0} {g : Ghosts D} (s : Store (FileStore D g)) → IsT
     → (opened : State) → FindsIn image opened → ∥ Leaves over_files s (tables_of opened.committed.trees) ∥₁
 left_again s numbered sound safe image may opened found =
     ∥∥₁_map (next_run s.conn.store numbered sound image may opened found) (λ may_find.
-      let it = safe opened.committed.trees may_find in
-      (it.0, it.1, subst (recovers s.conn.store) it.2 may_find, ap tables_of it.2))
+    let it = safe opened.committed.trees may_find in
+    (it.0, it.1, subst (recovers s.conn.store) it.2 may_find, ap tables_of it.2))

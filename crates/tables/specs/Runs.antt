@@ -1,6 +1,5 @@
 -- What a connection is left as by a statement, and by a call of several.
-use Rattle.std.specs.Prelude.{◌≡◌, ◌⊎◌, true, List, [], ◌∷◌, IsTrue, ℕ}
-use Rattle.sqlite.specs.Order.{Row}
+use Rattle.std.specs.Prelude.{◌≡◌, ◌⊎◌, true, [], ◌∷◌, IsTrue, ℕ}
 use Rattle.sqlite.specs.Tree.{Trees}
 use Rattle.sqlite.specs.State.{State, HasCleanDisk}
 use Rattle.sqlite.specs.Effect.{Database}

@@ -1,5 +1,5 @@
 -- What the calls make of the tables, and what they answer.
-use Rattle.std.specs.Prelude.{◌≡◌, ◌+ℤ◌, ℕ, ℤ, pos, Bool, if◌then◌else◌, List, [], ◌∷◌, ◌++◌, string_bytes, filter, find, Option, Some, None, is_some, option_map, unwrap_or}
+use Rattle.std.specs.Prelude.{◌≡◌, ◌+ℤ◌, ℕ, ℤ, pos, Bool, if◌then◌else◌, List, [], ◌∷◌, string_bytes, find, Option, Some, None, is_some, option_map, unwrap_or}
 use Rattle.std.specs.Ordering.{int_eq}
 use Rattle.sqlite_keyed.specs.Keyed.{next_key}
 use Rattle.tables.specs.declared.rows.NewLock.{NewLock}

@@ -1,4 +1,4 @@
-use Rattle.std.proofs.Common.{filter, pos, refl, ◌∙◌}
+use Rattle.std.proofs.Common.{filter, refl, ◌∙◌}
 use Rattle.tables.specs.Statements.{lock_at, read_text, read_params, answer, is_at}
 use Rattle.tables.specs.Steps.{read_lock, lock_fields}
 use Rattle.tables.specs.Shown.{shown}

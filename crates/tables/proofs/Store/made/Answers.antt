@@ -1,4 +1,4 @@
-use Rattle.std.proofs.Common.{filter, find, slice_get, refl, ap, ◌∙◌}
+use Rattle.std.proofs.Common.{filter, slice_get, refl, ap, ◌∙◌}
 use Rattle.sqlite_keyed.proofs.ListLemmas.{slice_get-filter}
 use Rattle.tables.specs.Statements.{made_by, read_text, read_params, answer, is_named}
 use Rattle.tables.specs.Steps.{made_in}

@@ -1,5 +1,5 @@
-use Rattle.std.proofs.Common.{pos, refl, w64, ◌≡◌, rules}
-use Rattle.std.proofs.lemmas.Int.{to_z-of_z, ints}
+use Rattle.std.proofs.Common.{pos, refl, w64, rules}
+use Rattle.std.proofs.lemmas.Int.{to_z-of_z}
 use Rattle.std.proofs.lemmas.Result.{IfOk-weaker}
 use Rattle.tables.specs.Statements.{add_lock, write_text, write_params, after}
 use Rattle.tables.specs.Steps.{asked_lock}

@@ -1,4 +1,4 @@
-use Rattle.std.proofs.Common.{pos, refl}
+use Rattle.std.proofs.Common.{refl}
 use Rattle.std.proofs.lemmas.Result.{IfOk-weaker}
 use Rattle.tables.specs.Statements.{remove_lock, write_text, write_params, after, removed}
 use Rattle.tables.proofs.locks.remove_into.Goals as goal

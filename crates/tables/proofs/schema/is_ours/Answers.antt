@@ -1,4 +1,4 @@
-use Rattle.std.proofs.Common.{◌≡◌, true, refl, sym, ap, subst, ◌∙◌}
+use Rattle.std.proofs.Common.{◌≡◌, true, refl, sym, ap, ◌∙◌}
 use Rattle.sqlite_trees.specs.View.{doubt}
 use Rattle.schemas.specs.Plain.{is_plain}
 use Rattle.tables.proofs.Stages.{custody_is_plain}

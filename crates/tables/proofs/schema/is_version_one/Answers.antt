@@ -1,5 +1,5 @@
-use Rattle.std.proofs.Common.{arith, rules, nat_eq}
-use Rattle.tables.proofs.Decoded.{one_meta, meta_one, no_meta}
+use Rattle.std.proofs.Common.{arith, rules}
+use Rattle.tables.proofs.Decoded.{one_meta, meta_one}
 use Rattle.tables.proofs.schema.is_version_one.Goals as goal
 
 pub returns-then-one-eq1-clause-one : goal.returns-then-one-eq1-clause-one
