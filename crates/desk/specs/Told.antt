@@ -1,5 +1,5 @@
 -- A reply as the definitions see it.
-use Rattle.std.specs.Prelude.{◌≡◌, ℕ, Bool, List, Err, string_bytes}
+use Rattle.std.specs.Prelude.{◌≡◌, ℕ, List, Err, string_bytes}
 use Rattle.names.specs.declared.rules.Rule.TheVariants as rule
 use Rattle.model.specs.Steps.{Answer, by_rule, is_store_refusal}
 use Rattle.model.specs.Replies.{IsBody, status_of}

@@ -41,7 +41,11 @@ fn shown(row: &LockRow) -> Option<ShownLock<'_>>
 }
 
 /// The reply to the lock that is made next, where an id is left for it.
-pub(crate) fn next_reply(alloc: Global, made: u32, wanted: &Wanted<'_>) -> Result<Option<Reply>, StoreFault>
+pub(crate) fn next_reply(
+    alloc: Global,
+    made: u32,
+    wanted: &Wanted<'_>,
+) -> Result<Option<Reply>, StoreFault>
     ensures { IfOk result (IsReadyAfter made wanted.entry.now) }
 {
     let Some(next) = made.checked_add(1) else {
@@ -56,7 +60,7 @@ pub(crate) fn next_reply(alloc: Global, made: u32, wanted: &Wanted<'_>) -> Resul
         owner: wanted.owner,
         path: wanted.path,
     };
-    match Reply::telling(alloc, &Answer::Locked(lock)) {
+    match Reply::telling(alloc, &Answer::Locked(&lock)) {
         Ok(reply) => Ok(Some(reply)),
         Err(_) => Err(StoreFault::Memory),
     }
@@ -69,7 +73,7 @@ pub(crate) fn held_reply(alloc: Global, row: &LockRow) -> Result<Reply, StoreFau
     let Some(lock) = shown(row) else {
         return Err(StoreFault::Refused);
     };
-    match Reply::telling(alloc, &Answer::Held(lock)) {
+    match Reply::telling(alloc, &Answer::Held(&lock)) {
         Ok(reply) => Ok(reply),
         Err(_) => Err(StoreFault::Memory),
     }

@@ -35,9 +35,11 @@ fn calling<S: Alter>(
 ) -> Result<Result<bool, Rule>, StoreFault> {
     let now = Moment::read(second).ok_or(StoreFault::Refused)?;
     Ok(match identify(store, authorization, now)? {
-        Ok(caller) => Ok(caller.user.as_str() == "ann"
-            && caller.repo.as_str() == "studio/film"
-            && caller.operation == Operation::Upload),
+        Ok(caller) => Ok(
+            caller.user.as_str() == "ann"
+                && caller.repo.as_str() == "studio/film"
+                && caller.operation == Operation::Upload,
+        ),
         Err(rule) => Err(rule),
     })
 }
@@ -131,7 +133,10 @@ fn a_lock_that_stands_is_told(rt: HostRuntime) -> Result<(), Fail> {
     let held = row(rt.alloc())?;
     let reply = held_reply(rt.alloc(), &held)?;
     assert_eq!(rt; reply.status, 409);
-    assert_eq!(rt; text_of(&reply), "{\"lock\":{\"id\":\"1\",\"locked_at\":\"2016-05-17T15:49:06Z\",\"owner\":{\"name\":\"ann\"},\"path\":\"art/hero.psd\"},\"message\":\"L1: already locked\"}");
+    assert_eq!(rt;
+        text_of(&reply),
+        "{\"lock\":{\"id\":\"1\",\"locked_at\":\"2016-05-17T15:49:06Z\",\"owner\":{\"name\":\"ann\"},\"path\":\"art/hero.psd\"},\"message\":\"L1: the path is already locked\"}"
+    );
     Ok(())
 }
 

@@ -321,3 +321,37 @@ fn heads_say_how_long_the_body_is(rt: HostRuntime) -> Result<(), Fail> {
     }
     Ok(())
 }
+
+#[test]
+fn clients_accept_json_or_not(rt: HostRuntime) -> Result<(), Fail> {
+    for (text, want) in [
+        (b"GET / HTTP/1.1\r\n\r\n".as_slice(), true),
+        (
+            b"GET / HTTP/1.1\r\nAccept: application/vnd.git-lfs+json\r\n\r\n".as_slice(),
+            true,
+        ),
+        (
+            b"GET / HTTP/1.1\r\naccept: text/html, Application/* ;q=0.1\r\n\r\n".as_slice(),
+            true,
+        ),
+        (
+            b"GET / HTTP/1.1\r\nAccept: text/html,\t*/*\t;q=0\r\n\r\n".as_slice(),
+            true,
+        ),
+        (
+            b"GET / HTTP/1.1\r\nAccept: application/json\r\n\r\n".as_slice(),
+            false,
+        ),
+        (
+            b"GET / HTTP/1.1\r\nAccept: application/vnd.git-lfs+json2\r\n\r\n".as_slice(),
+            false,
+        ),
+        (b"GET / HTTP/1.1\r\nAccept:\r\n\r\n".as_slice(), false),
+    ] {
+        let mut fields = room(rt.alloc())?;
+        let spans = spans_of(first_head(text, &mut fields))?;
+        let head = Head::new(front_of(text), &fields, spans);
+        assert_eq!(rt; head.accepts_json(), want, "{text:?}");
+    }
+    Ok(())
+}

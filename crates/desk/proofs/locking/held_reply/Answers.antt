@@ -1,4 +1,4 @@
-use Rattle.std.proofs.Common.{◌≡◌, ◌∙◌, sym, refl, Err, pos, ℕ, arith}
+use Rattle.std.proofs.Common.{refl, Err}
 use Rattle.model.specs.Steps.{by_lock}
 use Rattle.desk.proofs.Placing.{of_row}
 use Rattle.desk.proofs.locking.held_reply.Goals as goal

@@ -1,4 +1,4 @@
-use Rattle.std.proofs.Common.{◌≡◌, ◌∙◌, ◌+◌, sym, refl, Ok, pos, ℕ, arith}
+use Rattle.std.proofs.Common.{◌∙◌, sym, refl, Ok}
 use Rattle.model.specs.Steps.{makes_lock}
 use Rattle.desk.proofs.locking.next_reply.Goals as goal
 
