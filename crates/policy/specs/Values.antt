@@ -1,5 +1,5 @@
 -- What the crate's values stand for among the definitions of the model.
-use Rattle.std.specs.Prelude.{◌≡◌, ◌≤◌, List, IsTrue, length, map, string_bytes, option_map}
+use Rattle.std.specs.Prelude.{◌≡◌, ◌≤◌, Bool, ◌&&◌, List, IsTrue, length, map, string_bytes, option_map}
 use Rattle.names.specs.Names.{user_text, repo_text, ref_text, path_text}
 use Rattle.model.specs.Policy as model
 use Rattle.policy.specs.Ranges.{texts, are_distinct, is_base, longest_life, most_repos, most_rows}
@@ -48,6 +48,12 @@ question_view q = record {
   ref = option_map ref_text q.ref_name;
   path = option_map path_text q.path;
 }
+
+-- the users, repositories, refs and paths of the row hold the question
+abbrev pub is_about : model.Row → model.Question → Bool
+is_about row q =
+    model.held_by row.users q.user && model.held_by row.repos q.repo
+    && model.held_if_named row.refs q.ref && model.held_if_named row.paths q.path
 
 abbrev pub decision_view : Verdict → model.Decision
 decision_view (Allow n) = model.allowed n

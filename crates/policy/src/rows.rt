@@ -74,16 +74,23 @@ fn has_right(rights: &[Right], asked: Right) -> bool
 }
 
 impl Row {
-    ghost use Rattle.policy.specs.Values.{row_view, question_view};
+    ghost use Rattle.policy.specs.Values.{row_view, question_view, is_about};
 
-    /// Whether all five lists hold the question.
+    /// Whether all five lists hold the question. The rights are looked at first, since they are
+    /// the shortest to compare.
     pub fn matches(&self, question: &Question) -> bool
         ensures { result ≡ matches (row_view self.now) (question_view question.now) }
+    {
+        has_right(&self.rights, question.right) && self.is_about(question)
+    }
+
+    /// Whether the first four lists hold the question.
+    fn is_about(&self, question: &Question) -> bool
+        ensures { result ≡ is_about (row_view self.now) (question_view question.now) }
     {
         held_if_named(&self.users, Some(question.user.as_str()))
             && held_if_named(&self.repos, Some(question.repo.as_str()))
             && held_if_named(&self.refs, question.ref_text())
             && held_if_named(&self.paths, question.path_text())
-            && has_right(&self.rights, question.right)
     }
 }
