@@ -65,9 +65,9 @@ first_one : (bytes rest next : List ℕ) (exchanges : List Exchange) (e : Exchan
 first_one bytes rest next [] e same begins =
     (next, subst (λ (b : List ℕ). BeginsWith b e.asked next) same begins, last_one (closes e))
   where
-  last_one : (v : Bool) → MatchBool v (◌≡◌ {A = List Exchange} [] []) ⊤
-  last_one true = refl
-  last_one false = tt
+    last_one : (v : Bool) → MatchBool v (◌≡◌ {A = List Exchange} [] []) ⊤
+    last_one true = refl
+    last_one false = tt
 first_one bytes rest next (f ∷ exchanges) e leads begins =
     (leads.0, leads.1, rw leads.2 (first_one leads.0 rest next exchanges e leads.3 begins))
 
