@@ -1,7 +1,16 @@
 -- A lock that is asked for.
-use Rattle.std.specs.Prelude.{◌≡◌, ◌+◌, ◌≤◌, ℕ, pos, Option, Some, None, Ok, Err, string_bytes}
-use Rattle.names.specs.Texts.{last_lock_id}
-use Rattle.model.specs.Steps.{makes_lock, by_lock}
+use Rattle.std.specs.Prelude.{◌≡◌, ◌+◌, ◌≤◌, ℕ, pos, Option, Some, None, Ok, Err, string_bytes, IsTrue}
+use Rattle.sqlite_trees.specs.declared.store.Store.{Ghosts}
+use Rattle.names.specs.Texts.{last_lock_id, last_moment, is_repo, is_ref, is_lock_path, is_user}
+use Rattle.names.specs.declared.rules.Rule.TheVariants.{L5}
+use Rattle.model.specs.Steps.{makes_lock, by_lock, by_rule, place_verdict, after}
+use Rattle.tables.specs.Rows as row
+use Rattle.tables.specs.Steps.{asked_lock}
+use Rattle.tables.specs.declared.Store.{Store}
+use Rattle.tables.specs.declared.rows.NewLock.{NewLock}
+use Rattle.tables.specs.declared.rows.Creation.{Creation}
+use Rattle.tables.specs.declared.rows.Creation.TheVariants.{Created, Held, UsedUp}
+use Rattle.worlds.specs.Standing.{Holds}
 use Rattle.desk.specs.declared.replies.Reply.{Reply}
 use Rattle.desk.specs.Told.{IsReplyOf}
 use Rattle.names.specs.Names.{repo_text, ref_text, path_text, user_text}
@@ -38,3 +47,37 @@ IsReadyAfter made w None = last_lock_id ≤ made
 abbrev pub TellsHeld : LockRow → Reply → Type 0
 TellsHeld row reply =
     (l : Lock) → pos l.id ≡ pos row.id → pos l.at ≡ row.moment → l.owner ≡ string_bytes row.owner → l.path ≡ string_bytes row.path → IsReplyOf reply (Err (by_lock l))
+
+-- the row that is asked for it
+abbrev pub row_asked : Wanted → row.Lock
+row_asked w = record { rowid = pos 0; repo = repo_text w.repo; id = pos 0; ref_name = ref_text w.ref_name; path = path_text w.path; owner = user_text w.owner; moment = pos w.now }
+
+-- its parts are in range
+pub record IsInRange (w : Wanted) : Type 0 where
+  pub repo : IsTrue (is_repo (repo_text w.repo))
+  pub ref : IsTrue (is_ref (ref_text w.ref_name))
+  pub path : IsTrue (is_lock_path (path_text w.path))
+  pub owner : IsTrue (is_user (user_text w.owner))
+  pub at : w.now ≤ last_moment
+
+-- what the tables are asked for is what is wanted
+pub record IsAskedFor (w : Wanted) (lock : NewLock) : Type 0 where
+  pub row : asked_lock lock ≡ row_asked w
+  pub range : IsInRange w
+
+-- the reply tells what came of it; this one was ready for a lock that is made
+abbrev pub TellsCreation : Creation → Option Reply → Reply → Type 0
+TellsCreation (Created id) ready reply = ready ≡ Some reply
+TellsCreation (Held row) ready reply = TellsHeld row reply
+TellsCreation UsedUp ready reply = IsReplyOf reply (Err (by_rule L5))
+
+-- no lock was made without a reply to tell it
+abbrev pub IsUntold : Creation → Option Reply → Type 0
+IsUntold (Created id) ready = ready ≡ None
+IsUntold (Held row) ready = Unit {0}
+IsUntold UsedUp ready = Unit {0}
+
+-- the reply tells the verdict on the place, and the store holds the world after it
+pub record IsPlaced {S : Type 0} (g : Ghosts S) (new : Store S) (world : World) (w : Wanted) (reply : Reply) : Type 0 where
+  pub tells : IsReplyOf reply (place_verdict world (lock_asked world w))
+  pub holds : Holds g new (after world (place_verdict world (lock_asked world w)))

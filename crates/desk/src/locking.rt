@@ -1,7 +1,7 @@
 //! The request for a lock (Git LFS API, File Locking, "Create Lock").
 
 ghost use Rattle.std.specs.Prelude.{◌≡◌, ◌+◌, IfOk, OnErr, IfSome, Err, false, pos};
-ghost use Rattle.names.specs.Names.{repo_text, ref_text, path_text, user_text};
+ghost use Rattle.names.specs.declared.rules.Rule.TheVariants.{L5};
 ghost use Rattle.model.specs.World.{World, Lock};
 ghost use Rattle.model.specs.Steps.{by_rule, is_store_refusal, place_verdict, after};
 ghost use Rattle.tables.specs.Steps.{read_lock, lock_fields};
@@ -9,12 +9,12 @@ ghost use Rattle.tables.specs.Shown.{IsHonest};
 ghost use Rattle.worlds.specs.Standing.{Holds, lock_row};
 ghost use Rattle.forms.specs.Told.{Tells};
 ghost use Rattle.desk.specs.Told.{IsReplyOf, NamesNoMethod};
-ghost use Rattle.desk.specs.Locking.{lock_asked, ShowsRow, IsReadyAfter, TellsHeld};
+ghost use Rattle.desk.specs.Locking.{lock_asked, ShowsRow, IsReadyAfter, TellsHeld, IsAskedFor, TellsCreation, IsUntold, IsPlaced};
 
 use crate::replies::Reply;
 use forms::{Answer, ShownLock};
 use names::{LockId, LockPath, Moment, RefName, RepoName, Rule, UserName};
-use std::alloc::Global;
+use std::alloc::{AllocError, Global};
 use tables::{Alter, Creation, LockRow, NewLock, Store, StoreFault};
 
 /// The place of a lock, who asks for it, and when.
@@ -77,4 +77,60 @@ pub(crate) fn held_reply(alloc: Global, row: &LockRow) -> Result<Reply, StoreFau
         Ok(reply) => Ok(reply),
         Err(_) => Err(StoreFault::Memory),
     }
+}
+
+/// The reply where the repository's ids are used up.
+fn used_up_reply(alloc: Global) -> Result<Reply, AllocError>
+    ensures { IfOk result (λ reply. IsReplyOf reply (Err (by_rule L5))) }
+{
+    Reply::telling(alloc, &Answer::Denied(Rule::L5))
+}
+
+/// The reply to what came of it, where this one is ready for a lock that was made.
+fn reply_to(alloc: Global, creation: &Creation, ready: Option<Reply>) -> Result<Reply, StoreFault>
+    ensures told { IfOk result (TellsCreation creation.entry.now ready) }
+    ensures refused { OnErr result (IsUntold creation.entry.now ready) }
+{
+    match creation {
+        Creation::Created(_) => ready.ok_or(StoreFault::Refused),
+        Creation::Held(row) => held_reply(alloc, row),
+        Creation::UsedUp => match used_up_reply(alloc) {
+            Ok(reply) => Ok(reply),
+            Err(_) => Err(StoreFault::Memory),
+        },
+    }
+}
+
+/// What the tables are asked for.
+fn row_of<'a>(wanted: &Wanted<'a>) -> NewLock<'a>
+    ensures { IsAskedFor wanted.entry.now result }
+{
+    NewLock {
+        repo: wanted.repo.as_str(),
+        ref_name: wanted.ref_name.as_str(),
+        path: wanted.path.as_str(),
+        owner: wanted.owner.as_str(),
+        moment: wanted.now.get() as i64,
+    }
+}
+
+/// Makes the lock where its place is free and an id is left for it, and tells what came of it.
+///
+/// The text that tells of the lock is ready before it is made, so no lock is made untold.
+///
+/// # Errors
+///
+/// A [`StoreFault`], which leaves what the store holds.
+pub(crate) fn make_lock<S: Alter>(
+    store: &mut Store<S>,
+    alloc: Global,
+    wanted: &Wanted<'_>,
+) -> Result<Reply, StoreFault>
+    ensures told { IsHonest S.Store store.new → (world : World) → Holds S.Store store.old world → IfOk result (IsPlaced S.Store store.new world wanted.entry.now) }
+    ensures refused { IsHonest S.Store store.new → (world : World) → Holds S.Store store.old world → OnErr result (Holds S.Store store.new world) }
+{
+    let made = store.made(wanted.repo.as_str())?;
+    let ready = next_reply(alloc, made, wanted)?;
+    let creation = store.create_lock(&row_of(wanted))?;
+    reply_to(alloc, &creation, ready)
 }

@@ -1,5 +1,5 @@
 use super::*;
-use crate::locking::{Wanted, held_reply, next_reply};
+use crate::locking::{Wanted, held_reply, make_lock, next_reply};
 use names::{LockPath, Moment, RefName, RepoName, Rule, UserName};
 use sqlite::MemStore;
 use std::alloc::Global;
@@ -146,5 +146,31 @@ fn a_refusal_by_the_store_is_told(rt: HostRuntime) -> Result<(), Fail> {
     assert_eq!(rt; reply.status, 500);
     assert!(rt; reply.is_store_refusal);
     assert_eq!(rt; text_of(&reply), "{\"message\":\"S1: the store refused\"}");
+    Ok(())
+}
+
+/// The reply to ann's wish.
+fn made<S: Alter>(store: &mut Store<S>, alloc: Global) -> Result<Reply, StoreFault> {
+    let Some(wanted) = wanted() else {
+        return Err(StoreFault::Refused);
+    };
+    make_lock(store, alloc, &wanted)
+}
+
+#[test]
+fn a_path_is_locked_once(rt: HostRuntime) -> Result<(), Fail> {
+    let mut store = with_token(rt.alloc())?;
+    let first = made(&mut store, rt.alloc())?;
+    assert_eq!(rt; first.status, 201);
+    assert_eq!(rt;
+        text_of(&first),
+        "{\"lock\":{\"id\":\"1\",\"locked_at\":\"2016-05-17T15:49:06Z\",\"owner\":{\"name\":\"ann\"},\"path\":\"art/hero.psd\"}}"
+    );
+    let second = made(&mut store, rt.alloc())?;
+    assert_eq!(rt; second.status, 409);
+    assert_eq!(rt;
+        text_of(&second),
+        "{\"lock\":{\"id\":\"1\",\"locked_at\":\"2016-05-17T15:49:06Z\",\"owner\":{\"name\":\"ann\"},\"path\":\"art/hero.psd\"},\"message\":\"L1: the path is already locked\"}"
+    );
     Ok(())
 }

@@ -115,7 +115,7 @@ pub record IsNewLock (world : World) (l : Lock) : Type 0 where
 abbrev IsGrantable : World → Granted → Type 0
 IsGrantable world (makes_lock l) = IsNewLock world l
 
-counted_itself : (repo : List ℕ) (made : List ℕ → ℕ) → counted repo made repo ≡ made repo + 1
+pub counted_itself : (repo : List ℕ) (made : List ℕ → ℕ) → counted repo made repo ≡ made repo + 1
 counted_itself repo made = rw ((bytes_eq-Decides repo repo).1 refl) refl
 
 lock_passed : (P : Granted → Type 0) (may : Result ⊤ Denial) (there : Option Lock) (room : Bool) (g : Granted)
