@@ -1,5 +1,5 @@
 -- From what came of a lock in the tables to the verdict of the definitions.
-use Rattle.std.proofs.Common.{◌≡◌, ◌∙◌, ◌+◌, ◌<◌, ◌≤◌, ℕ, pos, true, false, nat_lt, Option, Some, None, Ok, Err, List, refl, sym, ap, subst, arith}
+use Rattle.std.proofs.Common.{◌≡◌, ◌∙◌, ◌<◌, ◌≤◌, ℕ, pos, true, false, nat_lt, Option, Some, None, Ok, Err, List, refl, sym, ap, subst, arith}
 use Rattle.std.proofs.lemmas.Bool.Decides.{nat_tests}
 use Rattle.sqlite_trees.specs.declared.store.Store.{Ghosts}
 use Rattle.names.specs.Names.{repo_text}
@@ -8,20 +8,18 @@ use Rattle.names.specs.declared.rules.Rule.TheVariants.{L5}
 use Rattle.model.specs.World.{World, Lock, lock_at}
 use Rattle.model.specs.Steps.{Answer, makes_lock, by_lock, by_rule, place_verdict, after}
 use Rattle.model.proofs.Keeping.{IsNewLock, counted_itself}
-use Rattle.tables.specs.Rows as row
 use Rattle.tables.specs.Shown.{IsHonest, IsOpen, shown, Moves}
-use Rattle.tables.specs.Steps.{LockFields, outcome_of, made_of, read_creation, read_lock, lock_fields, after_create}
+use Rattle.tables.specs.Steps.{LockFields, outcome_of, made_of, read_creation, read_lock, after_create}
 use Rattle.tables.specs.declared.Store.{Store}
-use Rattle.tables.specs.declared.rows.LockRow.{LockRow}
 use Rattle.tables.specs.declared.rows.Creation.{Creation}
 use Rattle.tables.specs.declared.rows.Creation.TheVariants.{Created, Held, UsedUp}
-use Rattle.worlds.specs.Standing.{Holds, StandsFor, lock_kept, lock_row}
+use Rattle.worlds.specs.Standing.{Holds, StandsFor, lock_kept}
 use Rattle.worlds.proofs.Outcomes.{outcome_created, outcome_held, outcome_used}
 use Rattle.worlds.proofs.Holding.{holds_if_held, holds_if_used, holds_created}
 use Rattle.desk.specs.declared.locking.Wanted.{Wanted}
 use Rattle.desk.specs.declared.replies.Reply.{Reply}
 use Rattle.desk.specs.Told.{IsReplyOf}
-use Rattle.desk.specs.Locking.{lock_asked, row_asked, IsInRange, IsReadyAfter, TellsHeld, TellsCreation, IsUntold, IsPlaced}
+use Rattle.desk.specs.Locking.{lock_wanted, row_asked, IsInRange, IsReadyAfter, TellsCreation, IsUntold, IsPlaced}
 
 granted : (world : World) (l : Lock) → lock_at l.repo l.ref l.path world ≡ None → nat_lt (world.made l.repo) last_lock_id ≡ true → place_verdict world l ≡ Ok (makes_lock l)
 granted world l free left = rw (free, left) refl
@@ -35,8 +33,8 @@ no_id world l free left = rw (free, left) refl
 less : (a b : ℕ) → a < b → nat_lt a b ≡ true
 less a b h = grind (arith, nat_tests)
 
-is_new : (world : World) (w : Wanted) → IsInRange w → lock_at (lock_asked world w).repo (lock_asked world w).ref (lock_asked world w).path world ≡ None
-    → world.made (repo_text w.repo) < last_lock_id → IsNewLock world (lock_asked world w)
+is_new : (world : World) (w : Wanted) → IsInRange w → lock_at (lock_wanted world w).repo (lock_wanted world w).ref (lock_wanted world w).path world ≡ None
+    → world.made (repo_text w.repo) < last_lock_id → IsNewLock world (lock_wanted world w)
 is_new world w range free room = record {
   is = record {
     repo = range.repo;
@@ -54,7 +52,7 @@ is_new world w range free room = record {
 
 module _ {S : Type 0} (g : Ghosts S) (mid new : Store S) (world : World) (w : Wanted) where
   -- the verdict is this one, the reply tells it, and the store holds what it leaves
-  by : (reply : Reply) (given : Answer) → place_verdict world (lock_asked world w) ≡ given → IsReplyOf reply given → Holds g new (after world given) → IsPlaced g new world w reply
+  by : (reply : Reply) (given : Answer) → place_verdict world (lock_wanted world w) ≡ given → IsReplyOf reply given → Holds g new (after world given) → IsPlaced g new world w reply
   by reply given is tells holds = record {
     tells = subst (λ (v : Answer). IsReplyOf reply v) (sym is) tells;
     holds = subst (λ (v : Answer). Holds g new (after world v)) (sym is) holds;
@@ -75,19 +73,19 @@ module _ {S : Type 0} (g : Ghosts S) (mid new : Store S) (world : World) (w : Wa
 
   pub placed : (creation : Creation) (ready : Option Reply) (reply : Reply) → WasAsked creation ready → TellsCreation creation ready reply → IsPlaced g new world w reply
   placed (Created id) ready reply a told =
-      let l = lock_asked world w in
+      let l = lock_wanted world w in
       let o = outcome_created (shown g mid) world (row_asked w) id (shows (Created id) ready a) a.holds.laws a.outcome in
       let tells : IsReadyAfter (world.made (repo_text w.repo)) w (Some reply) = subst (IsReadyAfter (world.made (repo_text w.repo)) w) told a.ready_for in
       by reply (Ok (makes_lock l)) (granted world l o.0 (less _ _ o.1)) (tells l refl refl refl refl)
       (holds_created g mid new world (row_asked w) id l a.moves a.outcome (ap (λ (n : ℕ). lock_kept (record (row_asked w) { id = pos n })) o.2) refl o.2 (is_new world w a.range o.0 o.1) a.holds)
   placed (Held found) ready reply a told =
-      let l = lock_asked world w in
+      let l = lock_wanted world w in
       let o = outcome_held (shown g mid) world (row_asked w) (read_lock found) (shows (Held found) ready a) a.holds.laws a.outcome in
       by reply (Err (by_lock o.0)) (stands world l o.0 o.1)
       (told o.0 (ap (λ (f : LockFields). f.id) (sym o.2)) (ap (λ (f : LockFields). f.moment) (sym o.2)) (ap (λ (f : LockFields). f.owner) (sym o.2)) (ap (λ (f : LockFields). f.path) (sym o.2)))
       (holds_if_held g mid new world (row_asked w) (read_lock found) a.moves (λ _. a.outcome) a.holds)
   placed UsedUp ready reply a told =
-      let l = lock_asked world w in
+      let l = lock_wanted world w in
       let o = outcome_used (shown g mid) world (row_asked w) (shows UsedUp ready a) a.holds.laws a.outcome in
       by reply (Err (by_rule L5)) (no_id world l o.0 o.1) told (holds_if_used g mid new world (row_asked w) a.moves (λ _. a.outcome) a.holds)
 

@@ -20,8 +20,8 @@ use Rattle.tables.specs.declared.rows.LockRow.{LockRow}
 use Rattle.desk.specs.declared.locking.Wanted.{Wanted}
 
 -- the lock that is made of it in the world
-abbrev pub lock_asked : World → Wanted → Lock
-lock_asked world w = record {
+abbrev pub lock_wanted : World → Wanted → Lock
+lock_wanted world w = record {
   repo = repo_text w.repo;
   id = world.made (repo_text w.repo) + 1;
   ref = ref_text w.ref_name;
@@ -79,5 +79,5 @@ IsUntold UsedUp ready = Unit {0}
 
 -- the reply tells the verdict on the place, and the store holds the world after it
 pub record IsPlaced {S : Type 0} (g : Ghosts S) (new : Store S) (world : World) (w : Wanted) (reply : Reply) : Type 0 where
-  pub tells : IsReplyOf reply (place_verdict world (lock_asked world w))
-  pub holds : Holds g new (after world (place_verdict world (lock_asked world w)))
+  pub tells : IsReplyOf reply (place_verdict world (lock_wanted world w))
+  pub holds : Holds g new (after world (place_verdict world (lock_wanted world w)))

@@ -1,6 +1,6 @@
 //! Who calls: the token that a request bears, and what the store knows of it (RFC 6750).
 
-ghost use Rattle.std.specs.Prelude.{◌≡◌, option_map, codes, Some, IfOk};
+ghost use Rattle.std.specs.Prelude.{◌≡◌, option_map, Some, IfOk};
 ghost use Rattle.std.specs.List.{list_all};
 ghost use Rattle.sha2.specs.Sha256.{sha256};
 ghost use Rattle.model.specs.Steps.{bearer, is_visible};

@@ -1,15 +1,13 @@
 //! The request for a lock (Git LFS API, File Locking, "Create Lock").
 
-ghost use Rattle.std.specs.Prelude.{◌≡◌, ◌+◌, IfOk, OnErr, IfSome, Err, false, pos};
+ghost use Rattle.std.specs.Prelude.{IfOk, OnErr, IfSome, Err};
 ghost use Rattle.names.specs.declared.rules.Rule.TheVariants.{L5};
-ghost use Rattle.model.specs.World.{World, Lock};
-ghost use Rattle.model.specs.Steps.{by_rule, is_store_refusal, place_verdict, after};
-ghost use Rattle.tables.specs.Steps.{read_lock, lock_fields};
+ghost use Rattle.model.specs.World.{World};
+ghost use Rattle.model.specs.Steps.{by_rule};
 ghost use Rattle.tables.specs.Shown.{IsHonest};
-ghost use Rattle.worlds.specs.Standing.{Holds, lock_row};
-ghost use Rattle.forms.specs.Told.{Tells};
-ghost use Rattle.desk.specs.Told.{IsReplyOf, NamesNoMethod};
-ghost use Rattle.desk.specs.Locking.{lock_asked, ShowsRow, IsReadyAfter, TellsHeld, IsAskedFor, TellsCreation, IsUntold, IsPlaced};
+ghost use Rattle.worlds.specs.Standing.{Holds};
+ghost use Rattle.desk.specs.Told.{IsReplyOf};
+ghost use Rattle.desk.specs.Locking.{ShowsRow, IsReadyAfter, TellsHeld, IsAskedFor, TellsCreation, IsUntold, IsPlaced};
 
 use crate::replies::Reply;
 use forms::{Answer, ShownLock};

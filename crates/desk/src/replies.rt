@@ -1,9 +1,7 @@
 //! What the desk answers, before the connection adds its lines.
 
-ghost use Rattle.std.specs.Prelude.{◌≡◌, IfOk, Err, string_bytes};
+ghost use Rattle.std.specs.Prelude.{◌≡◌};
 ghost use Rattle.names.specs.declared.rules.Rule.TheVariants.{S1};
-ghost use Rattle.model.specs.Steps.{by_rule, store_refused};
-ghost use Rattle.model.specs.Steps as step;
 ghost use Rattle.model.specs.Replies.{message_body, rule_message};
 
 use forms::Answer;
@@ -37,9 +35,8 @@ fn refusal_text() -> &'static str
 }
 
 impl Reply {
-    ghost use Rattle.std.specs.Prelude.{◌≡◌, IfOk, Err, false};
-    ghost use Rattle.names.specs.declared.rules.Rule.TheVariants.{S1};
-    ghost use Rattle.model.specs.Steps.{by_rule, store_refused, is_store_refusal};
+    ghost use Rattle.std.specs.Prelude.{◌≡◌, IfOk, false};
+    ghost use Rattle.model.specs.Steps.{store_refused, is_store_refusal};
     ghost use Rattle.forms.specs.Told.{Tells};
     ghost use Rattle.desk.specs.Told.{IsReplyOf, NamesNoMethod};
 
