@@ -19,7 +19,8 @@ use Rattle.worlds.proofs.Holding.{holds_if_held, holds_if_used, holds_created}
 use Rattle.desk.specs.declared.locking.Wanted.{Wanted}
 use Rattle.desk.specs.declared.replies.Reply.{Reply}
 use Rattle.desk.specs.Told.{IsReplyOf}
-use Rattle.desk.specs.Locking.{lock_wanted, row_asked, IsInRange, IsReadyAfter, TellsCreation, IsUntold, IsPlaced}
+use Rattle.desk.specs.Done.{IsDone}
+use Rattle.desk.specs.Locking.{lock_wanted, row_asked, IsInRange, IsReadyAfter, TellsCreation, IsUntold}
 
 granted : (world : World) (l : Lock) → lock_at l.repo l.ref l.path world ≡ None → nat_lt (world.made l.repo) last_lock_id ≡ true → place_verdict world l ≡ Ok (makes_lock l)
 granted world l free left = rw (free, left) refl
@@ -52,7 +53,7 @@ is_new world w range free room = record {
 
 module _ {S : Type 0} (g : Ghosts S) (mid new : Store S) (world : World) (w : Wanted) where
   -- the verdict is this one, the reply tells it, and the store holds what it leaves
-  by : (reply : Reply) (given : Answer) → place_verdict world (lock_wanted world w) ≡ given → IsReplyOf reply given → Holds g new (after world given) → IsPlaced g new world w reply
+  by : (reply : Reply) (given : Answer) → place_verdict world (lock_wanted world w) ≡ given → IsReplyOf reply given → Holds g new (after world given) → IsDone g new world (place_verdict world (lock_wanted world w)) reply
   by reply given is tells holds = record {
     tells = subst (λ (v : Answer). IsReplyOf reply v) (sym is) tells;
     holds = subst (λ (v : Answer). Holds g new (after world v)) (sym is) holds;
@@ -71,7 +72,7 @@ module _ {S : Type 0} (g : Ghosts S) (mid new : Store S) (world : World) (w : Wa
   shows : (creation : Creation) (ready : Option Reply) → WasAsked creation ready → StandsFor (shown g mid) world
   shows creation ready a = a.holds.shows (a.moves.was_honest a.honest) a.is_open
 
-  pub placed : (creation : Creation) (ready : Option Reply) (reply : Reply) → WasAsked creation ready → TellsCreation creation ready reply → IsPlaced g new world w reply
+  pub placed : (creation : Creation) (ready : Option Reply) (reply : Reply) → WasAsked creation ready → TellsCreation creation ready reply → IsDone g new world (place_verdict world (lock_wanted world w)) reply
   placed (Created id) ready reply a told =
       let l = lock_wanted world w in
       let o = outcome_created (shown g mid) world (row_asked w) id (shows (Created id) ready a) a.holds.laws a.outcome in

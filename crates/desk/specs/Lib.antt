@@ -2,3 +2,4 @@ pub mod Bearers
 pub mod Callers
 pub mod Told
 pub mod Locking
+pub mod Done

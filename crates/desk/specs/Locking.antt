@@ -1,16 +1,21 @@
 -- A lock that is asked for.
 use Rattle.std.specs.Prelude.{◌≡◌, ◌+◌, ◌≤◌, ℕ, pos, Option, Some, None, Ok, Err, string_bytes, IsTrue}
-use Rattle.sqlite_trees.specs.declared.store.Store.{Ghosts}
 use Rattle.names.specs.Texts.{last_lock_id, last_moment, is_repo, is_ref, is_lock_path, is_user}
 use Rattle.names.specs.declared.rules.Rule.TheVariants.{L5}
-use Rattle.model.specs.Steps.{makes_lock, by_lock, by_rule, place_verdict, after}
+use Rattle.model.specs.Steps.{Answer, makes_lock, by_lock, by_rule, place_verdict, permitted, ref_asked}
+use Rattle.model.specs.Reading.{◌>>=◌}
+use Rattle.model.specs.Policy.{Policy, Question, decide}
+use Rattle.model.specs.declared.Right.TheVariants as right
+use Rattle.names.specs.declared.texts.UserName.{UserName}
+use Rattle.forms.specs.Requests.{lock_asked}
+use Rattle.forms.specs.declared.lock.LockRequest.{LockRequest}
+use Rattle.policy.specs.Values.{repo_view}
+use Rattle.policy.specs.declared.repos.Repo.{Repo}
 use Rattle.tables.specs.Rows as row
 use Rattle.tables.specs.Steps.{asked_lock}
-use Rattle.tables.specs.declared.Store.{Store}
 use Rattle.tables.specs.declared.rows.NewLock.{NewLock}
 use Rattle.tables.specs.declared.rows.Creation.{Creation}
 use Rattle.tables.specs.declared.rows.Creation.TheVariants.{Created, Held, UsedUp}
-use Rattle.worlds.specs.Standing.{Holds}
 use Rattle.desk.specs.declared.replies.Reply.{Reply}
 use Rattle.desk.specs.Told.{IsReplyOf}
 use Rattle.names.specs.Names.{repo_text, ref_text, path_text, user_text}
@@ -77,7 +82,19 @@ IsUntold (Created id) ready = ready ≡ None
 IsUntold (Held row) ready = Unit {0}
 IsUntold UsedUp ready = Unit {0}
 
--- the reply tells the verdict on the place, and the store holds the world after it
-pub record IsPlaced {S : Type 0} (g : Ghosts S) (new : Store S) (world : World) (w : Wanted) (reply : Reply) : Type 0 where
-  pub tells : IsReplyOf reply (place_verdict world (lock_wanted world w))
-  pub holds : Holds g new (after world (place_verdict world (lock_wanted world w)))
+-- what is wanted is what the request asks, of the repository and for the user
+pub record IsWantedBy (r : Repo) (user : UserName) (now : ℕ) (asked : LockRequest) (w : Wanted) : Type 0 where
+  pub repo : repo_text w.repo ≡ (repo_view r).name
+  pub ref : ref_text w.ref_name ≡ ref_asked (lock_asked asked) (repo_view r)
+  pub path : path_text w.path ≡ (lock_asked asked).path
+  pub owner : user_text w.owner ≡ user_text user
+  pub at : w.now ≡ now
+
+-- whether the policy allows it
+abbrev pub question_on : Wanted → Question
+question_on w = record { user = user_text w.owner; repo = repo_text w.repo; right = right.Lock; ref = Some (ref_text w.ref_name); path = Some (path_text w.path) }
+
+-- the answer to it: the policy's denial, or the verdict on the place
+abbrev pub allowed_verdict : World → Policy → Wanted → Answer
+allowed_verdict world policy w =
+    permitted (decide policy (question_on w)) right.Lock 403 >>= λ may. place_verdict world (lock_wanted world w)

@@ -1,17 +1,23 @@
 //! The request for a lock (Git LFS API, File Locking, "Create Lock").
 
-ghost use Rattle.std.specs.Prelude.{IfOk, OnErr, IfSome, Err};
+ghost use Rattle.std.specs.Prelude.{◌≡◌, IfOk, OnErr, IfSome, Err};
 ghost use Rattle.names.specs.declared.rules.Rule.TheVariants.{L5};
 ghost use Rattle.model.specs.World.{World};
-ghost use Rattle.model.specs.Steps.{by_rule};
+ghost use Rattle.model.specs.Steps.{by_rule, by_row, place_verdict};
+ghost use Rattle.model.specs.declared.Right.TheVariants as right;
+ghost use Rattle.model.specs.Policy.{decide};
+ghost use Rattle.policy.specs.Values.{policy_view, decision_view};
 ghost use Rattle.tables.specs.Shown.{IsHonest};
 ghost use Rattle.worlds.specs.Standing.{Holds};
 ghost use Rattle.desk.specs.Told.{IsReplyOf};
-ghost use Rattle.desk.specs.Locking.{ShowsRow, IsReadyAfter, TellsHeld, IsAskedFor, TellsCreation, IsUntold, IsPlaced};
+ghost use Rattle.desk.specs.Locking.{ShowsRow, IsReadyAfter, TellsHeld, IsAskedFor, TellsCreation, IsUntold, IsWantedBy, lock_wanted, question_on, allowed_verdict};
+ghost use Rattle.desk.specs.Done.{IsDone};
 
 use crate::replies::Reply;
-use forms::{Answer, ShownLock};
+use forms::{Answer, LockRequest, ShownLock};
+use model::Right;
 use names::{LockId, LockPath, Moment, RefName, RepoName, Rule, UserName};
+use policy::{Policy, Question, Repo, Verdict, decide};
 use std::alloc::{AllocError, Global};
 use tables::{Alter, Creation, LockRow, NewLock, Store, StoreFault};
 
@@ -124,11 +130,81 @@ pub(crate) fn make_lock<S: Alter>(
     alloc: Global,
     wanted: &Wanted<'_>,
 ) -> Result<Reply, StoreFault>
-    ensures told { IsHonest S.Store store.new → (world : World) → Holds S.Store store.old world → IfOk result (IsPlaced S.Store store.new world wanted.entry.now) }
+    ensures told { IsHonest S.Store store.new → (world : World) → Holds S.Store store.old world → IfOk result (IsDone S.Store store.new world (place_verdict world (lock_wanted world wanted.entry.now))) }
     ensures refused { IsHonest S.Store store.new → (world : World) → Holds S.Store store.old world → OnErr result (Holds S.Store store.new world) }
 {
     let made = store.made(wanted.repo.as_str())?;
     let ready = next_reply(alloc, made, wanted)?;
     let creation = store.create_lock(&row_of(wanted))?;
     reply_to(alloc, &creation, ready)
+}
+
+/// The lock that the request asks for, of this repository and for this user.
+fn wanted_by<'a>(
+    repo: &'a Repo,
+    owner: UserName<'a>,
+    now: Moment,
+    asked: &'a LockRequest,
+) -> Wanted<'a>
+    ensures { IsWantedBy repo.entry.now owner.entry now asked.entry.now result }
+{
+    let ref_name = match &asked.ref_name {
+        Some(name) => RefName::read(name.as_str()).unwrap(),
+        None => repo.default_ref(),
+    };
+    Wanted {
+        repo: repo.name(),
+        ref_name,
+        path: LockPath::read(asked.path.as_str()).unwrap(),
+        owner,
+        now,
+    }
+}
+
+/// What the policy says to the lock.
+fn verdict_on(policy: &Policy, wanted: &Wanted<'_>) -> Verdict
+    ensures { decision_view result ≡ decide (policy_view policy.entry.now) (question_on wanted.entry.now) }
+{
+    decide(
+        policy,
+        &Question {
+            user: wanted.owner,
+            repo: wanted.repo,
+            right: Right::Lock,
+            ref_name: Some(wanted.ref_name),
+            path: Some(wanted.path),
+        },
+    )
+}
+
+/// The reply where the policy denies the lock.
+fn denied_reply(alloc: Global, row: u32) -> Result<Reply, AllocError>
+    ensures { IfOk result (λ reply. IsReplyOf reply (Err (by_row row right.Lock 403))) }
+{
+    let denial = Answer::DeniedByRow {
+        row,
+        right: Right::Lock,
+        status: 403,
+    };
+    Reply::telling(alloc, &denial)
+}
+
+/// Answers the wish for a lock: the policy's denial, or what comes of it.
+///
+/// # Errors
+///
+/// A [`StoreFault`], which leaves what the store holds.
+pub(crate) fn lock<S: Alter>(
+    store: &mut Store<S>,
+    alloc: Global,
+    policy: &Policy,
+    wanted: &Wanted<'_>,
+) -> Result<Reply, StoreFault>
+    ensures told { IsHonest S.Store store.new → (world : World) → Holds S.Store store.old world → IfOk result (IsDone S.Store store.new world (allowed_verdict world (policy_view policy.entry.now) wanted.entry.now)) }
+    ensures refused { IsHonest S.Store store.new → (world : World) → Holds S.Store store.old world → OnErr result (Holds S.Store store.new world) }
+{
+    match verdict_on(policy, wanted) {
+        Verdict::Allow(_) => make_lock(store, alloc, wanted),
+        Verdict::Deny(row) => Ok(denied_reply(alloc, row)?),
+    }
 }
