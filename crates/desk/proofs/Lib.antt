@@ -1,3 +1,4 @@
 pub mod Calling
 pub mod Placing
 pub mod Making
+pub mod Admitting

@@ -3,3 +3,4 @@ pub mod Callers
 pub mod Told
 pub mod Locking
 pub mod Done
+pub mod Admission

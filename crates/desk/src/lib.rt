@@ -1,6 +1,7 @@
 //! The desk: one request comes in, one answer goes out, and what the server keeps takes one step.
 #![tactic(auto)]
 
+mod admission;
 mod callers;
 mod locking;
 mod replies;

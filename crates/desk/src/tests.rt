@@ -1,6 +1,9 @@
 use super::*;
+use crate::admission::{Asked, admit};
 use crate::locking::{Wanted, held_reply, make_lock, next_reply};
+use model::Form;
 use names::{LockPath, Moment, RefName, RepoName, Rule, UserName};
+use policy::Policy;
 use sqlite::MemStore;
 use std::alloc::Global;
 use std::test::Fail;
@@ -172,5 +175,62 @@ fn a_path_is_locked_once(rt: HostRuntime) -> Result<(), Fail> {
         text_of(&second),
         "{\"lock\":{\"id\":\"1\",\"locked_at\":\"2016-05-17T15:49:06Z\",\"owner\":{\"name\":\"ann\"},\"path\":\"art/hero.psd\"},\"message\":\"L1: the path is already locked\"}"
     );
+    Ok(())
+}
+
+const POLICY: &str =
+    "base = \"https://lfs.example\"\ntoken_seconds = 600\n\n[[repo]]\nname = \"studio/film\"\ndefault_ref = \"refs/heads/main\"\nquota = 1000\n";
+
+/// What is admitted in the repository: whether it is its path, or the rule that refuses.
+fn admitted(
+    alloc: Global,
+    repo: &str,
+    operation: Operation,
+    body: &[u8],
+) -> Result<Result<bool, Rule>, Fail> {
+    let policy = Policy::read(alloc, POLICY)?;
+    let caller = Caller {
+        user: "ann".to_owned(alloc)?,
+        repo: repo.to_owned(alloc)?,
+        operation,
+    };
+    let asked = Asked {
+        authorization: None,
+        repo: "studio/film",
+        form: Form::Lock,
+        parameter: "",
+        query: "",
+        body,
+    };
+    match admit(alloc, &policy, &caller, &asked)? {
+        Ok((found, forms::Request::Lock(lock))) => Ok(Ok(
+            found.name().as_str() == "studio/film" && lock.path.as_str() == "art/hero.psd",
+        )),
+        Err(rule) => Ok(Err(rule)),
+    }
+}
+
+#[test]
+fn requests_are_admitted_or_refused(rt: HostRuntime) -> Result<(), Fail> {
+    let body = b"{\"path\":\"art/hero.psd\"}".as_slice();
+    for (repo, operation, body, want) in [
+        ("studio/film", Operation::Upload, body, Ok(true)),
+        ("studio/game", Operation::Upload, body, Err(Rule::A4)),
+        (
+            "studio/film",
+            Operation::Upload,
+            b"{}".as_slice(),
+            Err(Rule::J1),
+        ),
+        (
+            "studio/film",
+            Operation::Download,
+            b"{}".as_slice(),
+            Err(Rule::J1),
+        ),
+        ("studio/film", Operation::Download, body, Err(Rule::A5)),
+    ] {
+        assert_eq!(rt; admitted(rt.alloc(), repo, operation, body)?, want);
+    }
     Ok(())
 }

@@ -1,0 +1,79 @@
+//! Which requests are taken up: by a token for the repository, in a repository that is there.
+
+ghost use Rattle.std.specs.Prelude.{◌≡◌, not, IfOk, string_bytes};
+ghost use Rattle.model.specs.Forms.{request_of, needs_upload};
+ghost use Rattle.policy.specs.Values.{policy_view};
+ghost use Rattle.forms.specs.Requests.{request_asked};
+ghost use Rattle.desk.specs.Admission.{Admits, admitted, is_for_upload};
+
+use crate::callers::Caller;
+use forms::{Request, read_form};
+use model::Form;
+use names::Rule;
+use policy::{Policy, Repo};
+use std::alloc::{AllocError, Global};
+use tables::Operation;
+
+/// A request in a repository, as its head and its body have it.
+#[derive(Clone, Copy, Debug)]
+pub struct Asked<'a> {
+    /// The value of `Authorization`, where the head has one.
+    pub authorization: Option<&'a [u8]>,
+    /// The repository's text in the target.
+    pub repo: &'a str,
+    /// What the route and the method ask.
+    pub form: Form,
+    /// The route's parameter, and empty where it has none.
+    pub parameter: &'a str,
+    /// What stands behind the target's first question mark.
+    pub query: &'a str,
+    /// The body.
+    pub body: &'a [u8],
+}
+
+fn needs_upload(request: &Request) -> bool
+    ensures { result ≡ needs_upload (request_asked request.now) }
+{
+    match request {
+        Request::Lock(_) => true,
+    }
+}
+
+fn is_for_upload(operation: Operation) -> bool
+    ensures { result ≡ is_for_upload operation }
+{
+    match operation {
+        Operation::Download => false,
+        Operation::Upload => true,
+    }
+}
+
+/// The repository and what is asked of it, or the first rule that refuses it: A4, R1, the J rules,
+/// A5.
+///
+/// # Errors
+///
+/// Only where memory refused.
+pub(crate) fn admit<'a>(
+    alloc: Global,
+    policy: &'a Policy,
+    caller: &Caller,
+    asked: &Asked<'_>,
+) -> Result<Result<(&'a Repo, Request), Rule>, AllocError>
+    ensures { IfOk result (Admits (admitted (policy_view policy.entry.now) (string_bytes caller.entry.now.repo) (is_for_upload caller.entry.now.operation) asked.entry.now.repo.now (request_of asked.entry.now.form asked.entry.now.parameter.now asked.entry.now.query.now asked.entry.now.body.now))) }
+{
+    if caller.repo.as_str() != asked.repo {
+        return Ok(Err(Rule::A4));
+    }
+    let Some(repo) = policy.repo(asked.repo) else {
+        return Ok(Err(Rule::R1));
+    };
+    let request = match read_form(alloc, asked.form, asked.parameter, asked.query, asked.body)? {
+        Ok(request) => request,
+        Err(rule) => return Ok(Err(rule)),
+    };
+    if needs_upload(&request) && !is_for_upload(caller.operation) {
+        return Ok(Err(Rule::A5));
+    }
+    Ok(Ok((repo, request)))
+}
