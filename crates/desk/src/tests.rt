@@ -1,6 +1,6 @@
 use super::*;
 use crate::admission::{Asked, admit};
-use crate::locking::{Wanted, held_reply, make_lock, next_reply};
+use crate::locking::{Wanted, held_reply, lock, make_lock, next_reply};
 use model::Form;
 use names::{LockPath, Moment, RefName, RepoName, Rule, UserName};
 use policy::Policy;
@@ -74,15 +74,19 @@ fn text_of(reply: &Reply) -> &str {
     }
 }
 
-/// Ann's wish to lock `art/hero.psd` at the second 1,463,500,146.
-fn wanted() -> Option<Wanted<'static>> {
+/// Ann's wish to lock the path at the second 1,463,500,146.
+fn wanted_on(path: &str) -> Option<Wanted<'_>> {
     Some(Wanted {
         repo: RepoName::read("studio/film")?,
         ref_name: RefName::read("refs/heads/main")?,
-        path: LockPath::read("art/hero.psd")?,
+        path: LockPath::read(path)?,
         owner: UserName::read("ann")?,
         now: Moment::read(1463500146)?,
     })
+}
+
+fn wanted() -> Option<Wanted<'static>> {
+    wanted_on("art/hero.psd")
 }
 
 /// The status and the text of the reply to the lock that is made next.
@@ -231,6 +235,56 @@ fn requests_are_admitted_or_refused(rt: HostRuntime) -> Result<(), Fail> {
         ("studio/film", Operation::Download, body, Err(Rule::A5)),
     ] {
         assert_eq!(rt; admitted(rt.alloc(), repo, operation, body)?, want);
+    }
+    Ok(())
+}
+
+/// In it ann may lock below `art/` alone, by row 2.
+const ROWS: &str =
+    "base = \"https://lfs.example\"\ntoken_seconds = 600\n\n[[row]]\neffect = \"deny\"\nusers = [\"*\"]\nrepos = [\"*\"]\nrefs = [\"*\"]\npaths = [\"sound/\"]\nrights = [\"lock\"]\n\n[[row]]\neffect = \"allow\"\nusers = [\"ann\"]\nrepos = [\"*\"]\nrefs = [\"*\"]\npaths = [\"art/\"]\nrights = [\"lock\"]\n";
+
+/// The status and the body of the reply to ann's wish for that path, and whether a lock stands there.
+fn locked(alloc: Global, text: &str) -> Result<Option<(u16, String, bool)>, Fail> {
+    let policy = Policy::read(alloc, ROWS)?;
+    let mut store = with_token(alloc)?;
+    let Some(wish) = wanted_on(text) else {
+        return Ok(None);
+    };
+    let reply = lock(&mut store, alloc, &policy, &wish)?;
+    let row = store.lock_at("studio/film", "refs/heads/main", text)?;
+    Ok(Some((
+        reply.status,
+        text_of(&reply).to_owned(alloc)?,
+        row.is_some(),
+    )))
+}
+
+#[test]
+fn the_policy_decides_on_a_lock(rt: HostRuntime) -> Result<(), Fail> {
+    for (path, status, body, stands) in [
+        (
+            "art/hero.psd",
+            201,
+            "{\"lock\":{\"id\":\"1\",\"locked_at\":\"2016-05-17T15:49:06Z\",\"owner\":{\"name\":\"ann\"},\"path\":\"art/hero.psd\"}}",
+            true,
+        ),
+        (
+            "sound/a.wav",
+            403,
+            "{\"message\":\"P1: policy row 1 denies lock\"}",
+            false,
+        ),
+        (
+            "b.psd",
+            403,
+            "{\"message\":\"P0: no policy row allows lock\"}",
+            false,
+        ),
+    ] {
+        let (got, text, is_there) = locked(rt.alloc(), path)?.ok_or("not in range")?;
+        assert_eq!(rt; got, status, "{path}");
+        assert_eq!(rt; text.as_str(), body, "{path}");
+        assert_eq!(rt; is_there, stands, "{path}");
     }
     Ok(())
 }
