@@ -1,7 +1,6 @@
 -- A reply as the definitions see it.
-use Rattle.std.specs.Prelude.{◌≡◌, ℕ, List, Err, string_bytes}
-use Rattle.names.specs.declared.rules.Rule.TheVariants as rule
-use Rattle.model.specs.Steps.{Answer, by_rule, is_store_refusal}
+use Rattle.std.specs.Prelude.{◌≡◌, ℕ, List, string_bytes}
+use Rattle.model.specs.Steps.{Answer, is_store_refusal}
 use Rattle.model.specs.Replies.{IsBody, status_of}
 use Rattle.desk.specs.declared.replies.Body.{Body}
 use Rattle.desk.specs.declared.replies.Body.TheVariants.{Made, Fixed}
@@ -12,14 +11,8 @@ abbrev pub body_text : Body → List ℕ
 body_text (Made text) = string_bytes text
 body_text (Fixed text) = text.now
 
--- not the refusal whose reply names methods
-abbrev pub NamesNoMethod : Answer → Type 0
-NamesNoMethod (Err (by_rule rule.H7)) = ⊥
-NamesNoMethod _ = Unit {0}
-
 -- the reply tells this answer
 pub record IsReplyOf (reply : Reply) (given : Answer) : Type 0 where
   pub status : reply.status ≡ status_of given
   pub body : IsBody given (body_text reply.body)
   pub refusal : reply.is_store_refusal ≡ is_store_refusal given
-  pub no_method : NamesNoMethod given

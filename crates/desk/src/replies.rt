@@ -38,7 +38,7 @@ impl Reply {
     ghost use Rattle.std.specs.Prelude.{◌≡◌, IfOk, false};
     ghost use Rattle.model.specs.Steps.{store_refused, is_store_refusal};
     ghost use Rattle.forms.specs.Told.{Tells};
-    ghost use Rattle.desk.specs.Told.{IsReplyOf, NamesNoMethod};
+    ghost use Rattle.desk.specs.Told.{IsReplyOf};
 
     /// The store or memory refused. It takes no memory.
     pub fn store_refused() -> Reply
@@ -57,7 +57,7 @@ impl Reply {
     ///
     /// Only where memory refused.
     pub fn telling(alloc: Global, answer: &Answer<'_>) -> Result<Reply, AllocError>
-        ensures { IfOk result (λ reply. (given : _) → Tells answer.now given → is_store_refusal given ≡ false → NamesNoMethod given → IsReplyOf reply given) }
+        ensures { IfOk result (λ reply. (given : _) → Tells answer.now given → is_store_refusal given ≡ false → IsReplyOf reply given) }
     {
         let status = answer.status();
         let text = answer.body(alloc)?;

@@ -3,3 +3,4 @@ pub mod Computed
 pub mod Firsts
 pub mod Keeping
 pub mod Progress
+pub mod Refusals

@@ -168,6 +168,13 @@ is_early rule.H4 = Bool.true
 is_early rule.H5 = Bool.true
 is_early _ = Bool.false
 
+-- the refusals of a head: H1 to H8
+abbrev pub is_of_head : Rule → Bool
+is_of_head rule.H6 = Bool.true
+is_of_head rule.H7 = Bool.true
+is_of_head rule.H8 = Bool.true
+is_of_head r = is_early r
+
 abbrev pub is_early_denial : Answer → Bool
 is_early_denial (Err (by_rule rule)) = is_early rule
 is_early_denial _ = Bool.false
@@ -217,7 +224,12 @@ is_last _ = Bool.true
 abbrev pub closes : Exchange → Bool
 closes e = is_last e.asked || is_store_refusal e.given
 
--- the methods that the reply names: those of the route, where the route has another
+-- the route has another method
+abbrev pub is_method_refusal : Answer → Bool
+is_method_refusal (Err (by_rule rule.H7)) = Bool.true
+is_method_refusal _ = Bool.false
+
+-- the methods that the reply names: those of the route, where it has another
 abbrev pub allow : Message → Answer → List ℕ
-allow (message head body) (Err (by_rule rule.H7)) = methods_at head.target
-allow _ _ = []
+allow (message head body) given = if is_method_refusal given then methods_at head.target else []
+allow _ given = []
