@@ -5,7 +5,7 @@
 //! behind it. [`Routes::route_of`] tells that this is the repository `film` of `studio`, and there
 //! the resource [`Resource::Locks`]; or that no route has that path, which is H6. Targets are
 //! compared byte by byte: nothing is decoded or cleaned, so that no two of them mean the same
-//! repository.
+//! repository. The resource tells what each method asks there.
 //!
 //! Whether there is such a repository, and whether the caller may know, is not asked here.
 #![tactic(auto)]
@@ -14,7 +14,7 @@ mod table;
 mod target;
 
 pub use table::{Resource, Route, Routes};
-pub use target::path_of;
+pub use target::{path_of, query_of};
 
 #[cfg(test)]
 mod tests;

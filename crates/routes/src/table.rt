@@ -7,6 +7,7 @@ ghost use Rattle.routes.specs.Table.{table};
 
 use crate::target::{part_at, path_of, without_git};
 use matchit::{InsertError, Router};
+use model::Form;
 use std::alloc::{AllocError, Global};
 
 /// What a route leads to in a repository: a row of the table of routes.
@@ -32,6 +33,68 @@ pub struct Route<'t> {
     pub name: &'t str,
     /// What of the repository.
     pub resource: Resource,
+}
+
+impl Resource {
+    ghost use Rattle.std.specs.Prelude.{◌≡◌, ◌≤◌, length, map};
+    ghost use Rattle.model.specs.Heads.{form_of, listed};
+    ghost use Rattle.routes.specs.Table.{row_of};
+
+    /// What the method asks for here; `None` where it is not served (H7).
+    ///
+    /// Methods are compared byte by byte (RFC 9110, Methods).
+    pub fn form_of(self, method: &[u8]) -> Option<Form>
+        ensures { result ≡ form_of method.now (row_of self).requests }
+    {
+        match self {
+            Resource::Locks => {
+                if method == b"POST".as_slice() {
+                    Some(Form::Lock)
+                } else {
+                    None
+                }
+            }
+        }
+    }
+
+    /// The methods that are served here, with a comma and a space between them: what `Allow` says
+    /// where another is asked (RFC 9110, Allow).
+    pub fn allow(self) -> &'static str
+        ensures methods { result.now ≡ listed (map (λ r. r.0) (row_of self).requests) }
+        ensures short { length result.now ≤ 128 }
+    {
+        match self {
+            Resource::Locks => "POST",
+        }
+    }
+
+    /// Whether each reply from here is JSON, so that the client has to accept it (H8).
+    pub fn is_json(self) -> bool
+        ensures { result ≡ (row_of self).is_json }
+    {
+        match self {
+            Resource::Locks => true,
+        }
+    }
+}
+
+impl Route<'_> {
+    ghost use Rattle.std.specs.Prelude.{◌≡◌, IfOk, string_bytes};
+    ghost use Rattle.routes.specs.Routes.{route_seen};
+
+    /// The text OWNER/NAME, which may be no repository's name.
+    ///
+    /// # Errors
+    ///
+    /// Only where memory refused.
+    pub fn repo_text(&self, alloc: Global) -> Result<String, AllocError>
+        ensures { IfOk result (λ text. string_bytes text ≡ (route_seen self.now).repo) }
+    {
+        let mut text = String::from_str(alloc, self.owner)?;
+        text.push_str("/")?;
+        text.push_str(self.name)?;
+        Ok(text)
+    }
 }
 
 impl Routes {

@@ -3,7 +3,7 @@
 ghost use Rattle.std.specs.Prelude.{◌≡◌, ◌-◌, ◌==◌, option_map, MatchOption, codes, take, length, true, false};
 ghost use Rattle.std.specs.List.{ends_with, slice_get};
 ghost use Rattle.names.specs.Texts.{parts};
-ghost use Rattle.model.specs.Heads.{path_of};
+ghost use Rattle.model.specs.Heads.{path_of, query_of};
 
 /// The path of a target: what stands before its first question mark.
 pub fn path_of(target: &str) -> &str
@@ -12,6 +12,16 @@ pub fn path_of(target: &str) -> &str
     match target.split_once('?') {
         None => target,
         Some((path, _)) => path,
+    }
+}
+
+/// The query of a target: what stands behind its first question mark; empty where there is none.
+pub fn query_of(target: &str) -> &str
+    ensures { result.now ≡ query_of target.now }
+{
+    match target.split_once('?') {
+        None => "",
+        Some((_, query)) => query,
     }
 }
 

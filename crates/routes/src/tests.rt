@@ -1,4 +1,5 @@
-use crate::{Resource, Routes, path_of};
+use crate::{Resource, Routes, path_of, query_of};
+use model::Form;
 use std::test::Fail;
 
 #[test]
@@ -80,4 +81,53 @@ fn paths_end_at_the_first_question_mark(rt: HostRuntime) {
     ] {
         assert_eq!(rt; path_of(target), path, "{target}");
     }
+}
+
+#[test]
+fn queries_stand_behind_the_first_question_mark(rt: HostRuntime) {
+    for (target, query) in [
+        ("", ""),
+        ("/a", ""),
+        ("/a?", ""),
+        ("/a?b?c", "b?c"),
+        ("/a??", "?"),
+        ("?/a=%3F&\u{e9}", "/a=%3F&\u{e9}"),
+    ] {
+        assert_eq!(rt; query_of(target), query, "{target}");
+    }
+}
+
+// docs/PROTOCOL.md, "Routes": of the methods at `/locks`, those that are built.
+#[test]
+fn locks_serve_post_and_json(rt: HostRuntime) {
+    assert_eq!(rt; Resource::Locks.form_of(b"POST"), Some(Form::Lock));
+    for method in [
+        b"".as_slice(),
+        b"post",
+        b"POS",
+        b"POSTS",
+        b"PUT",
+        b"HEAD",
+        b"OPTIONS",
+    ] {
+        assert_eq!(rt; Resource::Locks.form_of(method), None);
+    }
+    assert_eq!(rt; Resource::Locks.allow(), "POST");
+    assert!(rt; Resource::Locks.is_json());
+}
+
+#[test]
+fn a_route_tells_its_repository(rt: HostRuntime) -> Result<(), Fail> {
+    let routes = Routes::new(rt.alloc())?;
+    for (target, repo) in [
+        ("/studio/film.git/info/lfs/locks?a", "studio/film"),
+        ("/a/.git/info/lfs/locks", "a/"),
+        ("/STUDIO/%66ilm.git.git/info/lfs/locks", "STUDIO/%66ilm.git"),
+    ] {
+        let Some(route) = routes.route_of(target) else {
+            return Err(target)?;
+        };
+        assert_eq!(rt; route.repo_text(rt.alloc())?.as_str(), repo, "{target}");
+    }
+    Ok(())
 }
