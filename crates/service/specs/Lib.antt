@@ -1,0 +1,4 @@
+pub mod Judging
+pub mod Messages
+pub mod Sending
+pub mod Turns

@@ -1,0 +1,95 @@
+//! The message at the front of a stream (RFC 9112, Message Parsing).
+
+ghost use Rattle.std.specs.Prelude.{◌≡◌, ◌<◌, ◌≤◌, length, drop, take, MatchOption};
+ghost use Rattle.httparse.specs.Grammar.{RequestHead};
+ghost use Rattle.model.specs.Stream.{BeginsWithHead};
+ghost use Rattle.wire.specs.Fields.{Shows};
+ghost use Rattle.service.specs.Messages.{IsNext};
+
+use crate::judging::{Denied, Target, judge};
+use httparse::spans::HeaderSpan;
+use names::Rule;
+use routes::Routes;
+use wire::{Cut, FIELD_ROOM, Head, first_head, front_of};
+
+/// A head that is not refused, and its body.
+#[derive(Clone, Copy, Debug)]
+pub(crate) struct Message<'m> {
+    /// What the head asks for.
+    pub target: Target<'m>,
+    /// The value of `Authorization`, where there is one.
+    pub authorization: Option<&'m [u8]>,
+    /// The body.
+    pub body: &'m [u8],
+    /// Whether the head asks that the connection ends behind the message.
+    pub is_last: bool,
+    /// How many bytes head and body have.
+    pub len: usize,
+}
+
+/// What a stream goes on with.
+#[derive(Clone, Copy, Debug)]
+pub(crate) enum Next<'m> {
+    /// Less than a message.
+    Unfinished,
+    /// A head that is none, or one that is refused: nothing behind it is looked at.
+    Refused(Denied),
+    /// A message.
+    Whole(Message<'m>),
+}
+
+/// The message at the front of the bytes.
+pub(crate) fn next_message<'m>(
+    routes: &Routes,
+    bytes: &'m [u8],
+    fields: &'m mut [HeaderSpan],
+) -> Next<'m>
+    requires { FIELD_ROOM ≤ length fields.old }
+    ensures { IsNext bytes.now result }
+{
+    match first_head(bytes, fields) {
+        Cut::Unfinished => Next::Unfinished,
+        Cut::Bad => Next::Refused(Denied {
+            rule: Rule::H1,
+            allow: "",
+        }),
+        Cut::Head(spans) => {
+            let head = Head::new(front_of(bytes), fields, spans);
+            message_of(routes, bytes, &head, spans.len)
+        }
+    }
+}
+
+/// The message whose head was found, of so many bytes.
+fn message_of<'m>(routes: &Routes, bytes: &'m [u8], head: &Head<'m>, len: usize) -> Next<'m>
+    requires { len ≤ length bytes.now }
+    ensures { (h : RequestHead) → Shows head.now h → BeginsWithHead bytes.now h (drop len bytes.now) → IsNext bytes.now result }
+{
+    let target = match judge(routes, head) {
+        Ok(target) => target,
+        Err(denied) => return Next::Refused(denied),
+    };
+    let Some(body) = body_at(bytes, len, target.size) else {
+        return Next::Unfinished;
+    };
+    Next::Whole(Message {
+        target,
+        authorization: head.first("authorization"),
+        body,
+        is_last: head.asks_close(),
+        len: len + body.len(),
+    })
+}
+
+/// The body behind so many bytes of head; `None` where there is less of it.
+fn body_at(bytes: &[u8], len: usize, size: u64) -> Option<&[u8]>
+    requires { len ≤ length bytes.now }
+    ensures { MatchOption result (length (drop len bytes.now) < size) (λ body. (body.now ≡ take size (drop len bytes.now)) × (size ≤ length (drop len bytes.now))) }
+{
+    let (_, after) = bytes.split_at(len);
+    if (after.len() as u64) < size {
+        None
+    } else {
+        Some(after.split_at(size as usize).0)
+    }
+}

@@ -1,0 +1,50 @@
+//! A reply, written to a connection (RFC 9112, Message Format).
+
+ghost use Rattle.std.specs.Prelude.{◌≡◌, ◌≤◌, length, OnOk, IfErr};
+ghost use Rattle.std.specs.Io.KnownBytes.{Appends};
+ghost use Rattle.names.specs.Streams.{HasGrown};
+ghost use Rattle.wire.specs.Writes.{IsBeginning};
+ghost use Rattle.desk.specs.Told.{body_text};
+ghost use Rattle.service.specs.Sending.{reply_text};
+
+use desk::{Body, Reply};
+use names::Sink;
+use wire::{ALLOW_LIMIT, Content, ReplyHead, WriteFault, write_reply};
+
+/// The text of a body.
+fn body_of(body: &Body) -> &str
+    ensures { result.now ≡ body_text body.now }
+{
+    match body {
+        Body::Made(text) => text.as_str(),
+        Body::Fixed(text) => text,
+    }
+}
+
+/// Writes a reply, with the methods that it names, and with what the server does behind it.
+///
+/// # Errors
+///
+/// A [`WriteFault`] at the first write that fails: a beginning of the text was taken.
+pub(crate) fn send<K: Sink>(
+    sink: &mut K,
+    reply: &Reply,
+    allow: &str,
+    close: bool,
+) -> Result<(), WriteFault>
+    requires { length allow.now ≤ ALLOW_LIMIT }
+    ensures ok { OnOk result (Appends (K.taken sink.old) (K.taken sink.new) (reply_text reply.now allow.now close)) }
+    ensures good { OnOk result (K.failed sink.new ≡ K.failed sink.old) }
+    ensures part { IfErr result (λ e. IsBeginning (K.taken sink.old) (K.taken sink.new) (reply_text reply.now allow.now close) e.written) }
+    ensures fault { IfErr result (λ _. HasGrown (K.failed sink.old) (K.failed sink.new)) }
+{
+    let body = body_of(&reply.body).as_bytes();
+    let head = ReplyHead {
+        status: reply.status,
+        content: Content::Json,
+        size: body.len() as u64,
+        allow,
+        close,
+    };
+    write_reply(sink, &head, body)
+}
