@@ -5,6 +5,7 @@
 //! read to their end.
 #![tactic(auto)]
 
+mod input;
 mod judging;
 
 pub use judging::{Denied, Target, judge};
