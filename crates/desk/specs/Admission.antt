@@ -3,6 +3,8 @@ use Rattle.std.specs.Prelude.{◌≡◌, ℕ, Bool, true, false, not, ◌||◌, 
 use Rattle.std.specs.Borrow.{Bor}
 use Rattle.names.specs.declared.rules.Rule.{Rule}
 use Rattle.names.specs.declared.rules.Rule.TheVariants.{A4, A5, R1}
+use Rattle.model.specs.World.{World, Issued}
+use Rattle.model.specs.Steps.{Answer, by_rules, is_upload, state_verdict}
 use Rattle.model.specs.Reading.{◌>>=◌, check, found}
 use Rattle.model.specs.Policy as model
 use Rattle.model.specs.Policy.{Policy, repo_named}
@@ -32,3 +34,8 @@ admitted policy own covers_upload repo_asked asked = do
 abbrev pub Admits : Result (model.Repo × asked.Request) Rule → Result (Bor Repo × Request) Rule → Type 0
 Admits given (Ok (repo, request)) = given ≡ Ok (repo_view repo.now, request_asked request)
 Admits given (Err rule) = given ≡ Err rule
+
+-- the answer to the holder of a token: the rule that refuses the request, or the verdict on it
+abbrev pub holder_verdict : World → Policy → ℕ → Issued → List ℕ → Result asked.Request Rule → Answer
+holder_verdict world policy now holder repo_asked given =
+    by_rules (admitted policy holder.repo (is_upload holder.operation) repo_asked given) >>= λ (taken : model.Repo × asked.Request). state_verdict world policy now holder taken.0 taken.1

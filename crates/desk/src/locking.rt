@@ -131,6 +131,7 @@ pub(crate) fn make_lock<S: Alter>(
     wanted: &Wanted<'_>,
 ) -> Result<Reply, StoreFault>
     ensures told { IsHonest S.Store store.new → (world : World) → Holds S.Store store.old world → IfOk result (IsDone S.Store store.new world (place_verdict world (lock_wanted world wanted.entry.now))) }
+    ensures honest { IsHonest S.Store store.new → IsHonest S.Store store.old }
     ensures refused { IsHonest S.Store store.new → (world : World) → Holds S.Store store.old world → OnErr result (Holds S.Store store.new world) }
 {
     let made = store.made(wanted.repo.as_str())?;
@@ -140,7 +141,7 @@ pub(crate) fn make_lock<S: Alter>(
 }
 
 /// The lock that the request asks for, of this repository and for this user.
-fn wanted_by<'a>(
+pub(crate) fn wanted_by<'a>(
     repo: &'a Repo,
     owner: UserName<'a>,
     now: Moment,
@@ -201,6 +202,7 @@ pub(crate) fn lock<S: Alter>(
     wanted: &Wanted<'_>,
 ) -> Result<Reply, StoreFault>
     ensures told { IsHonest S.Store store.new → (world : World) → Holds S.Store store.old world → IfOk result (IsDone S.Store store.new world (allowed_verdict world (policy_view policy.entry.now) wanted.entry.now)) }
+    ensures honest { IsHonest S.Store store.new → IsHonest S.Store store.old }
     ensures refused { IsHonest S.Store store.new → (world : World) → Holds S.Store store.old world → OnErr result (Holds S.Store store.new world) }
 {
     match verdict_on(policy, wanted) {

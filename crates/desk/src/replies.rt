@@ -1,10 +1,13 @@
 //! What the desk answers, before the connection adds its lines.
 
-ghost use Rattle.std.specs.Prelude.{◌≡◌};
+ghost use Rattle.std.specs.Prelude.{◌≡◌, IfSome, IsSome, true};
 ghost use Rattle.names.specs.declared.rules.Rule.TheVariants.{S1};
 ghost use Rattle.model.specs.Replies.{message_body, rule_message};
+ghost use Rattle.model.specs.Steps.{is_of_head, is_store_refusal};
+ghost use Rattle.forms.specs.Told.{Tells};
 
 use forms::Answer;
+use names::Rule;
 use std::alloc::{AllocError, Global};
 
 /// The JSON body of a reply.
@@ -27,44 +30,82 @@ pub struct Reply {
     pub is_store_refusal: bool,
 }
 
-/// The text of the refusal by the store.
-fn refusal_text() -> &'static str
+/// The body of a refusal that takes no memory: of a head, or by the store.
+fn fixed_body(rule: Rule) -> Option<&'static str>
+    ensures text { IfSome result (λ text. text.now ≡ message_body (rule_message rule)) }
+    ensures all { is_of_head rule ≡ true → IsSome result }
+{
+    match rule {
+        Rule::H1 => Some("{\"message\":\"H1: bad request head\"}"),
+        Rule::H2 => Some("{\"message\":\"H2: transfer codings are not served\"}"),
+        Rule::H3 => Some("{\"message\":\"H3: a length is needed\"}"),
+        Rule::H4 => Some("{\"message\":\"H4: a field or body is not allowed here\"}"),
+        Rule::H5 => Some("{\"message\":\"H5: the body is too large\"}"),
+        Rule::H6 => Some("{\"message\":\"H6: no such route\"}"),
+        Rule::H7 => Some("{\"message\":\"H7: the method is not served here\"}"),
+        Rule::H8 => Some("{\"message\":\"H8: the reply type is not accepted\"}"),
+        _ => None,
+    }
+}
+/// The body of the refusal by the store.
+fn refusal_body() -> &'static str
     ensures { result.now ≡ message_body (rule_message S1) }
 {
     "{\"message\":\"S1: the store refused\"}"
 }
+/// Whether the store refused.
+fn is_store_refusal(answer: &Answer<'_>) -> bool
+    ensures { (given : _) → Tells answer.now given → result ≡ is_store_refusal given }
+{
+    match answer {
+        Answer::Denied(rule) => matches!(rule, Rule::S1),
+        _ => false,
+    }
+}
 
 impl Reply {
-    ghost use Rattle.std.specs.Prelude.{◌≡◌, IfOk, false};
-    ghost use Rattle.model.specs.Steps.{store_refused, is_store_refusal};
+    ghost use Rattle.std.specs.Prelude.{◌≡◌, IfOk, true, Err};
+    ghost use Rattle.model.specs.Steps.{store_refused, by_rule, is_of_head};
     ghost use Rattle.forms.specs.Told.{Tells};
     ghost use Rattle.desk.specs.Told.{IsReplyOf};
-
     /// The store or memory refused. It takes no memory.
     pub fn store_refused() -> Reply
         ensures { IsReplyOf result store_refused }
     {
         Reply {
             status: 500,
-            body: Body::Fixed(refusal_text()),
+            body: Body::Fixed(refusal_body()),
             is_store_refusal: true,
         }
     }
-
-    /// The reply that tells the answer, which is not a refusal by the store.
+    /// The refusal of a head, by one of the rules H1 to H8. It takes no memory. Any other rule is
+    /// told as a refusal by the store.
+    pub fn head_refused(rule: Rule) -> Reply
+        ensures { is_of_head rule ≡ true → IsReplyOf result (Err (by_rule rule)) }
+    {
+        match fixed_body(rule) {
+            Some(text) => Reply {
+                status: rule.status().unwrap_or(403),
+                body: Body::Fixed(text),
+                is_store_refusal: false,
+            },
+            None => Reply::store_refused(),
+        }
+    }
+    /// The reply that tells the answer.
     ///
     /// # Errors
     ///
     /// Only where memory refused.
     pub fn telling(alloc: Global, answer: &Answer<'_>) -> Result<Reply, AllocError>
-        ensures { IfOk result (λ reply. (given : _) → Tells answer.now given → is_store_refusal given ≡ false → IsReplyOf reply given) }
+        ensures { IfOk result (λ reply. (given : _) → Tells answer.now given → IsReplyOf reply given) }
     {
         let status = answer.status();
         let text = answer.body(alloc)?;
         Ok(Reply {
             status,
             body: Body::Made(text),
-            is_store_refusal: false,
+            is_store_refusal: is_store_refusal(answer),
         })
     }
 }

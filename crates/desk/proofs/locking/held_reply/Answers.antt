@@ -5,4 +5,4 @@ use Rattle.desk.proofs.locking.held_reply.Goals as goal
 
 pub returns-in-Ok : goal.returns-in-Ok
 returns-in-Ok c l id at owner path =
-    c.in-Ok.ensures (Err (by_lock l)) (l, of_row c.args.row.now c.in-Some.lock l c.in-Some.ensures id at owner path, refl) refl
+    c.in-Ok.ensures (Err (by_lock l)) (l, of_row c.args.row.now c.in-Some.lock l c.in-Some.ensures id at owner path, refl)

@@ -5,4 +5,4 @@ use Rattle.model.specs.Steps.{by_rule}
 use Rattle.desk.proofs.locking.used_up_reply.Goals as goal
 
 pub returns : goal.returns
-returns c = IfOk-weaker c.telling.result _ _ (λ reply told. told (Err (by_rule L5)) refl refl) c.telling.ensures
+returns c = IfOk-weaker c.telling.result _ _ (λ reply told. told (Err (by_rule L5)) refl) c.telling.ensures

@@ -1,6 +1,6 @@
 use Rattle.std.proofs.Common.{refl}
 use Rattle.serde_json.proofs.OnLiterals.{serde_json_on_literals}
-use Rattle.desk.proofs.replies.refusal_text.Goals as goal
+use Rattle.desk.proofs.replies.refusal_body.Goals as goal
 
 pub returns : goal.returns
 unfolding serde_json_on_literals

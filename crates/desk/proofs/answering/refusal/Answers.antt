@@ -1,0 +1,7 @@
+use Rattle.std.proofs.Common.{Err, refl}
+use Rattle.std.proofs.lemmas.Result.{IfOk-weaker}
+use Rattle.model.specs.Steps.{by_rule}
+use Rattle.desk.proofs.answering.refusal.Goals as goal
+
+pub returns : goal.returns
+returns c = IfOk-weaker c.telling.result _ _ (λ reply told. told (Err (by_rule c.args.rule)) refl) c.telling.ensures

@@ -1,0 +1,117 @@
+//! The way of a request: who calls, whether it is taken up, and what comes of it.
+ghost use Rattle.std.specs.Prelude.{◌≡◌, IfOk, OnErr, Err, option_map};
+ghost use Rattle.model.specs.World.{World, Issued};
+ghost use Rattle.model.specs.Steps.{by_rule, desk_verdict, state_verdict};
+ghost use Rattle.model.specs.Forms.{request_of, asks_lock};
+ghost use Rattle.policy.specs.Values.{policy_view, repo_view};
+ghost use Rattle.forms.specs.Requests.{request_asked, lock_asked};
+ghost use Rattle.tables.specs.Shown.{IsHonest};
+ghost use Rattle.worlds.specs.Standing.{Holds};
+ghost use Rattle.desk.specs.Bearers.{the_one};
+ghost use Rattle.desk.specs.Callers.{IsHolder};
+ghost use Rattle.desk.specs.Told.{IsReplyOf};
+ghost use Rattle.desk.specs.Done.{IsDone};
+ghost use Rattle.desk.specs.Admission.{holder_verdict};
+
+use crate::admission::{Asked, admit};
+use crate::callers::{Caller, identify};
+use crate::locking::{lock, wanted_by};
+use crate::replies::Reply;
+use forms::{Answer, LockRequest, Request};
+use names::{Moment, Rule, UserName};
+use policy::{Policy, Repo};
+use std::alloc::{AllocError, Global};
+use tables::{Alter, Store, StoreFault};
+
+/// Answers a request in a repository, and does what the answer says.
+///
+/// The reply tells the first rule that refuses: A1 to A3 of the token, A4 and R1 of the
+/// repository, the J rules of the body, A5, the policy's row, and then what stands in the way; or
+/// it tells what was done.
+///
+/// # Errors
+///
+/// A [`StoreFault`] where the store or memory refused. What the store holds is then as it was.
+pub fn answer<S: Alter>(
+    alloc: Global,
+    store: &mut Store<S>,
+    policy: &Policy,
+    now: Moment,
+    asked: &Asked<'_>,
+) -> Result<Reply, StoreFault>
+    ensures told { IsHonest S.Store store.new → (world : World) → Holds S.Store store.old world
+        → IfOk result (IsDone S.Store store.new world (desk_verdict world (policy_view policy.entry.now) now (the_one (option_map (λ v. v.now) asked.entry.now.authorization)) asked.entry.now.repo.now (request_of asked.entry.now.form asked.entry.now.parameter.now asked.entry.now.query.now asked.entry.now.body.now))) }
+    ensures honest { IsHonest S.Store store.new → IsHonest S.Store store.old }
+    ensures refused { IsHonest S.Store store.new → (world : World) → Holds S.Store store.old world → OnErr result (Holds S.Store store.new world) }
+{
+    match identify(store, asked.authorization, now)? {
+        Ok(caller) => answer_caller(alloc, store, policy, now, &caller, asked),
+        Err(rule) => Ok(refusal(alloc, rule)?),
+    }
+}
+
+/// The reply where a rule refuses.
+fn refusal(alloc: Global, rule: Rule) -> Result<Reply, AllocError>
+    ensures { IfOk result (λ reply. IsReplyOf reply (Err (by_rule rule))) }
+{
+    Reply::telling(alloc, &Answer::Denied(rule))
+}
+
+/// Answers the request of the caller.
+///
+/// # Errors
+///
+/// As of [`answer`].
+fn answer_caller<S: Alter>(
+    alloc: Global,
+    store: &mut Store<S>,
+    policy: &Policy,
+    now: Moment,
+    caller: &Caller,
+    asked: &Asked<'_>,
+) -> Result<Reply, StoreFault>
+    ensures told { IsHonest S.Store store.new → (world : World) → Holds S.Store store.old world → (i : Issued) → IsHolder caller.entry.now i
+        → IfOk result (IsDone S.Store store.new world (holder_verdict world (policy_view policy.entry.now) now i asked.entry.now.repo.now (request_of asked.entry.now.form asked.entry.now.parameter.now asked.entry.now.query.now asked.entry.now.body.now))) }
+    ensures honest { IsHonest S.Store store.new → IsHonest S.Store store.old }
+    ensures refused { IsHonest S.Store store.new → (world : World) → Holds S.Store store.old world → OnErr result (Holds S.Store store.new world) }
+{
+    match admit(alloc, policy, caller, asked)? {
+        Ok((repo, request)) => { answer_request(alloc, store, policy, now, caller, repo, &request) }
+        Err(rule) => Ok(refusal(alloc, rule)?),
+    }
+}
+
+/// The lock that the request asks for.
+fn lock_in(request: &Request) -> &LockRequest
+    ensures { request_asked request.now ≡ asks_lock (lock_asked result.now) }
+{
+    match request {
+        Request::Lock(asked) => asked,
+    }
+}
+
+/// Answers a request that is taken up.
+///
+/// # Errors
+///
+/// As of [`answer`].
+fn answer_request<S: Alter>(
+    alloc: Global,
+    store: &mut Store<S>,
+    policy: &Policy,
+    now: Moment,
+    caller: &Caller,
+    repo: &Repo,
+    request: &Request,
+) -> Result<Reply, StoreFault>
+    ensures told { IsHonest S.Store store.new → (world : World) → Holds S.Store store.old world → (i : Issued) → IsHolder caller.entry.now i
+        → IfOk result (IsDone S.Store store.new world (state_verdict world (policy_view policy.entry.now) now i (repo_view repo.entry.now) (request_asked request.entry.now))) }
+    ensures honest { IsHonest S.Store store.new → IsHonest S.Store store.old }
+    ensures refused { IsHonest S.Store store.new → (world : World) → Holds S.Store store.old world → OnErr result (Holds S.Store store.new world) }
+{
+    let Some(user) = UserName::read(caller.user.as_str()) else {
+        return Err(StoreFault::Refused);
+    };
+    let wanted = wanted_by(repo, user, now, lock_in(request));
+    lock(store, alloc, policy, &wanted)
+}
