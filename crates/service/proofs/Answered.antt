@@ -80,10 +80,12 @@ module _ {S : Type 0} (g : Ghosts S) (world : World) (new : Store S) (reply : Re
 -- ---- the text of a reply
 
 reply_is : (reply : Reply) (given : Answer) (methods allowed : List ℕ) (close shut : Bool) → IsReplyOf reply given → methods ≡ allowed → close ≡ shut → IsReply given allowed shut (reply_text reply methods close)
-reply_is reply given methods allowed close shut tells named closed =
-    (body_text reply.body, tells.body,
-     ap₂ (λ status (m : List ℕ). head_text status json (length (body_text reply.body)) m close ++ body_text reply.body) tells.status named
-     ∙ ap (λ c. head_text (status_of given) json (length (body_text reply.body)) allowed c ++ body_text reply.body) closed)
+reply_is reply given methods allowed close shut tells named closed = (
+  body_text reply.body,
+  tells.body,
+  ap₂ (λ status (m : List ℕ). head_text status json (length (body_text reply.body)) m close ++ body_text reply.body) tells.status named
+      ∙ ap (λ c. head_text (status_of given) json (length (body_text reply.body)) allowed c ++ body_text reply.body) closed,
+)
 
 -- ---- a turn, and what was sent
 

@@ -24,7 +24,7 @@ messages-preserved g c =
           subst (λ (rest : List ℕ). IsServing g.S.Store (policy_view c.args.setting.now.policy.now) c.args.setting.now.now c.args.bytes.now rest world c.take_turn.new.store (g.K.Sink.taken c.args.sink.now) (g.K.Sink.taken c.take_turn.new.sink) (c.messages.answered + 1))
           (sym c.split_at.ensures.back)
           (answers g.S.Store (policy_view c.args.setting.now.policy.now) c.args.setting.now.now c.args.bytes.now world (g.K.Sink.taken c.args.sink.now) c.messages.rest.now c.messages.store c.take_turn.new.store
-           (g.K.Sink.taken c.messages.sink) (g.K.Sink.taken c.take_turn.new.sink) c.messages.answered c.in-Answered.len s (c.in-Answered.ensures.turn honest s.kept s.holds));
+          (g.K.Sink.taken c.messages.sink) (g.K.Sink.taken c.take_turn.new.sink) c.messages.answered c.in-Answered.len s (c.in-Answered.ensures.turn honest s.kept s.holds));
     }
 
 pub returns-in-Closed-clause-served : goal.returns-in-Closed-clause-served

@@ -16,6 +16,9 @@ pub returns-clause-session : goal.returns-clause-session
 returns-clause-session g c honest world h =
     let policy = policy_view c.args.policy.now in
     let bytes = c.deref.result.now in
-    inl (bytes, subst (λ (bs : List ℕ). Consumes (g.R.Source.left c.args.source.now) (g.R.Source.left c.read_all.new.source) bs) (sym c.deref.ensures.value) c.in-Ok-read_all.ensures.bytes,
-         served_by g.S.Store policy c.args.now bytes world c.answer_all-served.new.store (g.K.Sink.taken c.args.sink.now) (g.K.Sink.taken c.answer_all-served.new.sink) c.answer_all-served.result c.in-Ok-read_all.input.has_failed c.ended.result
-         c.ended.ensures (c.answer_all-served.ensures.served honest world h))
+    inl (
+      bytes,
+      subst (λ (bs : List ℕ). Consumes (g.R.Source.left c.args.source.now) (g.R.Source.left c.read_all.new.source) bs) (sym c.deref.ensures.value) c.in-Ok-read_all.ensures.bytes,
+      served_by g.S.Store policy c.args.now bytes world c.answer_all-served.new.store (g.K.Sink.taken c.args.sink.now) (g.K.Sink.taken c.answer_all-served.new.sink) c.answer_all-served.result c.in-Ok-read_all.input.has_failed c.ended.result
+          c.ended.ensures (c.answer_all-served.ensures.served honest world h),
+    )
