@@ -17,7 +17,7 @@ use Rattle.model.specs.Forms.{lock_form}
 use Rattle.model.specs.Heads.{judged}
 use Rattle.model.specs.Steps.{verdict}
 use Rattle.model.specs.Stream.{head_limit}
-use Rattle.model.specs.Examples.{studio, frozen_art, paths_alone, readers, opened, expires_at_100, now, token_of, authorization, length_field, locks_target, first_head, first_body, first_lock, first_reply, second_reply, frozen_reply, hidden_reply, nameless_reply, FirstIsFirst, FirstIsLocked, FirstIsTold, SecondIsRefused, SecondIsTold, OtherRefIsLocked, FolderIsFrozen, FolderIsTold, BesideIsLocked, PushIsHidden, PushIsTold, PushIsDenied, CodingIsRefused, TypeIsRefused, SecondLengthIsRefused, ClimbingIsRefused, MethodIsRefused, NamelessIsRefused, NamelessIsTold, TokenExpires, DownloadLocksNothing}
+use Rattle.model.specs.Examples.{studio, frozen_art, paths_alone, readers, opened, expires_at_100, now, token_of, authorization, length_field, locks_target, first_head, first_body, first_lock, first_reply, second_reply, frozen_reply, hidden_reply, nameless_reply, FirstIsFirst, FirstIsLocked, FirstIsTold, SecondIsRefused, SecondIsTold, OtherRefIsLocked, FolderIsFrozen, FolderIsTold, BesideIsLocked, PushIsHidden, PushIsTold, PushIsDenied, CodingIsRefused, TypeIsRefused, SecondLengthIsRefused, ClimbingIsRefused, MethodIsRefused, NamelessIsRefused, NamelessIsTold, TokenExpires, DownloadLocksNothing, TokenIsIssued, TokenIsIssuedOnce, TokenIsTooLate, TokenIsPruned}
 
 -- ---- the first message stands first
 
@@ -153,3 +153,20 @@ token_expires = (refl, refl)
 pub download_locks_nothing : DownloadLocksNothing
 unfolding verdict judged trim_ows lock_form serde_json_on_literals is_utf8 chars studio sha256 digest_bytes hash_after compress rounds schedule first_words
 download_locks_nothing = refl
+
+-- ---- the operator
+
+pub token_is_issued : TokenIsIssued
+unfolding expires_at_100
+token_is_issued = refl
+
+pub token_is_issued_once : TokenIsIssuedOnce
+unfolding expires_at_100 sha256 digest_bytes hash_after compress rounds schedule first_words
+token_is_issued_once = (refl, refl)
+
+pub token_is_too_late : TokenIsTooLate
+token_is_too_late = refl
+
+pub token_is_pruned : TokenIsPruned
+unfolding expires_at_100
+token_is_pruned = (refl, refl)

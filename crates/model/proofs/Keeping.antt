@@ -1,13 +1,14 @@
 -- Each step keeps the laws of worlds.
-use Rattle.std.proofs.Common.{◌≡◌, ℕ, ◌+◌, ◌<◌, ◌≤◌, inl, inr, Bool, true, false, not, ◌||◌, ◌&&◌, nat_lt, List, [], ◌∷◌, refl, sym, ap, subst, ◌∙◌, arith, Result, Ok, Err, Option, Some, None, find, bytes_eq, cond, IfOk, IfSome, IsTrue, codes}
+use Rattle.std.proofs.Common.{◌≡◌, ℕ, ◌+◌, ◌<◌, ◌≤◌, inl, inr, Bool, true, false, not, ◌||◌, ◌&&◌, nat_lt, nat_le, List, [], ◌∷◌, refl, sym, ap, subst, ◌∙◌, arith, Result, Ok, Err, Option, Some, None, find, bytes_eq, cond, IfOk, IfSome, IsTrue, codes}
 use Rattle.std.specs.Bool.{⊤}
 use Rattle.std.specs.List.{AllByRecursion}
-use Rattle.std.proofs.lemmas.List.Elements.{recursion_from_All, All-from_recursion, All-cons}
-use Rattle.std.proofs.lemmas.List.Kept.{AllPairs-cons}
+use Rattle.std.proofs.lemmas.List.Elements.{recursion_from_All, All-from_recursion, All-cons, All-filter}
+use Rattle.std.proofs.lemmas.List.Kept.{AllPairs-cons, AllPairs-filter}
 use Rattle.std.proofs.lemmas.Option.{none-some}
-use Rattle.std.proofs.lemmas.Bool.{ltb-true, cond_both, and_from, true≢false}
+use Rattle.std.proofs.lemmas.Bool.{ltb-true, leb-true, cond_both, and_from, true≢false}
 use Rattle.std.proofs.lemmas.Slice.Eq.{bytes_eq-Decides}
 use Rattle.httparse.specs.Grammar.{RequestHead}
+use Rattle.sha2.specs.Sha256.{sha256}
 use Rattle.serde_json.specs.Find.{get_member}
 use Rattle.names.specs.Texts.{last_lock_id, last_moment, is_repo, is_ref, is_lock_path}
 use Rattle.names.specs.declared.rules.Rule.{Rule}
@@ -18,9 +19,9 @@ use Rattle.model.specs.declared.Right.TheVariants as right
 use Rattle.model.specs.Heads.{judged, values, query_of}
 use Rattle.model.specs.Reading.{◌>>=◌, check, found, none_of, or_default}
 use Rattle.model.specs.Policy.{Policy, IsPolicy, Repo, decide, repo_named}
-use Rattle.model.specs.World.{World, Lock, Issued, IsWorld, IsLock, IsIssued, DiffersInId, DiffersInPlace, stands_at, lock_at, with_lock, counted, nothing}
+use Rattle.model.specs.World.{World, Lock, Issued, IsWorld, IsLock, IsIssued, DiffersInId, DiffersInPlace, DiffersInDigest, stands_at, lock_at, with_lock, with_token, without_expired, counted, nothing}
 use Rattle.model.specs.Forms.{LockForm, Request, asks_lock, lock_form, is_ref_if_given, members_of, text_if_given, ref_if_given, required, request_of, needs_upload}
-use Rattle.model.specs.Steps.{Granted, makes_lock, Answer, Denial, by_lock, by_rules, permitted, is_upload, bearer, issued_as, caller_by, ref_asked, lock_question, new_lock, verdict, state_verdict, lock_verdict, after, Message, bad_head, broken, message, verdict_on, Carries, exchanged}
+use Rattle.model.specs.Steps.{Granted, makes_lock, Answer, Denial, by_lock, by_rules, permitted, is_upload, bearer, issued_as, caller_by, ref_asked, lock_question, new_lock, verdict, state_verdict, lock_verdict, after, Message, bad_head, broken, message, verdict_on, Carries, exchanged, issues, prunes, TokenRequest, IsTokenRequest, already_issued, expires_too_late, token_verdict, after_token}
 use Rattle.model.proofs.Tests.{both_true}
 use Rattle.model.specs.Laws.{StepsKeepWorlds, RunsKeepWorlds, RunsMakeWorlds, NeverLocksTwice, DenialsChangeNothing}
 
@@ -228,6 +229,57 @@ keeps_with_lock world l new w =
       digests = w.digests;
     }
 
+-- ---- one token more, and fewer tokens
+
+other_digest : (i j : Issued) → bytes_eq (sha256 j.text) (sha256 i.text) ≡ false → DiffersInDigest i j
+other_digest i j is same = true≢false (sym ((bytes_eq-Decides (sha256 j.text) (sha256 i.text)).1 (sym same)) ∙ is)
+
+not_issued : (b : Bool) (i : Issued) (rest : Option Issued) → cond b (Some i) rest ≡ None → (b ≡ false) × (rest ≡ None)
+not_issued true i rest e = absurd (none-some i (sym e))
+not_issued false i rest e = (refl, e)
+
+new_digest : (i : Issued) (issued : List Issued) → find (λ j. bytes_eq (sha256 j.text) (sha256 i.text)) issued ≡ None → AllByRecursion (DiffersInDigest i) issued
+new_digest i [] e = tt
+new_digest i (j ∷ issued) e =
+    let no = not_issued (bytes_eq (sha256 j.text) (sha256 i.text)) j (find (λ k. bytes_eq (sha256 k.text) (sha256 i.text)) issued) e in
+    (other_digest i j no.0, new_digest i issued no.1)
+
+pub keeps_with_token : (world : World) (i : Issued) → IsIssued i → issued_as i.text world ≡ None → IsWorld world → IsWorld (with_token i world)
+keeps_with_token world i is new w = record {
+  objects = w.objects;
+  names = w.names;
+  locks = w.locks;
+  ids = w.ids;
+  places = w.places;
+  made = w.made;
+  issued = All-cons IsIssued i world.issued is w.issued;
+  digests = AllPairs-cons DiffersInDigest i world.issued (All-from_recursion (DiffersInDigest i) world.issued (new_digest i world.issued new)) w.digests;
+}
+
+pub keeps_without_expired : (now : ℕ) (world : World) → IsWorld world → IsWorld (without_expired now world)
+keeps_without_expired now world w = record {
+  objects = w.objects;
+  names = w.names;
+  locks = w.locks;
+  ids = w.ids;
+  places = w.places;
+  made = w.made;
+  issued = All-filter (λ i. nat_lt now i.expires) IsIssued world.issued w.issued;
+  digests = AllPairs-filter DiffersInDigest (λ i. nat_lt now i.expires) world.issued w.digests;
+}
+
+keeps_token : (world : World) (asked : TokenRequest) → IsTokenRequest asked → IsWorld world → IsWorld (after_token world (token_verdict world asked))
+keeps_token world asked is w = at (issued_as asked.text world) refl (nat_le (asked.now + asked.seconds) last_moment) refl
+  where
+    token : Issued
+    token = record { text = asked.text; user = asked.user; repo = asked.repo; operation = asked.operation; expires = asked.now + asked.seconds }
+
+    at : (there : Option Issued) → issued_as asked.text world ≡ there → (in_time : Bool) → nat_le (asked.now + asked.seconds) last_moment ≡ in_time
+        → IsWorld (after_token world (none_of there (λ _. already_issued) >>= λ _. check in_time expires_too_late >>= λ _. Ok token))
+    at (Some i) known in_time e = w
+    at None unknown false e = w
+    at None unknown true e = keeps_with_token world token (record { text = is.text; user = is.user; repo = is.repo; expires = leb-true (asked.now + asked.seconds) last_moment e }) unknown w
+
 -- ---- steps and runs
 
 keeps_after : (world : World) (answer : Answer) → IfOk answer (IsGrantable world) → IsWorld world → IsWorld (after world answer)
@@ -245,6 +297,8 @@ keeps_carried old answer given new may (inl c) w = subst IsWorld (sym c.1) (keep
 keeps_carried old answer given new may (inr c) w = subst IsWorld (sym c.2) w
 
 pub keeps_step : StepsKeepWorlds
+keeps_step old (issues asked) new step w = subst IsWorld (sym step.1) (keeps_token old asked step.0 w)
+keeps_step old (prunes now) new step w = subst IsWorld (sym step) (keeps_without_expired now old w)
 keeps_step old (exchanged e) new step w =
     keeps_carried old (verdict_on old e.policy e.now e.asked) e.given new (message_grantable old e.policy e.now e.asked w step.policy step.now) step.carries w
 

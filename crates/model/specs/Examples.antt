@@ -8,9 +8,9 @@ use Rattle.model.specs.declared.Right.TheVariants as right
 use Rattle.model.specs.declared.Operation.{Operation}
 use Rattle.model.specs.declared.Operation.TheVariants as operation
 use Rattle.model.specs.Policy.{Policy, Row}
-use Rattle.model.specs.World.{World, Lock, Issued, nothing, with_lock}
+use Rattle.model.specs.World.{World, Lock, Issued, nothing, with_lock, without_expired}
 use Rattle.model.specs.Heads.{values}
-use Rattle.model.specs.Steps.{message, Answer, by_rule, by_row, by_lock, makes_lock, verdict, may_push, caller_by, allow, is_last}
+use Rattle.model.specs.Steps.{message, Answer, by_rule, by_row, by_lock, makes_lock, verdict, may_push, caller_by, allow, is_last, TokenRequest, token_verdict, after_token, already_issued, expires_too_late}
 use Rattle.model.specs.Stream.{BeginsWith}
 use Rattle.model.specs.Replies.{IsReply}
 
@@ -267,3 +267,27 @@ abbrev pub DownloadLocksNothing : Type 0
 DownloadLocksNothing =
     answered (record nothing { issued = issued_until 1463503600 operation.Download ∷ [] }) studio first_head first_body
     ≡ Err (by_rule rule.A5)
+
+-- ---- the operator
+
+-- a token for ann, 64 times the letter a, for so many seconds from the moment on
+abbrev pub asked_at : ℕ → ℕ → TokenRequest
+asked_at now seconds = record { text = token_of 97; user = codes "ann"; repo = film; operation = operation.Upload; now = now; seconds = seconds }
+
+-- a token that is asked for at 40 for a minute expires at 100
+abbrev pub TokenIsIssued : Type 0
+TokenIsIssued = after_token nothing (token_verdict nothing (asked_at 40 60)) ≡ expires_at_100
+
+-- it is not issued twice, whatever else is wrong with the request
+abbrev pub TokenIsIssuedOnce : Type 0
+TokenIsIssuedOnce =
+    (token_verdict expires_at_100 (asked_at 40 60) ≡ Err already_issued)
+    × (token_verdict expires_at_100 (asked_at 253402300799 1) ≡ Err already_issued)
+
+-- no token expires after the last moment
+abbrev pub TokenIsTooLate : Type 0
+TokenIsTooLate = token_verdict nothing (asked_at 253402300799 1) ≡ Err expires_too_late
+
+-- it is removed at its expiry, and not before
+abbrev pub TokenIsPruned : Type 0
+TokenIsPruned = (without_expired 99 expires_at_100 ≡ expires_at_100) × (without_expired 100 expires_at_100 ≡ nothing)

@@ -1,10 +1,10 @@
 -- One step of the server: which answer a message gets, and what is kept afterwards.
-use Rattle.std.specs.Prelude.{◌≡◌, ℕ, ◌+◌, ◌≤◌, Bool, not, ◌&&◌, ◌||◌, nat_lt, ◌⊎◌, List, [], ◌∷◌, drop, take, Option, Some, None, Result, Ok, Err, codes, bytes_eq, if◌then◌else◌, ⊤, find, is_err}
+use Rattle.std.specs.Prelude.{◌≡◌, ℕ, ◌+◌, ◌≤◌, Bool, not, ◌&&◌, ◌||◌, nat_lt, nat_le, ◌⊎◌, List, [], ◌∷◌, drop, take, Option, Some, None, Result, Ok, Err, codes, bytes_eq, if◌then◌else◌, ⊤, find, is_err, IsTrue}
 use Rattle.std.specs.List.{list_all}
 use Rattle.std.specs.Str.{str_eq_ignore_ascii_case}
 use Rattle.sha2.specs.Sha256.{sha256}
 use Rattle.httparse.specs.Grammar.{RequestHead}
-use Rattle.names.specs.Texts.{last_lock_id, last_moment, between, is_empty}
+use Rattle.names.specs.Texts.{last_lock_id, last_moment, between, is_empty, is_hex_64, is_user, is_repo}
 use Rattle.names.specs.declared.rules.Rule.{Rule}
 use Rattle.names.specs.declared.rules.Rule.TheVariants as rule
 use Rattle.model.specs.declared.Right.{Right}
@@ -13,7 +13,7 @@ use Rattle.model.specs.declared.Operation.{Operation}
 use Rattle.model.specs.declared.Operation.TheVariants as operation
 use Rattle.model.specs.Reading.{◌>>=◌, check, found, none_of, or_default}
 use Rattle.model.specs.Policy.{Policy, IsPolicy, Repo, Question, Decision, allowed, denied, decide, repo_named}
-use Rattle.model.specs.World.{World, Lock, Issued, lock_at, with_lock}
+use Rattle.model.specs.World.{World, Lock, Issued, lock_at, with_lock, with_token, without_expired}
 use Rattle.model.specs.Forms.{LockForm, Request, asks_lock, request_of, needs_upload}
 use Rattle.model.specs.Heads.{Target, values, judged, query_of, methods_at, asks_close}
 
@@ -198,12 +198,46 @@ pub record IsExchange (old : World) (e : Exchange) (new : World) : Type 0 where
   pub now : e.now ≤ last_moment
   pub carries : Carries old (verdict_on old e.policy e.now e.asked) e.given new
 
--- what happens to a server
+-- a token that the operator of a server asks for: good for so many seconds from now on
+pub record TokenRequest : Type 0 where
+  pub text : List ℕ
+  pub user : List ℕ
+  pub repo : List ℕ
+  pub operation : Operation
+  pub now : ℕ
+  pub seconds : ℕ
+
+-- its parts are in range
+pub record IsTokenRequest (asked : TokenRequest) : Type 0 where
+  pub text : IsTrue (is_hex_64 asked.text)
+  pub user : IsTrue (is_user asked.user)
+  pub repo : IsTrue (is_repo asked.repo)
+
+-- why no token is issued: one with its digest is there, or it would expire after the last moment
+pub data TokenDenial : Type 0 where
+  already_issued expires_too_late : TokenDenial
+
+-- the first of these that refuses it, or the token that is issued
+abbrev pub token_verdict : World → TokenRequest → Result Issued TokenDenial
+token_verdict world asked = do
+  unknown ← none_of (issued_as asked.text world) (λ _. already_issued)
+  in_time ← check (nat_le (asked.now + asked.seconds) last_moment) expires_too_late
+  Ok (record { text = asked.text; user = asked.user; repo = asked.repo; operation = asked.operation; expires = asked.now + asked.seconds })
+
+abbrev pub after_token : World → Result Issued TokenDenial → World
+after_token world (Ok i) = with_token i world
+after_token world (Err denial) = world
+
+-- what happens to a server: a message is answered; the operator issues a token, or removes those that are not good at a moment
 pub data Event : Type 0 where
   exchanged : Exchange → Event
+  issues : TokenRequest → Event
+  prunes : ℕ → Event
 
 abbrev pub IsStep : World → Event → World → Type 0
 IsStep old (exchanged e) new = IsExchange old e new
+IsStep old (issues asked) new = IsTokenRequest asked × (new ≡ after_token old (token_verdict old asked))
+IsStep old (prunes now) new = new ≡ without_expired now old
 
 -- the events lead from the old world to the new one, step by step
 abbrev pub Run : World → List Event → World → Type 0

@@ -1,5 +1,5 @@
 -- What the server keeps.
-use Rattle.std.specs.Prelude.{◌≡◌, ℕ, ◌+◌, ◌≤◌, Bool, ◌&&◌, List, [], ◌∷◌, length, if◌then◌else◌, IsTrue, All, AllPairs, bytes_eq, Option, find}
+use Rattle.std.specs.Prelude.{◌≡◌, ℕ, ◌+◌, ◌≤◌, Bool, ◌&&◌, List, [], ◌∷◌, length, if◌then◌else◌, IsTrue, All, AllPairs, bytes_eq, Option, find, filter, nat_lt}
 use Rattle.sha2.specs.Sha256.{sha256}
 use Rattle.hex.specs.Hex.{encode_lower}
 use Rattle.names.specs.Texts.{largest_object, last_lock_id, last_moment, is_hex_64, is_user, is_repo, is_ref, is_lock_path}
@@ -98,6 +98,14 @@ lock_at repo ref path world = find (stands_at repo ref path) world.locks
 -- one lock more of the repository
 abbrev pub counted : List ℕ → (List ℕ → ℕ) → List ℕ → ℕ
 counted repo made other = if bytes_eq other repo then made other + 1 else made other
+
+-- the world with a token more
+abbrev pub with_token : Issued → World → World
+with_token i world = record world { issued = i ∷ world.issued }
+
+-- the world without the tokens that are not good at the moment
+abbrev pub without_expired : ℕ → World → World
+without_expired now world = record world { issued = filter (λ i. nat_lt now i.expires) world.issued }
 
 -- the world with a new lock
 abbrev pub with_lock : Lock → World → World

@@ -1,7 +1,7 @@
 //! Worked examples of the definitions: the answers and the texts of small cases, byte for byte.
 //! Each function does nothing, and its contract is the example.
 
-ghost use Rattle.model.specs.Examples.{FirstIsLocked, FirstIsTold, FirstIsFirst, SecondIsRefused, SecondIsTold, OtherRefIsLocked, FolderIsFrozen, FolderIsTold, BesideIsLocked, PushIsHidden, PushIsTold, PushIsDenied, CodingIsRefused, TypeIsRefused, SecondLengthIsRefused, ClimbingIsRefused, MethodIsRefused, NamelessIsRefused, NamelessIsTold, TokenExpires, DownloadLocksNothing};
+ghost use Rattle.model.specs.Examples.{FirstIsLocked, FirstIsTold, FirstIsFirst, SecondIsRefused, SecondIsTold, OtherRefIsLocked, FolderIsFrozen, FolderIsTold, BesideIsLocked, PushIsHidden, PushIsTold, PushIsDenied, CodingIsRefused, TypeIsRefused, SecondLengthIsRefused, ClimbingIsRefused, MethodIsRefused, NamelessIsRefused, NamelessIsTold, TokenExpires, DownloadLocksNothing, TokenIsIssued, TokenIsIssuedOnce, TokenIsTooLate, TokenIsPruned};
 
 /// The first message of a stream makes the first lock, and is told so in 187 bytes.
 pub fn first_lock()
@@ -50,4 +50,13 @@ pub fn tokens()
     ensures told { NamelessIsTold }
     ensures expires { TokenExpires }
     ensures download { DownloadLocksNothing }
+{}
+
+/// A token is issued for a minute, and not twice; none expires past the last moment; it is removed
+/// at its expiry.
+pub fn operator()
+    ensures issued { TokenIsIssued }
+    ensures once { TokenIsIssuedOnce }
+    ensures late { TokenIsTooLate }
+    ensures pruned { TokenIsPruned }
 {}

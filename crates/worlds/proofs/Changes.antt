@@ -84,7 +84,7 @@ count_made world repo other t id made e = at (bytes_eq other repo) refl
     at false is = made_other repo other id (next_key (λ x. x.rowid) t.repos) t.repos is ∙ made other
 
 -- one row more at the end, one lock or token more at the front
-one_more : {A B K : Type 0} (kept : A → K) (row : B → K) (xs : List A) (ys : List B) (x : A) (y : B)
+pub one_more : {A B K : Type 0} (kept : A → K) (row : B → K) (xs : List A) (ys : List B) (x : A) (y : B)
     → IsPermutation (map kept xs) (map row ys) → kept x ≡ row y → IsPermutation (map kept (xs ++ x ∷ [])) (map row (y ∷ ys))
 one_more {K = K} kept row xs ys x y same e =
     let P : List K → Type 0 = λ ks. IsPermutation ks (map row (y ∷ ys)) in

@@ -3,3 +3,4 @@ pub mod Lookups
 pub mod Changes
 pub mod Outcomes
 pub mod Holding
+pub mod Tokens

@@ -1,0 +1,135 @@
+//! How a token is issued.
+
+ghost use Rattle.std.specs.Prelude.{◌≡◌, ◌+◌, true, false, is_some, nat_le, IfOk, OnErr, IsTrue, MatchOption, MatchResult, string_bytes};
+ghost use Rattle.hex.specs.Hex.{encode_lower};
+ghost use Rattle.names.specs.Texts.{last_moment, is_hex_64};
+ghost use Rattle.model.specs.World.{World};
+ghost use Rattle.model.specs.Steps.{issued_as};
+ghost use Rattle.tables.specs.Shown.{IsHonest, Moves};
+ghost use Rattle.worlds.specs.Standing.{Holds};
+ghost use Rattle.tokens.specs.Issuing.{Issues, Refuses, Keeps};
+ghost use Rattle.tokens.specs.declared.issuing.TokenFault.TheVariants.{Store as by_store};
+
+use crate::moments::second_of;
+use names::{Moment, Oid, RepoName, UserName};
+use sha2::{Digest, Sha256};
+use std::alloc::Global;
+use tables::{Alter, NewToken, Operation, Store, StoreFault};
+use thiserror::Error;
+
+/// A token that the operator asks for.
+#[derive(Clone, Copy, Debug)]
+pub struct TokenRequest<'a> {
+    /// Whose it is.
+    pub user: UserName<'a>,
+    /// The repository that it is for.
+    pub repo: RepoName<'a>,
+    /// What it is for.
+    pub operation: Operation,
+    /// When it is asked for.
+    pub now: Moment,
+    /// How many seconds it is good for.
+    pub seconds: u64,
+    /// Random bytes, which its text tells.
+    pub random: &'a [u8; 32],
+}
+
+/// Why no token was issued. What the store holds is as it was.
+#[derive(Clone, Copy, Debug, PartialEq, Eq, Error)]
+pub enum TokenFault {
+    /// A token of these random bytes is kept.
+    #[error("K1: token already issued")]
+    AlreadyIssued,
+    /// It would expire after the last moment.
+    #[error("K2: expiry out of range")]
+    ExpiresTooLate,
+    /// The store or memory refused.
+    #[error("{0}")]
+    Store(StoreFault),
+}
+
+impl From<StoreFault> for TokenFault {
+    ghost from_gives = { λ refused fault. fault ≡ by_store refused };
+
+    fn from(fault: StoreFault) -> TokenFault {
+        TokenFault::Store(fault)
+    }
+}
+
+/// The text that tells the bytes: two hexadecimal digits for each.
+fn text_of(alloc: Global, random: &[u8; 32]) -> Result<String, StoreFault>
+    ensures text { IfOk result (λ text. string_bytes text ≡ encode_lower random.now) }
+    ensures digits { IfOk result (λ text. IsTrue (is_hex_64 (string_bytes text))) }
+{
+    let text = hex::encode(alloc, random.as_slice())?;
+    if Oid::read(text.as_bytes()).is_none() {
+        return Err(StoreFault::Refused);
+    }
+    Ok(text)
+}
+
+/// Whether a token of this text was issued.
+fn is_known<S: Alter>(store: &mut Store<S>, text: &str) -> Result<bool, StoreFault>
+    ensures answer { IsHonest S.Store store.new → (world : World) → Holds S.Store store.old world → IfOk result (λ known. known ≡ is_some (issued_as text.now world)) }
+    ensures same { Moves S.Store (λ t. t) store.old store.new }
+{
+    let digest = Sha256::digest(text.as_bytes());
+    Ok(store.token(&digest)?.is_some())
+}
+
+/// When the token expires; `None` after the last moment.
+fn expiry(now: Moment, seconds: u64) -> Option<Moment>
+    ensures { MatchOption result (nat_le (now + seconds) last_moment ≡ false) (λ expires. (nat_le (now + seconds) last_moment ≡ true) × (expires ≡ now + seconds)) }
+{
+    Moment::read(now.get().checked_add(seconds)?)
+}
+
+/// Keeps the token, unless one of its text is kept; says whether it did.
+fn keep<S: Alter>(
+    store: &mut Store<S>,
+    asked: &TokenRequest<'_>,
+    text: &str,
+    expires: Moment,
+) -> Result<bool, StoreFault>
+    ensures honest { IsHonest S.Store store.new → IsHonest S.Store store.old }
+    ensures kept { IsHonest S.Store store.new → (world : World) → Holds S.Store store.old world → IfOk result (Keeps S.Store world asked.entry.now text.now expires store.new) }
+    ensures refused { IsHonest S.Store store.new → (world : World) → Holds S.Store store.old world → OnErr result (Holds S.Store store.new world) }
+{
+    let digest = Sha256::digest(text.as_bytes());
+    store.add_token(&NewToken {
+        digest: &digest,
+        user: asked.user.as_str(),
+        repo: asked.repo.as_str(),
+        operation: asked.operation,
+        expires: second_of(expires),
+    })
+}
+
+/// Issues a token: its text, of which the store keeps the SHA-256. The text is made before the
+/// token is kept.
+///
+/// # Errors
+///
+/// `AlreadyIssued` (K1) where a token of these random bytes is kept; `ExpiresTooLate` (K2) where it
+/// would expire after the last moment; `Store`. None of them changes what the store holds.
+pub fn issue<S: Alter>(
+    alloc: Global,
+    store: &mut Store<S>,
+    asked: &TokenRequest<'_>,
+) -> Result<String, TokenFault>
+    ensures honest { IsHonest S.Store store.new → IsHonest S.Store store.old }
+    ensures issued { IsHonest S.Store store.new → (world : World) → Holds S.Store store.old world → MatchResult result (λ text. Issues S.Store world store.new asked.entry.now (string_bytes text)) (λ fault. Refuses S.Store world store.new asked.entry.now fault) }
+{
+    let text = text_of(alloc, asked.random)?;
+    if is_known(store, text.as_str())? {
+        return Err(TokenFault::AlreadyIssued);
+    }
+    let Some(expires) = expiry(asked.now, asked.seconds) else {
+        return Err(TokenFault::ExpiresTooLate);
+    };
+    match keep(store, asked, text.as_str(), expires) {
+        Ok(true) => Ok(text),
+        Ok(false) => Err(TokenFault::AlreadyIssued),
+        Err(fault) => Err(TokenFault::Store(fault)),
+    }
+}

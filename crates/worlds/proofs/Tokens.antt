@@ -1,0 +1,137 @@
+-- What a change of the tokens makes of the world.
+use Rattle.std.proofs.Common.{◌≡◌, ◌∙◌, ℕ, ℤ, pos, Bool, true, false, not, nat_lt, List, [], ◌∷◌, ◌++◌, map, find, filter, cond, Option, Some, None, option_map, is_some, length, refl, sym, ap, subst, IsPermutation, arith, ◌<◌, ◌≤◌, ◌<ℤ◌, ◌≤ℤ◌}
+use Rattle.std.specs.Prelude.{int_le}
+use Rattle.std.proofs.lemmas.Bool.Decides.{nat_tests}
+use Rattle.std.proofs.lemmas.List.{length-map}
+use Rattle.std.proofs.lemmas.List.Sorted.{length_permutation}
+use Rattle.sqlite_trees.proofs.ListLemmas.{IsPermutation-filter, filter-map}
+use Rattle.sqlite_trees.specs.declared.store.Store.{Ghosts}
+use Rattle.sha2.specs.Sha256.{sha256}
+use Rattle.model.specs.World.{World, IsWorld, Issued, IsIssued, with_token, without_expired}
+use Rattle.model.specs.Steps.{issued_as}
+use Rattle.model.proofs.Keeping.{keeps_with_token, keeps_without_expired}
+use Rattle.tables.specs.Rows as row
+use Rattle.tables.specs.Rows.{Tables}
+use Rattle.tables.specs.Statements.{has_digest, has_expired}
+use Rattle.tables.specs.Statements as tables
+use Rattle.tables.specs.Steps.{has_token, after_add}
+use Rattle.tables.specs.Shown.{IsHonest, IsOpen, shown, Moves}
+use Rattle.tables.specs.declared.Store.{Store}
+use Rattle.worlds.specs.Standing.{token_kept, token_row, StandsFor, Holds}
+use Rattle.worlds.proofs.Changes.{one_more}
+use Rattle.worlds.proofs.Lookups.{token_found}
+
+-- ---- a token more
+
+new_token_stands : (t : Tables) (world : World) (k : row.Token) (i : Issued) → StandsFor t world → token_kept k ≡ token_row i → StandsFor (tables.with_token k t) (with_token i world)
+unfolding tables.with_token
+new_token_stands t world k i s kept = record {
+  locks = s.locks;
+  made = s.made;
+  issued = one_more token_kept token_row t.tokens world.issued _ i s.issued kept;
+  uploads = s.uploads;
+  chunks = s.chunks;
+  objects = s.objects;
+}
+
+pub some_alike : {A B C : Type 0} (f : A → C) (g : B → C) (o : Option A) (p : Option B) → option_map f o ≡ option_map g p → is_some o ≡ is_some p
+some_alike f g None None e = refl
+some_alike f g (Some x) (Some y) e = refl
+some_alike f g None (Some y) e = absurd (cc)
+some_alike f g (Some x) None e = absurd (cc)
+
+-- a token with the digest is in the tables where one was issued under it
+pub token_known : (t : Tables) (world : World) (text : List ℕ) → StandsFor t world → IsWorld world → has_token (sha256 text) t ≡ is_some (issued_as text world)
+token_known t world text s w = some_alike token_kept token_row (find (has_digest (sha256 text)) t.tokens) (issued_as text world) (token_found t world text s w)
+
+pub none_is : {A : Type 0} (o : Option A) → is_some o ≡ false → o ≡ None
+none_is None e = refl
+none_is (Some x) e = absurd (cc)
+
+pub some_is : {A : Type 0} (o : Option A) → is_some o ≡ true → (x : A) × (o ≡ Some x)
+some_is (Some x) e = (x, refl)
+some_is None e = absurd (cc)
+
+-- ---- fewer tokens
+
+filter_alike : {A : Type 0} (p q : A → Bool) (xs : List A) → ((x : A) → p x ≡ q x) → filter p xs ≡ filter q xs
+filter_alike p q [] same = refl
+filter_alike p q (x ∷ xs) same = rw (same x) (ap (λ rest. cond (q x) (x ∷ rest) rest) (filter_alike p q xs same))
+
+stays : (now : ℕ) → row.Token → Bool
+stays now k = not (has_expired (pos now) k)
+
+is_good : (now expires : ℕ) → not (int_le (pos expires) (pos now)) ≡ nat_lt now expires
+is_good now expires = grind (arith, nat_tests)
+
+is_gone : (now expires : ℕ) → int_le (pos expires) (pos now) ≡ not (nat_lt now expires)
+is_gone now expires = grind (arith, nat_tests)
+
+expired_gone : (t : Tables) (world : World) (now : ℕ) → StandsFor t world → StandsFor (tables.without_expired (pos now) t) (without_expired now world)
+unfolding tables.without_expired stays
+expired_gone t world now s =
+    let P : List row.Token → Type 0 = λ ks. IsPermutation ks (map token_row (filter (λ i. nat_lt now i.expires) world.issued)) in
+    let Q : List row.Token → Type 0 = λ ks. IsPermutation (filter (stays now) (map token_kept t.tokens)) ks in
+    record {
+      locks = s.locks;
+      made = s.made;
+      issued = subst P (filter-map (stays now) token_kept t.tokens)
+          (subst Q (filter-map (stays now) token_row world.issued ∙ ap (map token_row) (filter_alike (λ i. stays now (token_row i)) (λ i. nat_lt now i.expires) world.issued (λ i. is_good now i.expires)))
+          (IsPermutation-filter (stays now) (map token_kept t.tokens) (map token_row world.issued) s.issued));
+      uploads = s.uploads;
+      chunks = s.chunks;
+      objects = s.objects;
+    }
+
+-- as many tokens have expired in the tables as in the world
+pub expired_counted : (t : Tables) (world : World) (now : ℕ) → StandsFor t world → length (filter (has_expired (pos now)) t.tokens) ≡ length (filter (λ i. not (nat_lt now i.expires)) world.issued)
+expired_counted t world now s =
+    let gone : row.Token → Bool = has_expired (pos now) in
+    let kept = filter gone (map token_kept t.tokens) in
+    let rows = filter gone (map token_row world.issued) in
+    sym (length-map (filter gone t.tokens) token_kept) ∙ sym (ap length (filter-map gone token_kept t.tokens))
+    ∙ sym (length_permutation kept rows (IsPermutation-filter gone (map token_kept t.tokens) (map token_row world.issued) s.issued))
+    ∙ ap length (filter-map gone token_row world.issued) ∙ length-map (filter (λ i. gone (token_row i)) world.issued) token_row
+    ∙ ap length (filter_alike (λ i. gone (token_row i)) (λ i. not (nat_lt now i.expires)) world.issued (λ i. is_gone now i.expires))
+
+-- ---- what a store holds after a call
+
+module _ {S : Type 0} (g : Ghosts S) (old new : Store S) (world : World) where
+  added : (k : row.Token) (t : Tables) → has_token k.digest t ≡ false → after_add k t ≡ tables.with_token k t
+  unfolding after_add
+  added k t e = rw e refl
+
+  not_added : (k : row.Token) (t : Tables) → has_token k.digest t ≡ true → after_add k t ≡ t
+  unfolding after_add
+  not_added k t e = rw e refl
+
+  -- a token that was added is issued
+  pub holds_token : (k : row.Token) (i : Issued) → Moves g (after_add k) old new → has_token k.digest (shown g old) ≡ false
+      → token_kept k ≡ token_row i → IsIssued i → issued_as i.text world ≡ None → Holds g old world → Holds g new (with_token i world)
+  holds_token k i moves free kept is unknown h = record {
+    stands = moves.stands h.stands;
+    laws = keeps_with_token world i is unknown h.laws;
+    shows = λ honest open_now. subst (λ (t : Tables). StandsFor t (with_token i world))
+        (sym (moves.shows honest h.stands open_now ∙ added k (shown g old) free))
+        (new_token_stands (shown g old) world k i (h.shows (moves.was_honest honest) (moves.was_open honest open_now)) kept);
+  }
+
+  -- one that is there already changes nothing
+  pub holds_if_known : (k : row.Token) → Moves g (after_add k) old new → has_token k.digest (shown g old) ≡ true → Holds g old world → Holds g new world
+  holds_if_known k moves there h = record {
+    stands = moves.stands h.stands;
+    laws = h.laws;
+    shows = λ honest open_now. subst (λ (t : Tables). StandsFor t world)
+        (sym (moves.shows honest h.stands open_now ∙ not_added k (shown g old) there))
+        (h.shows (moves.was_honest honest) (moves.was_open honest open_now));
+  }
+
+  -- tokens that have expired are gone
+  pub holds_pruned : (now : ℕ) → Moves g (tables.without_expired (pos now)) old new → Holds g old world → Holds g new (without_expired now world)
+  holds_pruned now moves h = record {
+    stands = moves.stands h.stands;
+    laws = keeps_without_expired now world h.laws;
+    shows = λ honest open_now. subst (λ (t : Tables). StandsFor t (without_expired now world))
+        (sym (moves.shows honest h.stands open_now))
+        (expired_gone (shown g old) world now (h.shows (moves.was_honest honest) (moves.was_open honest open_now)));
+  }
