@@ -1,0 +1,29 @@
+-- What the program answers to the machine.
+use Rattle.std.specs.Prelude.{ℕ, Bool}
+use Rattle.service.specs.declared.session.End.{End}
+use Rattle.service.specs.declared.session.End.TheVariants.{InputEnded, Closed, ReadFailed, WriteFailed}
+use Rattle.cli.specs.declared.faults.Fault.{Fault}
+use Rattle.cli.specs.declared.faults.Fault.TheVariants.{Words, Value, Policy, Store, Memory, Output, Session}
+
+-- 2 where the words are to blame, else 1
+abbrev pub status_of : Fault → ℕ
+status_of (Words _) = 2
+status_of (Value _) = 2
+status_of (Policy _) = 1
+status_of (Store _) = 1
+status_of Memory = 1
+status_of Output = 1
+status_of (Session _) = 1
+
+-- a session ends well where the input ended or the server closed the connection
+abbrev pub is_good : End → Bool
+is_good InputEnded = Bool.true
+is_good Closed = Bool.true
+is_good ReadFailed = Bool.false
+is_good WriteFailed = Bool.false
+
+-- an end that was good is not, where the last bytes could not be written
+abbrev pub end_after : End → Bool → End
+end_after InputEnded Bool.false = WriteFailed
+end_after Closed Bool.false = WriteFailed
+end_after end _ = end
