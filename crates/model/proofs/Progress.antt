@@ -12,7 +12,7 @@ use Rattle.model.specs.Replies.{IsReply}
 use Rattle.model.specs.Sessions.{IsText, AreUnder, IsSession, IsBrokenOff}
 use Rattle.model.specs.Progress.{LeadsTo, IsProgress}
 
-run_append : (old mid new : World) (before after : List Event) → Run old before mid → Run mid after new → Run old (before ++ after) new
+pub run_append : (old mid new : World) (before after : List Event) → Run old before mid → Run mid after new → Run old (before ++ after) new
 run_append old mid new [] after a b = subst (λ (w : World). Run w after new) a b
 run_append old mid new (e ∷ before) after a b = (a.0, a.1, run_append a.0 mid new before after a.2 b)
 

@@ -1,1 +1,4 @@
 pub mod Judged
+pub mod Messages
+pub mod Answered
+pub mod Serving

@@ -2,3 +2,4 @@ pub mod Judging
 pub mod Messages
 pub mod Sending
 pub mod Turns
+pub mod Served

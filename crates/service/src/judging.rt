@@ -1,13 +1,17 @@
 //! Which heads are refused, and what the others ask for (RFC 9110, Methods, Accept).
 
-ghost use Rattle.std.specs.Prelude.{◌≡◌, [], length};
+ghost use Rattle.std.specs.Prelude.{◌≡◌, ◌≤◌, ◌||◌, [], not, codes, length, map, MatchOption, Ok, Err};
 ghost use Rattle.httparse.specs.Grammar.{RequestHead};
+ghost use Rattle.names.specs.declared.rules.Rule.TheVariants.{H6, H7};
+ghost use Rattle.model.specs.Heads.{route_at, query_of, listed, accepts, values};
+ghost use Rattle.routes.specs.Routes.{route_seen};
+ghost use Rattle.routes.specs.Table.{row_of};
 ghost use Rattle.wire.specs.Fields.{Shows};
 ghost use Rattle.service.specs.Judging.{IsJudged};
 
 use model::Form;
 use names::Rule;
-use routes::{Route, Routes, query_of};
+use routes::{Resource, Route, Routes, query_of};
 use wire::Head;
 
 /// What a head that is not refused asks for.
@@ -49,33 +53,60 @@ pub fn judge<'t>(routes: &Routes, head: &Head<'t>) -> Result<Target<'t>, Denied>
         Ok(size) => size,
         Err(rule) => return Err(refused_by(rule)),
     };
-    let Ok(target) = str::from_utf8(head.target()) else {
-        return Err(refused_by(Rule::H6));
-    };
-    let Some(route) = routes.route_of(target) else {
+    let Some((route, query)) = place_of(routes, head) else {
         return Err(refused_by(Rule::H6));
     };
     let Some(form) = route.resource.form_of(head.method()) else {
-        return Err(Denied {
-            rule: Rule::H7,
-            allow: route.resource.allow(),
-        });
+        return Err(not_served(route.resource));
     };
-    if route.resource.is_json() && !head.accepts_json() {
+    if !accepts(head, route.resource) {
         return Err(refused_by(Rule::H8));
     }
     Ok(Target {
         route,
         form,
-        query: query_of(target),
+        query,
         size,
     })
 }
 
-/// Denied by a rule that has nothing to say of methods.
+/// Where the head's target leads, and its query; `None` where it leads nowhere (H6).
+fn place_of<'t>(routes: &Routes, head: &Head<'t>) -> Option<(Route<'t>, &'t str)>
+    ensures { (h : RequestHead) → Shows head.now h → MatchOption result (route_at h.target ≡ Err H6)
+        (λ place. (route_at h.target ≡ Ok (route_seen place.0)) × (place.1.now ≡ query_of h.target)) }
+{
+    let Ok(target) = str::from_utf8(head.target()) else {
+        return None;
+    };
+    match routes.route_of(target) {
+        Some(route) => Some((route, query_of(target))),
+        None => None,
+    }
+}
+
+/// Whether the client accepts what the resource replies.
+fn accepts(head: &Head<'_>, resource: Resource) -> bool
+    ensures { (h : RequestHead) → Shows head.now h → result ≡ (not (row_of resource).is_json || accepts (values (codes "accept") h)) }
+{
+    !resource.is_json() || head.accepts_json()
+}
+
+/// Refused by a rule that names no methods.
 fn refused_by(rule: Rule) -> Denied
     ensures rule { result.rule ≡ rule }
     ensures allow { result.allow.now ≡ [] }
 {
     Denied { rule, allow: "" }
+}
+
+/// Refused since the resource serves other methods.
+fn not_served(resource: Resource) -> Denied
+    ensures rule { result.rule ≡ H7 }
+    ensures allow { result.allow.now ≡ listed (map (λ r. r.0) (row_of resource).requests) }
+    ensures short { length result.allow.now ≤ 128 }
+{
+    Denied {
+        rule: Rule::H7,
+        allow: resource.allow(),
+    }
 }

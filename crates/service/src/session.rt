@@ -1,5 +1,14 @@
 //! A connection, message after message.
 
+ghost use Rattle.std.specs.Prelude.{◌≡◌, ◌≢◌, ◌≤◌, IfOk, length};
+ghost use Rattle.std.specs.Io.KnownBytes.{IsAtEnd};
+ghost use Rattle.names.specs.Streams.{HasGrown};
+ghost use Rattle.model.specs.World.{World};
+ghost use Rattle.policy.specs.Values.{policy_view};
+ghost use Rattle.tables.specs.Shown.{IsHonest};
+ghost use Rattle.worlds.specs.Standing.{Holds};
+ghost use Rattle.service.specs.Served.{IsServed, IsRefusal, IsCountedAs, IsEndedBy, Serves};
+
 use crate::input::read_all;
 use crate::sending::send;
 use crate::turn::{Setting, Turn, take_turn};
@@ -35,7 +44,9 @@ pub struct Served {
 }
 
 /// Room for the fields of a head.
-fn field_room(alloc: Global) -> Result<Vec<HeaderSpan>, AllocError> {
+fn field_room(alloc: Global) -> Result<Vec<HeaderSpan>, AllocError>
+    ensures { IfOk result (λ room. length room.items ≡ FIELD_ROOM) }
+{
     let nothing = Span { start: 0, end: 0 };
     let span = HeaderSpan {
         name: nothing,
@@ -52,7 +63,14 @@ fn answer_all<S: Alter, K: Sink>(
     bytes: &[u8],
     fields: &mut [HeaderSpan],
     sink: &mut K,
-) -> Served {
+) -> Served
+    requires { FIELD_ROOM ≤ length fields.old }
+    ensures honest { IsHonest S.Store store.new → IsHonest S.Store store.old }
+    ensures counted { IsCountedAs (K.failed sink.old) (K.failed sink.new) result.end }
+    ensures known { result.end ≢ End.ReadFailed }
+    ensures served { IsHonest S.Store store.new → (world : World) → Holds S.Store store.old world
+        → IsServed S.Store (policy_view setting.entry.now.policy.now) setting.entry.now.now bytes.now world store.new (K.taken sink.old) (K.taken sink.new) result }
+{
     let mut rest = bytes;
     let mut answered = 0;
     'messages: loop {
@@ -84,7 +102,11 @@ fn answer_all<S: Alter, K: Sink>(
 }
 
 /// Tells the refusal by the store, where there was no memory to read with.
-fn refuse_all<K: Sink>(sink: &mut K) -> Served {
+fn refuse_all<K: Sink>(sink: &mut K) -> Served
+    ensures counted { IsCountedAs (K.failed sink.old) (K.failed sink.new) result.end }
+    ensures known { result.end ≢ End.ReadFailed }
+    ensures told { IsRefusal (K.taken sink.old) (K.taken sink.new) result }
+{
     match send(sink, &Reply::store_refused(), "", true) {
         Ok(()) => Served {
             answered: 1,
@@ -97,7 +119,16 @@ fn refuse_all<K: Sink>(sink: &mut K) -> Served {
     }
 }
 
-/// Serves a connection.
+/// Serves a connection: reads what the source hands out to its end, answers its messages in order
+/// at one moment, and writes each reply before it looks at the next message.
+///
+/// The connection is closed behind the refusal of a head, behind a refusal by the store, and where
+/// the client asks it. Where a read fails, what was read before is answered all the same. Where
+/// there is no memory to read with, the refusal by the store is all that is written, and nothing is
+/// done.
+///
+/// What the store holds afterwards, and what was written, is what the messages ask, step by step;
+/// whatever went before.
 pub fn serve<S: Alter, R: Source, K: Sink>(
     alloc: Global,
     store: &mut Store<S>,
@@ -106,7 +137,14 @@ pub fn serve<S: Alter, R: Source, K: Sink>(
     now: Moment,
     source: &mut R,
     sink: &mut K,
-) -> Served {
+) -> Served
+    ensures honest { IsHonest S.Store store.new → IsHonest S.Store store.old }
+    ensures session { IsHonest S.Store store.new → (world : World) → Holds S.Store store.old world
+        → Serves S.Store (policy_view policy.entry.now) now world store.new (R.left source.old) (R.left source.new) (K.taken sink.old) (K.taken sink.new) result }
+    ensures input_ended { result.end ≡ End.InputEnded → IsAtEnd (R.left source.new) }
+    ensures read_failed { result.end ≡ End.ReadFailed → HasGrown (R.failed source.old) (R.failed source.new) }
+    ensures counted { IsCountedAs (K.failed sink.old) (K.failed sink.new) result.end }
+{
     let Ok(mut fields) = field_room(alloc) else {
         return refuse_all(sink);
     };
@@ -119,11 +157,19 @@ pub fn serve<S: Alter, R: Source, K: Sink>(
         now,
     };
     let served = answer_all(alloc, store, &setting, &input.bytes, &mut fields, sink);
-    match served.end {
-        End::InputEnded if input.has_failed => Served {
+    ended(served, input.has_failed)
+}
+
+/// The same, where a read failed behind the bytes that were served.
+fn ended(served: Served, has_failed: bool) -> Served
+    ensures { IsEndedBy served has_failed result }
+{
+    if has_failed && served.end == End::InputEnded {
+        Served {
             answered: served.answered,
             end: End::ReadFailed,
-        },
-        _ => served,
+        }
+    } else {
+        served
     }
 }

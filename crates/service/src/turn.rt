@@ -1,7 +1,8 @@
 //! One message: it is cut from the stream, answered, and the reply is written.
 
-ghost use Rattle.std.specs.Prelude.{◌≡◌, ◌≤◌, length, codes, option_map};
+ghost use Rattle.std.specs.Prelude.{◌≡◌, ◌≤◌, ◌||◌, length, codes, option_map};
 ghost use Rattle.httparse.specs.Grammar.{RequestHead};
+ghost use Rattle.names.specs.Texts.{last_moment};
 ghost use Rattle.model.specs.World.{World};
 ghost use Rattle.model.specs.Heads.{values};
 ghost use Rattle.model.specs.Steps.{verdict};
@@ -30,6 +31,7 @@ pub(crate) struct Setting<'a> {
     pub policy: &'a Policy,
     pub routes: &'a Routes,
     pub now: Moment,
+    pub ghost in_range: { now ≤ last_moment },
 }
 
 /// What became of the next message.
@@ -75,6 +77,13 @@ fn answer_message<S: Alter>(
     }
 }
 
+/// Whether the connection is closed behind the reply.
+fn closes(message: &Message<'_>, reply: &Reply) -> bool
+    ensures { result ≡ (message.entry.now.is_last || reply.now.is_store_refusal) }
+{
+    message.is_last || reply.is_store_refusal
+}
+
 /// Writes the reply to a message of so many bytes.
 fn deliver<K: Sink>(sink: &mut K, reply: &Reply, allow: &str, close: bool, len: usize) -> Turn
     requires { length allow.now ≤ ALLOW_LIMIT }
@@ -113,11 +122,17 @@ pub(crate) fn take_turn<S: Alter, K: Sink>(
     match next_message(setting.routes, bytes, fields) {
         Next::Unfinished => Turn::Unfinished,
         Next::Refused(denied) => {
-            deliver(sink, &Reply::head_refused(denied.rule), denied.allow, true, 0)
+            deliver(
+                sink,
+                &Reply::head_refused(denied.rule),
+                denied.allow,
+                true,
+                0,
+            )
         }
         Next::Whole(message) => {
             let reply = answer_message(alloc, store, setting, &message);
-            let close = message.is_last || reply.is_store_refusal;
+            let close = closes(&message, &reply);
             deliver(sink, &reply, "", close, message.len)
         }
     }
