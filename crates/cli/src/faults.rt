@@ -61,6 +61,10 @@ impl From<clap::Error> for Fault {
 }
 
 impl From<PolicyFault> for Fault {
+    ghost use Rattle.cli.specs.Statuses.{of_policy};
+
+    ghost from_gives = { λ fault told. told ≡ of_policy fault };
+
     fn from(fault: PolicyFault) -> Fault {
         match fault {
             PolicyFault::Refused(fault) => Fault::Policy(fault),
@@ -70,6 +74,10 @@ impl From<PolicyFault> for Fault {
 }
 
 impl From<StoreFault> for Fault {
+    ghost use Rattle.cli.specs.Statuses.{of_store};
+
+    ghost from_gives = { λ fault told. told ≡ of_store fault };
+
     fn from(fault: StoreFault) -> Fault {
         match fault {
             StoreFault::Memory => Fault::Memory,
@@ -79,6 +87,10 @@ impl From<StoreFault> for Fault {
 }
 
 impl From<AllocError> for Fault {
+    ghost use Rattle.cli.specs.declared.faults.Fault.TheVariants.{Memory};
+
+    ghost from_gives = { λ _ told. told ≡ Memory };
+
     fn from(_refused: AllocError) -> Fault {
         Fault::Memory
     }

@@ -1,6 +1,7 @@
 //! The whole program.
 
-ghost use Rattle.std.specs.Prelude.{◌≡◌, ◌≤◌};
+ghost use Rattle.std.specs.Prelude.{◌≡◌, ◌≢◌, ◌≤◌};
+ghost use Rattle.std.specs.IoError.{error_kind};
 ghost use Rattle.cli.specs.Statuses.{status_of};
 
 use crate::faults::Fault;
@@ -48,8 +49,8 @@ fn refuse<E: Write>(fault: &Fault, errors: &mut E) -> u8
 /// The program: what its words ask for, over its input, its output and its error stream. It answers
 /// the exit status: 0 good, 1 refused, 2 words that it does not know.
 ///
-/// The first of the words is the program's own name. `docs/PROTOCOL.md` tells what each command
-/// prints.
+/// The first of the words is the program's own name. What the commands print, and each line that is
+/// told on the error stream, stands in `docs/COMMANDS.md`.
 pub fn run<R: Read, W: Write, E: Write>(
     rt: &HostRuntime,
     words: &[String],
@@ -65,14 +66,26 @@ pub fn run<R: Read, W: Write, E: Write>(
     }
 }
 
-/// The exit status of a program whose words could not be had, which is told on the error stream.
-pub fn refuse_words<E: Write>(error: &io::Error, errors: &mut E) -> u8 {
-    if error.kind() == ErrorKind::OutOfMemory {
-        return refuse(&Fault::Memory, errors);
-    }
-    let _ = writeln!(
+/// Says that a word is no text.
+fn tell_no_text<E: Write>(errors: &mut E) -> io::Result<()> {
+    writeln!(
         errors,
         "error: invalid UTF-8 was detected in one or more arguments"
-    );
-    2
+    )?;
+    errors.flush()
+}
+
+/// The exit status of a program whose words could not be had, which is told on the error stream: 1
+/// for want of memory, and else 2, as where a word is no UTF-8.
+pub fn refuse_words<E: Write>(error: &io::Error, errors: &mut E) -> u8
+    ensures memory { error_kind error.now ≡ ErrorKind.OutOfMemory → result ≡ 1 }
+    ensures other { error_kind error.now ≢ ErrorKind.OutOfMemory → result ≡ 2 }
+{
+    match error.kind() {
+        ErrorKind::OutOfMemory => refuse(&Fault::Memory, errors),
+        _ => {
+            let _ = tell_no_text(errors);
+            2
+        }
+    }
 }
