@@ -1,0 +1,44 @@
+-- What the program answers to the machine, and which fault it tells.
+use Rattle.std.specs.Prelude.{ℕ, Bool}
+use Rattle.service.specs.declared.session.End.{End}
+use Rattle.service.specs.declared.session.End.TheVariants.{InputEnded, Closed, ReadFailed, WriteFailed}
+use Rattle.tables.specs.declared.fault.StoreFault.{StoreFault}
+use Rattle.tables.specs.declared.fault.StoreFault.TheVariants as tables
+use Rattle.policy.specs.declared.faults.PolicyFault.{PolicyFault}
+use Rattle.policy.specs.declared.faults.PolicyFault.TheVariants as policy
+use Rattle.cli.specs.declared.faults.Fault.{Fault}
+use Rattle.cli.specs.declared.faults.Fault.TheVariants.{Words, Value, Policy, Store, Memory, Output, Session}
+
+-- 2 where the words are to blame, else 1
+abbrev pub status_of : Fault → ℕ
+status_of (Words _) = 2
+status_of (Value _) = 2
+status_of (Policy _) = 1
+status_of (Store _) = 1
+status_of Memory = 1
+status_of Output = 1
+status_of (Session _) = 1
+
+-- a refusal by the database, or by memory
+abbrev pub of_store : StoreFault → Fault
+of_store tables.UnknownSchema = Store tables.UnknownSchema
+of_store tables.Refused = Store tables.Refused
+of_store tables.Memory = Memory
+
+-- a text that spells no policy, or a refusal by memory
+abbrev pub of_policy : PolicyFault → Fault
+of_policy (policy.Refused fault) = Policy fault
+of_policy policy.Memory = Memory
+
+-- a session ends well where the input ended or the server closed the connection
+abbrev pub is_good : End → Bool
+is_good InputEnded = Bool.true
+is_good Closed = Bool.true
+is_good ReadFailed = Bool.false
+is_good WriteFailed = Bool.false
+
+-- an end that was good is not, where the last bytes could not be written
+abbrev pub end_after : End → Bool → End
+end_after InputEnded Bool.false = WriteFailed
+end_after Closed Bool.false = WriteFailed
+end_after end _ = end

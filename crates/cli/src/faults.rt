@@ -1,0 +1,97 @@
+//! Why the program ends with another status than 0, and what it says then.
+
+ghost use Rattle.std.specs.Prelude.{◌≡◌};
+ghost use Rattle.cli.specs.Statuses.{status_of};
+
+use policy::PolicyFault;
+use service::End;
+use std::alloc::AllocError;
+use tables::StoreFault;
+use thiserror::Error;
+
+/// Why the program ends with another status than 0. Each is one line, but for the first.
+#[derive(Debug, Drop, Error)]
+pub(crate) enum Fault {
+    /// The words are no command. The text is that of `clap`, and has its own line ends.
+    #[error("{0}")]
+    Words(clap::Error),
+    /// A value that its reader refuses: the name of its option.
+    #[error("custody: bad value for {0}")]
+    Value(&'static str),
+    /// There is no policy.
+    #[error("custody: policy {0}")]
+    Policy(policy::Fault),
+    /// The database refused.
+    #[error("custody: {0}")]
+    Store(StoreFault),
+    /// Memory was refused.
+    #[error("custody: no memory")]
+    Memory,
+    /// Help could not be written.
+    #[error("custody: input or output")]
+    Output,
+    /// The session failed.
+    #[error("custody: session {0:?}")]
+    Session(End),
+}
+
+impl Fault {
+    /// The exit status: 2 for words and their values, else 1.
+    pub fn status(&self) -> u8
+        ensures { result ≡ status_of self.now }
+    {
+        match self {
+            Fault::Words(_) | Fault::Value(_) => 2,
+            Fault::Policy(_) => 1,
+            Fault::Store(_) => 1,
+            Fault::Memory => 1,
+            Fault::Output => 1,
+            Fault::Session(_) => 1,
+        }
+    }
+}
+
+impl From<clap::Error> for Fault {
+    fn from(error: clap::Error) -> Fault {
+        match error.kind() {
+            clap::error::ErrorKind::OutOfMemory => Fault::Memory,
+            _ => Fault::Words(error),
+        }
+    }
+}
+
+impl From<PolicyFault> for Fault {
+    ghost use Rattle.cli.specs.Statuses.{of_policy};
+
+    ghost from_gives = { λ fault told. told ≡ of_policy fault };
+
+    fn from(fault: PolicyFault) -> Fault {
+        match fault {
+            PolicyFault::Refused(fault) => Fault::Policy(fault),
+            PolicyFault::Memory => Fault::Memory,
+        }
+    }
+}
+
+impl From<StoreFault> for Fault {
+    ghost use Rattle.cli.specs.Statuses.{of_store};
+
+    ghost from_gives = { λ fault told. told ≡ of_store fault };
+
+    fn from(fault: StoreFault) -> Fault {
+        match fault {
+            StoreFault::Memory => Fault::Memory,
+            _ => Fault::Store(fault),
+        }
+    }
+}
+
+impl From<AllocError> for Fault {
+    ghost use Rattle.cli.specs.declared.faults.Fault.TheVariants.{Memory};
+
+    ghost from_gives = { λ _ told. told ≡ Memory };
+
+    fn from(_refused: AllocError) -> Fault {
+        Fault::Memory
+    }
+}

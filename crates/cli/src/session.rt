@@ -1,0 +1,96 @@
+//! The command `session`: one connection over the program's own input and output.
+
+ghost use Rattle.std.specs.Prelude.{◌≡◌, IsOk, ◌↔◌, IsTrue};
+ghost use Rattle.cli.specs.Statuses.{is_good, end_after};
+
+use crate::example;
+use crate::faults::Fault;
+use crate::words::SessionWords;
+use names::{Counted, Moment};
+use policy::Policy;
+use service::{End, Routes, serve};
+use std::alloc::Global;
+use std::io::{self, BufWriter, Read, Write};
+use std::rt::HostRuntime;
+use tables::{Storage, Store};
+
+/// What a session is served by.
+#[derive(Clone, Copy)]
+struct Setting<'a> {
+    policy: &'a Policy,
+    routes: &'a Routes,
+    now: Moment,
+}
+
+/// Serves the connection, and writes out what is still buffered.
+fn serve_streams<S: Storage, R: Read, W: Write>(
+    alloc: Global,
+    store: &mut Store<S>,
+    setting: &Setting<'_>,
+    input: &mut R,
+    output: &mut W,
+) -> io::Result<End> {
+    let mut source = Counted::new(input);
+    let mut sink = Counted::new(BufWriter::new(alloc, output)?);
+    let served = serve(
+        alloc,
+        store,
+        setting.policy,
+        setting.routes,
+        setting.now,
+        &mut source,
+        &mut sink,
+    );
+    let is_written = sink.into_inner().flush().is_ok();
+    Ok(end_after(served.end, is_written))
+}
+
+/// How the session ended, where the last bytes could be written or not.
+fn end_after(end: End, is_written: bool) -> End
+    ensures { result ≡ end_after end is_written }
+{
+    match end {
+        End::InputEnded | End::Closed if !is_written => End::WriteFailed,
+        _ => end,
+    }
+}
+
+/// Whether the session ended well.
+fn is_good(end: End) -> bool
+    ensures { result ≡ is_good end }
+{
+    match end {
+        End::InputEnded | End::Closed => true,
+        End::ReadFailed | End::WriteFailed => false,
+    }
+}
+
+/// Answers the requests of the input.
+///
+/// # Errors
+///
+/// `Store` and `Memory` where the database could not be opened, and `Session` where reading or
+/// writing failed: what was answered before stands.
+pub(crate) fn session<R: Read, W: Write>(
+    rt: &HostRuntime,
+    words: &SessionWords<'_>,
+    input: &mut R,
+    output: &mut W,
+) -> Result<(), Fault> {
+    let alloc = rt.alloc();
+    let policy = example::policy(alloc)?;
+    let routes = Routes::new(alloc)?;
+    let mut store = Store::open(rt, words.db)?;
+    store.create_or_check(alloc)?;
+    example::add_tokens(&mut store)?;
+    let setting = Setting {
+        policy: &policy,
+        routes: &routes,
+        now: words.now,
+    };
+    match serve_streams(alloc, &mut store, &setting, input, output) {
+        Ok(end) if is_good(end) => Ok(()),
+        Ok(end) => Err(Fault::Session(end)),
+        Err(_) => Err(Fault::Memory),
+    }
+}
