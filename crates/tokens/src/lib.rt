@@ -11,3 +11,6 @@ mod pruning;
 
 pub use issuing::{TokenFault, TokenRequest, issue};
 pub use pruning::prune;
+
+#[cfg(test)]
+mod tests;

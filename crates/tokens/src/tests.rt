@@ -1,0 +1,112 @@
+use super::*;
+use names::{Moment, RepoName, UserName};
+use sha2::{Digest, Sha256};
+use sqlite::MemStore;
+use std::alloc::Global;
+use std::rt::HostRuntime;
+use std::test::Fail;
+use tables::{Operation, Store, StoreFault};
+
+/// 64 times the letter c: 32 bytes 0xcc in hexadecimal digits.
+const TEXT: &str = "cccccccccccccccccccccccccccccccccccccccccccccccccccccccccccccccc";
+
+fn opened(alloc: Global) -> Result<Store<MemStore>, StoreFault> {
+    let mut store = Store::open_memory(alloc)?;
+    store.create_or_check(alloc)?;
+    Ok(store)
+}
+
+/// A download token of ann for studio/film, of 32 such bytes.
+fn asked(random: &[u8; 32], second: u64, seconds: u64) -> Option<TokenRequest<'_>> {
+    Some(TokenRequest {
+        user: UserName::read("ann")?,
+        repo: RepoName::read("studio/film")?,
+        operation: Operation::Download,
+        now: Moment::read(second)?,
+        seconds,
+        random,
+    })
+}
+
+/// The text of the token that is issued, or why there is none.
+fn issued(
+    alloc: Global,
+    store: &mut Store<MemStore>,
+    byte: u8,
+    second: u64,
+    seconds: u64,
+) -> Result<String, TokenFault> {
+    let random = [byte; 32];
+    match asked(&random, second, seconds) {
+        Some(asked) => issue(alloc, store, &asked),
+        None => Err(TokenFault::Store(StoreFault::Refused)),
+    }
+}
+
+/// The same, as a text that tells either.
+fn told(
+    alloc: Global,
+    store: &mut Store<MemStore>,
+    byte: u8,
+    second: u64,
+    seconds: u64,
+) -> Result<String, Fail> {
+    match issued(alloc, store, byte, second, seconds) {
+        Ok(text) => Ok(text),
+        Err(fault) => Ok(fault.to_string(alloc)?),
+    }
+}
+
+#[test]
+fn a_token_is_issued_once(rt: HostRuntime) -> Result<(), Fail> {
+    let alloc = rt.alloc();
+    let mut store = opened(alloc)?;
+    assert!(rt; told(alloc, &mut store, 0xcc, 40, 60)?.as_str() == TEXT);
+    for (second, seconds) in [(40, 60), (41, 60), (253402300799, 1)] {
+        let again = told(alloc, &mut store, 0xcc, second, seconds)?;
+        assert!(rt; again.as_str() == "K1: token already issued");
+    }
+    Ok(())
+}
+
+#[test]
+fn the_digest_of_a_token_is_kept(rt: HostRuntime) -> Result<(), Fail> {
+    let alloc = rt.alloc();
+    let mut store = opened(alloc)?;
+    told(alloc, &mut store, 0xcc, 40, 60)?;
+    let Some(kept) = store.token(&Sha256::digest(TEXT.as_bytes()))? else {
+        assert!(rt; false, "no token has the digest of the text");
+        return Ok(());
+    };
+    assert!(rt; kept.user.as_str() == "ann" && kept.repo.as_str() == "studio/film");
+    assert!(rt; kept.operation == Operation::Download && kept.expires == 100);
+    Ok(())
+}
+
+#[test]
+fn no_token_expires_past_the_last_moment(rt: HostRuntime) -> Result<(), Fail> {
+    let alloc = rt.alloc();
+    let mut store = opened(alloc)?;
+    for (second, seconds) in [(253402300799, 1), (0, 253402300800), (1, u64::MAX)] {
+        let late = told(alloc, &mut store, 0xcc, second, seconds)?;
+        assert!(rt; late.as_str() == "K2: expiry out of range");
+    }
+    assert!(rt; told(alloc, &mut store, 0xcc, 253402300798, 1)?.as_str() == TEXT);
+    Ok(())
+}
+
+#[test]
+fn a_token_is_removed_at_its_expiry(rt: HostRuntime) -> Result<(), Fail> {
+    let alloc = rt.alloc();
+    let mut store = opened(alloc)?;
+    told(alloc, &mut store, 0xcc, 40, 60)?;
+    told(alloc, &mut store, 0xdd, 40, 61)?;
+    for (second, want) in [(99, 0), (100, 1), (100, 0), (101, 1)] {
+        let Some(now) = Moment::read(second) else {
+            return Ok(());
+        };
+        assert_eq!(rt; prune(&mut store, now)?, want);
+    }
+    assert!(rt; told(alloc, &mut store, 0xcc, 40, 60)?.as_str() == TEXT);
+    Ok(())
+}
