@@ -4,9 +4,10 @@ use crate::cases::FIRST;
 use crate::program::{Ran, clear, run, session, status_over};
 use sqlite::{Connection, Error};
 use std::alloc::AllocError;
-use std::fs;
+use std::io::ErrorKind;
 use std::rt::HostRuntime;
 use std::test::Fail;
+use std::{fs, io};
 
 const MISSING_NOW: &str = "\
 error: the following required arguments were not provided:
@@ -72,6 +73,24 @@ fn a_moment_is_1_to_18_digits_in_range(rt: HostRuntime) -> Result<(), Fail> {
         assert!(rt; with_now(&rt, now)?.is(0, "", ""), "{now:?}");
     }
     clear(&rt, "value.db")
+}
+
+#[test]
+fn words_that_could_not_be_had_are_told(rt: HostRuntime) -> Result<(), Fail> {
+    let cases = [
+        (
+            ErrorKind::InvalidData,
+            2,
+            "error: invalid UTF-8 was detected in one or more arguments\n",
+        ),
+        (ErrorKind::OutOfMemory, 1, "custody: no memory\n"),
+    ];
+    for (kind, status, line) in cases {
+        let mut errors = Vec::new(rt.alloc());
+        assert!(rt; cli::refuse_words(&io::Error::from(kind), &mut errors) == status);
+        assert!(rt; errors.as_slice() == line.as_bytes());
+    }
+    Ok(())
 }
 
 #[test]

@@ -123,13 +123,17 @@ fn session_words<'a>(matches: &ArgMatches<'a>) -> Result<SessionWords<'a>, Fault
 ///
 /// `Words` where `clap` refuses them, `Value` where a value is out of range, `Memory`.
 pub(crate) fn read_words<'a>(alloc: Global, words: &'a [String]) -> Result<Asked<'a>, Fault> {
-    let matches = match program(alloc)?.try_get_matches_from(words) {
+    let mut program = program(alloc)?;
+    let matches = match program.try_get_matches_from_mut(words) {
         Ok(matches) => matches,
         Err(error) if error.kind() == ErrorKind::DisplayHelp => return Ok(Asked::Help(error)),
         Err(error) => return Err(Fault::from(error)),
     };
-    let Some((_, matches)) = matches.subcommand() else {
-        return Err(Fault::Memory);
-    };
-    Ok(Asked::Session(session_words(matches)?))
+    match matches.subcommand() {
+        Some((_, matches)) => Ok(Asked::Session(session_words(matches)?)),
+        None => Err(Fault::from(program.error(
+            ErrorKind::MissingSubcommand,
+            "a command is needed",
+        )?)),
+    }
 }
