@@ -15,15 +15,9 @@ pub(crate) fn read_all<R: Source>(alloc: Global, source: &mut R) -> Result<Input
     let mut bytes = Vec::new(alloc);
     'pieces: loop {
         match source.read(&mut piece) {
-            Ok(0) => return Ok(Input {
-                bytes,
-                has_failed: false,
-            }),
+            Ok(0) => return Ok(Input { bytes, has_failed: false }),
             Ok(n) => bytes.extend_from_slice(&piece[..n])?,
-            Err(_) => return Ok(Input {
-                bytes,
-                has_failed: true,
-            }),
+            Err(_) => return Ok(Input { bytes, has_failed: true }),
         }
     }
 }

@@ -113,13 +113,7 @@ pub(crate) fn take_turn<S: Alter, K: Sink>(
     match next_message(setting.routes, bytes, fields) {
         Next::Unfinished => Turn::Unfinished,
         Next::Refused(denied) => {
-            deliver(
-                sink,
-                &Reply::head_refused(denied.rule),
-                denied.allow,
-                true,
-                0,
-            )
+            deliver(sink, &Reply::head_refused(denied.rule), denied.allow, true, 0)
         }
         Next::Whole(message) => {
             let reply = answer_message(alloc, store, setting, &message);
