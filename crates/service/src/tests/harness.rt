@@ -297,25 +297,34 @@ pub(super) fn expect_text(
 /// [`CREATED`] where `201` is wanted.
 ///
 /// The worked lock that follows is not looked at behind a refused head, which closes. Behind any
-/// other message it is answered as if a refused one had not been.
+/// other message it is answered, as the first lock where that message was refused.
 pub(super) fn expect(
     rt: &impl Abort,
     alloc: Global,
     message: &[u8],
     want: &str,
 ) -> Result<(), Fail> {
-    let is_made = want == "201";
-    let closes = want.starts_with('H');
-    let mut text = if is_made {
-        CREATED.to_owned(alloc)?
-    } else {
-        refusal(alloc, want, closes)?
-    };
-    expect_text(rt, alloc, message, text.as_str(), served(1, closes))?;
     let both = [message, MESSAGE].concat(alloc)?;
-    if closes {
-        return expect_text(rt, alloc, &both, text.as_str(), served(1, true));
+    if want == "201" {
+        let text = [CREATED, HELD].concat(alloc)?;
+        return expect_text(rt, alloc, &both, text.as_str(), served(2, false));
     }
-    text.push_str(if is_made { HELD } else { CREATED })?;
-    expect_text(rt, alloc, &both, text.as_str(), served(2, false))
+    let closes = want.starts_with('H');
+    let first = refusal(alloc, want, closes)?;
+    let second = if closes { "" } else { CREATED };
+    let text = [first.as_str(), second].concat(alloc)?;
+    let answered = if closes { 1 } else { 2 };
+    let shown = str::from_utf8(message).unwrap_or("bytes that are no text");
+    let mut server = Server::new(alloc)?;
+    for (bytes, most, text, served) in [
+        (message, 1, first.as_str(), served(1, closes)),
+        (message, usize::MAX, first.as_str(), served(1, closes)),
+        (both.as_slice(), 7, text.as_str(), served(answered, closes)),
+    ] {
+        let told = server.tell(alloc, bytes, most)?;
+        assert_eq!(rt; told.text.as_str(), text, "{most} a read of {shown}");
+        assert_eq!(rt; told.served, served, "{most} a read of {shown}");
+    }
+    assert_eq!(rt; server.made()?, if closes { 0 } else { 1 });
+    Ok(())
 }
