@@ -182,9 +182,9 @@ fn bodies_nest_127_levels(rt: HostRuntime) -> Result<(), Fail> {
 #[test]
 fn the_longest_body_is_read(rt: HostRuntime) -> Result<(), Fail> {
     let space = vec![in rt.alloc(); b' '; 1_048_576 - 23]?;
-    let body = [HERO, space.as_slice()].concat(rt.alloc())?;
+    let body = joined(rt.alloc(), HERO, &space)?;
     let first = asking(rt.alloc(), ANN, &body)?;
-    let bytes = [first.as_slice(), MESSAGE].concat(rt.alloc())?;
+    let bytes = joined(rt.alloc(), &first, MESSAGE)?;
     let want = [CREATED, HELD].concat(rt.alloc())?;
     let told = Server::new(rt.alloc())?.tell(rt.alloc(), &bytes, usize::MAX)?;
     assert_eq!(rt; told.text.as_str(), want.as_str());

@@ -54,8 +54,7 @@ fn a_token_is_none_or_unknown(rt: HostRuntime) -> Result<(), Fail> {
             (LOCKS, b"{\"path\":\"art/hero.psd\"".as_slice()),
             ("POST /no/where.git/info/lfs/locks HTTP/1.1", HERO),
         ] {
-            let length = format!(in rt.alloc(); "Content-Length: {}", body.len())?;
-            let bytes = message(rt.alloc(), line, &[field, length.as_str()], body)?;
+            let bytes = bearing(rt.alloc(), line, field, body)?;
             expect(&rt, rt.alloc(), &bytes, want)?;
         }
     }

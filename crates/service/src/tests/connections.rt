@@ -6,6 +6,8 @@ use names::{FailAfter, SliceSource, VecSink};
 use std::alloc::Global;
 use std::test::Fail;
 
+const CLOSE: &str = "Connection: close";
+
 /// The message of the worked lock with another request line and one field more.
 fn worked_with(alloc: Global, line: &str, field: &str) -> Result<Vec<u8>, Fail> {
     Ok(message(alloc, line, &[ANN, LENGTH, field], HERO)?)
@@ -35,7 +37,7 @@ fn a_message_may_ask_to_be_the_last(rt: HostRuntime) -> Result<(), Fail> {
     ] {
         let first = worked_with(rt.alloc(), line, field)?;
         for behind in [b"".as_slice(), MESSAGE, b"\x00".as_slice()] {
-            let bytes = [first.as_slice(), behind].concat(rt.alloc())?;
+            let bytes = joined(rt.alloc(), &first, behind)?;
             expect_text(&rt, rt.alloc(), &bytes, want.as_str(), served(1, true))?;
         }
     }
@@ -63,29 +65,20 @@ fn other_words_do_not_close(rt: HostRuntime) -> Result<(), Fail> {
 
 #[test]
 fn a_refusal_closes_where_its_message_asks(rt: HostRuntime) -> Result<(), Fail> {
-    let close = "Connection: close";
-    for (fields, body, want) in [
-        ([close, LENGTH].as_slice(), HERO, "A1"),
-        (
-            [close, LENGTH, "Authorization: Bearer a"].as_slice(),
-            HERO,
-            "A2",
-        ),
-        ([close, LENGTH, STRANGER].as_slice(), HERO, "A4"),
-        (
-            [close, "Content-Length: 2", ANN].as_slice(),
-            b"{}".as_slice(),
-            "J1",
-        ),
-        ([close, LENGTH, READER].as_slice(), HERO, "A5"),
+    for (bearer, length, want) in [
+        ("A: b", LENGTH, "A1"),
+        ("Authorization: Bearer a", LENGTH, "A2"),
+        (STRANGER, LENGTH, "A4"),
+        (ANN, "Content-Length: 22", "J1"),
+        (READER, LENGTH, "A5"),
     ] {
-        let first = message(rt.alloc(), LOCKS, fields, body)?;
-        let bytes = [first.as_slice(), MESSAGE].concat(rt.alloc())?;
+        let first = message(rt.alloc(), LOCKS, &[CLOSE, length, bearer], HERO)?;
+        let bytes = joined(rt.alloc(), &first, MESSAGE)?;
         let text = refusal(rt.alloc(), want, true)?;
         expect_text(&rt, rt.alloc(), &bytes, text.as_str(), served(1, true))?;
     }
     // The lines of a refusal that closes, written out.
-    let first = message(rt.alloc(), LOCKS, &[LENGTH, close], HERO)?;
+    let first = message(rt.alloc(), LOCKS, &[LENGTH, CLOSE], HERO)?;
     let text =
         "HTTP/1.1 401 Unauthorized\r\nContent-Type: application/vnd.git-lfs+json\r\nContent-Length: 42\r\nLFS-Authenticate: Bearer realm=\"Git LFS\"\r\nConnection: close\r\n\r\n{\"message\":\"A1: a bearer token is needed\"}";
     expect_text(&rt, rt.alloc(), &first, text, served(1, true))
@@ -129,7 +122,8 @@ fn what_follows_a_message_is_the_next(rt: HostRuntime) -> Result<(), Fail> {
         ("", b"POST".as_slice(), "", 1, false),
         ("", garbage.as_slice(), refused.as_str(), 2, true),
     ] {
-        let bytes = [MESSAGE, between.as_bytes(), last].concat(rt.alloc())?;
+        let front = joined(rt.alloc(), MESSAGE, between.as_bytes())?;
+        let bytes = joined(rt.alloc(), &front, last)?;
         let text = [CREATED, told].concat(rt.alloc())?;
         expect_text(
             &rt,
@@ -150,7 +144,7 @@ fn a_second_message_that_is_cut_short_is_not_answered(rt: HostRuntime) -> Result
     let other = asking(rt.alloc(), ANN, b"{\"path\":\"art/tree.psd\"}")?;
     for size in 0..other.len() {
         let (front, _) = other.as_slice().split_at(size);
-        let bytes = [MESSAGE, front].concat(rt.alloc())?;
+        let bytes = joined(rt.alloc(), MESSAGE, front)?;
         let told = server.tell(rt.alloc(), &bytes, 7)?;
         assert_eq!(rt; told.text.as_str(), HELD, "{size} bytes");
         assert_eq!(rt; told.served, served(1, false), "{size} bytes");
@@ -162,7 +156,7 @@ fn a_second_message_that_is_cut_short_is_not_answered(rt: HostRuntime) -> Result
 #[test]
 fn a_source_that_fails_ends_the_connection(rt: HostRuntime) -> Result<(), Fail> {
     // 360 bytes in reads of 60: each message comes in three of them.
-    let bytes = [MESSAGE, MESSAGE].concat(rt.alloc())?;
+    let bytes = joined(rt.alloc(), MESSAGE, MESSAGE)?;
     let both = [CREATED, HELD].concat(rt.alloc())?;
     for (reads, text, answered) in [
         (0, "", 0),
@@ -194,7 +188,7 @@ fn a_source_that_fails_ends_the_connection(rt: HostRuntime) -> Result<(), Fail> 
 
 #[test]
 fn a_reply_that_closes_comes_before_a_failing_read(rt: HostRuntime) -> Result<(), Fail> {
-    let closing = worked_with(rt.alloc(), LOCKS, "Connection: close")?;
+    let closing = worked_with(rt.alloc(), LOCKS, CLOSE)?;
     let refused = worked_with(rt.alloc(), LOCKS, "Transfer-Encoding: chunked")?;
     let made = created_and_closed(rt.alloc())?;
     let refusal = refusal(rt.alloc(), "H2", true)?;
@@ -212,7 +206,7 @@ fn a_reply_that_closes_comes_before_a_failing_read(rt: HostRuntime) -> Result<()
 #[test]
 fn a_sink_that_fails_leaves_the_lock(rt: HostRuntime) -> Result<(), Fail> {
     let other = asking(rt.alloc(), ANN, b"{\"path\":\"art/tree.psd\"}")?;
-    let bytes = [MESSAGE, other.as_slice()].concat(rt.alloc())?;
+    let bytes = joined(rt.alloc(), MESSAGE, &other)?;
     let second = created(rt.alloc(), 2, "art/tree.psd")?;
     let text = [CREATED, second.as_str()].concat(rt.alloc())?;
     assert_eq!(rt; text.len(), 374);

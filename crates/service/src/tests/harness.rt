@@ -225,10 +225,27 @@ pub(super) fn message(
     Ok(bytes)
 }
 
+/// A message of a request line, a field and a body with its length.
+pub(super) fn bearing(
+    alloc: Global,
+    line: &str,
+    bearer: &str,
+    body: &[u8],
+) -> Result<Vec<u8>, AllocError> {
+    let length = format!(in alloc; "Content-Length: {}", body.len())?;
+    message(alloc, line, &[bearer, length.as_str()], body)
+}
+
 /// A message that asks a lock by this body.
 pub(super) fn asking(alloc: Global, bearer: &str, body: &[u8]) -> Result<Vec<u8>, AllocError> {
-    let length = format!(in alloc; "Content-Length: {}", body.len())?;
-    message(alloc, LOCKS, &[bearer, length.as_str()], body)
+    bearing(alloc, LOCKS, bearer, body)
+}
+
+/// The two, one behind the other.
+pub(super) fn joined(alloc: Global, first: &[u8], second: &[u8]) -> Result<Vec<u8>, AllocError> {
+    let mut bytes = first.to_vec(alloc)?;
+    bytes.extend_from_slice(second)?;
+    Ok(bytes)
 }
 
 /// A JSON reply, with these lines behind its length.
@@ -276,6 +293,13 @@ pub(super) fn served(answered: usize, closes: bool) -> Served {
     Served { answered, end }
 }
 
+/// That this was told, and that the connection ended so.
+fn expect_told(rt: &impl Abort, bytes: &[u8], told: &Told, text: &str, served: Served) {
+    let shown = str::from_utf8(bytes).unwrap_or("bytes that are no text");
+    assert_eq!(rt; told.text.as_str(), text, "of {shown}");
+    assert_eq!(rt; told.served, served, "of {shown}");
+}
+
 /// That a new server tells this and ends so, whether each read gives one byte or all.
 pub(super) fn expect_text(
     rt: &impl Abort,
@@ -284,11 +308,9 @@ pub(super) fn expect_text(
     text: &str,
     served: Served,
 ) -> Result<(), Fail> {
-    let shown = str::from_utf8(bytes).unwrap_or("bytes that are no text");
     for most in [1, usize::MAX] {
         let told = Server::new(alloc)?.tell(alloc, bytes, most)?;
-        assert_eq!(rt; told.text.as_str(), text, "{most} a read of {shown}");
-        assert_eq!(rt; told.served, served, "{most} a read of {shown}");
+        expect_told(rt, bytes, &told, text, served);
     }
     Ok(())
 }
@@ -304,27 +326,26 @@ pub(super) fn expect(
     message: &[u8],
     want: &str,
 ) -> Result<(), Fail> {
-    let both = [message, MESSAGE].concat(alloc)?;
+    let both = joined(alloc, message, MESSAGE)?;
     if want == "201" {
         let text = [CREATED, HELD].concat(alloc)?;
         return expect_text(rt, alloc, &both, text.as_str(), served(2, false));
     }
     let closes = want.starts_with('H');
-    let first = refusal(alloc, want, closes)?;
-    let second = if closes { "" } else { CREATED };
-    let text = [first.as_str(), second].concat(alloc)?;
-    let answered = if closes { 1 } else { 2 };
-    let shown = str::from_utf8(message).unwrap_or("bytes that are no text");
+    let mut text = refusal(alloc, want, closes)?;
     let mut server = Server::new(alloc)?;
-    for (bytes, most, text, served) in [
-        (message, 1, first.as_str(), served(1, closes)),
-        (message, usize::MAX, first.as_str(), served(1, closes)),
-        (both.as_slice(), 7, text.as_str(), served(answered, closes)),
-    ] {
-        let told = server.tell(alloc, bytes, most)?;
-        assert_eq!(rt; told.text.as_str(), text, "{most} a read of {shown}");
-        assert_eq!(rt; told.served, served, "{most} a read of {shown}");
+    for most in [1, usize::MAX] {
+        let told = server.tell(alloc, message, most)?;
+        expect_told(rt, message, &told, text.as_str(), served(1, closes));
     }
-    assert_eq!(rt; server.made()?, if closes { 0 } else { 1 });
+    let told = server.tell(alloc, &both, 7)?;
+    if closes {
+        expect_told(rt, message, &told, text.as_str(), served(1, true));
+        assert_eq!(rt; server.made()?, 0);
+    } else {
+        text.push_str(CREATED)?;
+        expect_told(rt, message, &told, text.as_str(), served(2, false));
+        assert_eq!(rt; server.made()?, 1);
+    }
     Ok(())
 }

@@ -36,7 +36,7 @@ fn bytes_that_no_others_make_a_head_are_h1(rt: HostRuntime) -> Result<(), Fail> 
     ] {
         // Where fewer bytes come, the protocol leaves it open whether they are answered.
         let rest = vec![in rt.alloc(); b'a'; 16_384]?;
-        let bytes = [start, rest.as_slice()].concat(rt.alloc())?;
+        let bytes = joined(rt.alloc(), start, &rest)?;
         expect(&rt, rt.alloc(), &bytes, "H1")?;
         let told = Server::new(rt.alloc())?.tell(rt.alloc(), start, 1)?;
         let refused = refusal(rt.alloc(), "H1", true)?;
@@ -71,12 +71,12 @@ fn a_head_has_at_most_16384_bytes(rt: HostRuntime) -> Result<(), Fail> {
         let fields = [ANN, LENGTH, field.as_str()];
         let head = message(rt.alloc(), LOCKS, &fields, b"")?;
         assert_eq!(rt; head.len(), size);
-        let bytes = [head.as_slice(), HERO].concat(rt.alloc())?;
+        let bytes = joined(rt.alloc(), &head, HERO)?;
         expect(&rt, rt.alloc(), &bytes, want)?;
     }
     // Nor do empty lines before the request line come on top.
     let lines = "\r\n".repeat(rt.alloc(), 8_114)?;
-    let bytes = [lines.as_bytes(), MESSAGE].concat(rt.alloc())?;
+    let bytes = joined(rt.alloc(), lines.as_bytes(), MESSAGE)?;
     expect(&rt, rt.alloc(), &bytes, "H1")?;
     expect(&rt, rt.alloc(), &bytes[2..], "201")
 }
@@ -86,7 +86,7 @@ fn heads_of_other_forms_pass(rt: HostRuntime) -> Result<(), Fail> {
     let lines = str::from_utf8(MESSAGE)?.replace(rt.alloc(), "\r\n", "\n")?;
     expect(&rt, rt.alloc(), lines.as_bytes(), "201")?;
     for start in ["\r\n", "\n", "\r\n\n\r\n"] {
-        let bytes = [start.as_bytes(), MESSAGE].concat(rt.alloc())?;
+        let bytes = joined(rt.alloc(), start.as_bytes(), MESSAGE)?;
         expect(&rt, rt.alloc(), &bytes, "201")?;
     }
     let target = "POST /studio/film.git/info/lfs/locks?path=a&path=b HTTP/1.1";

@@ -63,7 +63,7 @@ fn one_connection_carries_the_three(rt: HostRuntime) -> Result<(), Fail> {
 #[test]
 fn another_user_meets_the_lock(rt: HostRuntime) -> Result<(), Fail> {
     let second = asking(rt.alloc(), BOB, HERO)?;
-    let bytes = [MESSAGE, second.as_slice()].concat(rt.alloc())?;
+    let bytes = joined(rt.alloc(), MESSAGE, &second)?;
     let want = [CREATED, HELD].concat(rt.alloc())?;
     expect_text(&rt, rt.alloc(), &bytes, want.as_str(), served(2, false))?;
     // The owner is the token's user.
