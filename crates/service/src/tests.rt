@@ -6,4 +6,5 @@ mod framing;
 mod harness;
 mod heads;
 mod policies;
+mod stores;
 mod worked;

@@ -8,7 +8,7 @@ use sqlite::MemStore;
 use std::alloc::{AllocError, Global};
 use std::process::Abort;
 use std::test::Fail;
-use tables::{NewToken, Operation, Store, StoreFault};
+use tables::{Alter, NewToken, Operation, Store, StoreFault};
 
 /// The moment of a connection, where nothing else is said.
 pub(super) const NOW: u64 = 1_463_500_146;
@@ -113,21 +113,23 @@ pub(super) struct Told {
     pub served: Served,
 }
 
-/// Keeps a token of 64 times the byte.
-fn keep_token(
-    store: &mut Store<MemStore>,
-    byte: u8,
-    user: &str,
-    repo: &str,
-    operation: Operation,
-) -> Result<bool, StoreFault> {
-    store.add_token(&NewToken {
-        digest: &Sha256::digest(&[byte; 64]),
-        user,
-        repo,
-        operation,
-        expires: EXPIRY as i64,
-    })
+/// Keeps the tokens.
+pub(super) fn keep_tokens<S: Alter>(store: &mut Store<S>) -> Result<(), StoreFault> {
+    for (byte, user, repo, operation) in [
+        (b'a', "ann", "studio/film", Operation::Upload),
+        (b'b', "bob", "studio/film", Operation::Upload),
+        (b'c', "ann", "studio/film", Operation::Download),
+        (b'd', "ann", "studio/game", Operation::Upload),
+    ] {
+        store.add_token(&NewToken {
+            digest: &Sha256::digest(&[byte; 64]),
+            user,
+            repo,
+            operation,
+            expires: EXPIRY as i64,
+        })?;
+    }
+    Ok(())
 }
 
 impl Server {
@@ -136,14 +138,7 @@ impl Server {
         let text = format!(in alloc; "{TOP}{rows}")?;
         let mut store = Store::open_memory(alloc)?;
         store.create_or_check(alloc)?;
-        for (byte, user, repo, operation) in [
-            (b'a', "ann", "studio/film", Operation::Upload),
-            (b'b', "bob", "studio/film", Operation::Upload),
-            (b'c', "ann", "studio/film", Operation::Download),
-            (b'd', "ann", "studio/game", Operation::Upload),
-        ] {
-            keep_token(&mut store, byte, user, repo, operation)?;
-        }
+        keep_tokens(&mut store)?;
         Ok(Server {
             store,
             policy: Policy::read(alloc, text.as_str())?,
