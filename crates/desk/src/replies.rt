@@ -1,6 +1,6 @@
 //! What the desk answers, before the connection adds its lines.
 
-ghost use Rattle.std.specs.Prelude.{◌≡◌, IfSome, IsSome, true};
+ghost use Rattle.std.specs.Prelude.{◌≡◌, IfSome, IsSome, IsNone, true, false};
 ghost use Rattle.names.specs.declared.rules.Rule.TheVariants.{S1};
 ghost use Rattle.model.specs.Replies.{message_body, rule_message};
 ghost use Rattle.model.specs.Steps.{is_of_head, is_store_refusal};
@@ -34,6 +34,7 @@ pub struct Reply {
 fn fixed_body(rule: Rule) -> Option<&'static str>
     ensures text { IfSome result (λ text. text.now ≡ message_body (rule_message rule)) }
     ensures all { is_of_head rule ≡ true → IsSome result }
+    ensures other { is_of_head rule ≡ false → IsNone result }
 {
     match rule {
         Rule::H1 => Some("{\"message\":\"H1: bad request head\"}"),
@@ -64,7 +65,7 @@ fn is_store_refusal(answer: &Answer<'_>) -> bool
 }
 
 impl Reply {
-    ghost use Rattle.std.specs.Prelude.{◌≡◌, IfOk, true, Err};
+    ghost use Rattle.std.specs.Prelude.{◌≡◌, IfOk, true, false, Err};
     ghost use Rattle.model.specs.Steps.{store_refused, by_rule, is_of_head};
     ghost use Rattle.forms.specs.Told.{Tells};
     ghost use Rattle.desk.specs.Told.{IsReplyOf};
@@ -81,7 +82,8 @@ impl Reply {
     /// The refusal of a head, by one of the rules H1 to H8. It takes no memory. Any other rule is
     /// told as a refusal by the store.
     pub fn head_refused(rule: Rule) -> Reply
-        ensures { is_of_head rule ≡ true → IsReplyOf result (Err (by_rule rule)) }
+        ensures told { is_of_head rule ≡ true → IsReplyOf result (Err (by_rule rule)) }
+        ensures other { is_of_head rule ≡ false → IsReplyOf result store_refused }
     {
         match fixed_body(rule) {
             Some(text) => Reply {

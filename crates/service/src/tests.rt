@@ -8,6 +8,7 @@ mod harness;
 mod heads;
 mod input;
 mod judging;
+mod memory;
 mod policies;
 mod stores;
 mod worked;

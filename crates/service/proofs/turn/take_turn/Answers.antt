@@ -10,7 +10,7 @@ returns-in-Refused-clause-turn g c honest world h =
     let s = c.args.setting.now in
     let policy = policy_view s.policy.now in
     let refused = c.in-Refused.ensures in
-    let turn = refused_turn g.S.Store policy s.now c.args.bytes.now world c.args.store.now refused.0 c.in-Refused.denied c.head_refused.result (IsPolicy-policy_view s.policy.now) s.in_range refused.1 (c.head_refused.ensures refused.1.of_head) h in
+    let turn = refused_turn g.S.Store policy s.now c.args.bytes.now world c.args.store.now refused.0 c.in-Refused.denied c.head_refused.result (IsPolicy-policy_view s.policy.now) s.in_range refused.1 (c.head_refused.ensures.told refused.1.of_head) h in
     sent g.S.Store policy s.now c.args.bytes.now world c.args.store.now _ _ _ [] world _ true 0 c.deliver.result turn (refused_closes policy s.now c.args.bytes.now refused.0 c.in-Refused.denied refused.1) (λ no. absurd (true≢false no)) c.deliver.ensures.sent
 
 pub returns-in-Whole-clause-turn : goal.returns-in-Whole-clause-turn

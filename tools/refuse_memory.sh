@@ -1,0 +1,66 @@
+#!/bin/sh
+# usage: tools/refuse_memory.sh    refuses each allocation of the worked lock in turn, and counts what came of it
+#
+# One run of `rt try` refuses one allocation of each test, the one with a given number. So the tests
+# take memory that they do not need, each once less than the one before it, in a copy of the crates.
+set -eu
+NUMBER=20000
+TESTS=500
+root=$(cd "$(dirname "$0")/.." && pwd)
+room=$(mktemp -d)
+trap 'rm -rf "$room"' EXIT
+cp "$root/crates.txt" "$root/HANDLES" "$room"
+for crate in "$root"/crates/*; do
+    mkdir -p "$room/crates/${crate##*/}"
+    for part in src specs proofs; do
+        if [ -d "$crate/$part" ]; then
+            cp -r "$crate/$part" "$room/crates/${crate##*/}"
+        fi
+    done
+done
+tests=src/tests/memory.rt
+cd "$room/crates/service"
+cp "$tests" "$room/memory.rt"
+
+# The outcome of each test from number $1 to $2, one a line.
+outcomes() {
+    cp "$room/memory.rt" "$tests"
+    n=$1
+    while [ "$n" -le "$2" ]; do
+        printf '\n#[test]\nfn refused_%05d(rt: HostRuntime) {\n    let outcome = asked_after(rt.alloc(), %d);\n    assert!(rt; false, "{outcome:?}");\n}\n' "$n" $((NUMBER - n - 1))
+        n=$((n + 1))
+    done >>"$tests"
+    rt try --test --fail-alloc "$NUMBER" >"$room/log" 2>&1 || true
+    awk '/^test tests::memory::refused_/ { waits = 1; next }
+        waits && /NotAsked|Created|Refused|Neither|NotSeen/ {
+            match($0, /NotAsked|Created|Refused|Neither|NotSeen/)
+            print substr($0, RSTART, RLENGTH); waits = 0 }' "$room/log"
+}
+
+first=1
+: >"$room/all"
+while :; do
+    outcomes "$first" $((first + TESTS - 1)) >"$room/some"
+    if [ "$(wc -l <"$room/some")" -ne "$TESTS" ]; then
+        tail -n 20 "$room/log"
+        echo "the tests did not run" >&2
+        exit 1
+    fi
+    cat "$room/some" >>"$room/all"
+    first=$((first + TESTS))
+    # Where only locks are made, nothing is refused any more.
+    if ! grep -qv Created "$room/some"; then
+        break
+    fi
+done
+awk '{ outcome[NR] = $1; if ($1 != "Created") last = NR; count[$1]++ }
+    END {
+        for (n = 1; n <= last; n++) if (outcome[n] == "Created") made++
+        print "refused: " last
+        print "before the message was asked: " count["NotAsked"] + 0
+        print "the whole reply, and the lock made: " made + 0
+        print "S1, and nothing made: " count["Refused"] + 0
+        print "after the connection: " count["NotSeen"] + 0
+        print "neither: " count["Neither"] + 0
+        exit count["Neither"] > 0
+    }' "$room/all"
