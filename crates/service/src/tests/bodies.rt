@@ -7,52 +7,62 @@ use std::test::Fail;
 #[test]
 fn bodies_of_another_shape_are_j1(rt: HostRuntime) -> Result<(), Fail> {
     for body in [
-        b"".as_slice(),
-        b" ".as_slice(),
-        b"{".as_slice(),
-        b"{}".as_slice(),
-        b"[]".as_slice(),
-        b"null".as_slice(),
-        b"true".as_slice(),
-        b"17".as_slice(),
-        b"path".as_slice(),
-        br#""art/hero.psd""#.as_slice(),
-        br#"["art/hero.psd"]"#.as_slice(),
-        br#"[{"path":"art/hero.psd"}]"#.as_slice(),
-        br#"{"Path":"art/hero.psd"}"#.as_slice(),
-        br#"{"path ":"art/hero.psd"}"#.as_slice(),
-        br#"{"path":null}"#.as_slice(),
-        br#"{"path":1}"#.as_slice(),
-        br#"{"path":true}"#.as_slice(),
-        br#"{"path":[]}"#.as_slice(),
-        br#"{"path":["art/hero.psd"]}"#.as_slice(),
-        br#"{"path":{"path":"art/hero.psd"}}"#.as_slice(),
-        br#"{"lock":{"path":"art/hero.psd"}}"#.as_slice(),
-        br#"{"path":"art/hero.psd""#.as_slice(),
-        br#"{"path":"art/hero.psd}"#.as_slice(),
-        br#"{"path":"art/hero.psd"}x"#.as_slice(),
-        br#"{"path":"art/hero.psd"}{}"#.as_slice(),
-        br#"{"path":"art/hero.psd",}"#.as_slice(),
-        br#"{path:"art/hero.psd"}"#.as_slice(),
-        br#"{'path':'art/hero.psd'}"#.as_slice(),
-        b"path=art/hero.psd".as_slice(),
-        b"{\"path\":\"art/hero.psd\"}\x00".as_slice(),
-        b"{\"path\":\"art\n/hero.psd\"}".as_slice(),
-        b"{\"path\":\"art/\\x68ero.psd\"}".as_slice(),
-        b"{\"path\":\"art/\\ud83d\"}".as_slice(),
-        // No UTF-8, or behind a byte order mark.
+        "",
+        " ",
+        "{",
+        "{}",
+        "[]",
+        "null",
+        "true",
+        "17",
+        "path",
+        r#""art/hero.psd""#,
+        r#"["art/hero.psd"]"#,
+        r#"[{"path":"art/hero.psd"}]"#,
+        r#"{"Path":"art/hero.psd"}"#,
+        r#"{"path ":"art/hero.psd"}"#,
+        r#"{"path":null}"#,
+        r#"{"path":1}"#,
+        r#"{"path":true}"#,
+        r#"{"path":[]}"#,
+        r#"{"path":["art/hero.psd"]}"#,
+        r#"{"path":{"path":"art/hero.psd"}}"#,
+        r#"{"lock":{"path":"art/hero.psd"}}"#,
+        r#"{"path":"art/hero.psd""#,
+        r#"{"path":"art/hero.psd}"#,
+        r#"{"path":"art/hero.psd"}x"#,
+        r#"{"path":"art/hero.psd"}{}"#,
+        r#"{"path":"art/hero.psd",}"#,
+        r#"{path:"art/hero.psd"}"#,
+        r#"{'path':'art/hero.psd'}"#,
+        "path=art/hero.psd",
+        "{\"path\":\"art/hero.psd\"}\x00",
+        "{\"path\":\"art\n/hero.psd\"}",
+        "{\"path\":\"art/\\x68ero.psd\"}",
+        "{\"path\":\"art/\\ud83d\"}",
+        // Numbers that are none, or that a float does not hold.
+        r#"{"path":"art/hero.psd","x":1e400}"#,
+        r#"{"path":"art/hero.psd","x":[-1e400]}"#,
+        r#"{"path":"art/hero.psd","x":NaN}"#,
+        r#"{"path":"art/hero.psd","x":01}"#,
+        // Of a key that stands twice the last counts, for its kind too.
+        r#"{"path":"art/hero.psd","path":1}"#,
+        r#"{"path":"art/hero.psd","path":null}"#,
+    ] {
+        let bytes = asking(rt.alloc(), ANN, body.as_bytes())?;
+        expect(&rt, rt.alloc(), &bytes, "J1")?;
+    }
+    Ok(())
+}
+
+#[test]
+fn bodies_that_are_no_text_are_j1(rt: HostRuntime) -> Result<(), Fail> {
+    // No UTF-8, or behind a byte order mark.
+    for body in [
         b"{\"path\":\"\xff\"}".as_slice(),
         b"{\"path\":\"art/hero.psd\",\"\xff\":1}".as_slice(),
         b"{\"path\":\"art/hero.psd\",\"x\":\"\xed\xa0\x80\"}".as_slice(),
         b"\xef\xbb\xbf{\"path\":\"art/hero.psd\"}".as_slice(),
-        // Numbers that are none, or that a float does not hold.
-        br#"{"path":"art/hero.psd","x":1e400}"#.as_slice(),
-        br#"{"path":"art/hero.psd","x":[-1e400]}"#.as_slice(),
-        br#"{"path":"art/hero.psd","x":NaN}"#.as_slice(),
-        br#"{"path":"art/hero.psd","x":01}"#.as_slice(),
-        // Of a key that stands twice the last counts, for its kind too.
-        br#"{"path":"art/hero.psd","path":1}"#.as_slice(),
-        br#"{"path":"art/hero.psd","path":null}"#.as_slice(),
     ] {
         let bytes = asking(rt.alloc(), ANN, body)?;
         expect(&rt, rt.alloc(), &bytes, "J1")?;

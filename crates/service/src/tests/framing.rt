@@ -6,109 +6,77 @@ use std::test::Fail;
 
 const TWO_TYPES: &str = "Accept: */*\r\nAccept: */*";
 
+const CHUNKED: &str = "Transfer-Encoding: chunked";
+
+/// Request lines and fields, and the rule that refuses them.
+const FRAMING: [(&str, &[&str], &str); 38] = [
+    (LOCKS, &[ANN, LENGTH, CHUNKED], "H2"),
+    (LOCKS, &[ANN, CHUNKED], "H2"),
+    (LOCKS, &["transfer-encoding:"], "H2"),
+    (LOCKS, &[ANN, LENGTH, "TRANSFER-ENCODING: identity"], "H2"),
+    (LOCKS, &[CHUNKED, "Content-Length: x", TWO_TYPES], "H2"),
+    (LOCKS, &[ANN, CHUNKED, "Content-Length: 1048577"], "H2"),
+    (
+        "POST /studio/film.git/info/lfs/locks HTTP/1.0",
+        &[ANN, LENGTH, CHUNKED],
+        "H2",
+    ),
+    ("POST /nowhere HTTP/1.1", &[CHUNKED], "H2"),
+    ("GET /nowhere HTTP/1.1", &[CHUNKED], "H2"),
+    ("BREW * HTTP/1.1", &[CHUNKED], "H2"),
+    (LOCKS, &[ANN], "H3"),
+    (LOCKS, &[], "H3"),
+    (LOCKS, &[ANN, ANN], "H3"),
+    (LOCKS, &[ANN, TWO_TYPES], "H3"),
+    (LOCKS, &[ANN, "Content-Lengths: 23"], "H3"),
+    ("POST /nowhere HTTP/1.1", &[ANN], "H3"),
+    ("POST * HTTP/1.0", &[], "H3"),
+    ("PUT /nowhere HTTP/1.1", &[], "H3"),
+    ("PUT /studio/film.git/info/lfs/locks HTTP/1.1", &[ANN], "H3"),
+    (LOCKS, &[ANN, LENGTH, LENGTH], "H4"),
+    (LOCKS, &[ANN, LENGTH, "content-length: 24"], "H4"),
+    (LOCKS, &[ANN, LENGTH, "Content-Length:"], "H4"),
+    (LOCKS, &[ANN, LENGTH, ANN], "H4"),
+    (LOCKS, &[ANN, LENGTH, BOB], "H4"),
+    (LOCKS, &[ANN, LENGTH, "authorization:"], "H4"),
+    (LOCKS, &[ANN, LENGTH, TWO_TYPES], "H4"),
+    (LOCKS, &[ANN, "Content-Length: 1048577", TWO_TYPES], "H4"),
+    (
+        "GET /studio/film.git/info/lfs/locks HTTP/1.1",
+        &[ANN, LENGTH],
+        "H4",
+    ),
+    ("GET /nowhere HTTP/1.1", &["Content-Length: 1"], "H4"),
+    ("BREW /nowhere HTTP/1.1", &["Content-Length: x"], "H4"),
+    ("BREW /nowhere HTTP/1.1", &[TWO_TYPES], "H4"),
+    (
+        "PUT /studio/film.git/info/lfs/locks HTTP/1.1",
+        &[LENGTH, LENGTH],
+        "H4",
+    ),
+    (LOCKS, &[ANN, "Content-Length: 1048577"], "H5"),
+    (LOCKS, &[ANN, "Content-Length: 999999999999999999"], "H5"),
+    (
+        LOCKS,
+        &["Content-Length: 1048577", "Accept: text/html"],
+        "H5",
+    ),
+    ("POST /nowhere HTTP/1.1", &["Content-Length: 1048577"], "H5"),
+    (
+        "POST * HTTP/1.0",
+        &["Content-Length: 000000000001048577"],
+        "H5",
+    ),
+    (
+        "PUT /nowhere HTTP/1.1",
+        &["Content-Length: 268435457"],
+        "H5",
+    ),
+];
+
 #[test]
 fn framing_is_judged_first(rt: HostRuntime) -> Result<(), Fail> {
-    let chunked = "Transfer-Encoding: chunked";
-    for (line, fields, want) in [
-        (LOCKS, [ANN, LENGTH, chunked].as_slice(), "H2"),
-        (LOCKS, [ANN, chunked].as_slice(), "H2"),
-        (LOCKS, ["transfer-encoding:"].as_slice(), "H2"),
-        (
-            LOCKS,
-            [ANN, LENGTH, "TRANSFER-ENCODING: identity"].as_slice(),
-            "H2",
-        ),
-        (
-            LOCKS,
-            [chunked, "Content-Length: x", TWO_TYPES].as_slice(),
-            "H2",
-        ),
-        (
-            LOCKS,
-            [ANN, chunked, "Content-Length: 1048577"].as_slice(),
-            "H2",
-        ),
-        (
-            "POST /studio/film.git/info/lfs/locks HTTP/1.0",
-            [ANN, LENGTH, chunked].as_slice(),
-            "H2",
-        ),
-        ("POST /nowhere HTTP/1.1", [chunked].as_slice(), "H2"),
-        ("GET /nowhere HTTP/1.1", [chunked].as_slice(), "H2"),
-        ("BREW * HTTP/1.1", [chunked].as_slice(), "H2"),
-        (LOCKS, [ANN].as_slice(), "H3"),
-        (LOCKS, [].as_slice(), "H3"),
-        (LOCKS, [ANN, ANN].as_slice(), "H3"),
-        (LOCKS, [ANN, TWO_TYPES].as_slice(), "H3"),
-        (LOCKS, [ANN, "Content-Lengths: 23"].as_slice(), "H3"),
-        ("POST /nowhere HTTP/1.1", [ANN].as_slice(), "H3"),
-        ("POST * HTTP/1.0", [].as_slice(), "H3"),
-        ("PUT /nowhere HTTP/1.1", [].as_slice(), "H3"),
-        (
-            "PUT /studio/film.git/info/lfs/locks HTTP/1.1",
-            [ANN].as_slice(),
-            "H3",
-        ),
-        (LOCKS, [ANN, LENGTH, LENGTH].as_slice(), "H4"),
-        (LOCKS, [ANN, LENGTH, "content-length: 24"].as_slice(), "H4"),
-        (LOCKS, [ANN, LENGTH, "Content-Length:"].as_slice(), "H4"),
-        (LOCKS, [ANN, LENGTH, ANN].as_slice(), "H4"),
-        (LOCKS, [ANN, LENGTH, BOB].as_slice(), "H4"),
-        (LOCKS, [ANN, LENGTH, "authorization:"].as_slice(), "H4"),
-        (LOCKS, [ANN, LENGTH, TWO_TYPES].as_slice(), "H4"),
-        (
-            LOCKS,
-            [ANN, "Content-Length: 1048577", TWO_TYPES].as_slice(),
-            "H4",
-        ),
-        (
-            "GET /studio/film.git/info/lfs/locks HTTP/1.1",
-            [ANN, LENGTH].as_slice(),
-            "H4",
-        ),
-        (
-            "GET /nowhere HTTP/1.1",
-            ["Content-Length: 1"].as_slice(),
-            "H4",
-        ),
-        (
-            "BREW /nowhere HTTP/1.1",
-            ["Content-Length: x"].as_slice(),
-            "H4",
-        ),
-        ("BREW /nowhere HTTP/1.1", [TWO_TYPES].as_slice(), "H4"),
-        (
-            "PUT /studio/film.git/info/lfs/locks HTTP/1.1",
-            [LENGTH, LENGTH].as_slice(),
-            "H4",
-        ),
-        (LOCKS, [ANN, "Content-Length: 1048577"].as_slice(), "H5"),
-        (
-            LOCKS,
-            [ANN, "Content-Length: 999999999999999999"].as_slice(),
-            "H5",
-        ),
-        (
-            LOCKS,
-            ["Content-Length: 1048577", "Accept: text/html"].as_slice(),
-            "H5",
-        ),
-        (
-            "POST /nowhere HTTP/1.1",
-            ["Content-Length: 1048577"].as_slice(),
-            "H5",
-        ),
-        (
-            "POST * HTTP/1.0",
-            ["Content-Length: 000000000001048577"].as_slice(),
-            "H5",
-        ),
-        (
-            "PUT /nowhere HTTP/1.1",
-            ["Content-Length: 268435457"].as_slice(),
-            "H5",
-        ),
-    ] {
+    for (line, fields, want) in FRAMING {
         let bytes = message(rt.alloc(), line, fields, HERO)?;
         expect(&rt, rt.alloc(), &bytes, want)?;
     }

@@ -1,49 +1,61 @@
 //! Request heads: which are none, which are refused, and by which rule first.
 
 use super::harness::*;
+use std::alloc::Global;
+use std::process::Abort;
 use std::test::Fail;
+
+/// That bytes which begin so, and are as many as the longest head, are H1. Where fewer come, the
+/// protocol leaves it open whether they are answered.
+fn expect_no_head(rt: &impl Abort, alloc: Global, start: &[u8]) -> Result<(), Fail> {
+    let rest = vec![in alloc; b'a'; 16_384]?;
+    let bytes = joined(alloc, start, &rest)?;
+    expect(rt, alloc, &bytes, "H1")?;
+    let told = Server::new(alloc)?.tell(alloc, start, 1)?;
+    let refused = refusal(alloc, "H1", true)?;
+    assert!(rt;
+        told.text.is_empty() || told.text.as_str() == refused.as_str(),
+        "{start:?}"
+    );
+    Ok(())
+}
 
 #[test]
 fn bytes_that_no_others_make_a_head_are_h1(rt: HostRuntime) -> Result<(), Fail> {
     for start in [
-        b"\x00".as_slice(),
-        b"\x7f".as_slice(),
-        b"\x16\x03\x01\x02\x00".as_slice(),
-        b" POST / HTTP/1.1\r\n\r\n".as_slice(),
-        b"HTTP/1.1 200 OK\r\n\r\n".as_slice(),
-        b"PO(ST / HTTP/1.1\r\n\r\n".as_slice(),
-        b"POST\t/ HTTP/1.1\r\n\r\n".as_slice(),
-        b"POST  / HTTP/1.1\r\n\r\n".as_slice(),
-        b"POST /\r\n\r\n".as_slice(),
-        b"POST /a b HTTP/1.1\r\n\r\n".as_slice(),
-        b"POST /\x01 HTTP/1.1\r\n\r\n".as_slice(),
-        b"POST /\x7f HTTP/1.1\r\n\r\n".as_slice(),
-        b"POST /\xff HTTP/1.1\r\n\r\n".as_slice(),
-        b"POST / HTTP/2.0\r\n\r\n".as_slice(),
-        b"POST / http/1.1\r\n\r\n".as_slice(),
-        b"POST / HTTP/1.1\rX\r\n\r\n".as_slice(),
-        b"POST / HTTP/1.1\r\nA : b\r\n\r\n".as_slice(),
-        b"POST / HTTP/1.1\r\n: b\r\n\r\n".as_slice(),
-        b"POST / HTTP/1.1\r\n A: b\r\n\r\n".as_slice(),
-        b"POST / HTTP/1.1\r\nA\r\n\r\n".as_slice(),
-        b"POST / HTTP/1.1\r\nA(: b\r\n\r\n".as_slice(),
-        b"POST / HTTP/1.1\r\n\xc3\xa9: b\r\n\r\n".as_slice(),
-        b"POST / HTTP/1.1\r\nA: b\r\n c\r\n\r\n".as_slice(),
-        b"POST / HTTP/1.1\r\nA: b\rc\r\n\r\n".as_slice(),
-        b"POST / HTTP/1.1\r\nA: \x00\r\n\r\n".as_slice(),
-        b"POST / HTTP/1.1\r\nA: \x1b\r\n\r\n".as_slice(),
-        b"POST / HTTP/1.1\r\nA: \x7f\r\n\r\n".as_slice(),
+        "\x00",
+        "\x7f",
+        "\x16\x03\x01\x02\x00",
+        " POST / HTTP/1.1\r\n\r\n",
+        "HTTP/1.1 200 OK\r\n\r\n",
+        "PO(ST / HTTP/1.1\r\n\r\n",
+        "POST\t/ HTTP/1.1\r\n\r\n",
+        "POST  / HTTP/1.1\r\n\r\n",
+        "POST /\r\n\r\n",
+        "POST /a b HTTP/1.1\r\n\r\n",
+        "POST /\x01 HTTP/1.1\r\n\r\n",
+        "POST /\x7f HTTP/1.1\r\n\r\n",
+        "POST / HTTP/2.0\r\n\r\n",
+        "POST / http/1.1\r\n\r\n",
+        "POST / HTTP/1.1\rX\r\n\r\n",
+        "POST / HTTP/1.1\r\nA : b\r\n\r\n",
+        "POST / HTTP/1.1\r\n: b\r\n\r\n",
+        "POST / HTTP/1.1\r\n A: b\r\n\r\n",
+        "POST / HTTP/1.1\r\nA\r\n\r\n",
+        "POST / HTTP/1.1\r\nA(: b\r\n\r\n",
+        "POST / HTTP/1.1\r\nA: b\r\n c\r\n\r\n",
+        "POST / HTTP/1.1\r\nA: b\rc\r\n\r\n",
+        "POST / HTTP/1.1\r\nA: \x00\r\n\r\n",
+        "POST / HTTP/1.1\r\nA: \x1b\r\n\r\n",
+        "POST / HTTP/1.1\r\nA: \x7f\r\n\r\n",
     ] {
-        // Where fewer bytes come, the protocol leaves it open whether they are answered.
-        let rest = vec![in rt.alloc(); b'a'; 16_384]?;
-        let bytes = joined(rt.alloc(), start, &rest)?;
-        expect(&rt, rt.alloc(), &bytes, "H1")?;
-        let told = Server::new(rt.alloc())?.tell(rt.alloc(), start, 1)?;
-        let refused = refusal(rt.alloc(), "H1", true)?;
-        assert!(rt;
-            told.text.is_empty() || told.text.as_str() == refused.as_str(),
-            "{start:?}"
-        );
+        expect_no_head(&rt, rt.alloc(), start.as_bytes())?;
+    }
+    for start in [
+        b"POST /\xff HTTP/1.1\r\n\r\n".as_slice(),
+        b"POST / HTTP/1.1\r\n\xc3\xa9: b\r\n\r\n".as_slice(),
+    ] {
+        expect_no_head(&rt, rt.alloc(), start)?;
     }
     Ok(())
 }
