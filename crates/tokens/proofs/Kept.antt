@@ -1,11 +1,11 @@
 -- A token that is asked for, in the tables and in the definitions.
-use Rattle.std.proofs.Common.{◌≡◌, ◌∙◌, ◌+◌, ◌≤◌, ℕ, ℤ, pos, Bool, true, false, not, nat_le, List, Option, Some, None, is_some, Result, Ok, Err, refl, sym, ap, subst, IsTrue, IfOk, OnOk}
+use Rattle.std.proofs.Common.{◌≡◌, ◌∙◌, ◌+◌, ℕ, ℤ, pos, Bool, true, false, not, nat_le, List, Option, Some, None, is_some, Result, Ok, Err, refl, sym, ap, subst, IsTrue, IfOk, OnOk}
 use Rattle.std.proofs.lemmas.Bool.{leb-true}
 use Rattle.sqlite_trees.specs.declared.store.Store.{Ghosts}
 use Rattle.sha2.specs.Sha256.{sha256}
 use Rattle.names.specs.Texts.{last_moment, is_hex_64}
-use Rattle.model.specs.World.{World, Issued, IsIssued, with_token}
-use Rattle.model.specs.Steps as model
+use Rattle.model.specs.World.{World, Issued, IsIssued}
+use Rattle.model.specs.Reading.{◌>>=◌, check, none_of}
 use Rattle.model.specs.Steps.{issued_as, token_verdict, already_issued, expires_too_late, after_token, IsTokenRequest}
 use Rattle.tables.specs.Rows as row
 use Rattle.tables.specs.Steps.{code_of, has_token, after_add}
@@ -47,16 +47,16 @@ both A K M N (Err e) then is moves on = tt
 
 -- ---- the answer of the definitions
 
+-- what is granted passed both checks
+passed : (there : Option Issued) (in_time : Bool) (asked granted : Issued) → (none_of there (λ _. already_issued) >>= λ _. check in_time expires_too_late >>= λ _. Ok asked) ≡ Ok granted
+    → (there ≡ None) × (in_time ≡ true) × (asked ≡ granted)
+passed None true asked granted e = (refl, refl, cc)
+passed None false asked granted e = absurd (cc)
+passed (Some i) in_time asked granted e = absurd (cc)
+
 module _ (world : World) (asked : TokenRequest) where
   pub is_there : is_some (issued_as (token_asked asked).text world) ≡ true → token_verdict world (token_asked asked) ≡ Err already_issued
   is_there known = let there = some_is (issued_as (token_asked asked).text world) known in rw there.1 refl
-
-  pub is_late : issued_as (token_asked asked).text world ≡ None → nat_le (asked.now + asked.seconds) last_moment ≡ false → token_verdict world (token_asked asked) ≡ Err expires_too_late
-  is_late none late = rw (none, late) refl
-
-  pub is_issued : issued_as (token_asked asked).text world ≡ None → nat_le (asked.now + asked.seconds) last_moment ≡ true
-      → token_verdict world (token_asked asked) ≡ Ok (token_until asked (token_asked asked).text (asked.now + asked.seconds))
-  is_issued none in_time = rw (none, in_time) refl
 
   is_request : IsTrue (is_hex_64 (token_asked asked).text) → IsTokenRequest (token_asked asked)
   is_request text = record { text = text; user = asked.user.in_range; repo = asked.repo.in_range }
@@ -64,17 +64,17 @@ module _ (world : World) (asked : TokenRequest) where
   in_range : IsTokenRequest (token_asked asked) → nat_le (asked.now + asked.seconds) last_moment ≡ true → IsIssued (token_until asked (token_asked asked).text (asked.now + asked.seconds))
   in_range is in_time = record { text = is.text; user = is.user; repo = is.repo; expires = leb-true (asked.now + asked.seconds) last_moment in_time }
 
-  -- a token that was kept is issued
+  -- a token that may be issued and was kept is issued
   pub issues_by : {S : Type 0} (g : Ghosts S) (new : Store S) (text handed : List ℕ) (expires : ℕ) → handed ≡ (token_asked asked).text → text ≡ (token_asked asked).text → IsTrue (is_hex_64 text)
-      → nat_le (asked.now + asked.seconds) last_moment ≡ true → expires ≡ asked.now + asked.seconds → Keeps g world asked handed expires new true → Issues g world new asked text
-  issues_by g new text handed expires same is hex in_time e kept =
+      → token_verdict world (token_asked asked) ≡ Ok (token_until asked handed expires) → Keeps g world asked handed expires new true → Issues g world new asked text
+  issues_by g new text handed expires same is hex verdict kept =
       let request = is_request (subst (λ (t : List ℕ). IsTrue (is_hex_64 t)) is hex) in
-      let there = subst (λ (n : ℕ). Keeps g world asked (token_asked asked).text n new true) e (subst (λ (t : List ℕ). Keeps g world asked t expires new true) same kept) (in_range request in_time) in
-      let verdict = is_issued there.0 in_time in
+      let granted = passed (issued_as (token_asked asked).text world) (nat_le (asked.now + asked.seconds) last_moment) (token_until asked (token_asked asked).text (asked.now + asked.seconds)) (token_until asked handed expires) verdict in
+      let there = kept (subst IsIssued granted.2 (in_range request granted.1)) in
       record {
-        token = token_until asked (token_asked asked).text (asked.now + asked.seconds);
+        token = token_until asked handed expires;
         verdict = verdict;
-        text_is = sym is;
+        text_is = same ∙ sym is;
         step = (request, sym (ap (after_token world) verdict));
         holds = there.1;
       }

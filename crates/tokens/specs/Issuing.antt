@@ -50,6 +50,10 @@ denial_of AlreadyIssued verdict = verdict ≡ Err already_issued
 denial_of ExpiresTooLate verdict = verdict ≡ Err expires_too_late
 denial_of (fault.Store f) verdict = ⊤
 
+-- the token that the definitions would issue has this text
+abbrev pub Offers : World → TokenRequest → List ℕ → Type 0
+Offers world asked text = (token : Issued) × (token_verdict world (token_asked asked) ≡ Ok token) × (token.text ≡ text)
+
 -- none is issued, for that cause, and the store holds the world that it held
 pub record Refuses {S : Type 0} (g : Ghosts S) (world : World) (new : Store S) (asked : TokenRequest) (f : TokenFault) : Type 0 where
   pub verdict : denial_of f (token_verdict world (token_asked asked))

@@ -1,13 +1,13 @@
 //! How a token is issued.
 
-ghost use Rattle.std.specs.Prelude.{◌≡◌, ◌+◌, true, false, is_some, nat_le, IfOk, OnErr, IsTrue, MatchOption, MatchResult, string_bytes};
+ghost use Rattle.std.specs.Prelude.{◌≡◌, ◌+◌, true, false, is_some, nat_le, Ok, IfOk, OnErr, IsTrue, MatchOption, MatchResult, string_bytes};
 ghost use Rattle.hex.specs.Hex.{encode_lower};
 ghost use Rattle.names.specs.Texts.{last_moment, is_hex_64};
 ghost use Rattle.model.specs.World.{World};
-ghost use Rattle.model.specs.Steps.{issued_as};
+ghost use Rattle.model.specs.Steps.{issued_as, token_verdict};
 ghost use Rattle.tables.specs.Shown.{IsHonest, Moves};
 ghost use Rattle.worlds.specs.Standing.{Holds};
-ghost use Rattle.tokens.specs.Issuing.{Issues, Refuses, Keeps};
+ghost use Rattle.tokens.specs.Issuing.{Issues, Refuses, Keeps, Offers, denial_of, token_asked, token_until};
 ghost use Rattle.tokens.specs.declared.issuing.TokenFault.TheVariants.{Store as by_store};
 
 use crate::moments::second_of;
@@ -105,6 +105,40 @@ fn keep<S: Alter>(
     })
 }
 
+/// When a token of the text, that of the random bytes, would expire; or why none may be issued.
+fn judge<S: Alter>(
+    store: &mut Store<S>,
+    asked: &TokenRequest<'_>,
+    text: &str,
+) -> Result<Moment, TokenFault>
+    ensures judged { IsHonest S.Store store.new → (world : World) → Holds S.Store store.old world → text.now ≡ (token_asked asked.entry.now).text → MatchResult result (λ expires. token_verdict world (token_asked asked.entry.now) ≡ Ok (token_until asked.entry.now text.now expires)) (λ fault. denial_of fault (token_verdict world (token_asked asked.entry.now))) }
+    ensures same { Moves S.Store (λ t. t) store.old store.new }
+{
+    if is_known(store, text)? {
+        return Err(TokenFault::AlreadyIssued);
+    }
+    expiry(asked.now, asked.seconds).ok_or(TokenFault::ExpiresTooLate)
+}
+
+/// The text of the token that [`issue`] would give now. No token is kept, so that whoever asked can
+/// be told the text before there is a token that nobody knows.
+///
+/// # Errors
+///
+/// Those of [`issue`].
+pub fn offer<S: Alter>(
+    alloc: Global,
+    store: &mut Store<S>,
+    asked: &TokenRequest<'_>,
+) -> Result<String, TokenFault>
+    ensures offered { IsHonest S.Store store.new → (world : World) → Holds S.Store store.old world → MatchResult result (λ text. Offers world asked.entry.now (string_bytes text)) (λ fault. denial_of fault (token_verdict world (token_asked asked.entry.now))) }
+    ensures same { Moves S.Store (λ t. t) store.old store.new }
+{
+    let text = text_of(alloc, asked.random)?;
+    judge(store, asked, text.as_str())?;
+    Ok(text)
+}
+
 /// Issues a token: its text, of which the store keeps the SHA-256. The text is made before the
 /// token is kept.
 ///
@@ -121,12 +155,7 @@ pub fn issue<S: Alter>(
     ensures issued { IsHonest S.Store store.new → (world : World) → Holds S.Store store.old world → MatchResult result (λ text. Issues S.Store world store.new asked.entry.now (string_bytes text)) (λ fault. Refuses S.Store world store.new asked.entry.now fault) }
 {
     let text = text_of(alloc, asked.random)?;
-    if is_known(store, text.as_str())? {
-        return Err(TokenFault::AlreadyIssued);
-    }
-    let Some(expires) = expiry(asked.now, asked.seconds) else {
-        return Err(TokenFault::ExpiresTooLate);
-    };
+    let expires = judge(store, asked, text.as_str())?;
     match keep(store, asked, text.as_str(), expires) {
         Ok(true) => Ok(text),
         Ok(false) => Err(TokenFault::AlreadyIssued),

@@ -28,22 +28,15 @@ fn asked(random: &[u8; 32], second: u64, seconds: u64) -> Option<TokenRequest<'_
     })
 }
 
-/// The text of the token that is issued, or why there is none.
-fn issued(
-    alloc: Global,
-    store: &mut Store<MemStore>,
-    byte: u8,
-    second: u64,
-    seconds: u64,
-) -> Result<String, TokenFault> {
-    let random = [byte; 32];
-    match asked(&random, second, seconds) {
-        Some(asked) => issue(alloc, store, &asked),
-        None => Err(TokenFault::Store(StoreFault::Refused)),
+/// The text of a token, or why there is none.
+fn as_text(alloc: Global, answer: Result<String, TokenFault>) -> Result<String, Fail> {
+    match answer {
+        Ok(text) => Ok(text),
+        Err(fault) => Ok(fault.to_string(alloc)?),
     }
 }
 
-/// The same, as a text that tells either.
+/// What comes of issuing a token.
 fn told(
     alloc: Global,
     store: &mut Store<MemStore>,
@@ -51,9 +44,23 @@ fn told(
     second: u64,
     seconds: u64,
 ) -> Result<String, Fail> {
-    match issued(alloc, store, byte, second, seconds) {
-        Ok(text) => Ok(text),
-        Err(fault) => Ok(fault.to_string(alloc)?),
+    match asked(&[byte; 32], second, seconds) {
+        Some(asked) => as_text(alloc, issue(alloc, store, &asked)),
+        None => Ok(String::new(alloc)),
+    }
+}
+
+/// What comes of offering one.
+fn offered(
+    alloc: Global,
+    store: &mut Store<MemStore>,
+    byte: u8,
+    second: u64,
+    seconds: u64,
+) -> Result<String, Fail> {
+    match asked(&[byte; 32], second, seconds) {
+        Some(asked) => as_text(alloc, offer(alloc, store, &asked)),
+        None => Ok(String::new(alloc)),
     }
 }
 
@@ -66,6 +73,26 @@ fn a_token_is_issued_once(rt: HostRuntime) -> Result<(), Fail> {
         let again = told(alloc, &mut store, 0xcc, second, seconds)?;
         assert!(rt; again.as_str() == "K1: token already issued");
     }
+    Ok(())
+}
+
+#[test]
+fn a_token_that_is_offered_is_not_kept(rt: HostRuntime) -> Result<(), Fail> {
+    let alloc = rt.alloc();
+    let mut store = opened(alloc)?;
+    for (second, want) in [
+        (40, TEXT),
+        (40, TEXT),
+        (253402300799, "K2: expiry out of range"),
+    ] {
+        assert!(rt; offered(alloc, &mut store, 0xcc, second, 60)?.as_str() == want);
+    }
+    assert!(rt; told(alloc, &mut store, 0xcc, 40, 60)?.as_str() == TEXT);
+    for second in [40, 253402300799] {
+        let again = offered(alloc, &mut store, 0xcc, second, 60)?;
+        assert!(rt; again.as_str() == "K1: token already issued");
+    }
+    assert!(rt; !offered(alloc, &mut store, 0xdd, 40, 60)?.is_empty());
     Ok(())
 }
 

@@ -1,4 +1,4 @@
-use Rattle.std.proofs.Common.{◌≡◌, ◌∙◌, ap, find, is_some, List, ℕ}
+use Rattle.std.proofs.Common.{◌∙◌, ap, find, is_some, List, ℕ}
 use Rattle.sha2.specs.Sha256.{sha256}
 use Rattle.tables.specs.Shown.{shown}
 use Rattle.tables.specs.Statements.{has_digest}
