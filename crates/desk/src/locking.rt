@@ -14,7 +14,7 @@ ghost use Rattle.desk.specs.Locking.{ShowsRow, IsReadyAfter, TellsHeld, IsAskedF
 ghost use Rattle.desk.specs.Done.{IsDone};
 
 use crate::replies::Reply;
-use forms::{Answer, LockRequest, ShownLock};
+use forms::{Answer, DenialStatus, LockRequest, ShownLock};
 use model::Right;
 use names::{LockId, LockPath, Moment, RefName, RepoName, Rule, UserName};
 use policy::{Policy, Question, Repo, Verdict, decide};
@@ -185,7 +185,7 @@ fn denied_reply(alloc: Global, row: u32) -> Result<Reply, AllocError>
     let denial = Answer::DeniedByRow {
         row,
         right: Right::Lock,
-        status: 403,
+        status: DenialStatus::Forbidden,
     };
     Reply::telling(alloc, &denial)
 }

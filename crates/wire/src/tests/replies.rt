@@ -1,11 +1,12 @@
 use crate::{Content, ReplyHead, WriteFault, write_reply, write_whole};
+use http::StatusCode;
 use names::{FailAfter, Sink, VecSink};
 use std::test::Fail;
 
 #[test]
 fn replies_are_their_head_and_their_body(rt: HostRuntime) -> Result<(), Fail> {
     let json = ReplyHead {
-        status: 200,
+        status: StatusCode::OK,
         content: Content::Json,
         size: 0,
         allow: "",
@@ -18,7 +19,7 @@ fn replies_are_their_head_and_their_body(rt: HostRuntime) -> Result<(), Fail> {
     for (head, body, want, size) in [
         (
             ReplyHead {
-                status: 201,
+                status: StatusCode::CREATED,
                 size: 99,
                 ..json
             },
@@ -28,7 +29,7 @@ fn replies_are_their_head_and_their_body(rt: HostRuntime) -> Result<(), Fail> {
         ),
         (
             ReplyHead {
-                status: 409,
+                status: StatusCode::CONFLICT,
                 size: 142,
                 ..json
             },
@@ -38,7 +39,7 @@ fn replies_are_their_head_and_their_body(rt: HostRuntime) -> Result<(), Fail> {
         ),
         (
             ReplyHead {
-                status: 405,
+                status: StatusCode::METHOD_NOT_ALLOWED,
                 size: 47,
                 allow: "GET, POST",
                 close: true,
@@ -50,7 +51,7 @@ fn replies_are_their_head_and_their_body(rt: HostRuntime) -> Result<(), Fail> {
         ),
         (
             ReplyHead {
-                status: 401,
+                status: StatusCode::UNAUTHORIZED,
                 size: 42,
                 ..json
             },
@@ -60,7 +61,7 @@ fn replies_are_their_head_and_their_body(rt: HostRuntime) -> Result<(), Fail> {
         ),
         (
             ReplyHead {
-                status: 500,
+                status: StatusCode::INTERNAL_SERVER_ERROR,
                 size: 35,
                 close: true,
                 ..json
@@ -113,7 +114,7 @@ fn replies_are_their_head_and_their_body(rt: HostRuntime) -> Result<(), Fail> {
 
 #[test]
 fn each_status_has_its_phrase(rt: HostRuntime) -> Result<(), Fail> {
-    for (status, phrase) in [
+    for (number, phrase) in [
         (200, "OK"),
         (201, "Created"),
         (400, "Bad Request"),
@@ -130,6 +131,7 @@ fn each_status_has_its_phrase(rt: HostRuntime) -> Result<(), Fail> {
         (501, "Not Implemented"),
         (507, "Insufficient Storage"),
     ] {
+        let status = StatusCode::from_u16(number).map_err(|_| "no status code")?;
         let head = ReplyHead {
             status,
             content: Content::Empty,
@@ -139,7 +141,7 @@ fn each_status_has_its_phrase(rt: HostRuntime) -> Result<(), Fail> {
         };
         let mut sink = VecSink::new(rt.alloc(), usize::MAX);
         assert_eq!(rt; write_reply(&mut sink, &head, b""), Ok(()));
-        let line = format!(in rt.alloc(); "HTTP/1.1 {status} {phrase}\r\n")?;
+        let line = format!(in rt.alloc(); "HTTP/1.1 {number} {phrase}\r\n")?;
         assert!(rt; sink.taken().starts_with(line.as_bytes()), "{line}");
     }
     Ok(())
@@ -148,7 +150,7 @@ fn each_status_has_its_phrase(rt: HostRuntime) -> Result<(), Fail> {
 #[test]
 fn a_sink_that_fails_has_taken_a_beginning(rt: HostRuntime) -> Result<(), Fail> {
     let head = ReplyHead {
-        status: 200,
+        status: StatusCode::OK,
         content: Content::Octets,
         size: 3,
         allow: "",
