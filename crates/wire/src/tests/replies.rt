@@ -5,13 +5,6 @@ use std::test::Fail;
 
 #[test]
 fn replies_are_their_head_and_their_body(rt: HostRuntime) -> Result<(), Fail> {
-    let json = ReplyHead {
-        status: StatusCode::OK,
-        content: Content::Json,
-        size: 0,
-        allow: "",
-        close: false,
-    };
     let lock =
         "{\"lock\":{\"id\":\"1\",\"locked_at\":\"2016-05-17T15:49:06Z\",\"owner\":{\"name\":\"ann\"},\"path\":\"art/hero.psd\"}}";
     let held =
@@ -20,8 +13,10 @@ fn replies_are_their_head_and_their_body(rt: HostRuntime) -> Result<(), Fail> {
         (
             ReplyHead {
                 status: StatusCode::CREATED,
+                content: Content::Json,
                 size: 99,
-                ..json
+                allow: "",
+                close: false,
             },
             lock,
             "HTTP/1.1 201 Created\r\nContent-Type: application/vnd.git-lfs+json\r\nContent-Length: 99\r\n\r\n",
@@ -30,8 +25,10 @@ fn replies_are_their_head_and_their_body(rt: HostRuntime) -> Result<(), Fail> {
         (
             ReplyHead {
                 status: StatusCode::CONFLICT,
+                content: Content::Json,
                 size: 142,
-                ..json
+                allow: "",
+                close: false,
             },
             held,
             "HTTP/1.1 409 Conflict\r\nContent-Type: application/vnd.git-lfs+json\r\nContent-Length: 142\r\n\r\n",
@@ -40,10 +37,10 @@ fn replies_are_their_head_and_their_body(rt: HostRuntime) -> Result<(), Fail> {
         (
             ReplyHead {
                 status: StatusCode::METHOD_NOT_ALLOWED,
+                content: Content::Json,
                 size: 47,
                 allow: "GET, POST",
                 close: true,
-                ..json
             },
             "{\"message\":\"H7: the method is not served here\"}",
             "HTTP/1.1 405 Method Not Allowed\r\nContent-Type: application/vnd.git-lfs+json\r\nContent-Length: 47\r\nAllow: GET, POST\r\nConnection: close\r\n\r\n",
@@ -52,8 +49,10 @@ fn replies_are_their_head_and_their_body(rt: HostRuntime) -> Result<(), Fail> {
         (
             ReplyHead {
                 status: StatusCode::UNAUTHORIZED,
+                content: Content::Json,
                 size: 42,
-                ..json
+                allow: "",
+                close: false,
             },
             "{\"message\":\"A1: a bearer token is needed\"}",
             "HTTP/1.1 401 Unauthorized\r\nContent-Type: application/vnd.git-lfs+json\r\nContent-Length: 42\r\nLFS-Authenticate: Bearer realm=\"Git LFS\"\r\n\r\n",
@@ -62,9 +61,10 @@ fn replies_are_their_head_and_their_body(rt: HostRuntime) -> Result<(), Fail> {
         (
             ReplyHead {
                 status: StatusCode::INTERNAL_SERVER_ERROR,
+                content: Content::Json,
                 size: 35,
+                allow: "",
                 close: true,
-                ..json
             },
             "{\"message\":\"S1: the store refused\"}",
             "HTTP/1.1 500 Internal Server Error\r\nContent-Type: application/vnd.git-lfs+json\r\nContent-Length: 35\r\nConnection: close\r\n\r\n",
@@ -72,9 +72,11 @@ fn replies_are_their_head_and_their_body(rt: HostRuntime) -> Result<(), Fail> {
         ),
         (
             ReplyHead {
+                status: StatusCode::OK,
                 content: Content::Octets,
                 size: 3,
-                ..json
+                allow: "",
+                close: false,
             },
             "abc",
             "HTTP/1.1 200 OK\r\nContent-Type: application/octet-stream\r\nContent-Length: 3\r\n\r\n",
@@ -82,8 +84,11 @@ fn replies_are_their_head_and_their_body(rt: HostRuntime) -> Result<(), Fail> {
         ),
         (
             ReplyHead {
+                status: StatusCode::OK,
                 content: Content::Empty,
-                ..json
+                size: 0,
+                allow: "",
+                close: false,
             },
             "",
             "HTTP/1.1 200 OK\r\nContent-Length: 0\r\n\r\n",
@@ -91,10 +96,11 @@ fn replies_are_their_head_and_their_body(rt: HostRuntime) -> Result<(), Fail> {
         ),
         (
             ReplyHead {
+                status: StatusCode::OK,
                 content: Content::Octets,
                 size: u64::MAX,
+                allow: "",
                 close: true,
-                ..json
             },
             "",
             "HTTP/1.1 200 OK\r\nContent-Type: application/octet-stream\r\nContent-Length: 18446744073709551615\r\nConnection: close\r\n\r\n",
