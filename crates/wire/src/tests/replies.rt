@@ -3,104 +3,108 @@ use http::StatusCode;
 use names::{FailAfter, Sink, VecSink};
 use std::test::Fail;
 
+/// The head of a reply, with its status as a number.
+#[derive(Clone, Copy)]
+struct Case<'a> {
+    status: u16,
+    content: Content,
+    size: u64,
+    allow: &'a str,
+    close: bool,
+}
+
 #[test]
 fn replies_are_their_head_and_their_body(rt: HostRuntime) -> Result<(), Fail> {
+    let json = Case {
+        status: 200,
+        content: Content::Json,
+        size: 0,
+        allow: "",
+        close: false,
+    };
     let lock =
         "{\"lock\":{\"id\":\"1\",\"locked_at\":\"2016-05-17T15:49:06Z\",\"owner\":{\"name\":\"ann\"},\"path\":\"art/hero.psd\"}}";
     let held =
         "{\"lock\":{\"id\":\"1\",\"locked_at\":\"2016-05-17T15:49:06Z\",\"owner\":{\"name\":\"ann\"},\"path\":\"art/hero.psd\"},\"message\":\"L1: the path is already locked\"}";
-    for (head, body, want, size) in [
+    for (case, body, want, size) in [
         (
-            ReplyHead {
-                status: StatusCode::CREATED,
-                content: Content::Json,
+            Case {
+                status: 201,
                 size: 99,
-                allow: "",
-                close: false,
+                ..json
             },
             lock,
             "HTTP/1.1 201 Created\r\nContent-Type: application/vnd.git-lfs+json\r\nContent-Length: 99\r\n\r\n",
             187,
         ),
         (
-            ReplyHead {
-                status: StatusCode::CONFLICT,
-                content: Content::Json,
+            Case {
+                status: 409,
                 size: 142,
-                allow: "",
-                close: false,
+                ..json
             },
             held,
             "HTTP/1.1 409 Conflict\r\nContent-Type: application/vnd.git-lfs+json\r\nContent-Length: 142\r\n\r\n",
             232,
         ),
         (
-            ReplyHead {
-                status: StatusCode::METHOD_NOT_ALLOWED,
-                content: Content::Json,
+            Case {
+                status: 405,
                 size: 47,
                 allow: "GET, POST",
                 close: true,
+                ..json
             },
             "{\"message\":\"H7: the method is not served here\"}",
             "HTTP/1.1 405 Method Not Allowed\r\nContent-Type: application/vnd.git-lfs+json\r\nContent-Length: 47\r\nAllow: GET, POST\r\nConnection: close\r\n\r\n",
             183,
         ),
         (
-            ReplyHead {
-                status: StatusCode::UNAUTHORIZED,
-                content: Content::Json,
+            Case {
+                status: 401,
                 size: 42,
-                allow: "",
-                close: false,
+                ..json
             },
             "{\"message\":\"A1: a bearer token is needed\"}",
             "HTTP/1.1 401 Unauthorized\r\nContent-Type: application/vnd.git-lfs+json\r\nContent-Length: 42\r\nLFS-Authenticate: Bearer realm=\"Git LFS\"\r\n\r\n",
             177,
         ),
         (
-            ReplyHead {
-                status: StatusCode::INTERNAL_SERVER_ERROR,
-                content: Content::Json,
+            Case {
+                status: 500,
                 size: 35,
-                allow: "",
                 close: true,
+                ..json
             },
             "{\"message\":\"S1: the store refused\"}",
             "HTTP/1.1 500 Internal Server Error\r\nContent-Type: application/vnd.git-lfs+json\r\nContent-Length: 35\r\nConnection: close\r\n\r\n",
             156,
         ),
         (
-            ReplyHead {
-                status: StatusCode::OK,
+            Case {
                 content: Content::Octets,
                 size: 3,
-                allow: "",
-                close: false,
+                ..json
             },
             "abc",
             "HTTP/1.1 200 OK\r\nContent-Type: application/octet-stream\r\nContent-Length: 3\r\n\r\n",
             81,
         ),
         (
-            ReplyHead {
-                status: StatusCode::OK,
+            Case {
                 content: Content::Empty,
-                size: 0,
-                allow: "",
-                close: false,
+                ..json
             },
             "",
             "HTTP/1.1 200 OK\r\nContent-Length: 0\r\n\r\n",
             38,
         ),
         (
-            ReplyHead {
-                status: StatusCode::OK,
+            Case {
                 content: Content::Octets,
                 size: u64::MAX,
-                allow: "",
                 close: true,
+                ..json
             },
             "",
             "HTTP/1.1 200 OK\r\nContent-Type: application/octet-stream\r\nContent-Length: 18446744073709551615\r\nConnection: close\r\n\r\n",
@@ -109,6 +113,13 @@ fn replies_are_their_head_and_their_body(rt: HostRuntime) -> Result<(), Fail> {
     ] {
         let text = format!(in rt.alloc(); "{want}{body}")?;
         assert_eq!(rt; text.len(), size, "{want}");
+        let head = ReplyHead {
+            status: StatusCode::from_u16(case.status).map_err(|_| "no status code")?,
+            content: case.content,
+            size: case.size,
+            allow: case.allow,
+            close: case.close,
+        };
         for most in [1, 2, 7, usize::MAX] {
             let mut sink = VecSink::new(rt.alloc(), most);
             assert_eq!(rt; write_reply(&mut sink, &head, body.as_bytes()), Ok(()));
