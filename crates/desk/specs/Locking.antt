@@ -1,5 +1,5 @@
 -- A lock that is asked for.
-use Rattle.std.specs.Prelude.{◌≡◌, ◌+◌, ◌≤◌, ℕ, pos, Option, Some, None, Ok, Err, string_bytes, IsTrue}
+use Rattle.std.specs.Prelude.{◌≡◌, ◌+◌, ◌≤◌, ◌≤ℤ◌, ℕ, pos, Option, Some, None, Ok, Err, string_bytes, IsTrue}
 use Rattle.names.specs.Texts.{last_lock_id, last_moment, is_repo, is_ref, is_lock_path, is_user}
 use Rattle.names.specs.declared.rules.Rule.TheVariants.{L5}
 use Rattle.model.specs.Steps.{Answer, makes_lock, by_lock, by_rule, place_verdict, permitted, ref_asked}
@@ -41,6 +41,14 @@ pub record ShowsRow (row : LockRow) (shown : ShownLock) : Type 0 where
   pub at : pos shown.locked_at ≡ row.moment
   pub owner : user_text shown.owner ≡ string_bytes row.owner
   pub path : path_text shown.path ≡ string_bytes row.path
+
+-- each part of the row is in range
+pub record IsShowable (row : LockRow) : Type 0 where
+  pub id : 1 ≤ row.id
+  pub from : pos 0 ≤ℤ row.moment
+  pub to : row.moment ≤ℤ pos last_moment
+  pub owner : IsTrue (is_user (string_bytes row.owner))
+  pub path : IsTrue (is_lock_path (string_bytes row.path))
 
 -- the reply tells of the lock that is made after so many, where there is an id for it
 abbrev pub IsReadyAfter : ℕ → Wanted → Option Reply → Type 0

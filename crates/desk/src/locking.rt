@@ -1,6 +1,6 @@
 //! The request for a lock (Git LFS API, File Locking, "Create Lock").
 
-ghost use Rattle.std.specs.Prelude.{◌≡◌, IfOk, OnErr, IfSome, Err};
+ghost use Rattle.std.specs.Prelude.{◌≡◌, ◌↔◌, ◌⊎◌, IfOk, IfErr, IsErrOf, OnErr, IfSome, IsSome, Err};
 ghost use Rattle.names.specs.declared.rules.Rule.TheVariants.{L5};
 ghost use Rattle.model.specs.World.{World};
 ghost use Rattle.model.specs.Steps.{by_rule, by_row, place_verdict};
@@ -8,13 +8,14 @@ ghost use Rattle.model.specs.declared.Right.TheVariants as right;
 ghost use Rattle.model.specs.Policy.{decide};
 ghost use Rattle.policy.specs.Values.{policy_view, decision_view};
 ghost use Rattle.tables.specs.Shown.{IsHonest};
+ghost use Rattle.tables.specs.declared.fault.StoreFault.TheVariants.{Refused, Memory};
 ghost use Rattle.worlds.specs.Standing.{Holds};
 ghost use Rattle.desk.specs.Told.{IsReplyOf};
-ghost use Rattle.desk.specs.Locking.{ShowsRow, IsReadyAfter, TellsHeld, IsAskedFor, TellsCreation, IsUntold, IsWantedBy, lock_wanted, question_on, allowed_verdict};
+ghost use Rattle.desk.specs.Locking.{ShowsRow, IsShowable, IsReadyAfter, TellsHeld, IsAskedFor, TellsCreation, IsUntold, IsWantedBy, lock_wanted, question_on, allowed_verdict};
 ghost use Rattle.desk.specs.Done.{IsDone};
 
 use crate::replies::Reply;
-use forms::{Answer, LockRequest, ShownLock};
+use forms::{Answer, DenialStatus, LockRequest, ShownLock};
 use model::Right;
 use names::{LockId, LockPath, Moment, RefName, RepoName, Rule, UserName};
 use policy::{Policy, Question, Repo, Verdict, decide};
@@ -31,9 +32,10 @@ pub(crate) struct Wanted<'a> {
     pub now: Moment,
 }
 
-/// What is shown of a row; `None` where a part of it is out of range.
+/// What is shown of a row; `None` exactly where a part of it is out of range.
 fn shown(row: &LockRow) -> Option<ShownLock<'_>>
-    ensures { IfSome result (ShowsRow row.now) }
+    ensures value { IfSome result (ShowsRow row.now) }
+    ensures all { IsSome result ↔ IsShowable row.now }
 {
     let second = u64::try_from(row.moment).ok()?;
     Some(ShownLock {
@@ -70,9 +72,12 @@ pub(crate) fn next_reply(
     }
 }
 
-/// The reply to a lock that another stands in the way of.
+/// The reply to a lock that another stands in the way of. The store refuses exactly where a part
+/// of the row is out of range; any other fault is want of memory.
 pub(crate) fn held_reply(alloc: Global, row: &LockRow) -> Result<Reply, StoreFault>
-    ensures { IfOk result (TellsHeld row.now) }
+    ensures told { IfOk result (TellsHeld row.now) }
+    ensures refused { IsErrOf result Refused ↔ ¬ (IsShowable row.now) }
+    ensures fault { IfErr result (λ fault. (fault ≡ Refused) ⊎ (fault ≡ Memory)) }
 {
     let Some(lock) = shown(row) else {
         return Err(StoreFault::Refused);
@@ -185,7 +190,7 @@ fn denied_reply(alloc: Global, row: u32) -> Result<Reply, AllocError>
     let denial = Answer::DeniedByRow {
         row,
         right: Right::Lock,
-        status: 403,
+        status: DenialStatus::Forbidden,
     };
     Reply::telling(alloc, &denial)
 }

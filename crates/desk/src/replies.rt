@@ -7,6 +7,7 @@ ghost use Rattle.model.specs.Steps.{is_of_head, is_store_refusal};
 ghost use Rattle.forms.specs.Told.{Tells};
 
 use forms::Answer;
+use http::StatusCode;
 use names::Rule;
 use std::alloc::{AllocError, Global};
 
@@ -23,7 +24,7 @@ pub enum Body {
 #[derive(Debug, Drop)]
 pub struct Reply {
     /// The status.
-    pub status: u16,
+    pub status: StatusCode,
     /// The body.
     pub body: Body,
     /// Whether the store or memory refused (S1), after which the connection closes.
@@ -74,7 +75,7 @@ impl Reply {
         ensures { IsReplyOf result store_refused }
     {
         Reply {
-            status: 500,
+            status: StatusCode::INTERNAL_SERVER_ERROR,
             body: Body::Fixed(refusal_body()),
             is_store_refusal: true,
         }
@@ -87,7 +88,7 @@ impl Reply {
     {
         match fixed_body(rule) {
             Some(text) => Reply {
-                status: rule.status().unwrap_or(403),
+                status: Answer::Denied(rule).status(),
                 body: Body::Fixed(text),
                 is_store_refusal: false,
             },

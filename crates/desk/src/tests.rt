@@ -110,7 +110,7 @@ fn a_lock_that_is_made_is_told(rt: HostRuntime) -> Result<(), Fail> {
         ),
     ] {
         let reply = next(rt.alloc(), made)?.ok_or("no id is left")?;
-        assert_eq!(rt; reply.status, 201);
+        assert_eq!(rt; reply.status.as_u16(), 201);
         assert_eq!(rt; text_of(&reply), want);
     }
     let none_left = next(rt.alloc(), 4294967295)?;
@@ -139,7 +139,7 @@ fn row(alloc: Global) -> Result<LockRow, StoreFault> {
 fn a_lock_that_stands_is_told(rt: HostRuntime) -> Result<(), Fail> {
     let held = row(rt.alloc())?;
     let reply = held_reply(rt.alloc(), &held)?;
-    assert_eq!(rt; reply.status, 409);
+    assert_eq!(rt; reply.status.as_u16(), 409);
     assert_eq!(rt;
         text_of(&reply),
         "{\"lock\":{\"id\":\"1\",\"locked_at\":\"2016-05-17T15:49:06Z\",\"owner\":{\"name\":\"ann\"},\"path\":\"art/hero.psd\"},\"message\":\"L1: the path is already locked\"}"
@@ -150,7 +150,7 @@ fn a_lock_that_stands_is_told(rt: HostRuntime) -> Result<(), Fail> {
 #[test]
 fn a_refusal_by_the_store_is_told(rt: HostRuntime) -> Result<(), Fail> {
     let reply = Reply::store_refused();
-    assert_eq!(rt; reply.status, 500);
+    assert_eq!(rt; reply.status.as_u16(), 500);
     assert!(rt; reply.is_store_refusal);
     assert_eq!(rt; text_of(&reply), "{\"message\":\"S1: the store refused\"}");
     Ok(())
@@ -168,13 +168,13 @@ fn made<S: Alter>(store: &mut Store<S>, alloc: Global) -> Result<Reply, StoreFau
 fn a_path_is_locked_once(rt: HostRuntime) -> Result<(), Fail> {
     let mut store = with_token(rt.alloc())?;
     let first = made(&mut store, rt.alloc())?;
-    assert_eq!(rt; first.status, 201);
+    assert_eq!(rt; first.status.as_u16(), 201);
     assert_eq!(rt;
         text_of(&first),
         "{\"lock\":{\"id\":\"1\",\"locked_at\":\"2016-05-17T15:49:06Z\",\"owner\":{\"name\":\"ann\"},\"path\":\"art/hero.psd\"}}"
     );
     let second = made(&mut store, rt.alloc())?;
-    assert_eq!(rt; second.status, 409);
+    assert_eq!(rt; second.status.as_u16(), 409);
     assert_eq!(rt;
         text_of(&second),
         "{\"lock\":{\"id\":\"1\",\"locked_at\":\"2016-05-17T15:49:06Z\",\"owner\":{\"name\":\"ann\"},\"path\":\"art/hero.psd\"},\"message\":\"L1: the path is already locked\"}"
@@ -253,7 +253,7 @@ fn locked(alloc: Global, text: &str) -> Result<Option<(u16, String, bool)>, Fail
     let reply = lock(&mut store, alloc, &policy, &wish)?;
     let row = store.lock_at("studio/film", "refs/heads/main", text)?;
     Ok(Some((
-        reply.status,
+        reply.status.as_u16(),
         text_of(&reply).to_owned(alloc)?,
         row.is_some(),
     )))

@@ -13,6 +13,8 @@ use Rattle.forms.specs.declared.answer.LockTexts.{LockTexts}
 use Rattle.forms.specs.declared.answer.ShownLock.{ShownLock}
 use Rattle.forms.specs.declared.answer.Answer.{Answer}
 use Rattle.forms.specs.declared.answer.Answer.TheVariants.{Locked, Held, Denied, DeniedByRow}
+use Rattle.forms.specs.declared.answer.DenialStatus.{DenialStatus}
+use Rattle.forms.specs.declared.answer.DenialStatus.TheVariants.{Forbidden, NotFound}
 
 -- what is shown of the lock
 pub record IsOf (shown : ShownLock) (l : Lock) : Type 0 where
@@ -21,12 +23,17 @@ pub record IsOf (shown : ShownLock) (l : Lock) : Type 0 where
   pub owner : l.owner ≡ user_text shown.owner
   pub path : l.path ≡ path_text shown.path
 
+-- the status of a denial by the policy
+abbrev pub denial_status : DenialStatus → ℕ
+denial_status Forbidden = 403
+denial_status NotFound = 404
+
 -- the value tells this answer
 abbrev pub Tells : Answer → model.Answer → Type 0
 Tells (Locked shown) given = (l : Lock) × IsOf shown.now l × (given ≡ Ok (makes_lock l))
 Tells (Held shown) given = (l : Lock) × IsOf shown.now l × (given ≡ Err (by_lock l))
 Tells (Denied rule) given = given ≡ Err (by_rule rule)
-Tells (DeniedByRow row right status) given = given ≡ Err (by_row row right status)
+Tells (DeniedByRow row right status) given = given ≡ Err (by_row row right (denial_status status))
 
 -- ---- the JSON of a reply
 

@@ -6,9 +6,12 @@ ghost use Rattle.serde_json.specs.Data.{object, member, string, no_members};
 ghost use Rattle.serde_json.specs.Written.{compact_text};
 ghost use Rattle.names.specs.declared.rules.Rule.TheVariants.{L1};
 ghost use Rattle.names.specs.Moments.{IsMomentText};
+ghost use Rattle.names.specs.Rules.{row_of};
+ghost use Rattle.model.specs.Reading.{or_default};
 ghost use Rattle.model.specs.Replies.{rule_message, row_message, right_text, row_reason, told, message_body, lock_members};
 ghost use Rattle.forms.specs.Told.{locked_data, held_data, locked_with, held_with, IsBodyOf};
 
+use http::StatusCode;
 use model::Right;
 use names::{LockId, LockPath, Moment, Rule, UserName, moment_text};
 use serde_json::{Value, json};
@@ -27,6 +30,30 @@ pub struct ShownLock<'a> {
     pub path: LockPath<'a>,
 }
 
+/// How a denial by the policy is told, which the request decides (Git LFS API, Batch).
+#[derive(Clone, Copy, Debug, PartialEq, Eq)]
+pub enum DenialStatus {
+    /// 403: the right is denied.
+    Forbidden,
+    /// 404: the caller is told no more than where there is nothing.
+    NotFound,
+}
+
+impl DenialStatus {
+    ghost use Rattle.std.specs.Prelude.{◌≡◌};
+    ghost use Rattle.forms.specs.Told.{denial_status};
+
+    /// The status as a status code.
+    pub fn status_code(self) -> StatusCode
+        ensures { result ≡ denial_status self }
+    {
+        match self {
+            DenialStatus::Forbidden => StatusCode::FORBIDDEN,
+            DenialStatus::NotFound => StatusCode::NOT_FOUND,
+        }
+    }
+}
+
 /// What a client is told.
 #[derive(Clone, Copy, Debug)]
 pub enum Answer<'a> {
@@ -43,7 +70,7 @@ pub enum Answer<'a> {
         /// The right that was asked.
         right: Right,
         /// The status that the request gives to such a denial.
-        status: u16,
+        status: DenialStatus,
     },
 }
 
@@ -53,14 +80,14 @@ impl Answer<'_> {
     ghost use Rattle.forms.specs.Told.{Tells};
 
     /// The status of the reply.
-    pub fn status(&self) -> u16
+    pub fn status(&self) -> StatusCode
         ensures { (given : _) → Tells self.now given → result ≡ status_of given }
     {
         match self {
-            Answer::Locked(_) => 201,
-            Answer::Held(_) => 409,
-            Answer::Denied(rule) => rule.status().unwrap_or(403),
-            Answer::DeniedByRow { status, .. } => *status,
+            Answer::Locked(_) => StatusCode::CREATED,
+            Answer::Held(_) => StatusCode::CONFLICT,
+            Answer::Denied(rule) => status_of_rule(*rule),
+            Answer::DeniedByRow { status, .. } => status.status_code(),
         }
     }
 
@@ -85,6 +112,14 @@ impl Answer<'_> {
             }
         }
     }
+}
+
+/// The status of a rule that refuses, and 403 for a rule that has none.
+fn status_of_rule(rule: Rule) -> StatusCode
+    ensures { result ≡ or_default (row_of rule).status 403 }
+{
+    let number = rule.status().unwrap_or(403);
+    StatusCode::from_u16(number).unwrap()
 }
 
 /// The word for the right.

@@ -15,7 +15,7 @@ mod body;
 mod lock;
 mod request;
 
-pub use answer::{Answer, ShownLock};
+pub use answer::{Answer, DenialStatus, ShownLock};
 pub use lock::LockRequest;
 pub use request::{Request, read_form};
 

@@ -10,6 +10,7 @@ ghost use Rattle.wire.specs.Replies.{content_of};
 ghost use Rattle.names.specs.Texts.{is_empty};
 
 use arrayvec::ArrayString;
+use http::StatusCode;
 use itoa::Buffer;
 
 /// The longest list of methods that a reply can name, in bytes.
@@ -34,7 +35,7 @@ pub enum Content {
 pub struct ReplyHead<'a> {
     /// The status. Its phrase is that of RFC 9110, and empty for a status that the server never
     /// sends.
-    pub status: u16,
+    pub status: StatusCode,
     /// What the body is.
     pub content: Content,
     /// How many bytes the body has: `Content-Length`.
@@ -62,7 +63,7 @@ impl ReplyHead<'_> {
         push_line_if(&mut text, !self.allow.is_empty(), "Allow: ", self.allow);
         push_line_if(
             &mut text,
-            self.status == 401,
+            is_challenge(self.status),
             "LFS-Authenticate: Bearer realm=\"Git LFS\"",
             "",
         );
@@ -72,12 +73,20 @@ impl ReplyHead<'_> {
     }
 }
 
-/// The phrase of a status (RFC 9110, Status Codes; 507: RFC 4918).
-fn phrase_of(status: u16) -> &'static str
+/// Whether the reply asks for a token.
+fn is_challenge(status: StatusCode) -> bool
+    ensures { result ≡ (status == 401) }
+{
+    status.as_u16() == 401
+}
+
+/// The phrase of a status (RFC 9110, Status Codes; 507: RFC 4918). The crate `http` has older ones
+/// for 413 and 422.
+fn phrase_of(status: StatusCode) -> &'static str
     ensures phrase { result.now ≡ phrase_in phrases status }
     ensures short { length result.now ≤ 32 }
 {
-    match status {
+    match status.as_u16() {
         200 => "OK",
         201 => "Created",
         400 => "Bad Request",
@@ -133,14 +142,14 @@ fn push_type(text: &mut ArrayString<HEAD_ROOM>, content: Content)
 }
 
 /// Adds the line of the status.
-fn push_status(text: &mut ArrayString<HEAD_ROOM>, status: u16)
+fn push_status(text: &mut ArrayString<HEAD_ROOM>, status: StatusCode)
     requires { array_string_len text.old + 64 ≤ HEAD_ROOM }
     ensures bytes { text.new.bytes ≡ text.old.bytes ++ line (codes "HTTP/1.1 " ++ decimal status ++ codes " " ++ phrase_in phrases status) }
     ensures len { array_string_len text.new ≤ array_string_len text.old + 64 }
 {
     let mut buffer = Buffer::new();
     text.push_str("HTTP/1.1 ");
-    text.push_str(buffer.format(status));
+    text.push_str(buffer.format(status.as_u16()));
     push_line(text, " ", phrase_of(status));
 }
 

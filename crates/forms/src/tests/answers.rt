@@ -1,4 +1,4 @@
-use crate::{Answer, ShownLock};
+use crate::{Answer, DenialStatus, ShownLock};
 use model::Right;
 use names::{LockId, LockPath, Moment, Rule, UserName};
 use std::alloc::{AllocError, Global};
@@ -17,7 +17,7 @@ fn lock_on(path: &str) -> Option<ShownLock<'_>> {
 /// The status, a space and the body.
 fn text_of(alloc: Global, answer: &Answer<'_>) -> Result<String, AllocError> {
     let body = answer.body(alloc)?;
-    let status = answer.status();
+    let status = answer.status().as_u16();
     format!(in alloc; "{status} {body}")
 }
 
@@ -117,31 +117,31 @@ fn rows_are_told_by_their_number(rt: HostRuntime) -> Result<(), Fail> {
         (
             0,
             Right::Lock,
-            403,
+            DenialStatus::Forbidden,
             r#"403 {"message":"P0: no policy row allows lock"}"#,
         ),
         (
             1,
             Right::Pull,
-            404,
+            DenialStatus::NotFound,
             r#"404 {"message":"P1: policy row 1 denies pull"}"#,
         ),
         (
             12,
             Right::Push,
-            403,
+            DenialStatus::Forbidden,
             r#"403 {"message":"P12: policy row 12 denies push"}"#,
         ),
         (
             2,
             Right::List,
-            403,
+            DenialStatus::Forbidden,
             r#"403 {"message":"P2: policy row 2 denies list"}"#,
         ),
         (
             u32::MAX,
             Right::Force,
-            403,
+            DenialStatus::Forbidden,
             r#"403 {"message":"P4294967295: policy row 4294967295 denies force"}"#,
         ),
     ] {

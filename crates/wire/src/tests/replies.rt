@@ -1,10 +1,21 @@
 use crate::{Content, ReplyHead, WriteFault, write_reply, write_whole};
+use http::StatusCode;
 use names::{FailAfter, Sink, VecSink};
 use std::test::Fail;
 
+/// The head of a reply, with its status as a number.
+#[derive(Clone, Copy)]
+struct Case<'a> {
+    status: u16,
+    content: Content,
+    size: u64,
+    allow: &'a str,
+    close: bool,
+}
+
 #[test]
 fn replies_are_their_head_and_their_body(rt: HostRuntime) -> Result<(), Fail> {
-    let json = ReplyHead {
+    let json = Case {
         status: 200,
         content: Content::Json,
         size: 0,
@@ -15,9 +26,9 @@ fn replies_are_their_head_and_their_body(rt: HostRuntime) -> Result<(), Fail> {
         "{\"lock\":{\"id\":\"1\",\"locked_at\":\"2016-05-17T15:49:06Z\",\"owner\":{\"name\":\"ann\"},\"path\":\"art/hero.psd\"}}";
     let held =
         "{\"lock\":{\"id\":\"1\",\"locked_at\":\"2016-05-17T15:49:06Z\",\"owner\":{\"name\":\"ann\"},\"path\":\"art/hero.psd\"},\"message\":\"L1: the path is already locked\"}";
-    for (head, body, want, size) in [
+    for (case, body, want, size) in [
         (
-            ReplyHead {
+            Case {
                 status: 201,
                 size: 99,
                 ..json
@@ -27,7 +38,7 @@ fn replies_are_their_head_and_their_body(rt: HostRuntime) -> Result<(), Fail> {
             187,
         ),
         (
-            ReplyHead {
+            Case {
                 status: 409,
                 size: 142,
                 ..json
@@ -37,7 +48,7 @@ fn replies_are_their_head_and_their_body(rt: HostRuntime) -> Result<(), Fail> {
             232,
         ),
         (
-            ReplyHead {
+            Case {
                 status: 405,
                 size: 47,
                 allow: "GET, POST",
@@ -49,7 +60,7 @@ fn replies_are_their_head_and_their_body(rt: HostRuntime) -> Result<(), Fail> {
             183,
         ),
         (
-            ReplyHead {
+            Case {
                 status: 401,
                 size: 42,
                 ..json
@@ -59,7 +70,7 @@ fn replies_are_their_head_and_their_body(rt: HostRuntime) -> Result<(), Fail> {
             177,
         ),
         (
-            ReplyHead {
+            Case {
                 status: 500,
                 size: 35,
                 close: true,
@@ -70,7 +81,7 @@ fn replies_are_their_head_and_their_body(rt: HostRuntime) -> Result<(), Fail> {
             156,
         ),
         (
-            ReplyHead {
+            Case {
                 content: Content::Octets,
                 size: 3,
                 ..json
@@ -80,7 +91,7 @@ fn replies_are_their_head_and_their_body(rt: HostRuntime) -> Result<(), Fail> {
             81,
         ),
         (
-            ReplyHead {
+            Case {
                 content: Content::Empty,
                 ..json
             },
@@ -89,7 +100,7 @@ fn replies_are_their_head_and_their_body(rt: HostRuntime) -> Result<(), Fail> {
             38,
         ),
         (
-            ReplyHead {
+            Case {
                 content: Content::Octets,
                 size: u64::MAX,
                 close: true,
@@ -102,6 +113,13 @@ fn replies_are_their_head_and_their_body(rt: HostRuntime) -> Result<(), Fail> {
     ] {
         let text = format!(in rt.alloc(); "{want}{body}")?;
         assert_eq!(rt; text.len(), size, "{want}");
+        let head = ReplyHead {
+            status: StatusCode::from_u16(case.status).map_err(|_| "no status code")?,
+            content: case.content,
+            size: case.size,
+            allow: case.allow,
+            close: case.close,
+        };
         for most in [1, 2, 7, usize::MAX] {
             let mut sink = VecSink::new(rt.alloc(), most);
             assert_eq!(rt; write_reply(&mut sink, &head, body.as_bytes()), Ok(()));
@@ -113,7 +131,7 @@ fn replies_are_their_head_and_their_body(rt: HostRuntime) -> Result<(), Fail> {
 
 #[test]
 fn each_status_has_its_phrase(rt: HostRuntime) -> Result<(), Fail> {
-    for (status, phrase) in [
+    for (number, phrase) in [
         (200, "OK"),
         (201, "Created"),
         (400, "Bad Request"),
@@ -130,6 +148,7 @@ fn each_status_has_its_phrase(rt: HostRuntime) -> Result<(), Fail> {
         (501, "Not Implemented"),
         (507, "Insufficient Storage"),
     ] {
+        let status = StatusCode::from_u16(number).map_err(|_| "no status code")?;
         let head = ReplyHead {
             status,
             content: Content::Empty,
@@ -139,7 +158,7 @@ fn each_status_has_its_phrase(rt: HostRuntime) -> Result<(), Fail> {
         };
         let mut sink = VecSink::new(rt.alloc(), usize::MAX);
         assert_eq!(rt; write_reply(&mut sink, &head, b""), Ok(()));
-        let line = format!(in rt.alloc(); "HTTP/1.1 {status} {phrase}\r\n")?;
+        let line = format!(in rt.alloc(); "HTTP/1.1 {number} {phrase}\r\n")?;
         assert!(rt; sink.taken().starts_with(line.as_bytes()), "{line}");
     }
     Ok(())
@@ -148,7 +167,7 @@ fn each_status_has_its_phrase(rt: HostRuntime) -> Result<(), Fail> {
 #[test]
 fn a_sink_that_fails_has_taken_a_beginning(rt: HostRuntime) -> Result<(), Fail> {
     let head = ReplyHead {
-        status: 200,
+        status: StatusCode::OK,
         content: Content::Octets,
         size: 3,
         allow: "",
