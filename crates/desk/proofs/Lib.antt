@@ -1,4 +1,3 @@
-pub mod Calling
 pub mod Placing
 pub mod Making
 pub mod Admitting

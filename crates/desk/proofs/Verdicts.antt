@@ -28,9 +28,9 @@ use Rattle.desk.specs.Done.{IsDone}
 use Rattle.desk.specs.Told.{IsReplyOf}
 use Rattle.desk.specs.declared.replies.Reply.{Reply}
 use Rattle.desk.specs.Admission.{admitted, holder_verdict, is_for_upload}
-use Rattle.desk.specs.Callers.{IsHolder}
+use Rattle.tokens.specs.Callers.{IsHolder}
 use Rattle.desk.specs.Locking.{IsWantedBy, lock_wanted, question_on, allowed_verdict}
-use Rattle.desk.specs.declared.callers.Caller.{Caller}
+use Rattle.tokens.specs.declared.callers.Caller.{Caller}
 use Rattle.desk.specs.declared.locking.Wanted.{Wanted}
 
 -- checks by rules, one after the other, are a check by the first of them that fails

@@ -1,5 +1,3 @@
-pub mod Bearers
-pub mod Callers
 pub mod Told
 pub mod Locking
 pub mod Done

@@ -6,13 +6,13 @@ ghost use Rattle.policy.specs.Values.{policy_view};
 ghost use Rattle.forms.specs.Requests.{request_asked};
 ghost use Rattle.desk.specs.Admission.{Admits, admitted, is_for_upload};
 
-use crate::callers::Caller;
 use forms::{Request, read_form};
 use model::Form;
 use names::Rule;
 use policy::{Policy, Repo};
 use std::alloc::{AllocError, Global};
 use tables::Operation;
+use tokens::Caller;
 
 /// A request in a repository, as its head and its body have it.
 #[derive(Clone, Copy, Debug)]

@@ -7,14 +7,13 @@ ghost use Rattle.policy.specs.Values.{policy_view, repo_view};
 ghost use Rattle.forms.specs.Requests.{request_asked, lock_asked};
 ghost use Rattle.tables.specs.Shown.{IsHonest};
 ghost use Rattle.worlds.specs.Standing.{Holds};
-ghost use Rattle.desk.specs.Bearers.{the_one};
-ghost use Rattle.desk.specs.Callers.{IsHolder};
+ghost use Rattle.tokens.specs.Bearers.{the_one};
+ghost use Rattle.tokens.specs.Callers.{IsHolder};
 ghost use Rattle.desk.specs.Told.{IsReplyOf};
 ghost use Rattle.desk.specs.Done.{IsDone};
 ghost use Rattle.desk.specs.Admission.{holder_verdict};
 
 use crate::admission::{Asked, admit};
-use crate::callers::{Caller, identify};
 use crate::locking::{lock, wanted_by};
 use crate::replies::Reply;
 use forms::{Answer, LockRequest, Request};
@@ -22,6 +21,7 @@ use names::{Moment, Rule, UserName};
 use policy::{Policy, Repo};
 use std::alloc::{AllocError, Global};
 use tables::{Alter, Store, StoreFault};
+use tokens::Caller;
 
 /// Answers a request in a repository, and does what the answer says.
 ///
@@ -44,7 +44,7 @@ pub fn answer<S: Alter>(
     ensures honest { IsHonest S.Store store.new → IsHonest S.Store store.old }
     ensures refused { IsHonest S.Store store.new → (world : World) → Holds S.Store store.old world → OnErr result (Holds S.Store store.new world) }
 {
-    match identify(store, asked.authorization, now)? {
+    match tokens::caller(store, asked.authorization, now)? {
         Ok(caller) => answer_caller(alloc, store, policy, now, &caller, asked),
         Err(rule) => Ok(refusal(alloc, rule)?),
     }

@@ -3,13 +3,11 @@
 
 mod admission;
 mod answering;
-mod callers;
 mod locking;
 mod replies;
 
 pub use admission::Asked;
 pub use answering::answer;
-pub use callers::{Caller, identify};
 pub use replies::{Body, Reply};
 
 #[cfg(test)]

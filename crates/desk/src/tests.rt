@@ -7,64 +7,13 @@ use policy::Policy;
 use sqlite::MemStore;
 use std::alloc::Global;
 use std::test::Fail;
-use tables::{Alter, LockRow, NewToken, Operation, Store, StoreFault};
+use tables::{Alter, LockRow, Operation, Store, StoreFault};
+use tokens::Caller;
 
-/// SHA-256 of `abc` (FIPS 180-2, appendix B.1).
-const ABC: [u8; 32] = [
-    0xba, 0x78, 0x16, 0xbf, 0x8f, 0x01, 0xcf, 0xea, 0x41, 0x41, 0x40, 0xde, 0x5d, 0xae, 0x22, 0x23,
-    0xb0, 0x03, 0x61, 0xa3, 0x96, 0x17, 0x7a, 0x9c, 0xb4, 0x10, 0xff, 0x61, 0xf2, 0x00, 0x15, 0xad,
-];
-
-/// A store in which ann's token `abc` for uploads to studio/film expires at 1,000.
-fn with_token(alloc: Global) -> Result<Store<MemStore>, StoreFault> {
+fn opened(alloc: Global) -> Result<Store<MemStore>, StoreFault> {
     let mut store = Store::open_memory(alloc)?;
     store.create_or_check(alloc)?;
-    let token = NewToken {
-        digest: &ABC,
-        user: "ann",
-        repo: "studio/film",
-        operation: Operation::Upload,
-        expires: 1000,
-    };
-    store.add_token(&token)?;
     Ok(store)
-}
-
-/// Whether ann calls, for uploads to studio/film; else the rule that refuses.
-fn calling<S: Alter>(
-    store: &mut Store<S>,
-    authorization: Option<&[u8]>,
-    second: u64,
-) -> Result<Result<bool, Rule>, StoreFault> {
-    let now = Moment::read(second).ok_or(StoreFault::Refused)?;
-    Ok(match identify(store, authorization, now)? {
-        Ok(caller) => Ok(
-            caller.user.as_str() == "ann"
-                && caller.repo.as_str() == "studio/film"
-                && caller.operation == Operation::Upload,
-        ),
-        Err(rule) => Err(rule),
-    })
-}
-
-#[test]
-fn tokens_name_their_caller(rt: HostRuntime) -> Result<(), Fail> {
-    let mut store = with_token(rt.alloc())?;
-    for (value, second, want) in [
-        (b"Bearer abc".as_slice(), 0, Ok(true)),
-        (b"bEARER abc".as_slice(), 999, Ok(true)),
-        (b"Bearer abc".as_slice(), 1000, Err(Rule::A3)),
-        (b"Bearer abd".as_slice(), 0, Err(Rule::A2)),
-        (b"Bearer  abc".as_slice(), 0, Err(Rule::A1)),
-        (b"Bearer abc d".as_slice(), 0, Err(Rule::A1)),
-        (b"Bearer ".as_slice(), 0, Err(Rule::A1)),
-        (b"Basic YW5uOg==".as_slice(), 0, Err(Rule::A1)),
-        (b"".as_slice(), 0, Err(Rule::A1)),
-    ] {
-        assert_eq!(rt; calling(&mut store, Some(value), second)?, want);
-    }
-    assert_eq!(rt; calling(&mut store, None, 0)?, Err(Rule::A1));
-    Ok(())
 }
 
 fn text_of(reply: &Reply) -> &str {
@@ -166,7 +115,7 @@ fn made<S: Alter>(store: &mut Store<S>, alloc: Global) -> Result<Reply, StoreFau
 
 #[test]
 fn a_path_is_locked_once(rt: HostRuntime) -> Result<(), Fail> {
-    let mut store = with_token(rt.alloc())?;
+    let mut store = opened(rt.alloc())?;
     let first = made(&mut store, rt.alloc())?;
     assert_eq!(rt; first.status.as_u16(), 201);
     assert_eq!(rt;
@@ -246,7 +195,7 @@ const ROWS: &str =
 /// The status and the body of the reply to ann's wish for that path, and whether a lock stands there.
 fn locked(alloc: Global, text: &str) -> Result<Option<(u16, String, bool)>, Fail> {
     let policy = Policy::read(alloc, ROWS)?;
-    let mut store = with_token(alloc)?;
+    let mut store = opened(alloc)?;
     let Some(wish) = wanted_on(text) else {
         return Ok(None);
     };

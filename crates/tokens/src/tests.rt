@@ -1,5 +1,5 @@
 use super::*;
-use names::{Moment, RepoName, UserName};
+use names::{Moment, RepoName, Rule, UserName};
 use sha2::{Digest, Sha256};
 use sqlite::MemStore;
 use std::alloc::Global;
@@ -135,5 +135,78 @@ fn a_token_is_removed_at_its_expiry(rt: HostRuntime) -> Result<(), Fail> {
         assert_eq!(rt; prune(&mut store, now)?, want);
     }
     assert!(rt; told(alloc, &mut store, 0xcc, 40, 60)?.as_str() == TEXT);
+    Ok(())
+}
+
+/// Whether a download token of ann's for studio/film is borne, or the rule that refuses.
+fn borne(
+    store: &mut Store<MemStore>,
+    authorization: Option<&[u8]>,
+    second: u64,
+) -> Result<Result<bool, Rule>, Fail> {
+    let now = Moment::read(second).ok_or("no moment")?;
+    Ok(match caller(store, authorization, now)? {
+        Ok(caller) => Ok(
+            caller.user.as_str() == "ann"
+                && caller.repo.as_str() == "studio/film"
+                && caller.operation == Operation::Download,
+        ),
+        Err(rule) => Err(rule),
+    })
+}
+
+#[test]
+fn a_token_names_its_caller(rt: HostRuntime) -> Result<(), Fail> {
+    let mut store = opened(rt.alloc())?;
+    told(rt.alloc(), &mut store, 0xcc, 40, 60)?;
+    for (scheme, text, second, want) in [
+        ("Bearer ", TEXT, 40, Ok(true)),
+        ("bEARER ", TEXT, 99, Ok(true)),
+        ("Bearer ", TEXT, 100, Err(Rule::A3)),
+        ("Bearer ", "abc", 40, Err(Rule::A2)),
+        ("Bearer  ", TEXT, 40, Err(Rule::A1)),
+        ("Bearer ", "abc d", 40, Err(Rule::A1)),
+        ("Bearer ", "", 40, Err(Rule::A1)),
+        ("Basic ", "YW5uOg==", 40, Err(Rule::A1)),
+        ("", "", 40, Err(Rule::A1)),
+    ] {
+        let value = [scheme, text].concat(rt.alloc())?;
+        assert_eq!(rt; borne(&mut store, Some(value.as_bytes()), second)?, want);
+    }
+    assert_eq!(rt; borne(&mut store, None, 40)?, Err(Rule::A1));
+    Ok(())
+}
+
+/// How many tokens the user has for the repository, and whether the first is that of the text.
+fn count_of(
+    alloc: Global,
+    store: &mut Store<MemStore>,
+    user: &str,
+    repo: &str,
+) -> Result<(usize, bool), Fail> {
+    let user = UserName::read(user).ok_or("no user")?;
+    let repo = RepoName::read(repo).ok_or("no repository")?;
+    let tokens = of(alloc, store, user, repo)?;
+    let is_that = tokens.first().is_some_and(|token| {
+        token.digest.as_slice() == Sha256::digest(TEXT.as_bytes()).as_slice()
+            && token.operation == Operation::Download
+            && token.expires == 100
+    });
+    Ok((tokens.len(), is_that))
+}
+
+#[test]
+fn a_user_has_the_tokens_that_were_issued(rt: HostRuntime) -> Result<(), Fail> {
+    let mut store = opened(rt.alloc())?;
+    for byte in [0xcc, 0xdd] {
+        told(rt.alloc(), &mut store, byte, 40, 60)?;
+    }
+    for (user, repo, want) in [
+        ("ann", "studio/film", (2, true)),
+        ("bob", "studio/film", (0, false)),
+        ("ann", "studio/game", (0, false)),
+    ] {
+        assert_eq!(rt; count_of(rt.alloc(), &mut store, user, repo)?, want);
+    }
     Ok(())
 }

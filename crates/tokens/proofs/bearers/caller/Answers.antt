@@ -3,10 +3,10 @@ use Rattle.names.specs.declared.rules.Rule.TheVariants.{A2}
 use Rattle.model.specs.Steps.{caller_by}
 use Rattle.tables.specs.Shown.{shown}
 use Rattle.tables.specs.Steps.{read_token}
-use Rattle.desk.specs.Bearers.{the_one}
-use Rattle.desk.specs.Callers.{IsCalling}
-use Rattle.desk.proofs.Calling.{unknown_token, known_token}
-use Rattle.desk.proofs.callers.identify.Goals as goal
+use Rattle.tokens.specs.Bearers.{the_one}
+use Rattle.tokens.specs.Callers.{IsCalling}
+use Rattle.tokens.proofs.Calling.{unknown_token, known_token}
+use Rattle.tokens.proofs.bearers.caller.Goals as goal
 
 pub returns-in_default-2-clause-answer : goal.returns-in_default-2-clause-answer
 returns-in_default-2-clause-answer g c honest world h =

@@ -7,7 +7,7 @@ use Rattle.model.specs.Steps.{caller_by}
 use Rattle.tables.specs.Steps.{code_of}
 use Rattle.tables.specs.declared.rows.TokenRow.{TokenRow}
 use Rattle.worlds.specs.Standing.{operation_code}
-use Rattle.desk.specs.declared.callers.Caller.{Caller}
+use Rattle.tokens.specs.declared.callers.Caller.{Caller}
 
 -- the caller is the holder of this token
 pub record IsHolder (c : Caller) (i : Issued) : Type 0 where

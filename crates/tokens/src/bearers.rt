@@ -7,12 +7,13 @@ ghost use Rattle.model.specs.Steps.{bearer, is_visible};
 ghost use Rattle.model.specs.World.{World};
 ghost use Rattle.tables.specs.Shown.{IsHonest, Moves};
 ghost use Rattle.worlds.specs.Standing.{Holds};
-ghost use Rattle.desk.specs.Bearers.{the_one};
-ghost use Rattle.desk.specs.Callers.{IsCalling, IsGoodAt};
+ghost use Rattle.tokens.specs.Bearers.{the_one};
+ghost use Rattle.tokens.specs.Callers.{IsCalling};
 
+use crate::callers::{Caller, good_at};
 use names::{Moment, Rule};
 use sha2::{Digest, Sha256};
-use tables::{Alter, Operation, Store, StoreFault, TokenRow};
+use tables::{Alter, Store, StoreFault};
 
 fn is_visible(byte: u8) -> bool
     ensures { result ≡ is_visible byte }
@@ -45,24 +46,13 @@ fn digest_of(text: &[u8]) -> [u8; 32]
     Sha256::digest(text)
 }
 
-/// Whose token a request bears.
-#[derive(Debug, Drop)]
-pub struct Caller {
-    /// The user.
-    pub user: String,
-    /// The repository that the token is for.
-    pub repo: String,
-    /// What the token was issued for.
-    pub operation: Operation,
-}
-
 /// Who calls, by the value of the `Authorization` field: A1 where it bears no token, A2 where the
 /// store has no such token, A3 where it has expired. The store is left as it is.
 ///
 /// # Errors
 ///
 /// A [`StoreFault`], which leaves the store as it is too.
-pub fn identify<S: Alter>(
+pub fn caller<S: Alter>(
     store: &mut Store<S>,
     authorization: Option<&[u8]>,
     now: Moment,
@@ -81,19 +71,4 @@ pub fn identify<S: Alter>(
         return Ok(Err(Rule::A2));
     };
     Ok(good_at(token, now))
-}
-
-/// The token's caller, where it is good at the moment; else A3.
-fn good_at(token: TokenRow, now: Moment) -> Result<Caller, Rule>
-    ensures { IsGoodAt token now result }
-{
-    if (now.get() as i64) < token.expires {
-        Ok(Caller {
-            user: token.user,
-            repo: token.repo,
-            operation: token.operation,
-        })
-    } else {
-        Err(Rule::A3)
-    }
 }

@@ -15,8 +15,8 @@ use Rattle.tables.specs.Steps.{TokenFields, token_fields, read_token, code_of}
 use Rattle.tables.specs.declared.rows.TokenRow.{TokenRow}
 use Rattle.worlds.specs.Standing.{token_kept, token_row, operation_code, StandsFor}
 use Rattle.worlds.proofs.Lookups.{token_found}
-use Rattle.desk.specs.declared.callers.Caller.{Caller}
-use Rattle.desk.specs.Callers.{IsCalling, IsGoodAt}
+use Rattle.tokens.specs.declared.callers.Caller.{Caller}
+use Rattle.tokens.specs.Callers.{IsCalling, IsGoodAt}
 
 none_of_map : {A B C : Type 0} (f : A → C) (g : B → C) (o : Option B) → option_map {T = A} {U = C} f None ≡ option_map g o → o ≡ None
 none_of_map f g None e = refl
