@@ -18,7 +18,7 @@ use Rattle.routes.specs.Routes.{route_seen}
 use Rattle.wire.specs.Writes.{IsBeginning}
 use Rattle.tables.specs.declared.Store.{Store}
 use Rattle.worlds.specs.Standing.{Holds}
-use Rattle.desk.specs.Bearers.{the_one}
+use Rattle.tokens.specs.Bearers.{the_one}
 use Rattle.desk.specs.Done.{IsDone}
 use Rattle.desk.specs.Told.{IsReplyOf, body_text}
 use Rattle.desk.specs.declared.replies.Reply.{Reply}

@@ -18,7 +18,7 @@ use Rattle.model.specs.Stream.{BeginsWith, BeginsWithHead, IsUnfinished, head_li
 use Rattle.model.specs.Steps.{Answer, Denial, by_rule, message, verdict, is_last, is_of_head}
 use Rattle.model.proofs.Refusals.{IsHeadRule, judged_fails}
 use Rattle.model.proofs.Tests.{both_true}
-use Rattle.desk.specs.Bearers.{the_one}
+use Rattle.tokens.specs.Bearers.{the_one}
 use Rattle.service.proofs.Judged.{not_framed}
 use Rattle.service.specs.Judging.{Asks, IsDenied, target_seen}
 use Rattle.service.specs.Messages.{IsRefused, IsWhole}

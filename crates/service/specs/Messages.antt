@@ -7,7 +7,7 @@ use Rattle.model.specs.Heads.{values, asks_close}
 use Rattle.model.specs.Stream.{BeginsWith, IsUnfinished}
 use Rattle.model.specs.Steps as model
 use Rattle.model.specs.Steps.{by_rule, verdict_on, is_last, is_of_head, allow}
-use Rattle.desk.specs.Bearers.{the_one}
+use Rattle.tokens.specs.Bearers.{the_one}
 use Rattle.service.specs.Judging.{Asks}
 use Rattle.service.specs.declared.judging.Denied.{Denied}
 use Rattle.service.specs.declared.message.Message.{Message}

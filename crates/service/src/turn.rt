@@ -9,7 +9,7 @@ ghost use Rattle.model.specs.Steps.{verdict};
 ghost use Rattle.policy.specs.Values.{policy_view};
 ghost use Rattle.tables.specs.Shown.{IsHonest};
 ghost use Rattle.worlds.specs.Standing.{Holds};
-ghost use Rattle.desk.specs.Bearers.{the_one};
+ghost use Rattle.tokens.specs.Bearers.{the_one};
 ghost use Rattle.service.specs.Judging.{Asks};
 ghost use Rattle.service.specs.Sending.{reply_text};
 ghost use Rattle.service.specs.Turns.{IsAnswered, IsSent, IsCounted, IsWithin, Takes};
