@@ -6,15 +6,22 @@ use Rattle.tables.specs.declared.fault.StoreFault.{StoreFault}
 use Rattle.tables.specs.declared.fault.StoreFault.TheVariants as tables
 use Rattle.policy.specs.declared.faults.PolicyFault.{PolicyFault}
 use Rattle.policy.specs.declared.faults.PolicyFault.TheVariants as policy
+use Rattle.tokens.specs.declared.issuing.TokenFault.{TokenFault}
+use Rattle.tokens.specs.declared.issuing.TokenFault.TheVariants as tokens
 use Rattle.cli.specs.declared.faults.Fault.{Fault}
-use Rattle.cli.specs.declared.faults.Fault.TheVariants.{Words, Value, Policy, Store, Memory, Output, Session}
+use Rattle.cli.specs.declared.faults.Fault.TheVariants.{Words, Value, Clock, PolicyFile, Policy, Repository, Random, Store, Token, Memory, Output, Session}
 
 -- 2 where the words are to blame, else 1
 abbrev pub status_of : Fault → ℕ
 status_of (Words _) = 2
 status_of (Value _) = 2
+status_of Clock = 1
+status_of PolicyFile = 1
 status_of (Policy _) = 1
+status_of Repository = 1
+status_of Random = 1
 status_of (Store _) = 1
+status_of (Token _) = 1
 status_of Memory = 1
 status_of Output = 1
 status_of (Session _) = 1
@@ -29,6 +36,12 @@ of_store tables.Memory = Memory
 abbrev pub of_policy : PolicyFault → Fault
 of_policy (policy.Refused fault) = Policy fault
 of_policy policy.Memory = Memory
+
+-- a token that was not issued, or a refusal by the database or by memory
+abbrev pub of_token : TokenFault → Fault
+of_token tokens.AlreadyIssued = Token tokens.AlreadyIssued
+of_token tokens.ExpiresTooLate = Token tokens.ExpiresTooLate
+of_token (tokens.Store refused) = of_store refused
 
 -- a session ends well where the input ended or the server closed the connection
 abbrev pub is_good : End → Bool

@@ -8,6 +8,7 @@ use service::End;
 use std::alloc::AllocError;
 use tables::StoreFault;
 use thiserror::Error;
+use tokens::TokenFault;
 
 /// Why the program ends with another status than 0. Each is one line, but for the first.
 #[derive(Debug, Drop, Error)]
@@ -18,16 +19,31 @@ pub(crate) enum Fault {
     /// A value that its reader refuses: the name of its option.
     #[error("custody: bad value for {0}")]
     Value(&'static str),
-    /// There is no policy.
+    /// The machine's clock tells no moment that this program knows.
+    #[error("custody: no moment")]
+    Clock,
+    /// The policy file could not be read.
+    #[error("custody: policy not read")]
+    PolicyFile,
+    /// The file spells no policy.
     #[error("custody: policy {0}")]
     Policy(policy::Fault),
+    /// The policy has no such repository.
+    #[error("custody: R1: no such repository")]
+    Repository,
+    /// There were not as many random bytes as a token wants.
+    #[error("custody: random bytes not read")]
+    Random,
     /// The database refused.
     #[error("custody: {0}")]
     Store(StoreFault),
+    /// No token was issued.
+    #[error("custody: {0}")]
+    Token(TokenFault),
     /// Memory was refused.
     #[error("custody: no memory")]
     Memory,
-    /// Help could not be written.
+    /// What there was to print could not be written to its end.
     #[error("custody: input or output")]
     Output,
     /// The session failed.
@@ -42,8 +58,13 @@ impl Fault {
     {
         match self {
             Fault::Words(_) | Fault::Value(_) => 2,
+            Fault::Clock => 1,
+            Fault::PolicyFile => 1,
             Fault::Policy(_) => 1,
+            Fault::Repository => 1,
+            Fault::Random => 1,
             Fault::Store(_) => 1,
+            Fault::Token(_) => 1,
             Fault::Memory => 1,
             Fault::Output => 1,
             Fault::Session(_) => 1,
@@ -82,6 +103,19 @@ impl From<StoreFault> for Fault {
         match fault {
             StoreFault::Memory => Fault::Memory,
             _ => Fault::Store(fault),
+        }
+    }
+}
+
+impl From<TokenFault> for Fault {
+    ghost use Rattle.cli.specs.Statuses.{of_token};
+
+    ghost from_gives = { λ fault told. told ≡ of_token fault };
+
+    fn from(fault: TokenFault) -> Fault {
+        match fault {
+            TokenFault::Store(fault) => Fault::from(fault),
+            _ => Fault::Token(fault),
         }
     }
 }

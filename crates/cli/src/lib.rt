@@ -6,9 +6,13 @@
 //! hands in the machine's.
 #![tactic(auto)]
 
-mod example;
+mod authenticate;
+mod commands;
 mod faults;
+mod files;
+mod moments;
 mod program;
+mod prune;
 mod session;
 mod words;
 

@@ -4,7 +4,9 @@ ghost use Rattle.std.specs.Prelude.{◌≡◌, ◌≢◌, ◌≤◌};
 ghost use Rattle.std.specs.IoError.{error_kind};
 ghost use Rattle.cli.specs.Statuses.{status_of};
 
+use crate::authenticate::authenticate;
 use crate::faults::Fault;
+use crate::prune::prune;
 use crate::session::session;
 use crate::words::{Asked, read_words};
 use std::io::{self, ErrorKind, Read, Write};
@@ -26,6 +28,8 @@ fn obey<R: Read, W: Write>(
     match read_words(rt.alloc(), words)? {
         Asked::Help(help) => write_help(&help, output).map_err(|_| Fault::Output),
         Asked::Session(asked) => session(rt, &asked, input, output),
+        Asked::Authenticate(asked) => authenticate(rt, &asked, output),
+        Asked::Prune(asked) => prune(rt, &asked, output),
     }
 }
 

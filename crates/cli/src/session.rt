@@ -3,8 +3,9 @@
 ghost use Rattle.std.specs.Prelude.{◌≡◌, IsOk, ◌↔◌, IsTrue};
 ghost use Rattle.cli.specs.Statuses.{is_good, end_after};
 
-use crate::example;
 use crate::faults::Fault;
+use crate::files::read_policy;
+use crate::moments::moment;
 use crate::words::SessionWords;
 use names::{Counted, Moment};
 use policy::Policy;
@@ -69,8 +70,9 @@ fn is_good(end: End) -> bool
 ///
 /// # Errors
 ///
-/// `Store` and `Memory` where the database could not be opened, and `Session` where reading or
-/// writing failed: what was answered before stands.
+/// `Clock`, `PolicyFile` and `Policy`, which leave the database unopened; `Store` and `Memory`
+/// where it could not be opened; and `Session` where reading or writing failed: what was answered
+/// before stands.
 pub(crate) fn session<R: Read, W: Write>(
     rt: &HostRuntime,
     words: &SessionWords<'_>,
@@ -78,15 +80,15 @@ pub(crate) fn session<R: Read, W: Write>(
     output: &mut W,
 ) -> Result<(), Fault> {
     let alloc = rt.alloc();
-    let policy = example::policy(alloc)?;
+    let now = moment(rt, words.now)?;
+    let policy = read_policy(rt, words.policy)?;
     let routes = Routes::new(alloc)?;
     let mut store = Store::open(rt, words.db)?;
     store.create_or_check(alloc)?;
-    example::add_tokens(&mut store)?;
     let setting = Setting {
         policy: &policy,
         routes: &routes,
-        now: words.now,
+        now,
     };
     match serve_streams(alloc, &mut store, &setting, input, output) {
         Ok(end) if is_good(end) => Ok(()),

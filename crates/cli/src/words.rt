@@ -5,11 +5,13 @@ ghost use Rattle.std.specs.Char.{is_ascii_digit};
 ghost use Rattle.std.specs.List.{list_all};
 ghost use Rattle.cli.specs.Numbers.{number_in, moment_in};
 
+use crate::commands::{UPLOAD, program};
 use crate::faults::Fault;
+use clap::ArgMatches;
 use clap::error::ErrorKind;
-use clap::{Arg, ArgMatches, Command};
-use names::Moment;
-use std::alloc::{AllocError, Global};
+use names::{Moment, UserName};
+use std::alloc::Global;
+use tables::Operation;
 
 /// What the words ask for.
 #[derive(Debug, Drop)]
@@ -18,6 +20,10 @@ pub(crate) enum Asked<'a> {
     Help(clap::Error),
     /// The command `session`.
     Session(SessionWords<'a>),
+    /// The command `authenticate`.
+    Authenticate(AuthenticateWords<'a>),
+    /// The command `prune`.
+    Prune(PruneWords<'a>),
 }
 
 /// The words of `session`.
@@ -25,57 +31,38 @@ pub(crate) enum Asked<'a> {
 pub(crate) struct SessionWords<'a> {
     /// The database file.
     pub db: &'a str,
-    /// The moment at which the connection comes.
-    pub now: Moment,
+    /// The policy file.
+    pub policy: &'a str,
+    /// The moment at which the connection comes; `None` for the clock's.
+    pub now: Option<Moment>,
 }
 
-const ABOUT: &str =
-    "A Git LFS server that keeps locks, so that two people do not paint the same scene in the same hour";
-
-const SESSION_ABOUT: &str =
-    "Answers the requests on standard input, and writes the replies to standard output";
-
-const SESSION_LONG_ABOUT: &str = "\
-Answers the requests on standard input, and writes the replies to standard output.
-
-Standard input holds what one connection of a client would send: HTTP requests, one after the \
-other. They are answered when the input has ended.
-
-The policy is an example for now. It has the repository studio/film, in which ann and bob may \
-pull, push, list and lock. A database in which nothing was ever locked gets two upload tokens, \
-which are good until 1463503600: 64 times the letter a for ann, 64 times b for bob.
-
-The status is 0 where the input ended or the server closed the connection, 1 where the database \
-refused or reading or writing failed, and 2 where the words are wrong.";
-
-const DB_HELP: &str =
-    "The database file; it is made where there is none, in a folder that is there";
-
-const NOW_HELP: &str =
-    "The moment of the connection, in seconds since 1970-01-01T00:00:00Z: 0 to 253402300799";
-
-fn option<'a>(alloc: Global, name: &'a str, value_name: &'a str, help: &'a str) -> Arg<'a> {
-    Arg::new(alloc, name)
-        .long(name)
-        .value_name(value_name)
-        .required(true)
-        .help(help)
+/// The words of `authenticate`.
+#[derive(Clone, Copy, Debug)]
+pub(crate) struct AuthenticateWords<'a> {
+    /// The database file.
+    pub db: &'a str,
+    /// The policy file.
+    pub policy: &'a str,
+    /// Who gets the token.
+    pub user: UserName<'a>,
+    /// The moment at which it is issued; `None` for the clock's.
+    pub now: Option<Moment>,
+    /// The file of random bytes.
+    pub random: &'a str,
+    /// Which repository it is for, as the client wrote it.
+    pub path: &'a str,
+    /// What it is for.
+    pub operation: Operation,
 }
 
-fn session_command<'a>(alloc: Global) -> Result<Command<'a>, AllocError> {
-    Command::new(alloc, "session")
-        .about(SESSION_ABOUT)
-        .long_about(SESSION_LONG_ABOUT)
-        .arg(option(alloc, "db", "FILE", DB_HELP))?
-        .arg(option(alloc, "now", "N", NOW_HELP))
-}
-
-fn program<'a>(alloc: Global) -> Result<Command<'a>, AllocError> {
-    Command::new(alloc, "custody")
-        .about(ABOUT)
-        .subcommand_required(true)
-        .arg_required_else_help(true)
-        .subcommand(session_command(alloc)?)
+/// The words of `prune`.
+#[derive(Clone, Copy, Debug)]
+pub(crate) struct PruneWords<'a> {
+    /// The database file.
+    pub db: &'a str,
+    /// The moment at which tokens have to be good; `None` for the clock's.
+    pub now: Option<Moment>,
 }
 
 /// Whether each byte is a digit.
@@ -107,13 +94,57 @@ fn value_of<'a>(matches: &ArgMatches<'a>, name: &str) -> &'a str {
     matches.get_str(name).unwrap_or("")
 }
 
+/// The moment that was given, where one was.
+fn now_of(matches: &ArgMatches<'_>) -> Result<Option<Moment>, Fault> {
+    match matches.get_str("now") {
+        None => Ok(None),
+        Some(text) => moment_in(text).map(Some).ok_or(Fault::Value("--now")),
+    }
+}
+
 fn session_words<'a>(matches: &ArgMatches<'a>) -> Result<SessionWords<'a>, Fault> {
-    let Some(now) = moment_in(value_of(matches, "now")) else {
-        return Err(Fault::Value("--now"));
-    };
     Ok(SessionWords {
         db: value_of(matches, "db"),
-        now,
+        policy: value_of(matches, "policy"),
+        now: now_of(matches)?,
+    })
+}
+
+/// What the token is for, in a word that `clap` let through.
+fn operation_of(matches: &ArgMatches<'_>) -> Operation {
+    if value_of(matches, "operation") == UPLOAD {
+        Operation::Upload
+    } else {
+        Operation::Download
+    }
+}
+
+fn authenticate_words<'a>(matches: &ArgMatches<'a>) -> Result<AuthenticateWords<'a>, Fault> {
+    Ok(AuthenticateWords {
+        db: value_of(matches, "db"),
+        policy: value_of(matches, "policy"),
+        user: UserName::read(value_of(matches, "user")).ok_or(Fault::Value("--user"))?,
+        now: now_of(matches)?,
+        random: value_of(matches, "random"),
+        path: value_of(matches, "path"),
+        operation: operation_of(matches),
+    })
+}
+
+fn prune_words<'a>(matches: &ArgMatches<'a>) -> Result<PruneWords<'a>, Fault> {
+    Ok(PruneWords {
+        db: value_of(matches, "db"),
+        now: now_of(matches)?,
+    })
+}
+
+/// What the words of a command ask for; `None` where `clap` knows a command that this does not.
+fn command_words<'a>(name: &str, matches: &ArgMatches<'a>) -> Result<Option<Asked<'a>>, Fault> {
+    Ok(match name {
+        "session" => Some(Asked::Session(session_words(matches)?)),
+        "authenticate" => Some(Asked::Authenticate(authenticate_words(matches)?)),
+        "prune" => Some(Asked::Prune(prune_words(matches)?)),
+        _ => None,
     })
 }
 
@@ -129,8 +160,12 @@ pub(crate) fn read_words<'a>(alloc: Global, words: &'a [String]) -> Result<Asked
         Err(error) if error.kind() == ErrorKind::DisplayHelp => return Ok(Asked::Help(error)),
         Err(error) => return Err(Fault::from(error)),
     };
-    match matches.subcommand() {
-        Some((_, matches)) => Ok(Asked::Session(session_words(matches)?)),
+    let asked = match matches.subcommand() {
+        Some((name, matches)) => command_words(name, matches)?,
+        None => None,
+    };
+    match asked {
+        Some(asked) => Ok(asked),
         None => Err(Fault::from(program.error(
             ErrorKind::MissingSubcommand,
             "a command is needed",

@@ -1,0 +1,49 @@
+//! What the program reads from files besides its database: the policy, and random bytes.
+
+use crate::faults::Fault;
+use policy::Policy;
+use std::fs::File;
+use std::io::{self, ErrorKind, Read};
+use std::rt::HostRuntime;
+
+/// One byte more than a policy file may have, so that a longer one is seen.
+const MOST_READ: u64 = 1_048_577;
+
+/// The bytes of a file, at most [`MOST_READ`] of them.
+fn read_file(rt: &HostRuntime, path: &str) -> io::Result<Vec<u8>> {
+    let mut bytes = Vec::new(rt.alloc());
+    File::open(rt, path)?
+        .take(MOST_READ)
+        .read_to_end(&mut bytes)?;
+    Ok(bytes)
+}
+
+/// The policy that the file spells.
+///
+/// # Errors
+///
+/// `PolicyFile` where the file could not be read, `Policy` with the first fault of its text,
+/// `Memory`.
+pub(crate) fn read_policy(rt: &HostRuntime, path: &str) -> Result<Policy, Fault> {
+    match read_file(rt, path) {
+        Ok(bytes) => Ok(Policy::read_bytes(rt.alloc(), bytes.as_slice())?),
+        Err(error) if error.kind() == ErrorKind::OutOfMemory => Err(Fault::Memory),
+        Err(_) => Err(Fault::PolicyFile),
+    }
+}
+
+/// The first 32 bytes of the file.
+///
+/// # Errors
+///
+/// `Random` where it could not be opened or read, or has fewer.
+pub(crate) fn read_random(rt: &HostRuntime, path: &str) -> Result<[u8; 32], Fault> {
+    let mut bytes = [0; 32];
+    let Ok(mut file) = File::open(rt, path) else {
+        return Err(Fault::Random);
+    };
+    match file.read_exact(&mut bytes) {
+        Ok(()) => Ok(bytes),
+        Err(_) => Err(Fault::Random),
+    }
+}
