@@ -1,5 +1,5 @@
--- Which words are numbers. A text is the list of its bytes.
-use Rattle.std.specs.Prelude.{◌≡◌, ℕ, Bool, ◌&&◌, nat_le, List, length, Option, Some, None, if◌then◌else◌}
+-- Which words are numbers, and which moment a clock tells. A text is the list of its bytes.
+use Rattle.std.specs.Prelude.{◌≡◌, ℕ, ◌/◌, Bool, ◌&&◌, nat_le, List, length, Option, Some, None, if◌then◌else◌}
 use Rattle.std.specs.Char.{is_ascii_digit}
 use Rattle.std.specs.List.{list_all}
 use Rattle.std.specs.Str.Parse.{digits_value}
@@ -16,3 +16,7 @@ number_in text = if is_number text then Some (digits_value 10 text) else None
 -- the moment that they write
 abbrev pub moment_in : List ℕ → Option ℕ
 moment_in text = if is_number text && nat_le (digits_value 10 text) last_moment then Some (digits_value 10 text) else None
+
+-- the moment that a clock tells, so many nanoseconds after 1970: its whole seconds
+abbrev pub moment_at : ℕ → Option ℕ
+moment_at nanos = if nat_le (nanos / 1000000000) last_moment then Some (nanos / 1000000000) else None

@@ -1,13 +1,18 @@
 //! At which moment a command works.
 
+ghost use Rattle.std.specs.Prelude.{◌≡◌};
+ghost use Rattle.std.specs.Time.{system_time_nanos};
+ghost use Rattle.cli.specs.Numbers.{moment_at};
+
 use crate::faults::Fault;
 use names::Moment;
 use std::rt::Clock;
 use std::time::{SystemTime, UNIX_EPOCH};
 
-/// The moment that the clock tells, in whole seconds; `None` where it tells none in range.
-fn moment_of(clock: &impl Clock) -> Option<Moment> {
-    let time = SystemTime::now(clock).ok()?;
+/// The last moment that is not after the time; `None` where it is past the last moment.
+fn moment_at(time: SystemTime) -> Option<Moment>
+    ensures { result ≡ moment_at (system_time_nanos time) }
+{
     Moment::read(time.duration_since(UNIX_EPOCH).ok()?.as_secs())
 }
 
@@ -17,5 +22,8 @@ fn moment_of(clock: &impl Clock) -> Option<Moment> {
 ///
 /// `Clock` where none was given and the clock's is out of range.
 pub(crate) fn moment(clock: &impl Clock, given: Option<Moment>) -> Result<Moment, Fault> {
-    given.or_else(|| moment_of(clock)).ok_or(Fault::Clock)
+    match given {
+        Some(moment) => Ok(moment),
+        None => moment_at(SystemTime::now(clock).map_err(|_| Fault::Clock)?).ok_or(Fault::Clock),
+    }
 }
