@@ -1,8 +1,7 @@
 //! Words, values and databases that the program refuses, in their order, and its help.
 
-use crate::program::{prepare, remove, run};
+use crate::program::{prepare, remove, run, write};
 use crate::transcript::{POLICY, perform, play};
-use sqlite::{Connection, Error};
 use std::fs;
 use std::rt::HostRuntime;
 use std::test::Fail;
@@ -181,26 +180,37 @@ $ prune --db @/db --now 5
 = 1
 "#;
 
-fn make_file(rt: &HostRuntime, db: &str, sql: &str) -> Result<(), Error> {
-    let mut conn = Connection::open(rt, db)?;
-    conn.execute_batch(sql)?;
-    conn.close()
-}
+/// The file that `sqlite3` writes, with pages of 512 bytes, where `meta` is made with version 2:
+/// its pieces, each with the number of zeros behind it.
+const VERSION_2: [(&[u8], usize); 6] = [
+    (
+        b"SQLite format 3\x00\x02\x00\x01\x01\x00@  \x00\x00\x00\x02\x00\x00\x00\x02",
+        11,
+    ),
+    (b"\x01\x00\x00\x00\x04", 11),
+    (b"\x01", 35),
+    (b"\x02\x00.c\x01\x0d\x00\x00\x00\x01\x01x\x00\x01x", 266),
+    (
+        b"\x81\x05\x01\x07\x17\x15\x15\x01\x81mtablemetameta\x02CREATE TABLE meta (one INTEGER PRIMARY KEY CHECK (one = 1), version INTEGER NOT NULL CHECK (version = 2)) STRICT\x0d\x00\x00\x00\x01\x01\xfa\x00\x01\xfa",
+        496,
+    ),
+    (b"\x04\x01\x03\x00\x01\x02", 0),
+];
 
 #[test]
 fn another_database_is_left(rt: HostRuntime) -> Result<(), Fail> {
     prepare(&rt, "closed", POLICY)?;
     assert_eq!(rt; play(&rt, "closed", CLOSED)?.as_str(), "");
     assert!(rt; fs::read(&rt, "closed/db")?.as_slice() == [65; 40].as_slice());
+    let mut file = Vec::new(rt.alloc());
+    for (piece, zeros) in VERSION_2 {
+        file.extend_from_slice(piece)?;
+        file.extend_from_slice(vec![in rt.alloc(); 0; zeros]?.as_slice())?;
+    }
     prepare(&rt, "closed", POLICY)?;
-    make_file(
-        &rt,
-        "closed/db",
-        "CREATE TABLE meta (one INTEGER PRIMARY KEY CHECK (one = 1), version INTEGER NOT NULL CHECK (version = 2)) STRICT; INSERT INTO meta VALUES (1, 2)",
-    )?;
-    let before = fs::read(&rt, "closed/db")?;
+    write(&rt, "closed", "db", file.as_slice())?;
     assert_eq!(rt; play(&rt, "closed", OTHER)?.as_str(), "");
-    assert!(rt; fs::read(&rt, "closed/db")?.as_slice() == before.as_slice());
+    assert!(rt; fs::read(&rt, "closed/db")?.as_slice() == file.as_slice());
     remove(&rt, "closed");
     Ok(())
 }

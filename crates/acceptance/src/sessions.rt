@@ -35,6 +35,10 @@ $ session --db @/db --policy @/policy --now 1463500146
 $ session --db @/db --policy @/policy --now 1463500146
 ? b studio/film {"path":"art/hero.psd"}
 : 409 {"lock":{"id":"1","locked_at":"2016-05-17T15:49:06Z","owner":{"name":"ann"},"path":"art/hero.psd"},"message":"L1: the path is already locked"}
+the branch that a request means which names none
+$ session --db @/db --policy @/policy --now 1463500146
+? b studio/film {"path":"art/hero.psd","ref":{"name":"refs/heads/main"}}
+: 409 {"lock":{"id":"1","locked_at":"2016-05-17T15:49:06Z","owner":{"name":"ann"},"path":"art/hero.psd"},"message":"L1: the path is already locked"}
 another branch
 $ session --db @/db --policy @/policy --now 1463500146
 ? a studio/film {"path":"art/hero.psd","ref":{"name":"refs/heads/dev"}}

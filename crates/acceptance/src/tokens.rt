@@ -40,6 +40,15 @@ but in no other repository
 $ session --db @/db --policy @/policy --now 1463500146
 ? a studio/game {"path":"art/hero.psd"}
 : 404 {"message":"A4: no such repository"}
+nor in one that the policy has no longer, nor with a right that it gives no longer
+$ session --db @/db --policy @/policy --now 1463500146
+* studio/film => studio/game
+? a studio/film {"path":"art/ice.psd"}
+: 404 {"message":"R1: no such repository"}
+$ session --db @/db --policy @/policy --now 1463500146
+* "list", "lock" => "list"
+? a studio/film {"path":"art/ice.psd"}
+: 403 {"message":"P0: no policy row allows lock"}
 "#;
 
 #[test]
