@@ -1,164 +1,235 @@
-//! Words, values and databases that the program refuses, and its help.
+//! Words, values and databases that the program refuses, in their order, and its help.
 
-use crate::cases::FIRST;
-use crate::program::{Ran, clear, run, session, status_over};
-use sqlite::{Connection, Error};
-use std::alloc::AllocError;
-use std::io::ErrorKind;
+use crate::program::{prepare, remove, run, write};
+use crate::transcript::{POLICY, perform, play};
+use std::fs;
 use std::rt::HostRuntime;
 use std::test::Fail;
-use std::{fs, io};
 
-const MISSING_NOW: &str = "\
-error: the following required arguments were not provided:
-  --now <N>
-
-Usage: custody session --db <FILE> --now <N>
-
-For more information, try '--help'.
-";
-
-const UNKNOWN_COMMAND: &str = "\
-error: unrecognized subcommand 'lock'
-
-Usage: custody <COMMAND>
-
-For more information, try '--help'.
-";
-
-const UNKNOWN_OPTION: &str = "\
-error: unexpected argument '--policy' found
-
-Usage: custody session --db <FILE> --now <N>
-
-For more information, try '--help'.
-";
+/// Words that are no command, and values out of range. No database is made by them.
+const WORDS: &str = r#"
+$ lock
+! error: unrecognized subcommand 'lock'
+!
+! Usage: custody <COMMAND>
+!
+! For more information, try '--help'.
+= 2
+$ session --db @/db
+! error: the following required arguments were not provided:
+!   --policy <FILE>
+!
+! Usage: custody session --db <FILE> --policy <FILE>
+!
+! For more information, try '--help'.
+= 2
+- db
+$ session --db @/db --policy @/policy --colour red
+! error: unexpected argument '--colour' found
+!
+! Usage: custody session --db <FILE> --policy <FILE>
+!
+! For more information, try '--help'.
+= 2
+- db
+a moment is 1 to 18 digits in range
+$ session --db @/db --policy @/policy --now ''
+! custody: bad value for --now
+= 2
+- db
+$ session --db @/db --policy @/policy --now x
+! custody: bad value for --now
+= 2
+- db
+$ session --db @/db --policy @/policy --now +5
+! custody: bad value for --now
+= 2
+- db
+$ session --db @/db --policy @/policy --now ~5
+! custody: bad value for --now
+= 2
+- db
+$ session --db @/db --policy @/policy --now 5s
+! custody: bad value for --now
+= 2
+- db
+$ session --db @/db --policy @/policy --now 253402300800
+! custody: bad value for --now
+= 2
+- db
+$ session --db @/db --policy @/policy --now 999999999999999999
+! custody: bad value for --now
+= 2
+- db
+$ session --db @/db --policy @/policy --now 0000000000000000005
+! custody: bad value for --now
+= 2
+- db
+$ prune --db @/db --now x
+! custody: bad value for --now
+= 2
+- db
+$ session --db @/db --policy @/policy --now 0
+$ session --db @/db --policy @/policy --now 253402300799
+$ session --db @/db --policy @/policy --now 000000000000000005
+"#;
 
 #[test]
-fn words_that_are_no_command_are_refused(rt: HostRuntime) -> Result<(), Fail> {
-    let cases: [(&[&str], &str); 3] = [
-        (&["session", "--db", "words.db"], MISSING_NOW),
-        (&["lock"], UNKNOWN_COMMAND),
-        (&["session", "--policy", "p.toml"], UNKNOWN_OPTION),
-    ];
-    for (words, text) in cases {
-        let ran = run(&rt, words, "")?;
-        assert!(rt; ran.is(2, "", text), "{text}");
-    }
+fn words_and_values_are_refused(rt: HostRuntime) -> Result<(), Fail> {
+    assert_eq!(rt; perform(&rt, "words", POLICY, WORDS)?.as_str(), "");
     Ok(())
 }
 
-fn with_now(rt: &HostRuntime, now: &str) -> Result<Ran, AllocError> {
-    run(rt, &["session", "--db", "value.db", "--now", now], "")
-}
+/// Commands that have two faults, next to each other in the order of docs/COMMANDS.md: the first
+/// one is told.
+const FAULTS: &str = r#"
+the words before the user
+$ authenticate --db @/db --policy @/policy --user Ann --now 5 --random @/a studio/film push
+! error: invalid value 'push' for '<OPERATION>'
+!   [possible values: download, upload]
+!
+! For more information, try '--help'.
+= 2
+the user before the moment
+$ authenticate --db @/db --policy @/policy --user Ann --now x --random @/a studio/film upload
+! custody: bad value for --user
+= 2
+the moment before the policy
+$ authenticate --db @/db --policy @/nowhere --user ann --now x --random @/a studio/film upload
+! custody: bad value for --now
+= 2
+$ session --db @/db --policy @/nowhere --now x
+! custody: bad value for --now
+= 2
+the policy before R1
+$ authenticate --db @/db --policy @/nowhere --user ann --now 5 --random @/a studio/other upload
+! custody: policy not read
+= 1
+R1 before the random bytes
+$ authenticate --db @/db --policy @/policy --user ann --now 5 --random @/nowhere studio/other upload
+! custody: R1: no such repository
+= 1
+the random bytes before the database
+$ authenticate --db @ --policy @/policy --user ann --now 5 --random @/nowhere studio/film upload
+! custody: random bytes not read
+= 1
+the policy before the database
+$ session --db @ --policy @/nowhere --now 5
+! custody: policy not read
+= 1
+the moment before the database
+$ prune --db @ --now x
+! custody: bad value for --now
+= 2
+the database before K2
+$ authenticate --db @ --policy @/policy --user ann --now 253402300799 --random @/a studio/film upload
+! custody: store G2
+= 1
+- db
+K1 before K2
++ a ann studio/film
+$ authenticate --db @/db --policy @/policy --user bob --now 253402300799 --random @/a studio/film upload
+! custody: K1: token already issued
+= 1
+"#;
 
 #[test]
-fn a_moment_is_1_to_18_digits_in_range(rt: HostRuntime) -> Result<(), Fail> {
-    for now in [
-        "",
-        "x",
-        "+5",
-        " 5",
-        "5s",
-        "253402300800",
-        "999999999999999999",
-        "0000000000000000005",
-    ] {
-        let ran = with_now(&rt, now)?;
-        assert!(rt; ran.is(2, "", "custody: bad value for --now\n"), "{now:?}");
-        assert!(rt; fs::read(&rt, "value.db").is_err(), "{now:?}");
-    }
-    for now in ["0", "253402300799", "000000000000000005"] {
-        clear(&rt, "value.db")?;
-        assert!(rt; with_now(&rt, now)?.is(0, "", ""), "{now:?}");
-    }
-    clear(&rt, "value.db")
+fn the_first_fault_is_told(rt: HostRuntime) -> Result<(), Fail> {
+    assert_eq!(rt; perform(&rt, "faults", POLICY, FAULTS)?.as_str(), "");
+    Ok(())
 }
 
+/// Databases that cannot be opened.
+const CLOSED: &str = r#"
+$ session --db @/nowhere/db --policy @/policy --now 5
+! custody: store G2
+= 1
+- nowhere
+$ session --db '' --policy @/policy --now 5
+! custody: store G2
+= 1
+$ session --db :memory: --policy @/policy --now 5
+! custody: store G2
+= 1
+$ session --db @ --policy @/policy --now 5
+! custody: store G2
+= 1
+$ prune --db @ --now 5
+! custody: store G2
+= 1
+a file that is no database
+% db 40 65
+$ session --db @/db --policy @/policy --now 5
+! custody: store G2
+= 1
+$ prune --db @/db --now 5
+! custody: store G2
+= 1
+"#;
+
+/// A database of another version.
+const OTHER: &str = r#"
+$ session --db @/db --policy @/policy --now 5
+! custody: store G1
+= 1
+$ authenticate --db @/db --policy @/policy --user ann --now 5 --random @/a studio/film upload
+! custody: store G1
+= 1
+$ prune --db @/db --now 5
+! custody: store G1
+= 1
+"#;
+
+/// The file that `sqlite3` writes, with pages of 512 bytes, where `meta` is made with version 2:
+/// its pieces, each with the number of zeros behind it.
+const VERSION_2: [(&[u8], usize); 6] = [
+    (
+        b"SQLite format 3\x00\x02\x00\x01\x01\x00@  \x00\x00\x00\x02\x00\x00\x00\x02",
+        11,
+    ),
+    (b"\x01\x00\x00\x00\x04", 11),
+    (b"\x01", 35),
+    (b"\x02\x00.c\x01\x0d\x00\x00\x00\x01\x01x\x00\x01x", 266),
+    (
+        b"\x81\x05\x01\x07\x17\x15\x15\x01\x81mtablemetameta\x02CREATE TABLE meta (one INTEGER PRIMARY KEY CHECK (one = 1), version INTEGER NOT NULL CHECK (version = 2)) STRICT\x0d\x00\x00\x00\x01\x01\xfa\x00\x01\xfa",
+        496,
+    ),
+    (b"\x04\x01\x03\x00\x01\x02", 0),
+];
+
 #[test]
-fn words_that_could_not_be_had_are_told(rt: HostRuntime) -> Result<(), Fail> {
-    let cases = [
-        (
-            ErrorKind::InvalidData,
-            2,
-            "error: invalid UTF-8 was detected in one or more arguments\n",
-        ),
-        (ErrorKind::OutOfMemory, 1, "custody: no memory\n"),
-    ];
-    for (kind, status, line) in cases {
-        let mut errors = Vec::new(rt.alloc());
-        assert!(rt; cli::refuse_words(&io::Error::from(kind), &mut errors) == status);
-        assert!(rt; errors.as_slice() == line.as_bytes());
+fn another_database_is_left(rt: HostRuntime) -> Result<(), Fail> {
+    prepare(&rt, "closed", POLICY)?;
+    assert_eq!(rt; play(&rt, "closed", CLOSED)?.as_str(), "");
+    assert!(rt; fs::read(&rt, "closed/db")?.as_slice() == [65; 40].as_slice());
+    let mut file = Vec::new(rt.alloc());
+    for (piece, zeros) in VERSION_2 {
+        file.extend_from_slice(piece)?;
+        file.extend_from_slice(vec![in rt.alloc(); 0; zeros]?.as_slice())?;
     }
+    prepare(&rt, "closed", POLICY)?;
+    write(&rt, "closed", "db", file.as_slice())?;
+    assert_eq!(rt; play(&rt, "closed", OTHER)?.as_str(), "");
+    assert!(rt; fs::read(&rt, "closed/db")?.as_slice() == file.as_slice());
+    remove(&rt, "closed");
     Ok(())
 }
 
 #[test]
 fn help_is_printed(rt: HostRuntime) -> Result<(), Fail> {
-    for words in [["--help", "--help"], ["session", "--help"]] {
-        let ran = run(&rt, &words, "")?;
-        assert!(rt; ran.status == 0);
-        assert!(rt; ran.output.len() > 100);
-        assert!(rt; ran.errors.is_empty());
+    for line in [
+        "--help",
+        "session --help",
+        "authenticate --help",
+        "prune --help",
+    ] {
+        let ran = run(&rt, "help", line, "")?;
+        assert!(rt;
+            ran.status == 0 && ran.output.len() > 100 && ran.errors.is_empty(),
+            "{line}"
+        );
     }
-    let ran = run(&rt, &[], "")?;
-    assert!(rt; ran.status == 2);
-    assert!(rt; ran.output.is_empty());
-    assert!(rt; ran.errors.len() > 100);
-    Ok(())
-}
-
-#[test]
-fn help_that_cannot_be_written_is_told(rt: HostRuntime) -> Result<(), Fail> {
-    let mut input: &[u8] = &[];
-    let mut room = [0u8; 10];
-    let mut output = room.as_mut_slice();
-    let mut errors = Vec::new(rt.alloc());
-    let status = status_over(&rt, &["--help"], &mut input, &mut output, &mut errors)?;
-    assert!(rt; status == 1);
-    assert!(rt; errors.as_slice() == "custody: input or output\n".as_bytes());
-    Ok(())
-}
-
-/// Whether a session over the file ends with that line, and leaves the file as it is.
-fn is_refused(rt: &HostRuntime, db: &str, line: &str) -> Result<bool, Fail> {
-    let before = fs::read(rt, db)?;
-    let ran = session(rt, db, FIRST.message)?;
-    let after = fs::read(rt, db)?;
-    Ok(ran.is(1, "", line) && before.as_slice() == after.as_slice())
-}
-
-#[test]
-fn a_file_that_is_no_database_is_left(rt: HostRuntime) -> Result<(), Fail> {
-    fs::write(&rt, "text.db", "no database, but a text of some length")?;
-    assert!(rt; is_refused(&rt, "text.db", "custody: store G2\n")?);
-    clear(&rt, "text.db")
-}
-
-fn make_file(rt: &HostRuntime, db: &str, sql: &str) -> Result<(), Error> {
-    let mut conn = Connection::open(rt, db)?;
-    conn.execute_batch(sql)?;
-    conn.close()
-}
-
-#[test]
-fn a_database_of_another_version_is_left(rt: HostRuntime) -> Result<(), Fail> {
-    clear(&rt, "other.db")?;
-    make_file(
-        &rt,
-        "other.db",
-        "CREATE TABLE meta (one INTEGER PRIMARY KEY CHECK (one = 1), version INTEGER NOT NULL CHECK (version = 2)) STRICT; INSERT INTO meta VALUES (1, 2)",
-    )?;
-    assert!(rt; is_refused(&rt, "other.db", "custody: store G1\n")?);
-    clear(&rt, "other.db")
-}
-
-#[test]
-fn a_database_is_made_in_a_folder_that_is_there(rt: HostRuntime) -> Result<(), Fail> {
-    for db in ["nowhere/custody.db", "", ":memory:", "."] {
-        let ran = session(&rt, db, FIRST.message)?;
-        assert!(rt; ran.is(1, "", "custody: store G2\n"), "{db:?}");
-    }
-    assert!(rt; fs::metadata(&rt, "nowhere").is_err());
+    let ran = run(&rt, "help", "", "")?;
+    assert!(rt; ran.status == 2 && ran.output.is_empty() && ran.errors.len() > 100);
     Ok(())
 }

@@ -1,12 +1,21 @@
 //! Tests of the whole program, over its words and its streams, with what it has to print written
 //! out: each crate below is proved once for all of them.
+//!
+//! Most of them are transcripts, which one function plays, since each line of code in a test is
+//! proved and a line of a text is not.
 #![tactic(auto)]
 
 #[cfg(test)]
-mod cases;
-#[cfg(test)]
 mod commands;
+#[cfg(test)]
+mod policies;
 #[cfg(test)]
 mod program;
 #[cfg(test)]
 mod sessions;
+#[cfg(test)]
+mod streams;
+#[cfg(test)]
+mod tokens;
+#[cfg(test)]
+mod transcript;
