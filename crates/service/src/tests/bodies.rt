@@ -1,9 +1,7 @@
 //! Bodies that ask for a lock: of the right shape or not, in range or not.
 
 use super::harness::*;
-use std::alloc::Global;
 use std::process::Abort;
-use std::test::Fail;
 
 /// Whole bodies.
 const SHAPES: &[(&str, &str)] = &[
@@ -162,11 +160,10 @@ const BODIES: &[Bodies] = &[
 ];
 
 #[test]
-fn bodies_are_judged(rt: HostRuntime) -> Result<(), Fail> {
+fn bodies_are_judged(rt: HostRuntime) {
     for bodies in BODIES {
-        expect_bodies(&rt, rt.alloc(), bodies)?;
+        expect_bodies(&rt, bodies);
     }
-    Ok(())
 }
 
 /// Long bodies by their parts, each so many times, and how they are answered.
@@ -214,13 +211,12 @@ const LONG: &[(&[(&str, usize)], &str)] = &[
 ];
 
 #[test]
-fn long_bodies_are_judged(rt: HostRuntime) -> Result<(), Fail> {
+fn long_bodies_are_judged(rt: HostRuntime) {
     for (parts, want) in LONG {
-        let body = repeated(rt.alloc(), parts)?;
-        let text = asking(rt.alloc(), ANN, body.as_str())?;
-        expect(&rt, rt.alloc(), text.as_bytes(), want)?;
+        let body = repeated(&rt, parts);
+        let text = asking(&rt, ANN, body.as_str());
+        expect(&rt, text.as_bytes(), want);
     }
-    Ok(())
 }
 
 /// No UTF-8, or behind a byte order mark.
@@ -232,14 +228,14 @@ const NO_TEXT: &[&[u8]] = &[
 ];
 
 #[test]
-fn bodies_that_are_no_text_are_j1(rt: HostRuntime) -> Result<(), Fail> {
+fn bodies_that_are_no_text_are_j1(rt: HostRuntime) {
     for body in NO_TEXT {
-        let length = format!(in rt.alloc(); "Content-Length: {}", body.len())?;
-        let head = message(rt.alloc(), LOCKS, &[ANN, length.as_str()], "")?;
-        let bytes = joined(rt.alloc(), head.as_bytes(), body)?;
-        expect(&rt, rt.alloc(), &bytes, "J1")?;
+        let size = body.len();
+        let length = sure(&rt, format!(in rt.alloc(); "Content-Length: {size}"));
+        let head = message(&rt, LOCKS, &[ANN, length.as_str()], "");
+        let bytes = joined(&rt, head.as_bytes(), body);
+        expect(&rt, &bytes, "J1");
     }
-    Ok(())
 }
 
 /// Paths as a body has them between the quotes, as they are kept, and as a reply has them.
@@ -260,40 +256,29 @@ const KEPT: &[(&str, &str, &str)] = &[
 ];
 
 /// That a path is kept so.
-fn expect_kept(
-    rt: &impl Abort,
-    alloc: Global,
-    asked: &str,
-    path: &str,
-    shown: &str,
-) -> Result<(), Fail> {
-    let body = format!(in alloc; "{{\"path\":\"{asked}\"}}")?;
-    let text = asking(alloc, ANN, body.as_str())?;
-    let want = created(alloc, 1, "ann", shown)?;
-    let server = Server::new(alloc)?;
+fn expect_kept(rt: &impl Tester, asked: &str, path: &str, shown: &str) {
+    let body = filled(rt, r#"{"path":"@"}"#, asked);
+    let text = asking(rt, ANN, body.as_str());
+    let want = created(rt, 1, "ann", shown);
     for most in MOSTS {
-        let mut store = new_store(alloc)?;
-        let told = server.tell(alloc, &mut store, text.as_bytes(), *most)?;
+        let mut server = Server::new(rt);
+        let told = server.tell(rt, text.as_bytes(), *most);
         expect_told(rt, text.as_bytes(), &told, want.as_str(), served(1, false));
-        assert_eq!(rt; id_at(&mut store, "refs/heads/main", path)?, 1, "{path}");
+        assert_eq!(rt; server.id_at(rt, "refs/heads/main", path), 1, "{path}");
     }
-    Ok(())
 }
 
 #[test]
-fn paths_are_kept_as_they_are(rt: HostRuntime) -> Result<(), Fail> {
+fn paths_are_kept_as_they_are(rt: HostRuntime) {
     for (asked, path, shown) in KEPT {
-        expect_kept(&rt, rt.alloc(), asked, path, shown)?;
+        expect_kept(&rt, asked, path, shown);
     }
-    Ok(())
 }
 
 #[test]
-fn the_longest_paths_are_kept(rt: HostRuntime) -> Result<(), Fail> {
-    for (unit, times) in &[("a", 1_024), ("\u{e9}", 512)] {
-        let path = unit.repeat(rt.alloc(), *times)?;
-        let path = path.as_str();
-        expect_kept(&rt, rt.alloc(), path, path, path)?;
+fn the_longest_paths_are_kept(rt: HostRuntime) {
+    for part in &[("a", 1_024), ("\u{e9}", 512)] {
+        let path = repeated(&rt, &[*part]);
+        expect_kept(&rt, path.as_str(), path.as_str(), path.as_str());
     }
-    Ok(())
 }

@@ -1,9 +1,7 @@
 //! Who calls, and for which repository.
 
 use super::harness::*;
-use std::alloc::Global;
 use std::process::Abort;
-use std::test::Fail;
 use tables::{Alter, Store};
 
 /// Fields in which `@` is the token.
@@ -28,14 +26,13 @@ const BEARERS: &[(&str, &str)] = &[
 ];
 
 #[test]
-fn a_request_bears_a_token(rt: HostRuntime) -> Result<(), Fail> {
-    let token = "a".repeat(rt.alloc(), 64)?;
+fn a_request_bears_a_token(rt: HostRuntime) {
+    let token = repeated(&rt, &[("a", 64)]);
     for (field, want) in BEARERS {
-        let field = field.replace(rt.alloc(), "@", token.as_str())?;
-        let text = message(rt.alloc(), LOCKS, &[field.as_str(), LENGTH], HERO)?;
-        expect(&rt, rt.alloc(), text.as_bytes(), want)?;
+        let field = filled(&rt, field, token.as_str());
+        let text = message(&rt, LOCKS, &[field.as_str(), LENGTH], HERO);
+        expect(&rt, text.as_bytes(), want);
     }
-    Ok(())
 }
 
 /// Fields with no token, or with one that is not kept.
@@ -135,11 +132,10 @@ const CALLERS: &[Heads] = &[
 ];
 
 #[test]
-fn a_token_is_kept_and_for_one_repository(rt: HostRuntime) -> Result<(), Fail> {
+fn a_token_is_kept_and_for_one_repository(rt: HostRuntime) {
     for heads in CALLERS {
-        expect_heads(&rt, rt.alloc(), heads)?;
+        expect_heads(&rt, heads);
     }
-    Ok(())
 }
 
 /// Lines, bearers, lengths and bodies once the tokens have expired.
@@ -156,37 +152,27 @@ const TOO_LATE: &[(&str, &[&str], &str, &str)] = &[
 ];
 
 /// That the tokens are of no use at this second.
-fn expect_too_late<S: Alter>(
-    rt: &impl Abort,
-    alloc: Global,
-    server: &Server,
-    store: &mut Store<S>,
-    second: u64,
-) -> Result<(), Fail> {
+fn expect_too_late(rt: &impl Tester, server: &mut Server, second: u64) {
     for (line, fields, body, want) in TOO_LATE {
-        let text = message(alloc, line, fields, body)?;
-        let want = refusal(alloc, want, false)?;
+        let text = message(rt, line, fields, body);
+        let want = refusal(rt, want, false);
         for most in MOSTS {
-            let told = server.tell_at(alloc, store, second, text.as_bytes(), *most)?;
+            let told = server.tell_at(rt, second, text.as_bytes(), *most);
             expect_told(rt, text.as_bytes(), &told, want.as_str(), served(1, false));
         }
     }
-    Ok(())
 }
 
 #[test]
-fn a_token_is_good_before_its_expiry(rt: HostRuntime) -> Result<(), Fail> {
-    let server = Server::new(rt.alloc())?;
-    let mut store = new_store(rt.alloc())?;
+fn a_token_is_good_before_its_expiry(rt: HostRuntime) {
+    let mut server = Server::new(&rt);
     for second in &[EXPIRY, EXPIRY + 1, 253_402_300_799] {
-        expect_too_late(&rt, rt.alloc(), &server, &mut store, *second)?;
+        expect_too_late(&rt, &mut server, *second);
     }
-    assert_eq!(rt; made(&mut store)?, 0);
+    assert_eq!(rt; server.made(&rt), 0);
     // A second before, and at an earlier connection's moment, the same token is good.
     for (second, want) in &[(NOW, CREATED), (EXPIRY - 1, HELD)] {
-        let bytes = MESSAGE.as_bytes();
-        let told = server.tell_at(rt.alloc(), &mut store, *second, bytes, usize::MAX)?;
-        expect_told(&rt, bytes, &told, want, served(1, false));
+        let told = server.tell_at(&rt, *second, MESSAGE.as_bytes(), usize::MAX);
+        expect_told(&rt, MESSAGE.as_bytes(), &told, want, served(1, false));
     }
-    Ok(())
 }

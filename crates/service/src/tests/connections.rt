@@ -3,9 +3,7 @@
 use super::harness::*;
 use crate::{End, Served};
 use names::{FailAfter, SliceSource, VecSink};
-use std::alloc::Global;
 use std::process::Abort;
-use std::test::Fail;
 
 const CLOSE: &str = "Connection: close";
 
@@ -33,19 +31,12 @@ const CREATED_TREE: &str =
     "HTTP/1.1 201 Created\r\nContent-Type: application/vnd.git-lfs+json\r\nContent-Length: 99\r\n\r\n{\"lock\":{\"id\":\"2\",\"locked_at\":\"2016-05-17T15:49:06Z\",\"owner\":{\"name\":\"ann\"},\"path\":\"art/tree.psd\"}}";
 
 /// That the server tells this, closes, and does not look at what follows the message.
-fn expect_last(
-    rt: &impl Abort,
-    alloc: Global,
-    line: &str,
-    fields: &[&str],
-    want: &str,
-) -> Result<(), Fail> {
-    let text = message(alloc, line, fields, HERO)?;
+fn expect_last(rt: &impl Tester, line: &str, fields: &[&str], want: &str, locks: u32) {
+    let text = message(rt, line, fields, HERO);
     for behind in &["", MESSAGE, "\x00"] {
-        let bytes = joined(alloc, text.as_bytes(), behind.as_bytes())?;
-        expect_text(rt, alloc, &bytes, want, served(1, true))?;
+        let bytes = joined(rt, text.as_bytes(), behind.as_bytes());
+        expect_text(rt, &bytes, want, served(1, true), locks);
     }
-    Ok(())
 }
 
 /// Request lines and fields by which a message asks to be the last.
@@ -62,11 +53,10 @@ const LASTS: &[(&str, &str)] = &[
 ];
 
 #[test]
-fn a_message_may_ask_to_be_the_last(rt: HostRuntime) -> Result<(), Fail> {
+fn a_message_may_ask_to_be_the_last(rt: HostRuntime) {
     for (line, field) in LASTS {
-        expect_last(&rt, rt.alloc(), line, &[ANN, LENGTH, field], CREATED_LAST)?;
+        expect_last(&rt, line, &[ANN, LENGTH, field], CREATED_LAST, 1);
     }
-    Ok(())
 }
 
 /// Other words do not close.
@@ -88,8 +78,8 @@ const OTHER_WORDS: Heads = Heads {
 };
 
 #[test]
-fn other_words_do_not_close(rt: HostRuntime) -> Result<(), Fail> {
-    expect_heads(&rt, rt.alloc(), &OTHER_WORDS)
+fn other_words_do_not_close(rt: HostRuntime) {
+    expect_heads(&rt, &OTHER_WORDS);
 }
 
 /// Bearers and lengths, and the rule that refuses a message with them which asks to be the last.
@@ -102,16 +92,16 @@ const REFUSALS: &[(&str, &str, &str)] = &[
 ];
 
 #[test]
-fn a_refusal_closes_where_its_message_asks(rt: HostRuntime) -> Result<(), Fail> {
+fn a_refusal_closes_where_its_message_asks(rt: HostRuntime) {
     for (bearer, length, want) in REFUSALS {
-        let text = refusal(rt.alloc(), want, true)?;
+        let text = refusal(&rt, want, true);
         let fields = &[CLOSE, length, bearer];
-        expect_last(&rt, rt.alloc(), LOCKS, fields, text.as_str())?;
+        expect_last(&rt, LOCKS, fields, text.as_str(), 0);
     }
     // The lines of a refusal that closes, written out.
     let text =
         "HTTP/1.1 401 Unauthorized\r\nContent-Type: application/vnd.git-lfs+json\r\nContent-Length: 42\r\nLFS-Authenticate: Bearer realm=\"Git LFS\"\r\nConnection: close\r\n\r\n{\"message\":\"A1: a bearer token is needed\"}";
-    expect_last(&rt, rt.alloc(), LOCKS, &[LENGTH, CLOSE], text)
+    expect_last(&rt, LOCKS, &[LENGTH, CLOSE], text, 0);
 }
 
 /// The length of the worked lock's message, which stands in the place of a body.
@@ -134,12 +124,11 @@ const BODIES: &[(&str, &[&str], &str)] = &[
 ];
 
 #[test]
-fn a_body_is_never_taken_for_a_message(rt: HostRuntime) -> Result<(), Fail> {
+fn a_body_is_never_taken_for_a_message(rt: HostRuntime) {
     for (line, fields, want) in BODIES {
-        let text = message(rt.alloc(), line, fields, MESSAGE)?;
-        expect(&rt, rt.alloc(), text.as_bytes(), want)?;
+        let text = message(&rt, line, fields, MESSAGE);
+        expect(&rt, text.as_bytes(), want);
     }
-    Ok(())
 }
 
 /// What follows the worked lock, each so many times, and what is told of it.
@@ -152,31 +141,28 @@ const BEHIND: &[(&[(&str, usize)], &[&str], bool)] = &[
 ];
 
 #[test]
-fn what_follows_a_message_is_the_next(rt: HostRuntime) -> Result<(), Fail> {
+fn what_follows_a_message_is_the_next(rt: HostRuntime) {
     for (behind, replies, closes) in BEHIND {
-        let behind = repeated(rt.alloc(), behind)?;
-        let bytes = [MESSAGE, behind.as_str()].concat(rt.alloc())?;
-        let text = replies.concat(rt.alloc())?;
+        let behind = repeated(&rt, behind);
+        let bytes = joined(&rt, MESSAGE.as_bytes(), behind.as_bytes());
+        let text = texts(&rt, replies);
         let served = served(replies.len(), *closes);
-        expect_text(&rt, rt.alloc(), bytes.as_bytes(), text.as_str(), served)?;
+        expect_text(&rt, &bytes, text.as_str(), served, 1);
     }
-    Ok(())
 }
 
 #[test]
-fn a_second_message_that_is_cut_short_is_not_answered(rt: HostRuntime) -> Result<(), Fail> {
-    let server = Server::new(rt.alloc())?;
-    let mut store = new_store(rt.alloc())?;
-    let told = server.tell(rt.alloc(), &mut store, MESSAGE.as_bytes(), usize::MAX)?;
-    expect_told(&rt, b"", &told, CREATED, served(1, false));
+fn a_second_message_that_is_cut_short_is_not_answered(rt: HostRuntime) {
+    let mut server = Server::new(&rt);
+    let told = server.tell(&rt, MESSAGE.as_bytes(), usize::MAX);
+    expect_told(&rt, MESSAGE.as_bytes(), &told, CREATED, served(1, false));
     for size in 0..TREE.len() {
         let (front, _) = TREE.as_bytes().split_at(size);
-        let bytes = joined(rt.alloc(), MESSAGE.as_bytes(), front)?;
-        let told = server.tell(rt.alloc(), &mut store, &bytes, 7)?;
+        let bytes = joined(&rt, MESSAGE.as_bytes(), front);
+        let told = server.tell(&rt, &bytes, 7);
         expect_told(&rt, &bytes, &told, HELD, served(1, false));
     }
-    assert_eq!(rt; made(&mut store)?, 1);
-    Ok(())
+    assert_eq!(rt; server.made(&rt), 1);
 }
 
 /// Messages, how many bytes a read gives at most and how many reads are good; then the replies, the
@@ -202,22 +188,34 @@ const FAILING_SOURCES: &[(&[&str], usize, u64, &[&str], End, u32)] = &[
     (&[CHUNKED], usize::MAX, 1, &[REFUSED], End::Closed, 0),
 ];
 
+/// What the server tells where only so many reads are good.
+fn tell_from_failing(
+    rt: &impl Tester,
+    server: &mut Server,
+    bytes: &[u8],
+    most: usize,
+    reads: u64,
+) -> Told {
+    let mut source = FailAfter::new(SliceSource::new(bytes, most), reads);
+    let mut sink = VecSink::new(rt.alloc(), usize::MAX);
+    let served = server.serve(rt, &mut source, &mut sink);
+    let text = sure(rt, str::from_utf8(sink.taken()));
+    let text = sure(rt, text.to_owned(rt.alloc()));
+    Told { text, served }
+}
+
 #[test]
-fn a_source_that_fails_ends_the_connection(rt: HostRuntime) -> Result<(), Fail> {
-    let server = Server::new(rt.alloc())?;
+fn a_source_that_fails_ends_the_connection(rt: HostRuntime) {
     for &(messages, most, reads, replies, end, locks) in FAILING_SOURCES {
-        let bytes = messages.concat(rt.alloc())?;
-        let text = replies.concat(rt.alloc())?;
-        let mut source = FailAfter::new(SliceSource::new(bytes.as_bytes(), most), reads);
-        let mut sink = VecSink::new(rt.alloc(), usize::MAX);
-        let mut store = new_store(rt.alloc())?;
-        let told = server.serve(rt.alloc(), &mut store, NOW, &mut source, &mut sink)?;
+        let bytes = texts(&rt, messages);
+        let text = texts(&rt, replies);
+        let mut server = Server::new(&rt);
+        let told = tell_from_failing(&rt, &mut server, bytes.as_bytes(), most, reads);
         let answered = replies.len();
-        assert_eq!(rt; sink.taken(), text.as_bytes(), "{reads} reads");
-        assert_eq!(rt; told, Served { answered, end }, "{reads} reads");
-        assert_eq!(rt; made(&mut store)?, locks, "{reads} reads");
+        let served = Served { answered, end };
+        expect_told(&rt, bytes.as_bytes(), &told, text.as_str(), served);
+        assert_eq!(rt; server.made(&rt), locks, "{reads} reads");
     }
-    Ok(())
 }
 
 /// Messages, how many writes of a byte are good, and the replies that would be told; then how many
@@ -312,30 +310,33 @@ const FAILING_SINKS: &[(&[&str], usize, &[&str], usize, End, u32)] = &[
     (&[CHUNKED], 1_000, &[REFUSED], 1, End::Closed, 0),
 ];
 
+/// What the server tells where each write takes a byte, and only so many are good.
+fn tell_to_failing(rt: &impl Tester, server: &mut Server, bytes: &[u8], writes: u64) -> Told {
+    let mut source = SliceSource::new(bytes, usize::MAX);
+    let mut sink = FailAfter::new(VecSink::new(rt.alloc(), 1), writes);
+    let served = server.serve(rt, &mut source, &mut sink);
+    let taken = sink.into_inner();
+    let text = sure(rt, str::from_utf8(taken.taken()));
+    let text = sure(rt, text.to_owned(rt.alloc()));
+    Told { text, served }
+}
+
 #[test]
-fn a_sink_that_fails_leaves_the_lock(rt: HostRuntime) -> Result<(), Fail> {
-    let server = Server::new(rt.alloc())?;
+fn a_sink_that_fails_leaves_the_lock(rt: HostRuntime) {
     for &(messages, writes, replies, answered, end, locks) in FAILING_SINKS {
-        let bytes = messages.concat(rt.alloc())?;
-        let text = replies.concat(rt.alloc())?;
-        let mut source = SliceSource::new(bytes.as_bytes(), usize::MAX);
-        let mut sink = FailAfter::new(VecSink::new(rt.alloc(), 1), writes as u64);
-        let mut store = new_store(rt.alloc())?;
-        let told = server.serve(rt.alloc(), &mut store, NOW, &mut source, &mut sink)?;
-        assert_eq!(rt; told, Served { answered, end }, "{writes} writes");
-        let taken = sink.into_inner();
-        assert_eq!(rt;
-            taken.taken().len(),
-            writes.min(text.len()),
-            "{writes} writes"
-        );
+        let bytes = texts(&rt, messages);
+        let text = texts(&rt, replies);
+        let mut server = Server::new(&rt);
+        let told = tell_to_failing(&rt, &mut server, bytes.as_bytes(), writes as u64);
+        assert_eq!(rt; told.served, Served { answered, end }, "{writes} writes");
+        let size = writes.min(text.len());
+        assert_eq!(rt; told.text.len(), size, "{writes} writes");
         assert!(rt;
-            text.as_bytes().starts_with(taken.taken()),
+            text.as_str().starts_with(told.text.as_str()),
             "{writes} writes"
         );
-        let id = id_at(&mut store, "refs/heads/main", "art/hero.psd")?;
+        let id = server.id_at(&rt, "refs/heads/main", "art/hero.psd");
         assert_eq!(rt; id, locks.min(1), "{writes} writes");
-        assert_eq!(rt; made(&mut store)?, locks, "{writes} writes");
+        assert_eq!(rt; server.made(&rt), locks, "{writes} writes");
     }
-    Ok(())
 }

@@ -2,7 +2,6 @@
 //! first of these rules is told, and nothing behind the head is looked at.
 
 use super::harness::*;
-use std::test::Fail;
 
 const TWO_TYPES: &str = "Accept: */*\r\nAccept: */*";
 
@@ -75,12 +74,11 @@ const FRAMING: &[(&str, &[&str], &str)] = &[
 ];
 
 #[test]
-fn framing_is_judged_first(rt: HostRuntime) -> Result<(), Fail> {
+fn framing_is_judged_first(rt: HostRuntime) {
     for (line, fields, want) in FRAMING {
-        let text = message(rt.alloc(), line, fields, HERO)?;
-        expect(&rt, rt.alloc(), text.as_bytes(), want)?;
+        let text = message(&rt, line, fields, HERO);
+        expect(&rt, text.as_bytes(), want);
     }
-    Ok(())
 }
 
 /// Values of `Content-Length`.
@@ -203,11 +201,10 @@ const HEADS: &[Heads] = &[
 ];
 
 #[test]
-fn heads_are_judged(rt: HostRuntime) -> Result<(), Fail> {
+fn heads_are_judged(rt: HostRuntime) {
     for heads in HEADS {
-        expect_heads(&rt, rt.alloc(), heads)?;
+        expect_heads(&rt, heads);
     }
-    Ok(())
 }
 
 /// Methods that locks do not serve, each with a field.
@@ -233,15 +230,14 @@ const METHODS: &[(&str, &str)] = &[
 ];
 
 #[test]
-fn methods_that_locks_do_not_serve_are_h7(rt: HostRuntime) -> Result<(), Fail> {
+fn methods_that_locks_do_not_serve_are_h7(rt: HostRuntime) {
     for (method, field) in METHODS {
-        let line = format!(in rt.alloc(); "{method} /studio/film.git/info/lfs/locks HTTP/1.1")?;
+        let line = filled(&rt, "@ /studio/film.git/info/lfs/locks HTTP/1.1", method);
         let line = line.as_str();
         // With a token or without.
-        let known = message(rt.alloc(), line, &[ANN, field], HERO)?;
-        expect(&rt, rt.alloc(), known.as_bytes(), "H7")?;
-        let unknown = message(rt.alloc(), line, &[field], HERO)?;
-        expect(&rt, rt.alloc(), unknown.as_bytes(), "H7")?;
+        let known = message(&rt, line, &[ANN, field], HERO);
+        expect(&rt, known.as_bytes(), "H7");
+        let unknown = message(&rt, line, &[field], HERO);
+        expect(&rt, unknown.as_bytes(), "H7");
     }
-    Ok(())
 }

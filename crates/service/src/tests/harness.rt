@@ -5,10 +5,9 @@ use names::{Moment, Sink, SliceSource, Source, VecSink};
 use policy::Policy;
 use sha2::{Digest, Sha256};
 use sqlite::MemStore;
-use std::alloc::{AllocError, Global};
+use std::alloc::{Alloc, Global};
 use std::process::Abort;
-use std::test::Fail;
-use tables::{Alter, NewToken, Operation, Store, StoreFault};
+use tables::{Alter, NewToken, Operation, Store};
 
 /// The moment of a connection, where nothing else is said.
 pub(super) const NOW: u64 = 1_463_500_146;
@@ -102,12 +101,10 @@ const RULES: &[(&str, &str, &str)] = &[
     ("P0", "403 Forbidden", "no policy row allows lock"),
 ];
 
-/// A server, but for its store.
-#[derive(Drop)]
-pub(super) struct Server {
-    pub policy: Policy,
-    pub routes: Routes,
-}
+/// What a test has: memory, and a stop.
+pub(super) trait Tester: Abort + Alloc<A = Global> {}
+
+impl<R: Abort + Alloc<A = Global>> Tester for R {}
 
 /// What a connection was told, and how it ended.
 #[derive(Drop)]
@@ -124,179 +121,218 @@ const TOKENS: &[(u8, &str, &str, Operation)] = &[
     (b'd', "ann", "studio/game", Operation::Upload),
 ];
 
+/// The value of an answer that has to be `Ok`.
+pub(super) fn sure<T, E>(rt: &impl Tester, answer: Result<T, E>) -> T {
+    match answer {
+        Ok(value) => value,
+        Err(_) => panic!(rt; "an answer is an error"),
+    }
+}
+
 /// Keeps the tokens.
-pub(super) fn keep_tokens<S: Alter>(store: &mut Store<S>) -> Result<(), StoreFault> {
+pub(super) fn keep_tokens<S: Alter>(rt: &impl Tester, store: &mut Store<S>) {
     for &(byte, user, repo, operation) in TOKENS {
-        store.add_token(&NewToken {
+        let kept = store.add_token(&NewToken {
             digest: &Sha256::digest(&[byte; 64]),
             user,
             repo,
             operation,
             expires: EXPIRY as i64,
-        })?;
+        });
+        sure(rt, kept);
     }
-    Ok(())
 }
 
-/// A new store with the tokens, in memory.
-pub(super) fn new_store(alloc: Global) -> Result<Store<MemStore>, StoreFault> {
-    let mut store = Store::open_memory(alloc)?;
-    store.create_or_check(alloc)?;
-    keep_tokens(&mut store)?;
-    Ok(store)
+/// The policy with these rows.
+pub(super) fn policy_of(rt: &impl Tester, rows: &str) -> Policy {
+    let text = sure(rt, format!(in rt.alloc(); "{TOP}{rows}"));
+    sure(rt, Policy::read(rt.alloc(), text.as_str()))
+}
+
+/// What a client is told that sends these bytes at this second, of which each read gives at most so
+/// many.
+pub(super) fn told_by<S: Alter>(
+    rt: &impl Tester,
+    store: &mut Store<S>,
+    policy: &Policy,
+    second: u64,
+    bytes: &[u8],
+    most: usize,
+) -> Told {
+    let routes = sure(rt, Routes::new(rt.alloc()));
+    let now = sure(rt, Moment::read(second).ok_or(()));
+    let mut source = SliceSource::new(bytes, most);
+    let mut sink = VecSink::new(rt.alloc(), most);
+    let alloc = rt.alloc();
+    let served = serve(alloc, store, policy, &routes, now, &mut source, &mut sink);
+    let text = sure(rt, str::from_utf8(sink.taken()));
+    let text = sure(rt, text.to_owned(alloc));
+    Told { text, served }
+}
+
+/// A server with the tokens.
+#[derive(Drop)]
+pub(super) struct Server {
+    pub store: Store<MemStore>,
+    pub policy: Policy,
 }
 
 impl Server {
-    /// A server whose policy has these rows.
-    pub fn with_rows(alloc: Global, rows: &str) -> Result<Server, Fail> {
-        let text = format!(in alloc; "{TOP}{rows}")?;
-        Ok(Server {
-            policy: Policy::read(alloc, text.as_str())?,
-            routes: Routes::new(alloc)?,
-        })
+    /// A server whose store has no tables.
+    pub fn without_tables(rt: &impl Tester) -> Server {
+        Server {
+            store: sure(rt, Store::open_memory(rt.alloc())),
+            policy: policy_of(rt, ROW),
+        }
     }
 
-    pub fn new(alloc: Global) -> Result<Server, Fail> {
-        Server::with_rows(alloc, ROW)
+    pub fn new(rt: &impl Tester) -> Server {
+        let mut server = Server::without_tables(rt);
+        sure(rt, server.store.create_or_check(rt.alloc()));
+        keep_tokens(rt, &mut server.store);
+        server
     }
 
-    /// Serves a connection that came at this second.
-    pub fn serve<S: Alter, R: Source, K: Sink>(
-        &self,
-        alloc: Global,
-        store: &mut Store<S>,
-        second: u64,
+    /// Gives the server the policy with these rows.
+    pub fn govern(&mut self, rt: &impl Tester, rows: &str) {
+        self.policy = policy_of(rt, rows);
+    }
+
+    /// Serves a connection.
+    pub fn serve<R: Source, K: Sink>(
+        &mut self,
+        rt: &impl Tester,
         source: &mut R,
         sink: &mut K,
-    ) -> Result<Served, Fail> {
-        let now = Moment::read(second).ok_or("no moment")?;
-        Ok(serve(alloc, store, &self.policy, &self.routes, now, source, sink))
+    ) -> Served {
+        let routes = sure(rt, Routes::new(rt.alloc()));
+        let now = sure(rt, Moment::read(NOW).ok_or(()));
+        serve(
+            rt.alloc(),
+            &mut self.store,
+            &self.policy,
+            &routes,
+            now,
+            source,
+            sink,
+        )
     }
 
     /// What a client is told that sends these bytes, of which each read gives at most so many.
-    pub fn tell<S: Alter>(
-        &self,
-        alloc: Global,
-        store: &mut Store<S>,
-        bytes: &[u8],
-        most: usize,
-    ) -> Result<Told, Fail> {
-        self.tell_at(alloc, store, NOW, bytes, most)
+    pub fn tell(&mut self, rt: &impl Tester, bytes: &[u8], most: usize) -> Told {
+        self.tell_at(rt, NOW, bytes, most)
     }
 
-    /// The same at another second.
-    pub fn tell_at<S: Alter>(
-        &self,
-        alloc: Global,
-        store: &mut Store<S>,
-        second: u64,
-        bytes: &[u8],
-        most: usize,
-    ) -> Result<Told, Fail> {
-        let mut source = SliceSource::new(bytes, most);
-        let mut sink = VecSink::new(alloc, most);
-        let served = self.serve(alloc, store, second, &mut source, &mut sink)?;
-        let text = str::from_utf8(sink.taken())?.to_owned(alloc)?;
-        Ok(Told { text, served })
+    /// The same at this second.
+    pub fn tell_at(&mut self, rt: &impl Tester, second: u64, bytes: &[u8], most: usize) -> Told {
+        told_by(rt, &mut self.store, &self.policy, second, bytes, most)
     }
-}
 
-/// The id of the lock that stands there; 0 where none does.
-pub(super) fn id_at<S: Alter>(
-    store: &mut Store<S>,
-    ref_name: &str,
-    path: &str,
-) -> Result<u32, StoreFault> {
-    let row = store.lock_at("studio/film", ref_name, path)?;
-    Ok(row.map_or(0, |lock| lock.id))
-}
+    /// The id of the lock that stands there; 0 where none does.
+    pub fn id_at(&mut self, rt: &impl Tester, ref_name: &str, path: &str) -> u32 {
+        let row = sure(rt, self.store.lock_at("studio/film", ref_name, path));
+        row.map_or(0, |lock| lock.id)
+    }
 
-/// How many locks were ever made.
-pub(super) fn made<S: Alter>(store: &mut Store<S>) -> Result<u32, StoreFault> {
-    store.made("studio/film")
+    /// How many locks were ever made.
+    pub fn made(&mut self, rt: &impl Tester) -> u32 {
+        sure(rt, self.store.made("studio/film"))
+    }
 }
 
 /// A message of a request line, fields and a body.
-pub(super) fn message(
-    alloc: Global,
-    line: &str,
-    fields: &[&str],
-    body: &str,
-) -> Result<String, AllocError> {
-    let mut text = format!(in alloc; "{line}\r\n")?;
+pub(super) fn message(rt: &impl Tester, line: &str, fields: &[&str], body: &str) -> String {
+    let mut text = sure(rt, format!(in rt.alloc(); "{line}\r\n"));
     for field in fields {
-        text.push_str(field)?;
-        text.push_str("\r\n")?;
+        sure(rt, text.push_str(field));
+        sure(rt, text.push_str("\r\n"));
     }
-    text.push_str("\r\n")?;
-    text.push_str(body)?;
-    Ok(text)
+    sure(rt, text.push_str("\r\n"));
+    sure(rt, text.push_str(body));
+    text
 }
 
 /// A message that asks a lock by this body.
-pub(super) fn asking(alloc: Global, bearer: &str, body: &str) -> Result<String, AllocError> {
+pub(super) fn asking(rt: &impl Tester, bearer: &str, body: &str) -> String {
     let size = body.len();
-    format!(in alloc; "{LOCKS}\r\n{bearer}\r\nContent-Length: {size}\r\n\r\n{body}")
+    sure(
+        rt,
+        format!(in rt.alloc(); "{LOCKS}\r\n{bearer}\r\nContent-Length: {size}\r\n\r\n{body}"),
+    )
 }
 
 /// The two, one behind the other.
-pub(super) fn joined(alloc: Global, first: &[u8], second: &[u8]) -> Result<Vec<u8>, AllocError> {
-    let mut bytes = first.to_vec(alloc)?;
-    bytes.extend_from_slice(second)?;
-    Ok(bytes)
+pub(super) fn joined(rt: &impl Tester, first: &[u8], second: &[u8]) -> Vec<u8> {
+    let mut bytes = sure(rt, first.to_vec(rt.alloc()));
+    sure(rt, bytes.extend_from_slice(second));
+    bytes
+}
+
+/// The texts behind one another.
+pub(super) fn texts(rt: &impl Tester, parts: &[&str]) -> String {
+    sure(rt, parts.concat(rt.alloc()))
 }
 
 /// The texts behind one another, each so many times.
-pub(super) fn repeated(alloc: Global, parts: &[(&str, usize)]) -> Result<String, AllocError> {
-    let mut text = String::new(alloc);
+pub(super) fn repeated(rt: &impl Tester, parts: &[(&str, usize)]) -> String {
+    let mut text = String::new(rt.alloc());
     for (part, times) in parts {
-        text.push_str(part.repeat(alloc, *times)?.as_str())?;
+        let part = sure(rt, part.repeat(rt.alloc(), *times));
+        sure(rt, text.push_str(part.as_str()));
     }
-    Ok(text)
+    text
+}
+
+/// The text with this in the place of `@`.
+pub(super) fn filled(rt: &impl Tester, text: &str, value: &str) -> String {
+    sure(rt, text.replace(rt.alloc(), "@", value))
 }
 
 /// A JSON reply, with these lines behind its length.
-pub(super) fn reply(
-    alloc: Global,
-    status: &str,
-    lines: &str,
-    body: &str,
-) -> Result<String, AllocError> {
-    format!(in alloc;
-        "HTTP/1.1 {status}\r\nContent-Type: application/vnd.git-lfs+json\r\nContent-Length: {}\r\n{lines}\r\n{body}",
-        body.len()
+pub(super) fn reply(rt: &impl Tester, status: &str, lines: &str, body: &str) -> String {
+    let size = body.len();
+    sure(
+        rt,
+        format!(in rt.alloc();
+            "HTTP/1.1 {status}\r\nContent-Type: application/vnd.git-lfs+json\r\nContent-Length: {size}\r\n{lines}\r\n{body}"
+        ),
     )
 }
 
 /// The reply to a lock that is made; `path` is as JSON has it between the quotes.
-pub(super) fn created(
-    alloc: Global,
-    id: u32,
-    owner: &str,
-    path: &str,
-) -> Result<String, AllocError> {
-    let body = format!(in alloc;
-        "{{\"lock\":{{\"id\":\"{id}\",\"locked_at\":\"2016-05-17T15:49:06Z\",\"owner\":{{\"name\":\"{owner}\"}},\"path\":\"{path}\"}}}}"
-    )?;
-    reply(alloc, "201 Created", "", body.as_str())
+pub(super) fn created(rt: &impl Tester, id: u32, owner: &str, path: &str) -> String {
+    let body = sure(
+        rt,
+        format!(in rt.alloc();
+            "{{\"lock\":{{\"id\":\"{id}\",\"locked_at\":\"2016-05-17T15:49:06Z\",\"owner\":{{\"name\":\"{owner}\"}},\"path\":\"{path}\"}}}}"
+        ),
+    );
+    reply(rt, "201 Created", "", body.as_str())
+}
+
+/// The lines of a refusal behind its length.
+fn refusal_lines(code: &str, status: &str, closes: bool) -> &'static str {
+    match (code, closes) {
+        ("H7", _) => "Allow: POST\r\nConnection: close\r\n",
+        _ if status.starts_with("401") && closes => {
+            "LFS-Authenticate: Bearer realm=\"Git LFS\"\r\nConnection: close\r\n"
+        }
+        _ if status.starts_with("401") => "LFS-Authenticate: Bearer realm=\"Git LFS\"\r\n",
+        (_, true) => "Connection: close\r\n",
+        (_, false) => "",
+    }
 }
 
 /// The reply of a rule of [`RULES`].
-pub(super) fn refusal(alloc: Global, code: &str, closes: bool) -> Result<String, Fail> {
+pub(super) fn refusal(rt: &impl Tester, code: &str, closes: bool) -> String {
     let found = RULES.iter().find(|rule| rule.0 == code);
-    let (_, status, text) = found.ok_or("no such rule")?;
-    let body = format!(in alloc; "{{\"message\":\"{code}: {text}\"}}")?;
-    let mut lines = String::new(alloc);
-    if code == "H7" {
-        lines.push_str("Allow: POST\r\n")?;
-    }
-    if status.starts_with("401") {
-        lines.push_str("LFS-Authenticate: Bearer realm=\"Git LFS\"\r\n")?;
-    }
-    if closes {
-        lines.push_str("Connection: close\r\n")?;
-    }
-    Ok(reply(alloc, status, lines.as_str(), body.as_str())?)
+    let (_, status, text) = sure(rt, found.ok_or(()));
+    let body = sure(
+        rt,
+        format!(in rt.alloc(); "{{\"message\":\"{code}: {text}\"}}"),
+    );
+    let lines = refusal_lines(code, status, closes);
+    reply(rt, status, lines, body.as_str())
 }
 
 /// What is served where so many messages were answered, and the last reply closes or does not.
@@ -309,26 +345,21 @@ pub(super) fn served(answered: usize, closes: bool) -> Served {
 pub(super) const MOSTS: &[usize] = &[1, 7, usize::MAX];
 
 /// That this was told, and that the connection ended so.
-pub(super) fn expect_told(rt: &impl Abort, bytes: &[u8], told: &Told, text: &str, served: Served) {
+pub(super) fn expect_told(rt: &impl Tester, bytes: &[u8], told: &Told, text: &str, served: Served) {
     let shown = str::from_utf8(bytes).unwrap_or("bytes that are no text");
     assert_eq!(rt; told.text.as_str(), text, "of {shown}");
     assert_eq!(rt; told.served, served, "of {shown}");
 }
 
-/// That a server with a new store tells this and ends so, however many bytes a read gives.
-pub(super) fn expect_text(
-    rt: &impl Abort,
-    alloc: Global,
-    bytes: &[u8],
-    text: &str,
-    served: Served,
-) -> Result<(), Fail> {
-    let server = Server::new(alloc)?;
+/// That a new server tells this and ends so, however many bytes a read gives, and then has made so
+/// many locks.
+pub(super) fn expect_text(rt: &impl Tester, bytes: &[u8], text: &str, served: Served, locks: u32) {
     for most in MOSTS {
-        let told = server.tell(alloc, &mut new_store(alloc)?, bytes, *most)?;
+        let mut server = Server::new(rt);
+        let told = server.tell(rt, bytes, *most);
         expect_told(rt, bytes, &told, text, served);
+        assert_eq!(rt; server.made(rt), locks);
     }
-    Ok(())
 }
 
 /// That a server answers the message so: by the code of the rule that refuses it, or by
@@ -336,43 +367,21 @@ pub(super) fn expect_text(
 ///
 /// The worked lock that follows is not looked at behind a refused head, which closes. Behind any
 /// other message it is answered, as the first lock where that message was refused.
-pub(super) fn expect(
-    rt: &impl Abort,
-    alloc: Global,
-    message: &[u8],
-    want: &str,
-) -> Result<(), Fail> {
-    let both = joined(alloc, message, MESSAGE.as_bytes())?;
+pub(super) fn expect(rt: &impl Tester, message: &[u8], want: &str) {
+    let both = joined(rt, message, MESSAGE.as_bytes());
     if want == "201" {
-        let text = [CREATED, HELD].concat(alloc)?;
-        return expect_text(rt, alloc, &both, text.as_str(), served(2, false));
+        let text = texts(rt, &[CREATED, HELD]);
+        return expect_text(rt, &both, text.as_str(), served(2, false), 1);
     }
     let closes = want.starts_with('H');
-    let text = refusal(alloc, want, closes)?;
-    expect_refused(rt, alloc, message, text.as_str(), served(1, closes))?;
+    let text = refusal(rt, want, closes);
+    expect_text(rt, message, text.as_str(), served(1, closes), 0);
     if closes {
-        return expect_refused(rt, alloc, &both, text.as_str(), served(1, true));
+        return expect_text(rt, &both, text.as_str(), served(1, true), 0);
     }
-    let text = [text.as_str(), CREATED].concat(alloc)?;
-    expect_text(rt, alloc, &both, text.as_str(), served(2, false))
-}
-
-/// The same as [`expect_text`], where no lock is made.
-fn expect_refused(
-    rt: &impl Abort,
-    alloc: Global,
-    bytes: &[u8],
-    text: &str,
-    served: Served,
-) -> Result<(), Fail> {
-    let server = Server::new(alloc)?;
-    let mut store = new_store(alloc)?;
-    for most in MOSTS {
-        let told = server.tell(alloc, &mut store, bytes, *most)?;
-        expect_told(rt, bytes, &told, text, served);
-    }
-    assert_eq!(rt; made(&mut store)?, 0);
-    Ok(())
+    let text = joined(rt, text.as_bytes(), CREATED.as_bytes());
+    let text = sure(rt, str::from_utf8(&text));
+    expect_text(rt, &both, text, served(2, false), 1);
 }
 
 /// Messages that differ in one place of the head, which is `@`.
@@ -385,13 +394,12 @@ pub(super) struct Heads {
 }
 
 /// That the messages are answered so.
-pub(super) fn expect_heads(rt: &impl Abort, alloc: Global, heads: &Heads) -> Result<(), Fail> {
-    let text = message(alloc, heads.line, heads.fields, heads.body)?;
+pub(super) fn expect_heads(rt: &impl Tester, heads: &Heads) {
+    let text = message(rt, heads.line, heads.fields, heads.body);
     for (value, want) in heads.cases {
-        let text = text.replace(alloc, "@", value)?;
-        expect(rt, alloc, text.as_bytes(), want)?;
+        let text = filled(rt, text.as_str(), value);
+        expect(rt, text.as_bytes(), want);
     }
-    Ok(())
 }
 
 /// Bodies that differ in one place, which is `@`, and ask for a lock.
@@ -403,11 +411,10 @@ pub(super) struct Bodies {
 }
 
 /// That the messages with these bodies are answered so.
-pub(super) fn expect_bodies(rt: &impl Abort, alloc: Global, bodies: &Bodies) -> Result<(), Fail> {
+pub(super) fn expect_bodies(rt: &impl Tester, bodies: &Bodies) {
     for (value, want) in bodies.cases {
-        let body = bodies.body.replace(alloc, "@", value)?;
-        let text = asking(alloc, bodies.bearer, body.as_str())?;
-        expect(rt, alloc, text.as_bytes(), want)?;
+        let body = filled(rt, bodies.body, value);
+        let text = asking(rt, bodies.bearer, body.as_str());
+        expect(rt, text.as_bytes(), want);
     }
-    Ok(())
 }

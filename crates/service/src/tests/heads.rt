@@ -1,22 +1,19 @@
 //! Request heads: which are none, which are refused, and by which rule first.
 
 use super::harness::*;
-use std::alloc::Global;
 use std::process::Abort;
-use std::test::Fail;
 
 /// That bytes which begin so, and are as many as the longest head, are H1. Where fewer come, the
 /// protocol leaves it open whether they are answered.
-fn expect_no_head(rt: &impl Abort, alloc: Global, start: &[u8]) -> Result<(), Fail> {
-    let rest = "a".repeat(alloc, 16_384)?;
-    let bytes = joined(alloc, start, rest.as_bytes())?;
-    expect(rt, alloc, &bytes, "H1")?;
-    let told = Server::new(alloc)?.tell(alloc, &mut new_store(alloc)?, start, 1)?;
+fn expect_no_head(rt: &impl Tester, start: &[u8]) {
+    let rest = repeated(rt, &[("a", 16_384)]);
+    let bytes = joined(rt, start, rest.as_bytes());
+    expect(rt, &bytes, "H1");
+    let told = Server::new(rt).tell(rt, start, 1);
     assert!(rt;
         told.text.is_empty() || told.text.as_str() == BAD_HEAD,
         "{start:?}"
     );
-    Ok(())
 }
 
 const NO_HEADS: &[&[u8]] = &[
@@ -50,11 +47,10 @@ const NO_HEADS: &[&[u8]] = &[
 ];
 
 #[test]
-fn bytes_that_no_others_make_a_head_are_h1(rt: HostRuntime) -> Result<(), Fail> {
+fn bytes_that_no_others_make_a_head_are_h1(rt: HostRuntime) {
     for start in NO_HEADS {
-        expect_no_head(&rt, rt.alloc(), start)?;
+        expect_no_head(&rt, start);
     }
-    Ok(())
 }
 
 /// The head of the worked lock, which has 157 bytes, with further fields, each so many times; its
@@ -73,14 +69,17 @@ const MANY_FIELDS: &[(&[(&str, usize)], usize, &str)] = &[
 ];
 
 #[test]
-fn a_head_has_at_most_64_fields_and_16384_bytes(rt: HostRuntime) -> Result<(), Fail> {
+fn a_head_has_at_most_64_fields_and_16384_bytes(rt: HostRuntime) {
     for (fields, size, want) in MANY_FIELDS {
-        let fields = repeated(rt.alloc(), fields)?;
-        let text = format!(in rt.alloc(); "{LOCKS}\r\n{ANN}\r\n{fields}{LENGTH}\r\n\r\n{HERO}")?;
+        let fields = repeated(&rt, fields);
+        let front = texts(&rt, &[LOCKS, "\r\n", ANN, "\r\n"]);
+        let text = texts(
+            &rt,
+            &[front.as_str(), fields.as_str(), LENGTH, "\r\n\r\n", HERO],
+        );
         assert_eq!(rt; text.len(), size + HERO.len());
-        expect(&rt, rt.alloc(), text.as_bytes(), want)?;
+        expect(&rt, text.as_bytes(), want);
     }
-    Ok(())
 }
 
 /// What stands before the worked lock, and the answer.
@@ -94,12 +93,11 @@ const FRONTS: &[(&str, usize, &str)] = &[
 ];
 
 #[test]
-fn a_head_may_stand_behind_empty_lines(rt: HostRuntime) -> Result<(), Fail> {
+fn a_head_may_stand_behind_empty_lines(rt: HostRuntime) {
     for (lines, times, want) in FRONTS {
-        let text = repeated(rt.alloc(), &[(lines, *times), (MESSAGE, 1)])?;
-        expect(&rt, rt.alloc(), text.as_bytes(), want)?;
+        let text = repeated(&rt, &[(lines, *times), (MESSAGE, 1)]);
+        expect(&rt, text.as_bytes(), want);
     }
-    Ok(())
 }
 
 /// The worked lock, whose lines end in a line feed alone.
@@ -130,27 +128,24 @@ const OTHER_FORMS: &[Heads] = &[
 ];
 
 #[test]
-fn heads_of_other_forms_pass(rt: HostRuntime) -> Result<(), Fail> {
-    expect(&rt, rt.alloc(), LINE_FEEDS.as_bytes(), "201")?;
+fn heads_of_other_forms_pass(rt: HostRuntime) {
+    expect(&rt, LINE_FEEDS.as_bytes(), "201");
     for heads in OTHER_FORMS {
-        expect_heads(&rt, rt.alloc(), heads)?;
+        expect_heads(&rt, heads);
     }
-    Ok(())
 }
 
 #[test]
-fn a_beginning_of_a_message_is_not_answered(rt: HostRuntime) -> Result<(), Fail> {
-    let server = Server::new(rt.alloc())?;
-    let mut store = new_store(rt.alloc())?;
+fn a_beginning_of_a_message_is_not_answered(rt: HostRuntime) {
+    let mut server = Server::new(&rt);
     for size in 0..MESSAGE.len() {
         let (front, _) = MESSAGE.as_bytes().split_at(size);
         for most in MOSTS {
-            let told = server.tell(rt.alloc(), &mut store, front, *most)?;
+            let told = server.tell(&rt, front, *most);
             expect_told(&rt, front, &told, "", served(0, false));
         }
     }
-    assert_eq!(rt; made(&mut store)?, 0);
-    Ok(())
+    assert_eq!(rt; server.made(&rt), 0);
 }
 
 /// Beginnings that other bytes make a head.
@@ -166,22 +161,21 @@ const BEGINNINGS: &[&[u8]] = &[
 const TOO_SHORT: &[&str] = &["Content-Length: 24", "Content-Length: 1048576"];
 
 #[test]
-fn beginnings_that_others_make_a_head_are_not_answered(rt: HostRuntime) -> Result<(), Fail> {
+fn beginnings_that_others_make_a_head_are_not_answered(rt: HostRuntime) {
     for bytes in BEGINNINGS {
-        expect_text(&rt, rt.alloc(), bytes, "", served(0, false))?;
+        expect_text(&rt, bytes, "", served(0, false), 0);
     }
     for length in TOO_SHORT {
-        let text = message(rt.alloc(), LOCKS, &[ANN, length], HERO)?;
-        expect_text(&rt, rt.alloc(), text.as_bytes(), "", served(0, false))?;
+        let text = message(&rt, LOCKS, &[ANN, length], HERO);
+        expect_text(&rt, text.as_bytes(), "", served(0, false), 0);
     }
-    Ok(())
 }
 
 #[test]
-fn a_head_without_an_end_is_refused_at_its_longest(rt: HostRuntime) -> Result<(), Fail> {
+fn a_head_without_an_end_is_refused_at_its_longest(rt: HostRuntime) {
     let start = "GET / HTTP/1.1\r\nA: ";
-    let long = repeated(rt.alloc(), &[(start, 1), ("b", 16_384 - start.len())])?;
-    expect(&rt, rt.alloc(), long.as_bytes(), "H1")?;
-    let short = repeated(rt.alloc(), &[(start, 1), ("b", 16_383 - start.len())])?;
-    expect_text(&rt, rt.alloc(), short.as_bytes(), "", served(0, false))
+    let long = repeated(&rt, &[(start, 1), ("b", 16_384 - start.len())]);
+    expect(&rt, long.as_bytes(), "H1");
+    let short = repeated(&rt, &[(start, 1), ("b", 16_383 - start.len())]);
+    expect_text(&rt, short.as_bytes(), "", served(0, false), 0);
 }

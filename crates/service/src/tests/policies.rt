@@ -1,9 +1,7 @@
 //! What the policy says to a lock: the first row that matches decides.
 
 use super::harness::*;
-use std::alloc::Global;
 use std::process::Abort;
-use std::test::Fail;
 
 /// Nobody may lock below the folder `art`.
 const ART: &str =
@@ -94,61 +92,63 @@ const DECISIONS: &[(&[&str], &str, &str, &str, &str)] = &[
 
 /// The reply where the policy denies, with this message; or to a lock that is made, where that is
 /// empty.
-fn decided(alloc: Global, bearer: &str, path: &str, message: &str) -> Result<String, Fail> {
+fn decided(rt: &impl Tester, bearer: &str, path: &str, message: &str) -> String {
     if message.is_empty() {
         let owner = if bearer == BOB { "bob" } else { "ann" };
-        return Ok(created(alloc, 1, owner, path)?);
+        return created(rt, 1, owner, path);
     }
-    let body = format!(in alloc; "{{\"message\":\"{message}\"}}")?;
-    Ok(reply(alloc, "403 Forbidden", "", body.as_str())?)
+    let body = filled(rt, r#"{"message":"@"}"#, message);
+    reply(rt, "403 Forbidden", "", body.as_str())
 }
 
 /// That a server with these rows answers so, and makes the lock or none.
-fn expect_decision(
-    rt: &impl Abort,
-    alloc: Global,
-    rows: &[&str],
-    asked: &str,
-    want: &str,
-    locks: u32,
-) -> Result<(), Fail> {
-    let server = Server::with_rows(alloc, rows.concat(alloc)?.as_str())?;
+fn expect_decision(rt: &impl Tester, rows: &[&str], asked: &str, want: &str, locks: u32) {
+    let rows = texts(rt, rows);
     for most in MOSTS {
-        let mut store = new_store(alloc)?;
-        let told = server.tell(alloc, &mut store, asked.as_bytes(), *most)?;
+        let mut server = Server::new(rt);
+        server.govern(rt, rows.as_str());
+        let told = server.tell(rt, asked.as_bytes(), *most);
         expect_told(rt, asked.as_bytes(), &told, want, served(1, false));
-        assert_eq!(rt; made(&mut store)?, locks, "{asked}");
+        assert_eq!(rt; server.made(rt), locks, "{asked}");
     }
-    Ok(())
 }
 
 #[test]
-fn the_first_row_that_matches_decides(rt: HostRuntime) -> Result<(), Fail> {
+fn the_first_row_that_matches_decides(rt: HostRuntime) {
     for (rows, bearer, path, behind, denial) in DECISIONS {
-        let body = format!(in rt.alloc(); "{{\"path\":\"{path}\"{behind}}}")?;
-        let asked = asking(rt.alloc(), bearer, body.as_str())?;
-        let want = decided(rt.alloc(), bearer, path, denial)?;
+        let body = texts(&rt, &["{\"path\":\"", path, "\"", behind, "}"]);
+        let asked = asking(&rt, bearer, body.as_str());
+        let want = decided(&rt, bearer, path, denial);
         let locks = if denial.is_empty() { 1 } else { 0 };
-        expect_decision(&rt, rt.alloc(), rows, asked.as_str(), want.as_str(), locks)?;
+        expect_decision(&rt, rows, asked.as_str(), want.as_str(), locks);
     }
-    Ok(())
 }
 
 #[test]
-fn the_policy_is_asked_last_but_for_the_lock(rt: HostRuntime) -> Result<(), Fail> {
-    let mut store = new_store(rt.alloc())?;
-    let bytes = MESSAGE.as_bytes();
-    let told = Server::new(rt.alloc())?.tell(rt.alloc(), &mut store, bytes, usize::MAX)?;
-    expect_told(&rt, bytes, &told, CREATED, served(1, false));
+fn the_policy_is_asked_last_but_for_the_lock(rt: HostRuntime) {
+    let mut server = Server::new(&rt);
+    let told = server.tell(&rt, MESSAGE.as_bytes(), usize::MAX);
+    expect_told(&rt, MESSAGE.as_bytes(), &told, CREATED, served(1, false));
     // A path that is held is not told where the policy denies.
-    let server = Server::with_rows(rt.alloc(), "")?;
-    let told = server.tell(rt.alloc(), &mut store, bytes, usize::MAX)?;
-    let denial = decided(rt.alloc(), ANN, "", BY_NONE)?;
-    expect_told(&rt, bytes, &told, denial.as_str(), served(1, false));
+    server.govern(&rt, "");
+    let told = server.tell(&rt, MESSAGE.as_bytes(), usize::MAX);
+    let denial = decided(&rt, ANN, "", BY_NONE);
+    expect_told(
+        &rt,
+        MESSAGE.as_bytes(),
+        &told,
+        denial.as_str(),
+        served(1, false),
+    );
     // Nor is the policy told to one whose token does not cover a lock.
-    let asked = asking(rt.alloc(), READER, HERO)?;
-    let told = server.tell(rt.alloc(), &mut store, asked.as_bytes(), usize::MAX)?;
-    let refused = refusal(rt.alloc(), "A5", false)?;
-    expect_told(&rt, bytes, &told, refused.as_str(), served(1, false));
-    Ok(())
+    let asked = asking(&rt, READER, HERO);
+    let told = server.tell(&rt, asked.as_bytes(), usize::MAX);
+    let refused = refusal(&rt, "A5", false);
+    expect_told(
+        &rt,
+        asked.as_bytes(),
+        &told,
+        refused.as_str(),
+        served(1, false),
+    );
 }

@@ -2,10 +2,11 @@
 
 use super::connections::{CHUNKED, REFUSED};
 use super::harness::*;
-use sqlite::{Connection, Error};
+use sqlite::{Connection, Error, File, FileStore};
 use std::fs;
+use std::process::Abort;
 use std::test::Fail;
-use tables::Store;
+use tables::{Alter, Storage, Store, StoreFault};
 
 /// The reply where the store refuses, 156 bytes.
 const STORE_REFUSED: &str =
@@ -19,18 +20,23 @@ const NO_TABLES: &[(&[&str], &str)] = &[
 ];
 
 #[test]
-fn a_store_that_refuses_is_told_and_closes(rt: HostRuntime) -> Result<(), Fail> {
+fn a_store_that_refuses_is_told_and_closes(rt: HostRuntime) {
     assert_eq!(rt; STORE_REFUSED.len(), 156);
-    let server = Server::new(rt.alloc())?;
-    let mut store = Store::open_memory(rt.alloc())?;
+    let mut server = Server::without_tables(&rt);
     for (messages, want) in NO_TABLES {
-        let text = messages.concat(rt.alloc())?;
+        let text = texts(&rt, messages);
         for most in MOSTS {
-            let told = server.tell(rt.alloc(), &mut store, text.as_bytes(), *most)?;
+            let told = server.tell(&rt, text.as_bytes(), *most);
             expect_told(&rt, text.as_bytes(), &told, want, served(1, true));
         }
     }
-    Ok(())
+}
+
+type OverFile = Store<FileStore<File>>;
+
+/// Opens the file, and promises nothing of it, so that the proofs of the tests carry less.
+fn open(rt: &HostRuntime, path: &str) -> Result<OverFile, StoreFault> {
+    Store::open(rt, path)
 }
 
 /// Removes what a test left, with its log.
@@ -41,50 +47,61 @@ fn clear(rt: &HostRuntime, path: &str) -> Result<(), Fail> {
     Ok(())
 }
 
-/// What a client is told by a server over the file, which is opened for it alone.
-fn tell_from(rt: &HostRuntime, path: &str, text: &str) -> Result<Told, Fail> {
-    let mut store = Store::open(rt, path)?;
-    store.create_or_check(rt.alloc())?;
-    keep_tokens(&mut store)?;
-    Server::new(rt.alloc())?.tell(rt.alloc(), &mut store, text.as_bytes(), usize::MAX)
+/// What a client is told by a server over this store, once it was opened.
+fn tell_over<S: Storage>(rt: &impl Tester, store: &mut Store<S>, text: &str) -> Told {
+    sure(rt, store.create_or_check(rt.alloc()));
+    keep_tokens(rt, store);
+    let policy = policy_of(rt, ROW);
+    told_by(rt, store, &policy, NOW, text.as_bytes(), usize::MAX)
+}
+
+/// That a server over the file, which is opened for it alone, tells this.
+fn expect_from(rt: &impl Tester, file: Result<OverFile, StoreFault>, text: &str, want: &str) {
+    let mut store = sure(rt, file);
+    let told = tell_over(rt, &mut store, text);
+    assert_eq!(rt; told.text.as_str(), want);
 }
 
 #[test]
 fn a_lock_stands_when_the_file_is_opened_again(rt: HostRuntime) -> Result<(), Fail> {
     clear(&rt, "again.db")?;
     for want in &[CREATED, HELD, HELD] {
-        let told = tell_from(&rt, "again.db", MESSAGE)?;
-        assert_eq!(rt; told.text.as_str(), *want);
+        expect_from(&rt, open(&rt, "again.db"), MESSAGE, want);
     }
     clear(&rt, "again.db")
 }
 
+fn connect(rt: &HostRuntime, path: &str) -> Result<Connection<FileStore<File>>, Error> {
+    Connection::open(rt, path)
+}
+
+fn run<S: Alter>(conn: &mut Connection<S>, sql: &str) -> Result<(), Error> {
+    conn.execute_batch(sql)
+}
+
 fn change(rt: &HostRuntime, path: &str, sql: &str) -> Result<(), Error> {
-    let mut conn = Connection::open(rt, path)?;
-    conn.execute_batch(sql)?;
+    let mut conn = connect(rt, path)?;
+    run(&mut conn, sql)?;
     conn.close()
 }
 
 #[test]
 fn ids_are_used_up(rt: HostRuntime) -> Result<(), Fail> {
     clear(&rt, "ids.db")?;
-    let told = tell_from(&rt, "ids.db", "")?;
-    assert_eq!(rt; told.text.as_str(), "");
-    change(
-        &rt,
-        "ids.db",
-        "INSERT INTO repos VALUES ('studio/film', 4294967294, 0)",
-    )?;
-    let tree = asking(rt.alloc(), ANN, "{\"path\":\"art/tree.psd\"}")?;
-    let last = created(rt.alloc(), 4_294_967_295, "ann", "art/tree.psd")?;
-    let told = tell_from(&rt, "ids.db", tree.as_str())?;
-    assert_eq!(rt; told.text.as_str(), last.as_str());
+    expect_from(&rt, open(&rt, "ids.db"), "", "");
+    let sql = "INSERT INTO repos VALUES ('studio/film', 4294967294, 0)";
+    change(&rt, "ids.db", sql)?;
+    let tree = asking(&rt, ANN, "{\"path\":\"art/tree.psd\"}");
+    let tree = tree.as_str();
+    let last = created(&rt, 4_294_967_295, "ann", "art/tree.psd");
+    expect_from(&rt, open(&rt, "ids.db"), tree, last.as_str());
     let body = "{\"message\":\"L5: the lock ids are used up\"}";
-    let used_up = reply(rt.alloc(), "507 Insufficient Storage", "", body)?;
-    let told = tell_from(&rt, "ids.db", MESSAGE)?;
-    assert_eq!(rt; told.text.as_str(), used_up.as_str());
+    let used_up = reply(&rt, "507 Insufficient Storage", "", body);
+    expect_from(&rt, open(&rt, "ids.db"), MESSAGE, used_up.as_str());
     // A path that is held is told before.
-    let told = tell_from(&rt, "ids.db", tree.as_str())?;
-    assert!(rt; told.text.as_str().starts_with("HTTP/1.1 409 Conflict\r\n"));
+    let body =
+        "{\"lock\":{\"id\":\"4294967295\",\"locked_at\":\"2016-05-17T15:49:06Z\",\"owner\":{\"name\":\"ann\"},\"path\":\"art/tree.psd\"},\"message\":\"L1: the path is already locked\"}";
+    let held = reply(&rt, "409 Conflict", "", body);
+    expect_from(&rt, open(&rt, "ids.db"), tree, held.as_str());
     clear(&rt, "ids.db")
 }
