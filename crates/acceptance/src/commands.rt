@@ -32,7 +32,7 @@ $ session --db @/db --policy @/policy --colour red
 ! For more information, try '--help'.
 = 2
 - db
-a moment is 1 to 18 digits in range
+# a moment is 1 to 18 digits in range
 $ session --db @/db --policy @/policy --now ''
 ! custody: bad value for --now
 = 2
@@ -83,50 +83,50 @@ fn words_and_values_are_refused(rt: HostRuntime) -> Result<(), Fail> {
 /// Commands that have two faults, next to each other in the order of docs/COMMANDS.md: the first
 /// one is told.
 const FAULTS: &str = r#"
-the words before the user
+# the words before the user
 $ authenticate --db @/db --policy @/policy --user Ann --now 5 --random @/a studio/film push
 ! error: invalid value 'push' for '<OPERATION>'
 !   [possible values: download, upload]
 !
 ! For more information, try '--help'.
 = 2
-the user before the moment
+# the user before the moment
 $ authenticate --db @/db --policy @/policy --user Ann --now x --random @/a studio/film upload
 ! custody: bad value for --user
 = 2
-the moment before the policy
+# the moment before the policy
 $ authenticate --db @/db --policy @/nowhere --user ann --now x --random @/a studio/film upload
 ! custody: bad value for --now
 = 2
 $ session --db @/db --policy @/nowhere --now x
 ! custody: bad value for --now
 = 2
-the policy before R1
+# the policy before R1
 $ authenticate --db @/db --policy @/nowhere --user ann --now 5 --random @/a studio/other upload
 ! custody: policy not read
 = 1
-R1 before the random bytes
+# R1 before the random bytes
 $ authenticate --db @/db --policy @/policy --user ann --now 5 --random @/nowhere studio/other upload
 ! custody: R1: no such repository
 = 1
-the random bytes before the database
+# the random bytes before the database
 $ authenticate --db @ --policy @/policy --user ann --now 5 --random @/nowhere studio/film upload
 ! custody: random bytes not read
 = 1
-the policy before the database
+# the policy before the database
 $ session --db @ --policy @/nowhere --now 5
 ! custody: policy not read
 = 1
-the moment before the database
+# the moment before the database
 $ prune --db @ --now x
 ! custody: bad value for --now
 = 2
-the database before K2
+# the database before K2
 $ authenticate --db @ --policy @/policy --user ann --now 253402300799 --random @/a studio/film upload
 ! custody: store G2
 = 1
 - db
-K1 before K2
+# K1 before K2
 + a ann studio/film
 $ authenticate --db @/db --policy @/policy --user bob --now 253402300799 --random @/a studio/film upload
 ! custody: K1: token already issued
@@ -157,7 +157,7 @@ $ session --db @ --policy @/policy --now 5
 $ prune --db @ --now 5
 ! custody: store G2
 = 1
-a file that is no database
+# a file that is no database
 % db 40 65
 $ session --db @/db --policy @/policy --now 5
 ! custody: store G2

@@ -284,7 +284,7 @@ fn a_policy_decides(rt: HostRuntime) -> Result<(), Fail> {
 
 /// Files that spell no policy, each with its first fault, which leaves no database behind.
 const FAULTS: &str = r#"
-a file that is not there, and a folder
+# a file that is not there, and a folder
 $ session --db @/db --policy @/nowhere --now 5
 ! custody: policy not read
 = 1
@@ -297,7 +297,7 @@ $ authenticate --db @/db --policy @/nowhere --user ann --now 5 --random @/a stud
 ! custody: policy not read
 = 1
 - db
-no TOML, no UTF-8, no bytes
+# no TOML, no UTF-8, no bytes
 % policy 40 91
 $ session --db @/db --policy @/policy --now 5
 ! custody: policy Y1
@@ -313,13 +313,13 @@ $ session --db @/db --policy @/policy --now 5
 ! custody: policy Y2 at top
 = 1
 - db
-a file that is too long
+# a file that is too long
 $ session --db @/db --policy @/policy --now 5
 ^ 1048577
 ! custody: policy Y5
 = 1
 - db
-the top
+# the top
 $ session --db @/db --policy @/policy --now 5
 * base = => colour = 1\nbase =
 ! custody: policy Y2 at top
@@ -346,7 +346,7 @@ $ session --db @/db --policy @/policy --now 5
 ! custody: policy Y5 at top
 = 1
 - db
-a repository
+# a repository
 $ session --db @/db --policy @/policy --now 5
 * quota = 1000000 => 
 * users = ["ann", "bob"] => users = []
@@ -363,7 +363,7 @@ $ session --db @/db --policy @/policy --now 5
 ! custody: policy Y4 at repo 2
 = 1
 - db
-a row
+# a row
 $ session --db @/db --policy @/policy --now 5
 * effect = "allow" => effect = true
 ! custody: policy Y2 at row 1
@@ -389,7 +389,7 @@ $ session --db @/db --policy @/policy --now 5
 ! custody: policy Y3 at row 1
 = 1
 - db
-the second row, after which nothing is read
+# the second row, after which nothing is read
 $ authenticate --db @/db --policy @/policy --user ann --now 5 --random @/a studio/film upload
 & 1 [[row]]\neffect = "deny"\nusers = ["*"]\nrepos = ["*"]\nrefs = ["*"]\npaths = ["*"]\nrights = ["pul"]\n
 ! custody: policy Y3 at row 2
@@ -399,19 +399,19 @@ $ authenticate --db @/db --policy @/policy --user ann --now 5 --random @/a studi
 
 /// Files that reach a limit, and pass.
 const LIMITS: &str = r#"
-the longest file
+# the longest file
 $ session --db @/db --policy @/policy --now 5
 ^ 1048576
-the longest life of a token
+# the longest life of a token
 $ session --db @/db --policy @/policy --now 5
 * = 3600 => = 86400
-256 repositories
+# 256 repositories
 $ session --db @/db --policy @/policy --now 5
 & 255 [[repo]]\nname = "studio/r@"\ndefault_ref = "refs/heads/main"\nquota = 1\n
-1,000 rows
+# 1,000 rows
 $ session --db @/db --policy @/policy --now 5
 & 999 [[row]]\neffect = "deny"\nusers = ["*"]\nrepos = ["*"]\nrefs = ["*"]\npaths = ["*"]\nrights = ["pull"]\n
-64 entries
+# 64 entries
 $ session --db @/db --policy @/policy --now 5
 * "ann", "bob" => "ann", "ann", "ann", "ann", "ann", "ann", "ann", "ann", "ann", "ann", "ann", "ann", "ann", "ann", "ann", "ann", "ann", "ann", "ann", "ann", "ann", "ann", "ann", "ann", "ann", "ann", "ann", "ann", "ann", "ann", "ann", "ann", "ann", "ann", "ann", "ann", "ann", "ann", "ann", "ann", "ann", "ann", "ann", "ann", "ann", "ann", "ann", "ann", "ann", "ann", "ann", "ann", "ann", "ann", "ann", "ann", "ann", "ann", "ann", "ann", "ann", "ann", "ann", "ann"
 "#;

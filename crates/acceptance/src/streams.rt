@@ -67,11 +67,11 @@ fn is_cut(rt: &HostRuntime, line: &str, input: &str, errors: &str) -> Result<boo
 
 /// What was done all the same, and what was not.
 const LEFT: &str = r#"
-a token that could not be told was not kept
+# a token that could not be told was not kept
 $ session --db @/db --policy @/policy --now 1463500146
 ? b studio/film {"path":"art/hero.psd"}
 : 401 {"message":"A2: the token is unknown"}
-a lock that could not be told was made, and a token that had expired was removed
+# a lock that could not be told was made, and a token that had expired was removed
 + a bob studio/film
 $ session --db @/db --policy @/policy --now 1463500146
 ? a studio/film {"path":"art/hero.psd"}

@@ -1,9 +1,10 @@
 //! Transcripts: commands one after the other, and all that each has to print.
 //!
-//! A line is a mark, a space and a text. Lines with another mark than these say what is tried.
+//! A line is a mark, a space and a text, or empty.
 //!
 //! | Mark | Its text |
 //! |---|---|
+//! | `#` | what is tried, for the reader |
 //! | `$` | a command: its words, as [`run`] reads them |
 //! | `+` | the command that issues an upload token, with the line that it prints: the token's letter, the user, the repository |
 //! | `=` | the status of the command; 0 where none is told |
@@ -198,7 +199,8 @@ impl Step {
             "*" => self.replace(alloc, text)?,
             "&" => self.extend(alloc, text)?,
             "^" => self.pad(alloc, text)?,
-            _ => {}
+            "" | "#" | "%" => {}
+            _ => return Err(Fail::from("no such mark")),
         }
         Ok(())
     }
