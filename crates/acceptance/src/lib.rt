@@ -8,6 +8,8 @@
 #[cfg(test)]
 mod commands;
 #[cfg(test)]
+mod issued;
+#[cfg(test)]
 mod policies;
 #[cfg(test)]
 mod program;
@@ -15,7 +17,5 @@ mod program;
 mod sessions;
 #[cfg(test)]
 mod streams;
-#[cfg(test)]
-mod tokens;
 #[cfg(test)]
 mod transcript;
