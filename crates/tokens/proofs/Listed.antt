@@ -1,5 +1,5 @@
 -- The rows of a user's tokens in a repository, and the tokens of the world.
-use Rattle.std.proofs.Common.{◌≡◌, ◌∙◌, ℕ, Bool, ◌&&◌, List, [], ◌∷◌, map, filter, cond, bytes_eq, refl, sym, ap, subst, IsPermutation}
+use Rattle.std.proofs.Common.{◌≡◌, ◌∙◌, ℕ, Bool, ◌&&◌, List, [], ◌∷◌, map, filter, bytes_eq, refl, sym, ap, subst, IsPermutation}
 use Rattle.std.proofs.lemmas.List.Sorted.{IsPermutation-map}
 use Rattle.std.proofs.lemmas.Map.Text.{is_eq-slice_cmp}
 use Rattle.sqlite_trees.proofs.ListLemmas.{IsPermutation-filter, filter-map}
@@ -9,15 +9,12 @@ use Rattle.tables.specs.Rows.{Tables}
 use Rattle.tables.specs.Statements.{is_held_by}
 use Rattle.tables.specs.Steps.{TokenFields, token_fields}
 use Rattle.worlds.specs.Standing.{StandsFor, token_kept, token_row}
+use Rattle.worlds.proofs.Tokens.{filter_alike}
 use Rattle.tokens.specs.Holding.{is_of, told_of}
 
 twice : {A B C : Type 0} (f : B → C) (g : A → B) (xs : List A) → map f (map g xs) ≡ map (λ x. f (g x)) xs
 twice f g [] = refl
 twice f g (x ∷ xs) = ap (λ rest. f (g x) ∷ rest) (twice f g xs)
-
-filter_alike : {A : Type 0} (p q : A → Bool) (xs : List A) → ((x : A) → p x ≡ q x) → filter p xs ≡ filter q xs
-filter_alike p q [] same = refl
-filter_alike p q (x ∷ xs) same = rw (same x) (ap (λ rest. cond (q x) (x ∷ rest) rest) (filter_alike p q xs same))
 
 held_alike : (user repo : List ℕ) (i : Issued) → is_held_by user repo (token_row i) ≡ is_of user repo i
 held_alike user repo i = rw (is_eq-slice_cmp i.user user, is_eq-slice_cmp i.repo repo) refl

@@ -54,7 +54,8 @@ some_is None e = absurd (cc)
 
 -- ---- fewer tokens
 
-filter_alike : {A : Type 0} (p q : A → Bool) (xs : List A) → ((x : A) → p x ≡ q x) → filter p xs ≡ filter q xs
+-- tests that agree keep the same items
+pub filter_alike : {A : Type 0} (p q : A → Bool) (xs : List A) → ((x : A) → p x ≡ q x) → filter p xs ≡ filter q xs
 filter_alike p q [] same = refl
 filter_alike p q (x ∷ xs) same = rw (same x) (ap (λ rest. cond (q x) (x ∷ rest) rest) (filter_alike p q xs same))
 
