@@ -60,7 +60,7 @@ fn grant<S: Storage, W: Write>(
 ///
 /// `Clock`, `PolicyFile`, `Policy`, `Repository` and `Random`, which leave the database unopened;
 /// `Store`, `Token` (K1, K2), `Memory`, and `Output` where the line could not be written. No token
-/// is kept after any of them.
+/// is kept after any of them, but perhaps where the database failed while it was to keep it.
 pub(crate) fn authenticate<W: Write>(
     rt: &HostRuntime,
     words: &AuthenticateWords<'_>,

@@ -32,7 +32,7 @@ the user. It is good for the policy's token_seconds. The database keeps its SHA-
 line that is printed is the only one that tells it.
 
 The status is 0 where the token was issued, 1 where something was refused, and 2 where the words \
-are wrong. No token is left where the status is not 0.";
+are wrong. No token is left where the status is not 0, but perhaps where the database failed (G2).";
 
 const PRUNE_ABOUT: &str = "Removes the tokens that have expired, and says how many there were";
 
