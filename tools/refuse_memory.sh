@@ -18,8 +18,8 @@ for crate in "$root"/crates/*; do
         fi
     done
 done
-tests=src/tests/memory.rt
-cd "$room/crates/service"
+tests=src/memory.rt
+cd "$room/crates/integration"
 cp "$tests" "$room/memory.rt"
 
 # The outcome of each test from number $1 to $2, one a line.
@@ -31,7 +31,7 @@ outcomes() {
         n=$((n + 1))
     done >>"$tests"
     rt try --test --fail-alloc "$NUMBER" >"$room/log" 2>&1 || true
-    awk '/^test tests::memory::refused_/ { waits = 1; next }
+    awk '/^test memory::refused_/ { waits = 1; next }
         waits && /NotAsked|Created|Refused|Neither|NotSeen/ {
             match($0, /NotAsked|Created|Refused|Neither|NotSeen/)
             print substr($0, RSTART, RLENGTH); waits = 0 }' "$room/log"

@@ -9,6 +9,3 @@ mod replies;
 pub use admission::Asked;
 pub use answering::answer;
 pub use replies::{Body, Reply};
-
-#[cfg(test)]
-mod tests;

@@ -15,6 +15,3 @@ mod turn;
 pub use judging::{Denied, Target, judge};
 pub use routes::Routes;
 pub use session::{End, Served, serve};
-
-#[cfg(test)]
-mod tests;

@@ -25,6 +25,3 @@ pub use storage::Storage;
 pub struct Store<S: Alter> {
     conn: Connection<S>,
 }
-
-#[cfg(test)]
-mod tests;

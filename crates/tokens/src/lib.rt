@@ -18,6 +18,3 @@ pub use callers::Caller;
 pub use holding::of;
 pub use issuing::{TokenFault, TokenRequest, issue, offer};
 pub use pruning::prune;
-
-#[cfg(test)]
-mod tests;

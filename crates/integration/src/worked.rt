@@ -1,6 +1,6 @@
 //! The worked exchanges: a path is locked, held, and locked on another branch.
 
-use super::harness::*;
+use crate::harness::*;
 use std::process::Abort;
 
 /// The message that locks the path on another branch.

@@ -1,10 +1,10 @@
 ghost use Rattle.std.specs.Prelude.{◌≤◌, IfOk, length, vec_len};
 
-use crate::judge;
 use httparse::spans::{EMPTY_HEADER_SPAN, HeaderSpan, RequestSpans};
 use model::Form;
 use names::Rule;
 use routes::Routes;
+use service::judge;
 use std::alloc::{AllocError, Global};
 use std::test::Fail;
 use wire::{Cut, FIELD_ROOM, Head, first_head, front_of};
@@ -52,20 +52,32 @@ const ASKED: &[(&[u8], &str, &str, &str, u64)] = &[
     ),
 ];
 
+/// Whether the head asks for a lock in the repository, with that query and size.
+fn is_asked(
+    alloc: Global,
+    routes: &Routes,
+    text: &[u8],
+    repo: (&str, &str),
+    query: &str,
+    size: u64,
+) -> Result<bool, Fail> {
+    let mut fields = room(alloc)?;
+    let spans = spans_of(text, &mut fields)?;
+    let target = judge(routes, &Head::new(front_of(text), &fields, spans));
+    Ok(target.is_ok_and(|target| {
+        target.form == Form::Lock
+            && (target.route.owner, target.route.name) == repo
+            && target.query == query
+            && target.size == size
+    }))
+}
+
 #[test]
 fn heads_ask_for_locks(rt: HostRuntime) -> Result<(), Fail> {
     let routes = Routes::new(rt.alloc())?;
     for &(text, owner, name, query, size) in ASKED {
-        let mut fields = room(rt.alloc())?;
-        let spans = spans_of(text, &mut fields)?;
-        let Ok(target) = judge(&routes, &Head::new(front_of(text), &fields, spans)) else {
-            return Err("the head is refused")?;
-        };
-        assert_eq!(rt; target.route.owner, owner, "{text:?}");
-        assert_eq!(rt; target.route.name, name, "{text:?}");
-        assert_eq!(rt; target.form, Form::Lock, "{text:?}");
-        assert_eq!(rt; target.query, query, "{text:?}");
-        assert_eq!(rt; target.size, size, "{text:?}");
+        let is_asked = is_asked(rt.alloc(), &routes, text, (owner, name), query, size)?;
+        assert!(rt; is_asked, "{text:?}");
     }
     Ok(())
 }
@@ -120,17 +132,24 @@ const REFUSED: &[(&[u8], Rule, &str)] = &[
     ),
 ];
 
+/// The rule that refuses the head, and the methods that are told with it; `None` where none does.
+fn refused_by(
+    alloc: Global,
+    routes: &Routes,
+    text: &[u8],
+) -> Result<Option<(Rule, &'static str)>, Fail> {
+    let mut fields = room(alloc)?;
+    let spans = spans_of(text, &mut fields)?;
+    let target = judge(routes, &Head::new(front_of(text), &fields, spans));
+    Ok(target.err().map(|denied| (denied.rule, denied.allow)))
+}
+
 #[test]
 fn heads_are_refused_by_the_first_rule(rt: HostRuntime) -> Result<(), Fail> {
     let routes = Routes::new(rt.alloc())?;
     for &(text, rule, allow) in REFUSED {
-        let mut fields = room(rt.alloc())?;
-        let spans = spans_of(text, &mut fields)?;
-        let Err(denied) = judge(&routes, &Head::new(front_of(text), &fields, spans)) else {
-            return Err("the head is not refused")?;
-        };
-        assert_eq!(rt; denied.rule, rule, "{text:?}");
-        assert_eq!(rt; denied.allow, allow, "{text:?}");
+        let refused = refused_by(rt.alloc(), &routes, text)?;
+        assert!(rt; refused == Some((rule, allow)), "{text:?}");
     }
     Ok(())
 }

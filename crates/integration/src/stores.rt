@@ -1,12 +1,12 @@
 //! Stores that refuse, whose ids are used up, and that are opened again.
 
-use super::connections::{CHUNKED, REFUSED};
-use super::harness::*;
-use sqlite::{Connection, Error, File, FileStore};
-use std::fs;
+use crate::connections::{CHUNKED, REFUSED};
+use crate::files::{OverFile, change, clear, open};
+use crate::harness::*;
 use std::process::Abort;
+use std::rt::HostRuntime;
 use std::test::Fail;
-use tables::{Alter, Storage, Store, StoreFault};
+use tables::{Storage, Store, StoreFault};
 
 /// The reply where the store refuses, 156 bytes.
 const STORE_REFUSED: &str =
@@ -32,21 +32,6 @@ fn a_store_that_refuses_is_told_and_closes(rt: HostRuntime) {
     }
 }
 
-type OverFile = Store<FileStore<File>>;
-
-/// Opens the file, and promises nothing of it, so that the proofs of the tests carry less.
-fn open(rt: &HostRuntime, path: &str) -> Result<OverFile, StoreFault> {
-    Store::open(rt, path)
-}
-
-/// Removes what a test left, with its log.
-fn clear(rt: &HostRuntime, path: &str) -> Result<(), Fail> {
-    let log = format!(in rt.alloc(); "{path}-wal")?;
-    let _ = fs::remove_file(rt, path);
-    let _ = fs::remove_file(rt, log.as_str());
-    Ok(())
-}
-
 /// What a client is told by a server over this store, once it was opened.
 fn tell_over<S: Storage>(rt: &impl Tester, store: &mut Store<S>, text: &str) -> Told {
     sure(rt, store.create_or_check(rt.alloc()));
@@ -69,20 +54,6 @@ fn a_lock_stands_when_the_file_is_opened_again(rt: HostRuntime) -> Result<(), Fa
         expect_from(&rt, open(&rt, "again.db"), MESSAGE, want);
     }
     clear(&rt, "again.db")
-}
-
-fn connect(rt: &HostRuntime, path: &str) -> Result<Connection<FileStore<File>>, Error> {
-    Connection::open(rt, path)
-}
-
-fn run<S: Alter>(conn: &mut Connection<S>, sql: &str) -> Result<(), Error> {
-    conn.execute_batch(sql)
-}
-
-fn change(rt: &HostRuntime, path: &str, sql: &str) -> Result<(), Error> {
-    let mut conn = connect(rt, path)?;
-    run(&mut conn, sql)?;
-    conn.close()
 }
 
 #[test]

@@ -1,6 +1,6 @@
 //! Who calls, and for which repository.
 
-use super::harness::*;
+use crate::harness::*;
 use std::process::Abort;
 use tables::{Alter, Store};
 

@@ -1,9 +1,9 @@
 //! The worked lock, where memory is refused once: `tools/refuse_memory.sh` adds a test for each
 //! allocation, so that it is the one that is refused.
 
-use crate::{End, Routes, Served, serve};
 use names::{Counted, Moment, SliceSource};
 use policy::Policy;
+use service::{End, Routes, Served, serve};
 use sha2::{Digest, Sha256};
 use sqlite::MemStore;
 use std::alloc::{AllocError, Global};

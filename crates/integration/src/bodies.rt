@@ -1,6 +1,6 @@
 //! Bodies that ask for a lock: of the right shape or not, in range or not.
 
-use super::harness::*;
+use crate::harness::*;
 use std::process::Abort;
 
 /// Whole bodies.

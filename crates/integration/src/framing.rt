@@ -1,7 +1,7 @@
 //! Heads that are refused for their framing, their target, their method or their `Accept`: the
 //! first of these rules is told, and nothing behind the head is looked at.
 
-use super::harness::*;
+use crate::harness::*;
 
 const TWO_TYPES: &str = "Accept: */*\r\nAccept: */*";
 

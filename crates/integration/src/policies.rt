@@ -1,6 +1,6 @@
 //! What the policy says to a lock: the first row that matches decides.
 
-use super::harness::*;
+use crate::harness::*;
 use std::process::Abort;
 
 /// Nobody may lock below the folder `art`.

@@ -1,6 +1,6 @@
 //! Request heads: which are none, which are refused, and by which rule first.
 
-use super::harness::*;
+use crate::harness::*;
 use std::process::Abort;
 
 /// That bytes which begin so, and are as many as the longest head, are H1. Where fewer come, the

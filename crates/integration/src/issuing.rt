@@ -1,20 +1,17 @@
-use super::*;
+//! Tokens: issued, borne, listed and removed.
+
+use crate::files::in_memory;
 use names::{Moment, RepoName, Rule, UserName};
 use sha2::{Digest, Sha256};
 use sqlite::MemStore;
 use std::alloc::Global;
 use std::rt::HostRuntime;
 use std::test::Fail;
-use tables::{Operation, Store, StoreFault};
+use tables::{Operation, Store};
+use tokens::{TokenFault, TokenRequest, caller, issue, of, offer, prune};
 
 /// 64 times the letter c: 32 bytes 0xcc in hexadecimal digits.
 const TEXT: &str = "cccccccccccccccccccccccccccccccccccccccccccccccccccccccccccccccc";
-
-fn opened(alloc: Global) -> Result<Store<MemStore>, StoreFault> {
-    let mut store = Store::open_memory(alloc)?;
-    store.create_or_check(alloc)?;
-    Ok(store)
-}
 
 /// A download token of ann for studio/film, of 32 such bytes.
 fn asked(random: &[u8; 32], second: u64, seconds: u64) -> Option<TokenRequest<'_>> {
@@ -67,7 +64,7 @@ fn offered(
 #[test]
 fn a_token_is_issued_once(rt: HostRuntime) -> Result<(), Fail> {
     let alloc = rt.alloc();
-    let mut store = opened(alloc)?;
+    let mut store = in_memory(alloc)?;
     assert!(rt; told(alloc, &mut store, 0xcc, 40, 60)?.as_str() == TEXT);
     for (second, seconds) in [(40, 60), (41, 60), (253402300799, 1)] {
         let again = told(alloc, &mut store, 0xcc, second, seconds)?;
@@ -79,7 +76,7 @@ fn a_token_is_issued_once(rt: HostRuntime) -> Result<(), Fail> {
 #[test]
 fn a_token_that_is_offered_is_not_kept(rt: HostRuntime) -> Result<(), Fail> {
     let alloc = rt.alloc();
-    let mut store = opened(alloc)?;
+    let mut store = in_memory(alloc)?;
     for (second, want) in [
         (40, TEXT),
         (40, TEXT),
@@ -99,7 +96,7 @@ fn a_token_that_is_offered_is_not_kept(rt: HostRuntime) -> Result<(), Fail> {
 #[test]
 fn the_digest_of_a_token_is_kept(rt: HostRuntime) -> Result<(), Fail> {
     let alloc = rt.alloc();
-    let mut store = opened(alloc)?;
+    let mut store = in_memory(alloc)?;
     told(alloc, &mut store, 0xcc, 40, 60)?;
     let Some(kept) = store.token(&Sha256::digest(TEXT.as_bytes()))? else {
         assert!(rt; false, "no token has the digest of the text");
@@ -113,7 +110,7 @@ fn the_digest_of_a_token_is_kept(rt: HostRuntime) -> Result<(), Fail> {
 #[test]
 fn no_token_expires_past_the_last_moment(rt: HostRuntime) -> Result<(), Fail> {
     let alloc = rt.alloc();
-    let mut store = opened(alloc)?;
+    let mut store = in_memory(alloc)?;
     for (second, seconds) in [(253402300799, 1), (0, 253402300800), (1, u64::MAX)] {
         let late = told(alloc, &mut store, 0xcc, second, seconds)?;
         assert!(rt; late.as_str() == "K2: expiry out of range");
@@ -125,7 +122,7 @@ fn no_token_expires_past_the_last_moment(rt: HostRuntime) -> Result<(), Fail> {
 #[test]
 fn a_token_is_removed_at_its_expiry(rt: HostRuntime) -> Result<(), Fail> {
     let alloc = rt.alloc();
-    let mut store = opened(alloc)?;
+    let mut store = in_memory(alloc)?;
     told(alloc, &mut store, 0xcc, 40, 60)?;
     told(alloc, &mut store, 0xdd, 40, 61)?;
     for (second, want) in [(99, 0), (100, 1), (100, 0), (101, 1)] {
@@ -157,7 +154,7 @@ fn borne(
 
 #[test]
 fn a_token_names_its_caller(rt: HostRuntime) -> Result<(), Fail> {
-    let mut store = opened(rt.alloc())?;
+    let mut store = in_memory(rt.alloc())?;
     told(rt.alloc(), &mut store, 0xcc, 40, 60)?;
     for (scheme, text, second, want) in [
         ("Bearer ", TEXT, 40, Ok(true)),
@@ -197,7 +194,7 @@ fn count_of(
 
 #[test]
 fn a_user_has_the_tokens_that_were_issued(rt: HostRuntime) -> Result<(), Fail> {
-    let mut store = opened(rt.alloc())?;
+    let mut store = in_memory(rt.alloc())?;
     for byte in [0xcc, 0xdd] {
         told(rt.alloc(), &mut store, byte, 40, 60)?;
     }
