@@ -1,7 +1,7 @@
-use super::sure;
+use super::{expect, sure};
 use crate::{LockId, LockPath, Moment, Oid, RefName, RepoName, Rule, Size, UserName, moment_text};
 use std::alloc::{Alloc, Global};
-use std::fmt::{Debug, Display};
+use std::fmt::Display;
 use std::process::Abort;
 
 /// The text, with so many letters `a` behind it.
@@ -18,11 +18,6 @@ fn printed<T: Copy + Display>(rt: &(impl Abort + Alloc<A = Global>), name: Optio
         Some(name) => sure(rt, name.to_string(rt.alloc())),
         None => String::new(rt.alloc()),
     }
-}
-
-/// That this is told of the text.
-fn expect<T: Copy + PartialEq + Debug>(rt: &impl Abort, text: &str, told: T, want: T) {
-    assert_eq!(rt; told, want, "of {text:?}");
 }
 
 /// Texts, how many letters `a` stand behind them, and whether that is a user.
@@ -45,10 +40,11 @@ fn users_are_1_to_40_bytes_of_their_alphabet(rt: HostRuntime) {
     for &(text, letters, good) in USERS {
         let text = lengthened(&rt, text, letters);
         let shown = printed(&rt, UserName::read(text.as_str()));
-        assert_eq!(rt; shown.as_str(), if good { text.as_str() } else { "" });
+        let want = if good { text.as_str() } else { "" };
+        expect(&rt, &text, shown.as_str(), want);
     }
     let user = UserName::read("anna").map(|user| user.as_str());
-    assert_eq!(rt; user, Some("anna"));
+    expect(&rt, &"the text", user, Some("anna"));
 }
 
 /// Texts, how many letters `a` stand behind them, and whether that is a repository.
@@ -72,10 +68,11 @@ fn repositories_are_an_owner_and_a_name(rt: HostRuntime) {
     for &(text, letters, good) in REPOSITORIES {
         let text = lengthened(&rt, text, letters);
         let shown = printed(&rt, RepoName::read(text.as_str()));
-        assert_eq!(rt; shown.as_str(), if good { text.as_str() } else { "" });
+        let want = if good { text.as_str() } else { "" };
+        expect(&rt, &text, shown.as_str(), want);
     }
     let repo = RepoName::read("studio/film").map(|repo| repo.as_str());
-    assert_eq!(rt; repo, Some("studio/film"));
+    expect(&rt, &"the text", repo, Some("studio/film"));
 }
 
 /// Texts, how many letters `a` stand behind them, and whether that is a ref.
@@ -104,10 +101,11 @@ fn refs_have_no_two_dots_and_no_empty_part(rt: HostRuntime) {
     for &(text, letters, good) in REFS {
         let text = lengthened(&rt, text, letters);
         let shown = printed(&rt, RefName::read(text.as_str()));
-        assert_eq!(rt; shown.as_str(), if good { text.as_str() } else { "" });
+        let want = if good { text.as_str() } else { "" };
+        expect(&rt, &text, shown.as_str(), want);
     }
     let name = RefName::read("refs/heads/main").map(|name| name.as_str());
-    assert_eq!(rt; name, Some("refs/heads/main"));
+    expect(&rt, &"the text", name, Some("refs/heads/main"));
 }
 
 /// Texts, how many letters `a` stand behind them, and whether that is a path.
@@ -144,10 +142,11 @@ fn lock_paths_are_clean(rt: HostRuntime) {
     for &(text, letters, good) in PATHS {
         let text = lengthened(&rt, text, letters);
         let shown = printed(&rt, LockPath::read(text.as_str()));
-        assert_eq!(rt; shown.as_str(), if good { text.as_str() } else { "" });
+        let want = if good { text.as_str() } else { "" };
+        expect(&rt, &text, shown.as_str(), want);
     }
     let path = LockPath::read("a/\u{e9}").map(|path| path.as_str());
-    assert_eq!(rt; path, Some("a/\u{e9}"));
+    expect(&rt, &"the text", path, Some("a/\u{e9}"));
 }
 
 /// Digits, and whether an object's name may have them.
@@ -175,18 +174,24 @@ fn objects_are_64_digits_and_a_size(rt: HostRuntime) {
     // The SHA-256 of no byte.
     let empty = "e3b0c44298fc1c149afbf4c8996fb92427ae41e4649b934ca495991b7852b855";
     let name = sure(&rt, Oid::read(empty.as_bytes()).ok_or(()));
-    assert_eq!(rt; name.text(), empty);
-    assert_eq!(rt; printed(&rt, Some(name)).as_str(), empty);
+    expect(&rt, &"the text", name.text(), empty);
+    expect(
+        &rt,
+        &"what is written",
+        printed(&rt, Some(name)).as_str(),
+        empty,
+    );
     for &(digit, good) in DIGITS {
         for &count in &[63, 64, 65] {
             let text = sure(&rt, digit.repeat(rt.alloc(), count));
             let read = Oid::read(text.as_bytes()).is_some();
-            expect(&rt, text.as_str(), read, good && count == 64);
+            expect(&rt, &text, read, good && count == 64);
         }
     }
     for &(bytes, number, text) in SIZES {
-        assert_eq!(rt; Size::read(bytes).map(|size| size.get()), number);
-        assert_eq!(rt; printed(&rt, Size::read(bytes)).as_str(), text);
+        let size = Size::read(bytes).map(|size| size.get());
+        expect(&rt, &bytes, size, number);
+        expect(&rt, &bytes, printed(&rt, Size::read(bytes)).as_str(), text);
     }
 }
 
@@ -212,11 +217,11 @@ const LOCK_IDS: &[(&str, Option<u32>)] = &[
 #[test]
 fn lock_ids_are_decimal(rt: HostRuntime) {
     for &(text, number) in LOCK_IDS {
-        expect(&rt, text, LockId::read(text).map(|id| id.get()), number);
+        expect(&rt, &text, LockId::read(text).map(|id| id.get()), number);
     }
-    assert_eq!(rt; printed(&rt, LockId::from_number(0)).as_str(), "");
-    let last = LockId::from_number(4_294_967_295);
-    assert_eq!(rt; printed(&rt, last).as_str(), "4294967295");
+    expect(&rt, &0, LockId::from_number(0), None);
+    let last = printed(&rt, LockId::from_number(4_294_967_295));
+    expect(&rt, &"the last", last.as_str(), "4294967295");
 }
 
 /// Moments, and the texts of `date -u -d @N +%Y-%m-%dT%H:%M:%SZ`.
@@ -236,10 +241,15 @@ fn moments_are_printed_as_dates(rt: HostRuntime) {
     for &(second, text) in MOMENTS {
         let moment = sure(&rt, Moment::read(second).ok_or(()));
         let date = sure(&rt, moment_text(rt.alloc(), moment));
-        assert_eq!(rt; date.as_str(), text);
-        assert_eq!(rt; moment.get(), second);
+        expect(&rt, &second, date.as_str(), text);
+        expect(&rt, &second, moment.get(), second);
     }
-    assert_eq!(rt; Moment::read(253_402_300_800), None);
+    expect(
+        &rt,
+        &253_402_300_800u64,
+        Moment::read(253_402_300_800),
+        None,
+    );
 }
 
 /// Rules, with their codes, statuses and reasons.
@@ -283,9 +293,9 @@ const RULES: &[(Rule, &str, u16, &str)] = &[
 #[test]
 fn rules_have_a_code_a_status_and_a_reason(rt: HostRuntime) {
     for &(rule, code, status, reason) in RULES {
-        assert_eq!(rt; printed(&rt, Some(rule)).as_str(), code);
-        expect(&rt, code, rule.status(), Some(status));
-        expect(&rt, code, rule.reason(), Some(reason));
+        expect(&rt, &rule, printed(&rt, Some(rule)).as_str(), code);
+        expect(&rt, &rule, rule.status(), Some(status));
+        expect(&rt, &rule, rule.reason(), Some(reason));
     }
 }
 
@@ -296,7 +306,7 @@ const DENIALS: &[(u32, &str)] = &[(0, "P0"), (1, "P1"), (1000, "P1000")];
 fn a_denial_by_the_policy_has_its_row(rt: HostRuntime) {
     for &(row, code) in DENIALS {
         let rule = Rule::P(row);
-        assert_eq!(rt; printed(&rt, Some(rule)).as_str(), code);
-        assert_eq!(rt; (rule.status(), rule.reason()), (None, None));
+        expect(&rt, &rule, printed(&rt, Some(rule)).as_str(), code);
+        expect(&rt, &rule, (rule.status(), rule.reason()), (None, None));
     }
 }

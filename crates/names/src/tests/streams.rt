@@ -1,4 +1,4 @@
-use super::sure;
+use super::{expect, sure};
 use crate::{Counted, DeviceFault, FailAfter, Sink, SliceSource, Source, VecSink};
 use std::cell::Cell;
 use std::io;
@@ -41,10 +41,10 @@ fn sources_hand_out_every_byte(rt: HostRuntime) {
         let mut sink = VecSink::new(rt.alloc(), most);
         // Lent, a source is a source and a sink a sink.
         let copied = copy(&mut &mut source, &mut &mut sink);
-        assert_eq!(rt; (most, copied), (most, Ok(reads)));
-        assert_eq!(rt; sink.taken(), TEXT);
-        assert_eq!(rt; source.left(), b"".as_slice());
-        assert_eq!(rt; (source.failures(), sink.failures()), (0, 0));
+        expect(&rt, &most, copied, Ok(reads));
+        expect(&rt, &most, sink.taken(), TEXT);
+        expect(&rt, &most, source.left(), b"");
+        expect(&rt, &most, (source.failures(), sink.failures()), (0, 0));
     }
 }
 
@@ -58,34 +58,35 @@ const WRITES: &[(&[u8], usize)] = &[(b"abc", 2), (b"c", 1), (b"", 0)];
 fn pieces_are_as_small_as_asked(rt: HostRuntime) {
     for &(most, room, size) in READS {
         let mut piece = sure(&rt, vec![in rt.alloc(); 0; room]);
-        assert_eq!(rt;
-            SliceSource::new(b"abcdef", most).read(&mut piece),
-            Ok(size)
-        );
+        let read = SliceSource::new(b"abcdef", most).read(&mut piece);
+        expect(&rt, &(most, room), read, Ok(size));
     }
     let mut sink = VecSink::new(rt.alloc(), 2);
     for &(piece, size) in WRITES {
-        assert_eq!(rt; sink.write(piece), Ok(size));
+        expect(&rt, &piece, sink.write(piece), Ok(size));
     }
-    assert_eq!(rt; sink.taken(), b"abc".as_slice());
+    expect(&rt, &sink, sink.taken(), b"abc");
 }
 
 #[test]
 fn failing_devices_fail_from_then_on(rt: HostRuntime) {
     let mut source = FailAfter::new(SliceSource::new(b"abcdef", 2), 2);
     let mut sink = VecSink::new(rt.alloc(), 2);
-    assert_eq!(rt; copy(&mut source, &mut sink), Err(DeviceFault));
-    assert_eq!(rt; sink.taken(), b"abcd".as_slice());
+    let copied = copy(&mut source, &mut sink);
+    expect(&rt, &"a copy", copied, Err(DeviceFault));
+    expect(&rt, &"a copy", sink.taken(), b"abcd");
     let again = source.read(&mut [0]);
-    assert_eq!(rt; (again, source.failures()), (Err(DeviceFault), 2));
-    assert_eq!(rt; source.into_inner().left(), b"ef".as_slice());
+    expect(&rt, &"a read", again, Err(DeviceFault));
+    expect(&rt, &"a read", source.failures(), 2);
+    expect(&rt, &"a read", source.into_inner().left(), b"ef");
 
     let mut sink = FailAfter::new(VecSink::new(rt.alloc(), 1), 3);
     let written = write_whole(&mut sink, b"abcdef");
-    assert_eq!(rt; (written, sink.failures()), (Err(DeviceFault), 1));
-    assert_eq!(rt; sink.into_inner().taken(), b"abc".as_slice());
+    expect(&rt, &"writes", written, Err(DeviceFault));
+    expect(&rt, &"writes", sink.failures(), 1);
+    expect(&rt, &"writes", sink.into_inner().taken(), b"abc");
     let text = sure(&rt, DeviceFault.to_string(rt.alloc()));
-    assert_eq!(rt; text.as_str(), "the device failed");
+    expect(&rt, &"a fault", text.as_str(), "the device failed");
 }
 
 /// A reader that fails once, before its byte of that index.
@@ -123,11 +124,12 @@ fn a_reader_that_fails_is_counted(rt: HostRuntime) {
     let mut sink = Counted::new(Vec::new(rt.alloc()));
     for want in COPIES {
         let copied = copy(&mut source, &mut sink);
-        assert_eq!(rt; (copied, source.failures()), (*want, 1));
+        expect(&rt, &"a copy", copied, *want);
+        expect(&rt, &"a copy", source.failures(), 1);
     }
-    assert_eq!(rt; sink.failures(), 0);
-    assert_eq!(rt; source.into_inner().bytes, b"".as_slice());
-    assert_eq!(rt; sink.into_inner().as_slice(), b"abcdef".as_slice());
+    expect(&rt, &"the sink", sink.failures(), 0);
+    expect(&rt, &"the source", source.into_inner().bytes, b"");
+    expect(&rt, &"the sink", sink.into_inner().as_slice(), b"abcdef");
 }
 
 /// A writer that fails, or takes nothing.
@@ -217,8 +219,9 @@ fn a_source_and_a_sink_may_share_a_cell(rt: HostRuntime) {
         inner: VecSink::new(rt.alloc(), 1),
         calls: &calls,
     };
-    assert_eq!(rt; copy(&mut source, &mut sink), Ok(2));
+    let copied = copy(&mut source, &mut sink);
+    expect(&rt, &"a copy", copied, Ok(2));
     // Three reads, of which the last is the end, and four writes.
-    assert_eq!(rt; calls.get(), 7);
-    assert_eq!(rt; sink.inner.taken(), b"abcd".as_slice());
+    expect(&rt, &"calls", calls.get(), 7);
+    expect(&rt, &"the sink", sink.inner.taken(), b"abcd");
 }

@@ -68,7 +68,7 @@ const CUTS: &[(&[u8], Result<usize, &str>)] = &[
 #[test]
 fn heads_are_cut_from_what_follows(rt: HostRuntime) {
     for &(text, want) in CUTS {
-        expect(&rt, text, length_of(text), want);
+        expect(&rt, &text, length_of(text), want);
     }
 }
 
@@ -96,9 +96,10 @@ const SIZES: &[(usize, usize, Result<usize, &str>)] = &[
 fn heads_of_over_16384_bytes_are_bad(rt: HostRuntime) {
     for &(size, short, want) in SIZES {
         let text = head_of_size(&rt, size, short);
-        assert_eq!(rt; text.len(), size.saturating_sub(short));
-        assert_eq!(rt; front_of(&text).len(), text.len().min(16_384));
-        assert_eq!(rt; (size, short, length_of(&text)), (size, short, want));
+        let case = (size, short);
+        expect(&rt, &case, text.len(), size.saturating_sub(short));
+        expect(&rt, &case, front_of(&text).len(), text.len().min(16_384));
+        expect(&rt, &case, length_of(&text), want);
     }
 }
 
@@ -118,7 +119,7 @@ fn heads_of_over_64_fields_are_bad(rt: HostRuntime) {
             &rt,
             format!(in rt.alloc(); "GET / HTTP/1.1\r\n{fields}\r\n"),
         );
-        assert_eq!(rt; (count, length_of(text.as_bytes())), (count, want));
+        expect(&rt, &count, length_of(text.as_bytes()), want);
     }
 }
 
@@ -142,13 +143,13 @@ fn heads_tell_their_parts(rt: HostRuntime) {
         panic!(rt; "no head");
     };
     let head = Head::new(front_of(HEAD), &fields, spans);
-    assert_eq!(rt; head.method(), b"POST".as_slice());
-    assert_eq!(rt; head.target(), b"/a.git/info/lfs/locks?b=c".as_slice());
-    assert!(rt; !head.is_http_1_0());
+    expect(&rt, &"method", head.method(), b"POST");
+    expect(&rt, &"target", head.target(), b"/a.git/info/lfs/locks?b=c");
+    expect(&rt, &"HTTP/1.0", head.is_http_1_0(), false);
     for &(name, count, first) in FIELDS {
-        expect(&rt, name.as_bytes(), head.count(name), count);
+        expect(&rt, &name, head.count(name), count);
         let value = head.first(name).unwrap_or(b"none");
-        expect(&rt, name.as_bytes(), value, first);
+        expect(&rt, &name, value, first);
     }
 }
 
@@ -184,7 +185,7 @@ const CLOSING: &[(&[u8], bool)] = &[
 fn connections_end_where_the_head_says_so(rt: HostRuntime) {
     for &(text, want) in CLOSING {
         let closes = said_by(text).map(|said| said.asks_close);
-        expect(&rt, text, closes, Some(want));
+        expect(&rt, &text, closes, Some(want));
     }
 }
 
@@ -284,7 +285,7 @@ const LENGTHS: &[(&[u8], Result<u64, Rule>)] = &[
 fn heads_say_how_long_the_body_is(rt: HostRuntime) {
     for &(text, want) in LENGTHS {
         let length = said_by(text).map(|said| said.body_length);
-        expect(&rt, text, length, Some(want));
+        expect(&rt, &text, length, Some(want));
     }
 }
 
@@ -315,6 +316,6 @@ const ACCEPTS: &[(&[u8], bool)] = &[
 fn clients_accept_json_or_not(rt: HostRuntime) {
     for &(text, want) in ACCEPTS {
         let accepts = said_by(text).map(|said| said.accepts_json);
-        expect(&rt, text, accepts, Some(want));
+        expect(&rt, &text, accepts, Some(want));
     }
 }

@@ -1,4 +1,4 @@
-use super::sure;
+use super::{expect, sure};
 use crate::{ALLOW_LIMIT, Content, ReplyHead, WriteFault, write_reply, write_whole};
 use http::StatusCode;
 use names::{FailAfter, Sink, VecSink};
@@ -142,10 +142,10 @@ fn reply_of(
 fn replies_are_their_head_and_their_body(rt: HostRuntime) {
     for (case, body, lines, size) in REPLIES {
         let text = sure(&rt, format!(in rt.alloc(); "{lines}{body}"));
-        assert_eq!(rt; text.len(), *size);
+        expect(&rt, lines, text.len(), *size);
         for &most in &[1, 2, 7, usize::MAX] {
             let reply = reply_of(&rt, case, body, most);
-            assert_eq!(rt; reply.as_slice(), text.as_bytes());
+            expect(&rt, &(lines, most), reply.as_slice(), text.as_bytes());
         }
     }
 }
@@ -183,7 +183,7 @@ fn each_status_has_its_phrase(rt: HostRuntime) {
             format!(in rt.alloc(); "HTTP/1.1 {status} {phrase}\r\n"),
         );
         let front = reply.get(..line.len());
-        assert_eq!(rt; front, Some(line.as_bytes()));
+        expect(&rt, &line, front, Some(line.as_bytes()));
     }
 }
 
@@ -210,13 +210,20 @@ fn a_sink_that_fails_has_taken_a_beginning(rt: HostRuntime) {
         let mut sink = FailAfter::new(VecSink::new(rt.alloc(), 1), calls);
         let written = usize::try_from(calls).unwrap_or(0);
         let told = write_reply(&mut sink, &head, b"abc");
-        assert_eq!(rt; (told, sink.failures()), (Err(WriteFault { written }), 1));
-        assert!(rt; text.starts_with(sink.into_inner().taken()), "{calls}");
+        expect(&rt, &calls, told, Err(WriteFault { written }));
+        expect(&rt, &calls, sink.failures(), 1);
+        let begins = text.starts_with(sink.into_inner().taken());
+        expect(&rt, &calls, begins, true);
     }
     for &(calls, want) in WRITES {
         let mut sink = FailAfter::new(VecSink::new(rt.alloc(), 2), calls);
-        assert_eq!(rt; (calls, write_whole(&mut sink, b"abc")), (calls, want));
+        expect(&rt, &calls, write_whole(&mut sink, b"abc"), want);
     }
     let fault = sure(&rt, WriteFault { written: 3 }.to_string(rt.alloc()));
-    assert_eq!(rt; fault.as_str(), "a write failed after 3 bytes");
+    expect(
+        &rt,
+        &"a fault",
+        fault.as_str(),
+        "a write failed after 3 bytes",
+    );
 }
