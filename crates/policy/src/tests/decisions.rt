@@ -64,6 +64,7 @@ paths = ["*"]
 rights = ["pull", "push", "list", "lock", "force"]
 "#;
 
+/// Questions, and the answers.
 const ON_FROZEN_FOLDER: &[(Asked, Verdict)] = &[
     (
         ("ann", FILM, Right::Lock, MAIN, BELOW_ART),
@@ -100,6 +101,7 @@ paths = ["art/"]
 rights = ["push"]
 "#;
 
+/// Questions, and the answers.
 const WITHOUT_A_PATH: &[(Asked, Verdict)] = &[
     (("ann", FILM, Right::Push, MAIN, None), Verdict::Deny(0)),
     (
@@ -129,6 +131,7 @@ paths = ["*"]
 rights = ["pull"]
 "#;
 
+/// Questions, and the answers.
 const WITHOUT_A_REF: &[(Asked, Verdict)] = &[
     (("ann", FILM, Right::Pull, None, None), Verdict::Deny(0)),
     (("ann", FILM, Right::Pull, MAIN, None), Verdict::Allow(1)),
@@ -148,6 +151,7 @@ fn a_question_without_a_ref(rt: HostRuntime) {
     expect_verdicts(&rt, source.as_str(), WITHOUT_A_REF);
 }
 
+/// Questions, and the answers.
 const WITHOUT_A_ROW: &[(Asked, Verdict)] = &[(
     ("ann", FILM, Right::Pull, None, None),
     Verdict::Deny(0),

@@ -1,6 +1,7 @@
 //! Each fault at each place where it can stand, and which of several is the first.
 use super::*;
 
+/// Whole files, and what is told of them.
 const TEXTS: &[(&str, &str)] = &[
     ("base =", "Y1"),
     ("base = \"a\"\nbase = \"b\"", "Y1"),
@@ -15,6 +16,7 @@ fn of_the_file(rt: HostRuntime) {
     }
 }
 
+/// Tops of a file, and what is told of it.
 const TOPS: &[(&str, &str)] = &[
     (
         "base = \"https://lfs.example\"\ntoken_seconds = 3600\ncolour = 1\n",
@@ -73,6 +75,7 @@ fn at_the_top(rt: HostRuntime) {
     }
 }
 
+/// What stands behind the top, and what is told.
 const RESTS: &[(&str, &str)] = &[
     ("", "none"),
     ("repo = []\nrow = []\n", "none"),
@@ -90,6 +93,7 @@ fn where_no_array_or_no_table_stands(rt: HostRuntime) {
     }
 }
 
+/// The keys of the second repository, and what is told.
 const REPOS: &[(&str, &str)] = &[
     ("name = \"a/b\"\ndefault_ref = \"refs/a\"\n", "Y2 at repo 2"),
     ("name = \"a/b\"\nquota = 1\n", "Y2 at repo 2"),
@@ -152,6 +156,7 @@ fn of_a_repeated_name(rt: HostRuntime) {
     expect_parts(&rt, TOP, repos.as_str(), ROW, "Y4 at repo 3");
 }
 
+/// The keys of the second row, and what is told.
 const ROWS: &[(&str, &str)] = &[
     ("effect = \"allow\"\n", "Y2 at row 2"),
     (
@@ -200,6 +205,7 @@ fn of_the_keys_of_a_row(rt: HostRuntime) {
     }
 }
 
+/// Lists of a row, and what is told.
 const ROW_LISTS: &[(Key, &str, &str)] = &[
     (Key::Users, "[]", "Y3 at row 1"),
     (Key::Users, "[\"Ann\"]", "Y3 at row 1"),

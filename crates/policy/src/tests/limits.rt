@@ -20,6 +20,7 @@ fn repos(rt: &(impl Abort + Alloc<A = Global>), count: u32) -> String {
     repos
 }
 
+/// Lengths of a file, and what is told.
 const FILES: &[(usize, &str)] = &[(1_048_576, "none"), (1_048_577, "Y5")];
 
 #[test]
@@ -34,6 +35,7 @@ fn length_of_the_file(rt: HostRuntime) {
     }
 }
 
+/// How many repositories stand in a file, and what is told.
 const REPOSITORIES: &[(u32, &str)] = &[(256, "none"), (257, "Y5 at top")];
 
 #[test]
@@ -55,6 +57,7 @@ fn rows(rt: HostRuntime) {
     expect_parts(&rt, TOP, REPO, more.as_str(), "Y5 at top");
 }
 
+/// The lists of a row, and an entry of each.
 const ENTRIES: &[(Key, &str)] = &[
     (Key::Users, "\"ann\", "),
     (Key::Repos, "\"*\", "),
@@ -63,6 +66,7 @@ const ENTRIES: &[(Key, &str)] = &[
     (Key::Rights, "\"pull\", "),
 ];
 
+/// How many entries a list has, and what is told.
 const LIST_LENGTHS: &[(usize, &str)] = &[(1, "none"), (64, "none"), (65, "Y3 at row 1")];
 
 #[test]

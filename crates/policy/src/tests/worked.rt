@@ -37,6 +37,7 @@ paths = ["*"]
 rights = ["pull"]
 "#;
 
+/// Questions, and the answers.
 const VENDOR_ANSWERS: &[(Asked, Verdict)] = &[
     (("vendor", FILM, Right::Pull, None, None), Verdict::Allow(2)),
     (("vendor", FILM, Right::Push, MAIN, None), Verdict::Deny(0)),
@@ -89,6 +90,7 @@ paths = ["art/sets/", "art/palette.aco"]
 rights = ["lock"]
 "#;
 
+/// Questions, and the answers.
 const FOLDERS_ANSWERS: &[(Asked, Verdict)] = &[
     (
         (
@@ -157,6 +159,7 @@ paths = ["*"]
 rights = ["force"]
 "#;
 
+/// Questions, and the answers.
 const SUPERVISOR_ANSWERS: &[(Asked, Verdict)] = &[
     (
         ("sue", FILM, Right::Force, MAIN, Some("art/hero.psd")),
@@ -218,6 +221,7 @@ paths = ["*"]
 rights = ["pull", "push", "list", "lock"]
 "#;
 
+/// Questions, and the answers.
 const RELEASE_ANSWERS: &[(Asked, Verdict)] = &[
     (
         ("rita", FILM, Right::Push, RELEASED, None),
@@ -284,6 +288,7 @@ paths = ["*"]
 rights = ["pull", "push", "list", "lock"]
 "#;
 
+/// Questions, and the answers.
 const SEVERAL_ANSWERS: &[(Asked, Verdict)] = &[
     (
         ("ann", "studio/tools", Right::Pull, None, None),
