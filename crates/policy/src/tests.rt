@@ -1,8 +1,7 @@
 //! What the language of policy files and its decisions are held to, by example.
 use crate::*;
-use std::alloc::Global;
+use std::alloc::{Alloc, Global};
 use std::process::Abort;
-use std::test::Fail;
 
 mod decisions;
 mod faults;
@@ -28,80 +27,91 @@ paths = ["*"]
 rights = ["pull", "push", "list", "lock"]
 "#;
 
-/// The three parts, one after the other.
-fn join(alloc: Global, first: &str, second: &str, third: &str) -> Result<String, Fail> {
-    Ok(format!(in alloc; "{first}{second}{third}")?)
+/// The value of an answer that has to be `Ok`.
+fn sure<T, E>(rt: &impl Abort, answer: Result<T, E>) -> T {
+    match answer {
+        Ok(value) => value,
+        Err(_) => panic!(rt; "an answer is an error"),
+    }
 }
 
+/// The three parts, one after the other.
+fn join(rt: &(impl Abort + Alloc<A = Global>), first: &str, second: &str, third: &str) -> String {
+    sure(rt, format!(in rt.alloc(); "{first}{second}{third}"))
+}
+
+/// The lists of a row, and entries that each may have.
+const LISTS: &[(Key, &str)] = &[
+    (Key::Users, "[\"*\"]"),
+    (Key::Repos, "[\"*\"]"),
+    (Key::Refs, "[\"*\"]"),
+    (Key::Paths, "[\"*\"]"),
+    (Key::Rights, "[\"pull\"]"),
+];
+
 /// A row that denies all to all but for one list, which is as given.
-fn row_with(alloc: Global, key: Key, list: &str) -> Result<String, Fail> {
-    let mut row = String::from_str(alloc, "[[row]]\neffect = \"deny\"\n")?;
-    for (other, any) in [
-        (Key::Users, "[\"*\"]"),
-        (Key::Repos, "[\"*\"]"),
-        (Key::Refs, "[\"*\"]"),
-        (Key::Paths, "[\"*\"]"),
-        (Key::Rights, "[\"pull\"]"),
-    ] {
-        row.push_str(other.name())?;
-        row.push_str(" = ")?;
-        row.push_str(if other == key { list } else { any })?;
-        row.push_str("\n")?;
+fn row_with(rt: &(impl Abort + Alloc<A = Global>), key: Key, list: &str) -> String {
+    let mut row = sure(
+        rt,
+        String::from_str(rt.alloc(), "[[row]]\neffect = \"deny\"\n"),
+    );
+    for &(other, any) in LISTS {
+        let list = if other == key { list } else { any };
+        let line = sure(rt, format!(in rt.alloc(); "{} = {list}\n", other.name()));
+        sure(rt, row.push_str(line.as_str()));
     }
-    Ok(row)
+    row
 }
 
 /// That the program prints this of the text after `custody: policy `, or that the text spells a
 /// policy, where `none` is expected.
-fn expect(rt: &impl Abort, alloc: Global, source: &str, expected: &str) -> Result<(), Fail> {
-    let line = match Policy::read(alloc, source) {
-        Ok(_) => String::from_str(alloc, "none")?,
-        Err(fault) => format!(in alloc; "{fault}")?,
+fn expect(rt: &(impl Abort + Alloc<A = Global>), source: &str, expected: &str) {
+    let line = match Policy::read(rt.alloc(), source) {
+        Ok(_) => sure(rt, String::from_str(rt.alloc(), "none")),
+        Err(fault) => sure(rt, fault.to_string(rt.alloc())),
     };
     assert_eq!(rt; line.as_str(), expected, "of {source}");
-    Ok(())
 }
 
 /// The same of a text in three parts: mostly the top, the repositories and the rows.
 fn expect_parts(
-    rt: &impl Abort,
-    alloc: Global,
+    rt: &(impl Abort + Alloc<A = Global>),
     top: &str,
     repos: &str,
     rows: &str,
     expected: &str,
-) -> Result<(), Fail> {
-    let source = join(alloc, top, repos, rows)?;
-    expect(rt, alloc, source.as_str(), expected)
+) {
+    let source = join(rt, top, repos, rows);
+    expect(rt, source.as_str(), expected);
 }
 
 #[test]
-fn reads_a_plain_policy(rt: HostRuntime) -> Result<(), Fail> {
-    let source = join(rt.alloc(), TOP, REPO, ROW)?;
-    let policy = Policy::read(rt.alloc(), source.as_str())?;
+fn reads_a_plain_policy(rt: HostRuntime) {
+    let source = join(&rt, TOP, REPO, ROW);
+    let policy = sure(&rt, Policy::read(rt.alloc(), source.as_str()));
     assert_eq!(rt; policy.base(), "https://lfs.example");
     assert_eq!(rt; policy.token_seconds(), 3600);
-    let repo = policy.repo("studio/film").ok_or("no repository")?;
+    let repo = sure(&rt, policy.repo("studio/film").ok_or(()));
     assert_eq!(rt; repo.name().as_str(), "studio/film");
     assert_eq!(rt; repo.default_ref().as_str(), "refs/heads/main");
     assert_eq!(rt; repo.quota(), 1000000);
     assert!(rt; policy.repo("studio/other").is_none());
-    Ok(())
 }
 
 #[test]
-fn reads_bytes(rt: HostRuntime) -> Result<(), Fail> {
-    let source = join(rt.alloc(), TOP, REPO, ROW)?;
-    let policy = Policy::read_bytes(rt.alloc(), source.as_bytes())?;
+fn reads_bytes(rt: HostRuntime) {
+    let source = join(&rt, TOP, REPO, ROW);
+    let policy = sure(&rt, Policy::read_bytes(rt.alloc(), source.as_bytes()));
     assert_eq!(rt; policy.token_seconds(), 3600);
-    Ok(())
 }
 
-/// Bytes that are no text, of the longest length and one more.
+/// The longest length of a file and one more, and what bytes that are no text are refused for.
+const LENGTHS: &[(usize, FaultCode)] = &[(1_048_576, FaultCode::Y1), (1_048_577, FaultCode::Y5)];
+
 #[test]
-fn reads_bytes_that_are_no_text(rt: HostRuntime) -> Result<(), Fail> {
-    for (length, code) in [(1_048_576, FaultCode::Y1), (1_048_577, FaultCode::Y5)] {
-        let bytes = vec![in rt.alloc(); 0xffu8; length]?;
+fn reads_bytes_that_are_no_text(rt: HostRuntime) {
+    for &(length, code) in LENGTHS {
+        let bytes = sure(&rt, vec![in rt.alloc(); 0xffu8; length]);
         let fault = Fault {
             code,
             place: Place::File,
@@ -110,5 +120,4 @@ fn reads_bytes_that_are_no_text(rt: HostRuntime) -> Result<(), Fail> {
         let read = Policy::read_bytes(rt.alloc(), bytes.as_slice());
         assert_eq!(rt; read.err(), Some(PolicyFault::Refused(fault)));
     }
-    Ok(())
 }

@@ -1,8 +1,8 @@
+use super::{expect, sure};
 use crate::{Counted, DeviceFault, FailAfter, Sink, SliceSource, Source, VecSink};
 use std::cell::Cell;
 use std::io;
 use std::io::{Read, Write};
-use std::test::Fail;
 
 fn write_whole<K: Sink>(sink: &mut K, bytes: &[u8]) -> Result<(), DeviceFault> {
     let mut rest = bytes;
@@ -29,55 +29,64 @@ fn copy<S: Source, K: Sink>(source: &mut S, sink: &mut K) -> Result<usize, Devic
     Ok(32)
 }
 
+const TEXT: &[u8] = b"twenty bytes of text";
+
+/// How many bytes a call takes at most, and how many reads hand out the text then.
+const MOSTS: &[(usize, usize)] = &[(0, 20), (1, 20), (2, 10), (7, 3), (usize::MAX, 3)];
+
 #[test]
-fn sources_hand_out_every_byte(rt: HostRuntime) -> Result<(), Fail> {
-    let bytes = b"twenty bytes of text";
-    for (most, reads) in [(0, 20), (1, 20), (2, 10), (7, 3), (usize::MAX, 3)] {
-        let mut source = SliceSource::new(bytes, most);
+fn sources_hand_out_every_byte(rt: HostRuntime) {
+    for &(most, reads) in MOSTS {
+        let mut source = SliceSource::new(TEXT, most);
         let mut sink = VecSink::new(rt.alloc(), most);
         // Lent, a source is a source and a sink a sink.
-        assert_eq!(rt; copy(&mut &mut source, &mut &mut sink)?, reads, "{most}");
-        assert_eq!(rt; sink.taken(), bytes.as_slice());
-        assert_eq!(rt; source.left(), b"".as_slice());
-        assert_eq!(rt; (source.failures(), sink.failures()), (0, 0));
+        let copied = copy(&mut &mut source, &mut &mut sink);
+        expect(&rt, &most, copied, Ok(reads));
+        expect(&rt, &most, sink.taken(), TEXT);
+        expect(&rt, &most, source.left(), b"");
+        expect(&rt, &most, (source.failures(), sink.failures()), (0, 0));
     }
-    Ok(())
 }
 
+/// How many of six bytes a read hands out at most, the room, and how many it hands out.
+const READS: &[(usize, usize, usize)] = &[(2, 8, 2), (7, 8, 6), (7, 3, 3), (7, 0, 0)];
+
+/// What is written, one behind the other, and how much of it a sink of two bytes takes.
+const WRITES: &[(&[u8], usize)] = &[(b"abc", 2), (b"c", 1), (b"", 0)];
+
 #[test]
-fn pieces_are_as_small_as_asked(rt: HostRuntime) -> Result<(), Fail> {
-    let mut piece = [0; 8];
-    assert_eq!(rt; SliceSource::new(b"abcdef", 2).read(&mut piece), Ok(2));
-    assert_eq!(rt; SliceSource::new(b"abcdef", 7).read(&mut piece), Ok(6));
-    assert_eq!(rt; SliceSource::new(b"abcdef", 7).read(&mut piece[..3]), Ok(3));
-    assert_eq!(rt; SliceSource::new(b"abcdef", 7).read(&mut []), Ok(0));
+fn pieces_are_as_small_as_asked(rt: HostRuntime) {
+    for &(most, room, size) in READS {
+        let mut piece = sure(&rt, vec![in rt.alloc(); 0; room]);
+        let read = SliceSource::new(b"abcdef", most).read(&mut piece);
+        expect(&rt, &(most, room), read, Ok(size));
+    }
     let mut sink = VecSink::new(rt.alloc(), 2);
-    assert_eq!(rt; sink.write(b"abc"), Ok(2));
-    assert_eq!(rt; sink.write(b"c"), Ok(1));
-    assert_eq!(rt; sink.write(b""), Ok(0));
-    assert_eq!(rt; sink.taken(), b"abc".as_slice());
-    Ok(())
+    for &(piece, size) in WRITES {
+        expect(&rt, &piece, sink.write(piece), Ok(size));
+    }
+    expect(&rt, &sink, sink.taken(), b"abc");
 }
 
 #[test]
-fn failing_devices_fail_from_then_on(rt: HostRuntime) -> Result<(), Fail> {
+fn failing_devices_fail_from_then_on(rt: HostRuntime) {
     let mut source = FailAfter::new(SliceSource::new(b"abcdef", 2), 2);
     let mut sink = VecSink::new(rt.alloc(), 2);
-    assert_eq!(rt; copy(&mut source, &mut sink), Err(DeviceFault));
-    assert_eq!(rt; sink.taken(), b"abcd".as_slice());
-    assert_eq!(rt; source.read(&mut [0]), Err(DeviceFault));
-    assert_eq!(rt; source.failures(), 2);
-    assert_eq!(rt; source.into_inner().left(), b"ef".as_slice());
+    let copied = copy(&mut source, &mut sink);
+    expect(&rt, &"a copy", copied, Err(DeviceFault));
+    expect(&rt, &"a copy", sink.taken(), b"abcd");
+    let again = source.read(&mut [0]);
+    expect(&rt, &"a read", again, Err(DeviceFault));
+    expect(&rt, &"a read", source.failures(), 2);
+    expect(&rt, &"a read", source.into_inner().left(), b"ef");
 
     let mut sink = FailAfter::new(VecSink::new(rt.alloc(), 1), 3);
-    assert_eq!(rt; write_whole(&mut sink, b"abcdef"), Err(DeviceFault));
-    assert_eq!(rt; sink.failures(), 1);
-    assert_eq!(rt; sink.into_inner().taken(), b"abc".as_slice());
-    assert_eq!(rt;
-        DeviceFault.to_string(rt.alloc())?.as_str(),
-        "the device failed"
-    );
-    Ok(())
+    let written = write_whole(&mut sink, b"abcdef");
+    expect(&rt, &"writes", written, Err(DeviceFault));
+    expect(&rt, &"writes", sink.failures(), 1);
+    expect(&rt, &"writes", sink.into_inner().taken(), b"abc");
+    let text = sure(&rt, DeviceFault.to_string(rt.alloc()));
+    expect(&rt, &"a fault", text.as_str(), "the device failed");
 }
 
 /// A reader that fails once, before its byte of that index.
@@ -103,21 +112,24 @@ impl Read for FailsOnce {
     }
 }
 
+/// What copies of that reader tell, one after the other.
+const COPIES: &[Result<usize, DeviceFault>] = &[Err(DeviceFault), Ok(3), Ok(0)];
+
 #[test]
-fn a_reader_that_fails_is_counted(rt: HostRuntime) -> Result<(), Fail> {
+fn a_reader_that_fails_is_counted(rt: HostRuntime) {
     let mut source = Counted::new(FailsOnce {
         bytes: b"abcdef",
         before: Some(3),
     });
     let mut sink = Counted::new(Vec::new(rt.alloc()));
-    assert_eq!(rt; copy(&mut source, &mut sink), Err(DeviceFault));
-    assert_eq!(rt; source.failures(), 1);
-    assert_eq!(rt; copy(&mut source, &mut sink), Ok(3));
-    assert_eq!(rt; copy(&mut source, &mut sink), Ok(0));
-    assert_eq!(rt; (source.failures(), sink.failures()), (1, 0));
-    assert_eq!(rt; source.into_inner().bytes, b"".as_slice());
-    assert_eq!(rt; sink.into_inner().as_slice(), b"abcdef".as_slice());
-    Ok(())
+    for want in COPIES {
+        let copied = copy(&mut source, &mut sink);
+        expect(&rt, &"a copy", copied, *want);
+        expect(&rt, &"a copy", source.failures(), 1);
+    }
+    expect(&rt, &"the sink", sink.failures(), 0);
+    expect(&rt, &"the source", source.into_inner().bytes, b"");
+    expect(&rt, &"the sink", sink.into_inner().as_slice(), b"abcdef");
 }
 
 /// A writer that fails, or takes nothing.
@@ -197,7 +209,7 @@ impl<K: Sink> Sink for Ticking<'_, K> {
 }
 
 #[test]
-fn a_source_and_a_sink_may_share_a_cell(rt: HostRuntime) -> Result<(), Fail> {
+fn a_source_and_a_sink_may_share_a_cell(rt: HostRuntime) {
     let calls = Cell::new(0);
     let mut source = Ticking {
         inner: SliceSource::new(b"abcd", 2),
@@ -207,9 +219,9 @@ fn a_source_and_a_sink_may_share_a_cell(rt: HostRuntime) -> Result<(), Fail> {
         inner: VecSink::new(rt.alloc(), 1),
         calls: &calls,
     };
-    assert_eq!(rt; copy(&mut source, &mut sink)?, 2);
+    let copied = copy(&mut source, &mut sink);
+    expect(&rt, &"a copy", copied, Ok(2));
     // Three reads, of which the last is the end, and four writes.
-    assert_eq!(rt; calls.get(), 7);
-    assert_eq!(rt; sink.inner.taken(), b"abcd".as_slice());
-    Ok(())
+    expect(&rt, &"calls", calls.get(), 7);
+    expect(&rt, &"the sink", sink.inner.taken(), b"abcd");
 }

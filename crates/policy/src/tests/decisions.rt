@@ -13,24 +13,30 @@ pub type Asked = (
 );
 
 /// The answer to a question.
-pub fn ask(policy: &Policy, asked: Asked) -> Result<Verdict, Fail> {
-    let (user, repo, right, ref_name, path) = asked;
-    let ref_name = match ref_name {
-        Some(text) => Some(RefName::read(text).ok_or("no ref")?),
-        None => None,
-    };
-    let path = match path {
-        Some(text) => Some(LockPath::read(text).ok_or("no path")?),
-        None => None,
-    };
+fn ask(rt: &impl Abort, policy: &Policy, asked: &Asked) -> Verdict {
+    let &(user, repo, right, ref_name, path) = asked;
+    let ref_name = ref_name.map(|text| sure(rt, RefName::read(text).ok_or(())));
+    let path = path.map(|text| sure(rt, LockPath::read(text).ok_or(())));
     let question = Question {
-        user: UserName::read(user).ok_or("no user")?,
-        repo: RepoName::read(repo).ok_or("no repository")?,
+        user: sure(rt, UserName::read(user).ok_or(())),
+        repo: sure(rt, RepoName::read(repo).ok_or(())),
         right,
         ref_name,
         path,
     };
-    Ok(decide(policy, &question))
+    decide(policy, &question)
+}
+
+/// That the policy answers these questions so.
+pub fn expect_verdicts(
+    rt: &(impl Abort + Alloc<A = Global>),
+    source: &str,
+    verdicts: &[(Asked, Verdict)],
+) {
+    let policy = sure(rt, Policy::read(rt.alloc(), source));
+    for (asked, want) in verdicts {
+        assert_eq!(rt; ask(rt, &policy, asked), *want);
+    }
 }
 
 const FILM: &str = "studio/film";
@@ -58,31 +64,30 @@ paths = ["*"]
 rights = ["pull", "push", "list", "lock", "force"]
 "#;
 
+/// Questions, and the answers.
+const ON_FROZEN_FOLDER: &[(Asked, Verdict)] = &[
+    (
+        ("ann", FILM, Right::Lock, MAIN, BELOW_ART),
+        Verdict::Deny(1),
+    ),
+    (
+        ("ann", FILM, Right::Lock, MAIN, Some("artx")),
+        Verdict::Allow(2),
+    ),
+    (
+        ("ann", FILM, Right::Lock, MAIN, Some("art")),
+        Verdict::Allow(2),
+    ),
+    (
+        ("ann", FILM, Right::Force, MAIN, BELOW_ART),
+        Verdict::Allow(2),
+    ),
+];
+
 #[test]
-fn the_first_row_that_matches(rt: HostRuntime) -> Result<(), Fail> {
-    let source = join(rt.alloc(), TOP, REPO, FROZEN_FOLDER)?;
-    let policy = Policy::read(rt.alloc(), source.as_str())?;
-    for (asked, expected) in [
-        (
-            ("ann", FILM, Right::Lock, MAIN, BELOW_ART),
-            Verdict::Deny(1),
-        ),
-        (
-            ("ann", FILM, Right::Lock, MAIN, Some("artx")),
-            Verdict::Allow(2),
-        ),
-        (
-            ("ann", FILM, Right::Lock, MAIN, Some("art")),
-            Verdict::Allow(2),
-        ),
-        (
-            ("ann", FILM, Right::Force, MAIN, BELOW_ART),
-            Verdict::Allow(2),
-        ),
-    ] {
-        assert_eq!(rt; ask(&policy, asked)?, expected);
-    }
-    Ok(())
+fn the_first_row_that_matches(rt: HostRuntime) {
+    let source = join(&rt, TOP, REPO, FROZEN_FOLDER);
+    expect_verdicts(&rt, source.as_str(), ON_FROZEN_FOLDER);
 }
 
 /// Ann may push below art/ alone.
@@ -96,24 +101,23 @@ paths = ["art/"]
 rights = ["push"]
 "#;
 
+/// Questions, and the answers.
+const WITHOUT_A_PATH: &[(Asked, Verdict)] = &[
+    (("ann", FILM, Right::Push, MAIN, None), Verdict::Deny(0)),
+    (
+        ("ann", FILM, Right::Push, MAIN, BELOW_ART),
+        Verdict::Allow(1),
+    ),
+    (
+        ("bob", FILM, Right::Push, MAIN, BELOW_ART),
+        Verdict::Deny(0),
+    ),
+];
+
 #[test]
-fn a_question_without_a_path(rt: HostRuntime) -> Result<(), Fail> {
-    let source = join(rt.alloc(), TOP, REPO, PUSH_BELOW)?;
-    let policy = Policy::read(rt.alloc(), source.as_str())?;
-    for (asked, expected) in [
-        (("ann", FILM, Right::Push, MAIN, None), Verdict::Deny(0)),
-        (
-            ("ann", FILM, Right::Push, MAIN, BELOW_ART),
-            Verdict::Allow(1),
-        ),
-        (
-            ("bob", FILM, Right::Push, MAIN, BELOW_ART),
-            Verdict::Deny(0),
-        ),
-    ] {
-        assert_eq!(rt; ask(&policy, asked)?, expected);
-    }
-    Ok(())
+fn a_question_without_a_path(rt: HostRuntime) {
+    let source = join(&rt, TOP, REPO, PUSH_BELOW);
+    expect_verdicts(&rt, source.as_str(), WITHOUT_A_PATH);
 }
 
 /// Ann may pull, if the question names a ref.
@@ -127,33 +131,34 @@ paths = ["*"]
 rights = ["pull"]
 "#;
 
-#[test]
-fn a_question_without_a_ref(rt: HostRuntime) -> Result<(), Fail> {
-    let source = join(rt.alloc(), TOP, REPO, PULL_REFS)?;
-    let policy = Policy::read(rt.alloc(), source.as_str())?;
-    for (asked, expected) in [
-        (("ann", FILM, Right::Pull, None, None), Verdict::Deny(0)),
-        (("ann", FILM, Right::Pull, MAIN, None), Verdict::Allow(1)),
-        (
-            ("ann", FILM, Right::Pull, Some("refs/tags/a"), None),
-            Verdict::Deny(0),
-        ),
-        (
-            ("ann", "studios/film", Right::Pull, MAIN, None),
-            Verdict::Deny(0),
-        ),
-    ] {
-        assert_eq!(rt; ask(&policy, asked)?, expected);
-    }
-    Ok(())
-}
+/// Questions, and the answers.
+const WITHOUT_A_REF: &[(Asked, Verdict)] = &[
+    (("ann", FILM, Right::Pull, None, None), Verdict::Deny(0)),
+    (("ann", FILM, Right::Pull, MAIN, None), Verdict::Allow(1)),
+    (
+        ("ann", FILM, Right::Pull, Some("refs/tags/a"), None),
+        Verdict::Deny(0),
+    ),
+    (
+        ("ann", "studios/film", Right::Pull, MAIN, None),
+        Verdict::Deny(0),
+    ),
+];
 
 #[test]
-fn no_row(rt: HostRuntime) -> Result<(), Fail> {
-    let source = join(rt.alloc(), TOP, REPO, "")?;
-    let policy = Policy::read(rt.alloc(), source.as_str())?;
-    for (asked, expected) in [(("ann", FILM, Right::Pull, None, None), Verdict::Deny(0))] {
-        assert_eq!(rt; ask(&policy, asked)?, expected);
-    }
-    Ok(())
+fn a_question_without_a_ref(rt: HostRuntime) {
+    let source = join(&rt, TOP, REPO, PULL_REFS);
+    expect_verdicts(&rt, source.as_str(), WITHOUT_A_REF);
+}
+
+/// Questions, and the answers.
+const WITHOUT_A_ROW: &[(Asked, Verdict)] = &[(
+    ("ann", FILM, Right::Pull, None, None),
+    Verdict::Deny(0),
+)];
+
+#[test]
+fn no_row(rt: HostRuntime) {
+    let source = join(&rt, TOP, REPO, "");
+    expect_verdicts(&rt, source.as_str(), WITHOUT_A_ROW);
 }

@@ -1,273 +1,283 @@
 //! Each fault at each place where it can stand, and which of several is the first.
 use super::*;
 
-#[test]
-fn of_the_file(rt: HostRuntime) -> Result<(), Fail> {
-    let texts = [
-        ("base =", "Y1"),
-        ("base = \"a\"\nbase = \"b\"", "Y1"),
-        ("quota = 9223372036854775808", "Y1"),
-        ("", "Y2 at top"),
-    ];
-    for (source, expected) in texts {
-        expect(&rt, rt.alloc(), source, expected)?;
-    }
-    Ok(())
-}
+/// Whole files, and what is told of them.
+const TEXTS: &[(&str, &str)] = &[
+    ("base =", "Y1"),
+    ("base = \"a\"\nbase = \"b\"", "Y1"),
+    ("quota = 9223372036854775808", "Y1"),
+    ("", "Y2 at top"),
+];
 
 #[test]
-fn at_the_top(rt: HostRuntime) -> Result<(), Fail> {
-    let tops = [
-        (
-            "base = \"https://lfs.example\"\ntoken_seconds = 3600\ncolour = 1\n",
-            "Y2 at top",
-        ),
-        ("base = \"https://lfs.example\"\n", "Y2 at top"),
-        ("token_seconds = 3600\n", "Y2 at top"),
-        ("base = 1\ntoken_seconds = 3600\n", "Y2 at top"),
-        (
-            "base = \"https://lfs.example\"\ntoken_seconds = \"1\"\n",
-            "Y2 at top",
-        ),
-        (
-            "base = \"https://lfs.example\"\ntoken_seconds = 1.0\n",
-            "Y2 at top",
-        ),
-        (
-            "base = \"https://lfs.example\"\ntoken_seconds = 0\n",
-            "Y3 at top",
-        ),
-        (
-            "base = \"https://lfs.example\"\ntoken_seconds = 86401\n",
-            "Y3 at top",
-        ),
-        (
-            "base = \"https://lfs.example\"\ntoken_seconds = -1\n",
-            "Y3 at top",
-        ),
-        (
-            "base = \"ftp://lfs.example\"\ntoken_seconds = 1\n",
-            "Y3 at top",
-        ),
-        (
-            "base = \"https://lfs.example/\"\ntoken_seconds = 1\n",
-            "Y3 at top",
-        ),
-        (
-            "base = \"https://lfs.example?x\"\ntoken_seconds = 1\n",
-            "Y3 at top",
-        ),
-        ("base = \"https://\"\ntoken_seconds = 1\n", "Y3 at top"),
-        (
-            "base = \"https://lfs.example\"\ntoken_seconds = 1\n",
-            "none",
-        ),
-        (
-            "base = \"https://lfs.example\"\ntoken_seconds = 86400\n",
-            "none",
-        ),
-    ];
-    for (top, expected) in tops {
-        expect_parts(&rt, rt.alloc(), top, REPO, ROW, expected)?;
+fn of_the_file(rt: HostRuntime) {
+    for &(source, expected) in TEXTS {
+        expect(&rt, source, expected);
     }
-    Ok(())
 }
 
-#[test]
-fn where_no_array_or_no_table_stands(rt: HostRuntime) -> Result<(), Fail> {
-    let rests = [
-        ("", "none"),
-        ("repo = []\nrow = []\n", "none"),
-        ("repo = 1\n", "Y2 at top"),
-        ("[repo]\nname = \"a/b\"\n", "Y2 at top"),
-        ("row = \"x\"\n", "Y2 at top"),
-        ("repo = [1]\n", "Y2 at repo 1"),
-        ("row = [[]]\n", "Y2 at row 1"),
-    ];
-    for (rest, expected) in rests {
-        expect_parts(&rt, rt.alloc(), TOP, rest, "", expected)?;
-    }
-    Ok(())
-}
+/// Tops of a file, and what is told of it.
+const TOPS: &[(&str, &str)] = &[
+    (
+        "base = \"https://lfs.example\"\ntoken_seconds = 3600\ncolour = 1\n",
+        "Y2 at top",
+    ),
+    ("base = \"https://lfs.example\"\n", "Y2 at top"),
+    ("token_seconds = 3600\n", "Y2 at top"),
+    ("base = 1\ntoken_seconds = 3600\n", "Y2 at top"),
+    (
+        "base = \"https://lfs.example\"\ntoken_seconds = \"1\"\n",
+        "Y2 at top",
+    ),
+    (
+        "base = \"https://lfs.example\"\ntoken_seconds = 1.0\n",
+        "Y2 at top",
+    ),
+    (
+        "base = \"https://lfs.example\"\ntoken_seconds = 0\n",
+        "Y3 at top",
+    ),
+    (
+        "base = \"https://lfs.example\"\ntoken_seconds = 86401\n",
+        "Y3 at top",
+    ),
+    (
+        "base = \"https://lfs.example\"\ntoken_seconds = -1\n",
+        "Y3 at top",
+    ),
+    (
+        "base = \"ftp://lfs.example\"\ntoken_seconds = 1\n",
+        "Y3 at top",
+    ),
+    (
+        "base = \"https://lfs.example/\"\ntoken_seconds = 1\n",
+        "Y3 at top",
+    ),
+    (
+        "base = \"https://lfs.example?x\"\ntoken_seconds = 1\n",
+        "Y3 at top",
+    ),
+    ("base = \"https://\"\ntoken_seconds = 1\n", "Y3 at top"),
+    (
+        "base = \"https://lfs.example\"\ntoken_seconds = 1\n",
+        "none",
+    ),
+    (
+        "base = \"https://lfs.example\"\ntoken_seconds = 86400\n",
+        "none",
+    ),
+];
 
 #[test]
-fn of_a_repository(rt: HostRuntime) -> Result<(), Fail> {
-    let repos = [
-        ("name = \"a/b\"\ndefault_ref = \"refs/a\"\n", "Y2 at repo 2"),
-        ("name = \"a/b\"\nquota = 1\n", "Y2 at repo 2"),
-        ("default_ref = \"refs/a\"\nquota = 1\n", "Y2 at repo 2"),
-        (
-            "name = \"a/b\"\ndefault_ref = \"refs/a\"\nquota = true\n",
-            "Y2 at repo 2",
-        ),
-        (
-            "name = \"a/b\"\ndefault_ref = \"refs/a\"\nquota = 1\nowner = \"a\"\n",
-            "Y2 at repo 2",
-        ),
-        (
-            "name = \"a\"\ndefault_ref = \"refs/a\"\nquota = 1\n",
-            "Y3 at repo 2",
-        ),
-        (
-            "name = \"A/b\"\ndefault_ref = \"refs/a\"\nquota = 1\n",
-            "Y3 at repo 2",
-        ),
-        (
-            "name = \"a/b\"\ndefault_ref = \"refs/a/\"\nquota = 1\n",
-            "Y3 at repo 2",
-        ),
-        (
-            "name = \"a/b\"\ndefault_ref = \"refs/a\"\nquota = -1\n",
-            "Y3 at repo 2",
-        ),
-        (
-            "name = \"a/b\"\ndefault_ref = \"refs/a\"\nquota = 1099511627777\n",
-            "Y3 at repo 2",
-        ),
-        (
-            "name = \"studio/film\"\ndefault_ref = \"refs/a\"\nquota = 1\n",
-            "Y4 at repo 2",
-        ),
-        (
-            "name = \"a/b\"\ndefault_ref = \"refs/a\"\nquota = 0\n",
-            "none",
-        ),
-        (
-            "name = \"a/b\"\ndefault_ref = \"refs/a\"\nquota = 1099511627776\n",
-            "none",
-        ),
-    ];
-    for (repo, expected) in repos {
-        let second = join(rt.alloc(), REPO, "[[repo]]\n", repo)?;
-        expect_parts(&rt, rt.alloc(), TOP, second.as_str(), ROW, expected)?;
+fn at_the_top(rt: HostRuntime) {
+    for &(top, expected) in TOPS {
+        expect_parts(&rt, top, REPO, ROW, expected);
     }
-    Ok(())
+}
+
+/// What stands behind the top, and what is told.
+const RESTS: &[(&str, &str)] = &[
+    ("", "none"),
+    ("repo = []\nrow = []\n", "none"),
+    ("repo = 1\n", "Y2 at top"),
+    ("[repo]\nname = \"a/b\"\n", "Y2 at top"),
+    ("row = \"x\"\n", "Y2 at top"),
+    ("repo = [1]\n", "Y2 at repo 1"),
+    ("row = [[]]\n", "Y2 at row 1"),
+];
+
+#[test]
+fn where_no_array_or_no_table_stands(rt: HostRuntime) {
+    for &(rest, expected) in RESTS {
+        expect_parts(&rt, TOP, rest, "", expected);
+    }
+}
+
+/// The keys of the second repository, and what is told.
+const REPOS: &[(&str, &str)] = &[
+    ("name = \"a/b\"\ndefault_ref = \"refs/a\"\n", "Y2 at repo 2"),
+    ("name = \"a/b\"\nquota = 1\n", "Y2 at repo 2"),
+    ("default_ref = \"refs/a\"\nquota = 1\n", "Y2 at repo 2"),
+    (
+        "name = \"a/b\"\ndefault_ref = \"refs/a\"\nquota = true\n",
+        "Y2 at repo 2",
+    ),
+    (
+        "name = \"a/b\"\ndefault_ref = \"refs/a\"\nquota = 1\nowner = \"a\"\n",
+        "Y2 at repo 2",
+    ),
+    (
+        "name = \"a\"\ndefault_ref = \"refs/a\"\nquota = 1\n",
+        "Y3 at repo 2",
+    ),
+    (
+        "name = \"A/b\"\ndefault_ref = \"refs/a\"\nquota = 1\n",
+        "Y3 at repo 2",
+    ),
+    (
+        "name = \"a/b\"\ndefault_ref = \"refs/a/\"\nquota = 1\n",
+        "Y3 at repo 2",
+    ),
+    (
+        "name = \"a/b\"\ndefault_ref = \"refs/a\"\nquota = -1\n",
+        "Y3 at repo 2",
+    ),
+    (
+        "name = \"a/b\"\ndefault_ref = \"refs/a\"\nquota = 1099511627777\n",
+        "Y3 at repo 2",
+    ),
+    (
+        "name = \"studio/film\"\ndefault_ref = \"refs/a\"\nquota = 1\n",
+        "Y4 at repo 2",
+    ),
+    (
+        "name = \"a/b\"\ndefault_ref = \"refs/a\"\nquota = 0\n",
+        "none",
+    ),
+    (
+        "name = \"a/b\"\ndefault_ref = \"refs/a\"\nquota = 1099511627776\n",
+        "none",
+    ),
+];
+
+#[test]
+fn of_a_repository(rt: HostRuntime) {
+    for &(repo, expected) in REPOS {
+        let second = join(&rt, REPO, "[[repo]]\n", repo);
+        expect_parts(&rt, TOP, second.as_str(), ROW, expected);
+    }
 }
 
 /// The second of two equal names is told, which is the third repository here.
 #[test]
-fn of_a_repeated_name(rt: HostRuntime) -> Result<(), Fail> {
+fn of_a_repeated_name(rt: HostRuntime) {
     let other = "[[repo]]\nname = \"a/b\"\ndefault_ref = \"refs/a\"\nquota = 1\n";
-    let repos = join(rt.alloc(), REPO, other, REPO)?;
-    expect_parts(&rt, rt.alloc(), TOP, repos.as_str(), ROW, "Y4 at repo 3")
+    let repos = join(&rt, REPO, other, REPO);
+    expect_parts(&rt, TOP, repos.as_str(), ROW, "Y4 at repo 3");
 }
 
-#[test]
-fn of_the_keys_of_a_row(rt: HostRuntime) -> Result<(), Fail> {
-    let rows = [
-        ("effect = \"allow\"\n", "Y2 at row 2"),
-        (
-            "effect = 1\nusers = [\"*\"]\nrepos = [\"*\"]\nrefs = [\"*\"]\npaths = [\"*\"]\nrights = [\"pull\"]\n",
-            "Y2 at row 2",
-        ),
-        (
-            "effect = \"deny\"\nusers = \"*\"\nrepos = [\"*\"]\nrefs = [\"*\"]\npaths = [\"*\"]\nrights = [\"pull\"]\n",
-            "Y2 at row 2",
-        ),
-        (
-            "effect = \"deny\"\nusers = [\"*\"]\nrepos = [1]\nrefs = [\"*\"]\npaths = [\"*\"]\nrights = [\"pull\"]\n",
-            "Y2 at row 2",
-        ),
-        (
-            "effect = \"deny\"\nusers = [\"*\"]\nrepos = [\"*\"]\nrefs = [\"*\", 1]\npaths = [\"*\"]\nrights = [\"pull\"]\n",
-            "Y2 at row 2",
-        ),
-        (
-            "effect = \"deny\"\nusers = [\"*\"]\nrepos = [\"*\"]\nrefs = [\"*\"]\npaths = {}\nrights = [\"pull\"]\n",
-            "Y2 at row 2",
-        ),
-        (
-            "effect = \"deny\"\nusers = [\"*\"]\nrepos = [\"*\"]\nrefs = [\"*\"]\npaths = [\"*\"]\nrights = false\n",
-            "Y2 at row 2",
-        ),
-        (
-            "effect = \"deny\"\nusers = [\"*\"]\nrepos = [\"*\"]\nrefs = [\"*\"]\npaths = [\"*\"]\nrights = [\"pull\"]\nnote = \"\"\n",
-            "Y2 at row 2",
-        ),
-        (
-            "effect = \"Deny\"\nusers = [\"*\"]\nrepos = [\"*\"]\nrefs = [\"*\"]\npaths = [\"*\"]\nrights = [\"pull\"]\n",
-            "Y3 at row 2",
-        ),
-        (
-            "effect = \"deny\"\nusers = [\"*\"]\nrepos = [\"*\"]\nrefs = [\"*\"]\npaths = [\"*\"]\nrights = [\"pull\"]\n",
-            "none",
-        ),
-    ];
-    for (row, expected) in rows {
-        let second = join(rt.alloc(), ROW, "[[row]]\n", row)?;
-        expect_parts(&rt, rt.alloc(), TOP, REPO, second.as_str(), expected)?;
-    }
-    Ok(())
-}
+/// The keys of the second row, and what is told.
+const ROWS: &[(&str, &str)] = &[
+    ("effect = \"allow\"\n", "Y2 at row 2"),
+    (
+        "effect = 1\nusers = [\"*\"]\nrepos = [\"*\"]\nrefs = [\"*\"]\npaths = [\"*\"]\nrights = [\"pull\"]\n",
+        "Y2 at row 2",
+    ),
+    (
+        "effect = \"deny\"\nusers = \"*\"\nrepos = [\"*\"]\nrefs = [\"*\"]\npaths = [\"*\"]\nrights = [\"pull\"]\n",
+        "Y2 at row 2",
+    ),
+    (
+        "effect = \"deny\"\nusers = [\"*\"]\nrepos = [1]\nrefs = [\"*\"]\npaths = [\"*\"]\nrights = [\"pull\"]\n",
+        "Y2 at row 2",
+    ),
+    (
+        "effect = \"deny\"\nusers = [\"*\"]\nrepos = [\"*\"]\nrefs = [\"*\", 1]\npaths = [\"*\"]\nrights = [\"pull\"]\n",
+        "Y2 at row 2",
+    ),
+    (
+        "effect = \"deny\"\nusers = [\"*\"]\nrepos = [\"*\"]\nrefs = [\"*\"]\npaths = {}\nrights = [\"pull\"]\n",
+        "Y2 at row 2",
+    ),
+    (
+        "effect = \"deny\"\nusers = [\"*\"]\nrepos = [\"*\"]\nrefs = [\"*\"]\npaths = [\"*\"]\nrights = false\n",
+        "Y2 at row 2",
+    ),
+    (
+        "effect = \"deny\"\nusers = [\"*\"]\nrepos = [\"*\"]\nrefs = [\"*\"]\npaths = [\"*\"]\nrights = [\"pull\"]\nnote = \"\"\n",
+        "Y2 at row 2",
+    ),
+    (
+        "effect = \"Deny\"\nusers = [\"*\"]\nrepos = [\"*\"]\nrefs = [\"*\"]\npaths = [\"*\"]\nrights = [\"pull\"]\n",
+        "Y3 at row 2",
+    ),
+    (
+        "effect = \"deny\"\nusers = [\"*\"]\nrepos = [\"*\"]\nrefs = [\"*\"]\npaths = [\"*\"]\nrights = [\"pull\"]\n",
+        "none",
+    ),
+];
 
 #[test]
-fn of_the_lists_of_a_row(rt: HostRuntime) -> Result<(), Fail> {
-    let lists = [
-        (Key::Users, "[]", "Y3 at row 1"),
-        (Key::Users, "[\"Ann\"]", "Y3 at row 1"),
-        (Key::Users, "[\"ann/\"]", "Y3 at row 1"),
-        (Key::Users, "[\"*\", \"ann\", \"ann\"]", "none"),
-        (Key::Repos, "[]", "Y3 at row 1"),
-        (Key::Repos, "[\"studio\"]", "Y3 at row 1"),
-        (Key::Repos, "[\"studio/film/\"]", "Y3 at row 1"),
-        (Key::Repos, "[\"/\"]", "Y3 at row 1"),
-        (
-            Key::Repos,
-            "[\"studio/\", \"studio/film\", \"other/game\"]",
-            "none",
-        ),
-        (Key::Refs, "[]", "Y3 at row 1"),
-        (Key::Refs, "[\"heads/\"]", "Y3 at row 1"),
-        (Key::Refs, "[\"refs//\"]", "Y3 at row 1"),
-        (Key::Refs, "[\"refs\"]", "Y3 at row 1"),
-        (
-            Key::Refs,
-            "[\"refs/\", \"refs/heads/\", \"refs/heads/main\"]",
-            "none",
-        ),
-        (Key::Paths, "[]", "Y3 at row 1"),
-        (Key::Paths, "[\"/art\"]", "Y3 at row 1"),
-        (Key::Paths, "[\"art//\"]", "Y3 at row 1"),
-        (Key::Paths, "[\"/\"]", "Y3 at row 1"),
-        (Key::Paths, "[\"\"]", "Y3 at row 1"),
-        (Key::Paths, "[\"art/\", \"art/hero.psd\", \"art\"]", "none"),
-        (Key::Rights, "[]", "Y3 at row 1"),
-        (Key::Rights, "[\"pul\"]", "Y3 at row 1"),
-        (Key::Rights, "[\"*\"]", "Y3 at row 1"),
-        (
-            Key::Rights,
-            "[\"pull\", \"push\", \"list\", \"lock\", \"force\"]",
-            "none",
-        ),
-    ];
-    for (key, list, expected) in lists {
-        let row = row_with(rt.alloc(), key, list)?;
-        expect_parts(&rt, rt.alloc(), TOP, REPO, row.as_str(), expected)?;
+fn of_the_keys_of_a_row(rt: HostRuntime) {
+    for &(row, expected) in ROWS {
+        let second = join(&rt, ROW, "[[row]]\n", row);
+        expect_parts(&rt, TOP, REPO, second.as_str(), expected);
     }
-    Ok(())
 }
+
+/// Lists of a row, and what is told.
+const ROW_LISTS: &[(Key, &str, &str)] = &[
+    (Key::Users, "[]", "Y3 at row 1"),
+    (Key::Users, "[\"Ann\"]", "Y3 at row 1"),
+    (Key::Users, "[\"ann/\"]", "Y3 at row 1"),
+    (Key::Users, "[\"*\", \"ann\", \"ann\"]", "none"),
+    (Key::Repos, "[]", "Y3 at row 1"),
+    (Key::Repos, "[\"studio\"]", "Y3 at row 1"),
+    (Key::Repos, "[\"studio/film/\"]", "Y3 at row 1"),
+    (Key::Repos, "[\"/\"]", "Y3 at row 1"),
+    (
+        Key::Repos,
+        "[\"studio/\", \"studio/film\", \"other/game\"]",
+        "none",
+    ),
+    (Key::Refs, "[]", "Y3 at row 1"),
+    (Key::Refs, "[\"heads/\"]", "Y3 at row 1"),
+    (Key::Refs, "[\"refs//\"]", "Y3 at row 1"),
+    (Key::Refs, "[\"refs\"]", "Y3 at row 1"),
+    (
+        Key::Refs,
+        "[\"refs/\", \"refs/heads/\", \"refs/heads/main\"]",
+        "none",
+    ),
+    (Key::Paths, "[]", "Y3 at row 1"),
+    (Key::Paths, "[\"/art\"]", "Y3 at row 1"),
+    (Key::Paths, "[\"art//\"]", "Y3 at row 1"),
+    (Key::Paths, "[\"/\"]", "Y3 at row 1"),
+    (Key::Paths, "[\"\"]", "Y3 at row 1"),
+    (Key::Paths, "[\"art/\", \"art/hero.psd\", \"art\"]", "none"),
+    (Key::Rights, "[]", "Y3 at row 1"),
+    (Key::Rights, "[\"pul\"]", "Y3 at row 1"),
+    (Key::Rights, "[\"*\"]", "Y3 at row 1"),
+    (
+        Key::Rights,
+        "[\"pull\", \"push\", \"list\", \"lock\", \"force\"]",
+        "none",
+    ),
+];
+
+#[test]
+fn of_the_lists_of_a_row(rt: HostRuntime) {
+    for &(key, list, expected) in ROW_LISTS {
+        let row = row_with(&rt, key, list);
+        expect_parts(&rt, TOP, REPO, row.as_str(), expected);
+    }
+}
+
+const NO_QUOTA: &str = "[[repo]]\nname = \"a\"\ndefault_ref = \"refs/a\"\n";
+
+const NO_USERS: &str =
+    "[[row]]\neffect = \"allow\"\nusers = []\nrepos = [\"*\"]\nrefs = [\"*\"]\npaths = [\"*\"]\nrights = [\"pull\"]\n";
+
+const BAD_VALUES: &str = "base = \"x\"\ntoken_seconds = 0\n";
 
 /// The top comes before repositories, these before rows; of a table keys come before values.
+const SEVERAL: &[(&str, &str, &str, &str)] = &[
+    (TOP, NO_QUOTA, NO_USERS, "Y2 at repo 1"),
+    (TOP, NO_USERS, NO_QUOTA, "Y2 at repo 1"),
+    (TOP, NO_USERS, "[[row]]\n", "Y3 at row 1"),
+    (BAD_VALUES, NO_QUOTA, NO_USERS, "Y3 at top"),
+    ("base = \"x\"\n", NO_QUOTA, NO_USERS, "Y2 at top"),
+];
+
 #[test]
-fn the_first_of_several(rt: HostRuntime) -> Result<(), Fail> {
-    let no_quota = "[[repo]]\nname = \"a\"\ndefault_ref = \"refs/a\"\n";
-    let no_users =
-        "[[row]]\neffect = \"allow\"\nusers = []\nrepos = [\"*\"]\nrefs = [\"*\"]\npaths = [\"*\"]\nrights = [\"pull\"]\n";
-    let bad_values = "base = \"x\"\ntoken_seconds = 0\n";
-    for (top, repos, rows, expected) in [
-        (TOP, no_quota, no_users, "Y2 at repo 1"),
-        (TOP, no_users, no_quota, "Y2 at repo 1"),
-        (TOP, no_users, "[[row]]\n", "Y3 at row 1"),
-        (bad_values, no_quota, no_users, "Y3 at top"),
-        ("base = \"x\"\n", no_quota, no_users, "Y2 at top"),
-    ] {
-        expect_parts(&rt, rt.alloc(), top, repos, rows, expected)?;
+fn the_first_of_several(rt: HostRuntime) {
+    for &(top, repos, rows, expected) in SEVERAL {
+        expect_parts(&rt, top, repos, rows, expected);
     }
-    Ok(())
 }
 
 #[test]
-fn in_words(rt: HostRuntime) -> Result<(), Fail> {
+fn in_words(rt: HostRuntime) {
     let fault = Policy::read(
         rt.alloc(),
         "base = \"https://lfs.example\"\ntoken_seconds = 0\n",
@@ -279,10 +289,9 @@ fn in_words(rt: HostRuntime) -> Result<(), Fail> {
         key: Some(Key::TokenSeconds),
     };
     assert_eq!(rt; fault, Some(PolicyFault::Refused(first)));
-    let words = format!(in rt.alloc(); "{}", Sentence(first))?;
+    let words = sure(&rt, Sentence(first).to_string(rt.alloc()));
     assert_eq!(rt;
         words.as_str(),
         "at the top, `token_seconds` is out of range: expected a whole number from 1 to 86400"
     );
-    Ok(())
 }

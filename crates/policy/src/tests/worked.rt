@@ -1,5 +1,5 @@
 //! The policies of `docs/POLICY.md`, and the questions that it answers by them.
-use super::decisions::ask;
+use super::decisions::{Asked, expect_verdicts};
 use super::*;
 use model::Right;
 
@@ -37,21 +37,20 @@ paths = ["*"]
 rights = ["pull"]
 "#;
 
+/// Questions, and the answers.
+const VENDOR_ANSWERS: &[(Asked, Verdict)] = &[
+    (("vendor", FILM, Right::Pull, None, None), Verdict::Allow(2)),
+    (("vendor", FILM, Right::Push, MAIN, None), Verdict::Deny(0)),
+    (
+        ("vendor", FILM, Right::List, MAIN, Some("art/hero.psd")),
+        Verdict::Deny(0),
+    ),
+    (("ann", FILM, Right::Push, MAIN, None), Verdict::Allow(1)),
+];
+
 #[test]
-fn a_vendor_who_reads(rt: HostRuntime) -> Result<(), Fail> {
-    let policy = Policy::read(rt.alloc(), VENDOR)?;
-    for (asked, expected) in [
-        (("vendor", FILM, Right::Pull, None, None), Verdict::Allow(2)),
-        (("vendor", FILM, Right::Push, MAIN, None), Verdict::Deny(0)),
-        (
-            ("vendor", FILM, Right::List, MAIN, Some("art/hero.psd")),
-            Verdict::Deny(0),
-        ),
-        (("ann", FILM, Right::Push, MAIN, None), Verdict::Allow(1)),
-    ] {
-        assert_eq!(rt; ask(&policy, asked)?, expected);
-    }
-    Ok(())
+fn a_vendor_who_reads(rt: HostRuntime) {
+    expect_verdicts(&rt, VENDOR, VENDOR_ANSWERS);
 }
 
 const FOLDERS: &str = r#"
@@ -91,37 +90,36 @@ paths = ["art/sets/", "art/palette.aco"]
 rights = ["lock"]
 "#;
 
+/// Questions, and the answers.
+const FOLDERS_ANSWERS: &[(Asked, Verdict)] = &[
+    (
+        (
+            "ann",
+            FILM,
+            Right::Lock,
+            MAIN,
+            Some("art/characters/hero.psd"),
+        ),
+        Verdict::Allow(2),
+    ),
+    (
+        ("ann", FILM, Right::Lock, MAIN, Some("art/sets/street.psd")),
+        Verdict::Deny(0),
+    ),
+    (
+        ("ann", FILM, Right::Lock, MAIN, Some("art/characters.psd")),
+        Verdict::Deny(0),
+    ),
+    (
+        ("bob", FILM, Right::Lock, MAIN, Some("art/palette.aco")),
+        Verdict::Allow(3),
+    ),
+    (("bob", FILM, Right::Push, MAIN, None), Verdict::Allow(1)),
+];
+
 #[test]
-fn artists_who_lock_their_folder(rt: HostRuntime) -> Result<(), Fail> {
-    let policy = Policy::read(rt.alloc(), FOLDERS)?;
-    for (asked, expected) in [
-        (
-            (
-                "ann",
-                FILM,
-                Right::Lock,
-                MAIN,
-                Some("art/characters/hero.psd"),
-            ),
-            Verdict::Allow(2),
-        ),
-        (
-            ("ann", FILM, Right::Lock, MAIN, Some("art/sets/street.psd")),
-            Verdict::Deny(0),
-        ),
-        (
-            ("ann", FILM, Right::Lock, MAIN, Some("art/characters.psd")),
-            Verdict::Deny(0),
-        ),
-        (
-            ("bob", FILM, Right::Lock, MAIN, Some("art/palette.aco")),
-            Verdict::Allow(3),
-        ),
-        (("bob", FILM, Right::Push, MAIN, None), Verdict::Allow(1)),
-    ] {
-        assert_eq!(rt; ask(&policy, asked)?, expected);
-    }
-    Ok(())
+fn artists_who_lock_their_folder(rt: HostRuntime) {
+    expect_verdicts(&rt, FOLDERS, FOLDERS_ANSWERS);
 }
 
 const SUPERVISOR: &str = r#"
@@ -161,30 +159,29 @@ paths = ["*"]
 rights = ["force"]
 "#;
 
+/// Questions, and the answers.
+const SUPERVISOR_ANSWERS: &[(Asked, Verdict)] = &[
+    (
+        ("sue", FILM, Right::Force, MAIN, Some("art/hero.psd")),
+        Verdict::Allow(3),
+    ),
+    (
+        ("sue", FILM, Right::Force, MAIN, Some("edit/cut.prproj")),
+        Verdict::Deny(2),
+    ),
+    (
+        ("ann", FILM, Right::Force, MAIN, Some("art/hero.psd")),
+        Verdict::Deny(0),
+    ),
+    (
+        ("ann", FILM, Right::Lock, MAIN, Some("art/hero.psd")),
+        Verdict::Allow(1),
+    ),
+];
+
 #[test]
-fn a_supervisor_who_may_force(rt: HostRuntime) -> Result<(), Fail> {
-    let policy = Policy::read(rt.alloc(), SUPERVISOR)?;
-    for (asked, expected) in [
-        (
-            ("sue", FILM, Right::Force, MAIN, Some("art/hero.psd")),
-            Verdict::Allow(3),
-        ),
-        (
-            ("sue", FILM, Right::Force, MAIN, Some("edit/cut.prproj")),
-            Verdict::Deny(2),
-        ),
-        (
-            ("ann", FILM, Right::Force, MAIN, Some("art/hero.psd")),
-            Verdict::Deny(0),
-        ),
-        (
-            ("ann", FILM, Right::Lock, MAIN, Some("art/hero.psd")),
-            Verdict::Allow(1),
-        ),
-    ] {
-        assert_eq!(rt; ask(&policy, asked)?, expected);
-    }
-    Ok(())
+fn a_supervisor_who_may_force(rt: HostRuntime) {
+    expect_verdicts(&rt, SUPERVISOR, SUPERVISOR_ANSWERS);
 }
 
 const RELEASE: &str = r#"
@@ -224,25 +221,24 @@ paths = ["*"]
 rights = ["pull", "push", "list", "lock"]
 "#;
 
+/// Questions, and the answers.
+const RELEASE_ANSWERS: &[(Asked, Verdict)] = &[
+    (
+        ("rita", FILM, Right::Push, RELEASED, None),
+        Verdict::Allow(1),
+    ),
+    (("ann", FILM, Right::Push, RELEASED, None), Verdict::Deny(2)),
+    (
+        ("ann", FILM, Right::Lock, RELEASED, Some("art/hero.psd")),
+        Verdict::Deny(2),
+    ),
+    (("ann", FILM, Right::Push, MAIN, None), Verdict::Allow(3)),
+    (("ann", FILM, Right::Pull, None, None), Verdict::Allow(3)),
+];
+
 #[test]
-fn a_frozen_release(rt: HostRuntime) -> Result<(), Fail> {
-    let policy = Policy::read(rt.alloc(), RELEASE)?;
-    for (asked, expected) in [
-        (
-            ("rita", FILM, Right::Push, RELEASED, None),
-            Verdict::Allow(1),
-        ),
-        (("ann", FILM, Right::Push, RELEASED, None), Verdict::Deny(2)),
-        (
-            ("ann", FILM, Right::Lock, RELEASED, Some("art/hero.psd")),
-            Verdict::Deny(2),
-        ),
-        (("ann", FILM, Right::Push, MAIN, None), Verdict::Allow(3)),
-        (("ann", FILM, Right::Pull, None, None), Verdict::Allow(3)),
-    ] {
-        assert_eq!(rt; ask(&policy, asked)?, expected);
-    }
-    Ok(())
+fn a_frozen_release(rt: HostRuntime) {
+    expect_verdicts(&rt, RELEASE, RELEASE_ANSWERS);
 }
 
 const SEVERAL: &str = r#"
@@ -292,32 +288,31 @@ paths = ["*"]
 rights = ["pull", "push", "list", "lock"]
 "#;
 
+/// Questions, and the answers.
+const SEVERAL_ANSWERS: &[(Asked, Verdict)] = &[
+    (
+        ("ann", "studio/tools", Right::Pull, None, None),
+        Verdict::Allow(1),
+    ),
+    (
+        ("ann", "studio/tools", Right::Push, MAIN, None),
+        Verdict::Deny(0),
+    ),
+    (
+        ("ann", "studio/film", Right::Push, MAIN, None),
+        Verdict::Allow(2),
+    ),
+    (
+        ("ann", "studio/game", Right::Pull, None, None),
+        Verdict::Deny(0),
+    ),
+    (
+        ("bob", "studio/game", Right::Push, MAIN, None),
+        Verdict::Allow(3),
+    ),
+];
+
 #[test]
-fn several_repositories(rt: HostRuntime) -> Result<(), Fail> {
-    let policy = Policy::read(rt.alloc(), SEVERAL)?;
-    for (asked, expected) in [
-        (
-            ("ann", "studio/tools", Right::Pull, None, None),
-            Verdict::Allow(1),
-        ),
-        (
-            ("ann", "studio/tools", Right::Push, MAIN, None),
-            Verdict::Deny(0),
-        ),
-        (
-            ("ann", "studio/film", Right::Push, MAIN, None),
-            Verdict::Allow(2),
-        ),
-        (
-            ("ann", "studio/game", Right::Pull, None, None),
-            Verdict::Deny(0),
-        ),
-        (
-            ("bob", "studio/game", Right::Push, MAIN, None),
-            Verdict::Allow(3),
-        ),
-    ] {
-        assert_eq!(rt; ask(&policy, asked)?, expected);
-    }
-    Ok(())
+fn several_repositories(rt: HostRuntime) {
+    expect_verdicts(&rt, SEVERAL, SEVERAL_ANSWERS);
 }

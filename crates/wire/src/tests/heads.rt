@@ -1,357 +1,321 @@
-ghost use Rattle.std.specs.Prelude.{◌≤◌, IfOk, vec_len};
-
+use super::{expect, sure};
 use crate::{Cut, FIELD_ROOM, Head, first_head, front_of};
-use httparse::spans::{EMPTY_HEADER_SPAN, HeaderSpan, RequestSpans};
+use httparse::spans::EMPTY_HEADER_SPAN;
 use names::Rule;
-use std::alloc::{AllocError, Global};
-use std::test::Fail;
+use std::alloc::{Alloc, Global};
+use std::process::Abort;
 
-/// Room for the spans of any head's fields.
-fn room(alloc: Global) -> Result<Vec<HeaderSpan>, AllocError>
-    ensures { IfOk result (λ fields. FIELD_ROOM ≤ vec_len fields) }
-{
-    vec![in alloc; EMPTY_HEADER_SPAN; FIELD_ROOM]
-}
-
-/// The spans of the head that is cut, or what is there in its place.
-fn spans_of(cut: Cut) -> Result<RequestSpans, &'static str> {
-    match cut {
-        Cut::Head(spans) => Ok(spans),
+/// How long the head at the front of the text is, or what is there in its place.
+fn length_of(text: &[u8]) -> Result<usize, &'static str> {
+    let mut fields = [EMPTY_HEADER_SPAN; FIELD_ROOM];
+    match first_head(text, &mut fields) {
+        Cut::Head(spans) => Ok(spans.len),
         Cut::Bad => Err("bad"),
         Cut::Unfinished => Err("unfinished"),
     }
 }
 
-/// The same, with the head's length alone.
-fn length_of(cut: Cut) -> Result<usize, &'static str> {
-    Ok(spans_of(cut)?.len)
+/// What a head says of its connection, of its body and of its client.
+#[derive(Clone, Copy)]
+struct Said {
+    asks_close: bool,
+    body_length: Result<u64, Rule>,
+    accepts_json: bool,
 }
 
+/// What the head at the front of the text says, where one is there.
+fn said_by(text: &[u8]) -> Option<Said> {
+    let mut fields = [EMPTY_HEADER_SPAN; FIELD_ROOM];
+    let Cut::Head(spans) = first_head(text, &mut fields) else {
+        return None;
+    };
+    let head = Head::new(front_of(text), &fields, spans);
+    Some(Said {
+        asks_close: head.asks_close(),
+        body_length: head.body_length(),
+        accepts_json: head.accepts_json(),
+    })
+}
+
+/// Texts, and how long the head at their front is.
+const CUTS: &[(&[u8], Result<usize, &str>)] = &[
+    // The example of RFC 9110.
+    (
+        b"GET /hello.txt HTTP/1.1\r\nUser-Agent: curl/7.64.1\r\nHost: www.example.com\r\nAccept-Language: en, mi\r\n\r\n",
+        Ok(100),
+    ),
+    (b"GET / HTTP/1.1\r\n\r\nGET / HTTP/1.1\r\n\r\n", Ok(18)),
+    (b"GET / HTTP/1.1\n\n", Ok(16)),
+    (b"\r\nGET / HTTP/1.1\r\n\r\n", Ok(20)),
+    (b"POST / HTTP/1.1\r\nContent-Length: 3\r\n\r\nabc", Ok(38)),
+    (b"", Err("unfinished")),
+    (b"\r\n", Err("unfinished")),
+    (b"GE", Err("unfinished")),
+    (b"GET / HTTP/1.1\r\n", Err("unfinished")),
+    (b"GET / HTTP/1.1\r\n\r", Err("unfinished")),
+    (b"GET / HTTP/1.1\r\nA: b\r\n", Err("unfinished")),
+    (b"\x00", Err("bad")),
+    (b"GET  / HTTP/1.1\r\n\r\n", Err("bad")),
+    (b"GET / HTTP/2.0\r\n\r\n", Err("bad")),
+    (b"GET /\xff HTTP/1.1\r\n\r\n", Err("bad")),
+    (b"GET / HTTP/1.1\r\nA : b\r\n\r\n", Err("bad")),
+    (b"GET / HTTP/1.1\r\nA: b\r\n c\r\n\r\n", Err("bad")),
+    (b"GET / HTTP/1.1\r\n: b\r\n\r\n", Err("bad")),
+    (b"GET / HTTP/1.1\r\nA: \x00\r\n\r\n", Err("bad")),
+    (b"GET / HTTP/1.1\r\nA: b\rc\r\n\r\n", Err("bad")),
+];
+
 #[test]
-fn heads_are_cut_from_what_follows(rt: HostRuntime) -> Result<(), Fail> {
-    for (text, want) in [
-        // The example of RFC 9110.
-        (
-            b"GET /hello.txt HTTP/1.1\r\nUser-Agent: curl/7.64.1\r\nHost: www.example.com\r\nAccept-Language: en, mi\r\n\r\n".as_slice(),
-            Ok(100),
-        ),
-        (
-            b"GET / HTTP/1.1\r\n\r\nGET / HTTP/1.1\r\n\r\n".as_slice(),
-            Ok(18),
-        ),
-        (b"GET / HTTP/1.1\n\n".as_slice(), Ok(16)),
-        (b"\r\nGET / HTTP/1.1\r\n\r\n".as_slice(), Ok(20)),
-        (
-            b"POST / HTTP/1.1\r\nContent-Length: 3\r\n\r\nabc".as_slice(),
-            Ok(38),
-        ),
-        (b"".as_slice(), Err("unfinished")),
-        (b"\r\n".as_slice(), Err("unfinished")),
-        (b"GE".as_slice(), Err("unfinished")),
-        (b"GET / HTTP/1.1\r\n".as_slice(), Err("unfinished")),
-        (b"GET / HTTP/1.1\r\n\r".as_slice(), Err("unfinished")),
-        (b"GET / HTTP/1.1\r\nA: b\r\n".as_slice(), Err("unfinished")),
-        (b"\x00".as_slice(), Err("bad")),
-        (b"GET  / HTTP/1.1\r\n\r\n".as_slice(), Err("bad")),
-        (b"GET / HTTP/2.0\r\n\r\n".as_slice(), Err("bad")),
-        (b"GET /\xff HTTP/1.1\r\n\r\n".as_slice(), Err("bad")),
-        (b"GET / HTTP/1.1\r\nA : b\r\n\r\n".as_slice(), Err("bad")),
-        (
-            b"GET / HTTP/1.1\r\nA: b\r\n c\r\n\r\n".as_slice(),
-            Err("bad"),
-        ),
-        (b"GET / HTTP/1.1\r\n: b\r\n\r\n".as_slice(), Err("bad")),
-        (b"GET / HTTP/1.1\r\nA: \x00\r\n\r\n".as_slice(), Err("bad")),
-        (b"GET / HTTP/1.1\r\nA: b\rc\r\n\r\n".as_slice(), Err("bad")),
-    ] {
-        let mut fields = room(rt.alloc())?;
-        assert_eq!(rt; length_of(first_head(text, &mut fields)), want, "{text:?}");
+fn heads_are_cut_from_what_follows(rt: HostRuntime) {
+    for &(text, want) in CUTS {
+        expect(&rt, &text, length_of(text), want);
     }
-    Ok(())
 }
 
 /// A head of that many bytes in all, or as many less as `short` says.
-fn head_of_size(alloc: Global, size: usize, short: usize) -> Result<Vec<u8>, AllocError> {
-    let mut text = Vec::new(alloc);
-    text.extend_from_slice(b"GET / HTTP/1.1\r\nA: ")?;
-    for _ in 23..size {
-        text.push(b'a')?;
-    }
-    text.extend_from_slice(b"\r\n\r\n")?;
-    for _ in 0..short {
-        let _ = text.pop();
-    }
-    Ok(text)
+fn head_of_size(rt: &(impl Abort + Alloc<A = Global>), size: usize, short: usize) -> Vec<u8> {
+    let value = sure(rt, "a".repeat(rt.alloc(), size.saturating_sub(23)));
+    let text = sure(
+        rt,
+        format!(in rt.alloc(); "GET / HTTP/1.1\r\nA: {value}\r\n\r\n"),
+    );
+    let mut bytes = sure(rt, text.as_bytes().to_vec(rt.alloc()));
+    bytes.truncate(size.saturating_sub(short));
+    bytes
 }
 
-#[test]
-fn heads_of_over_16384_bytes_are_bad(rt: HostRuntime) -> Result<(), Fail> {
-    for (size, short, want) in [
-        (16_384, 0, Ok(16_384)),
-        (16_385, 0, Err("bad")),
-        (16_384, 1, Err("unfinished")),
-        (16_385, 1, Err("bad")),
-    ] {
-        let text = head_of_size(rt.alloc(), size, short)?;
-        assert_eq!(rt; text.len(), size.saturating_sub(short));
-        assert_eq!(rt; front_of(&text).len(), text.len().min(16_384));
-        let mut fields = room(rt.alloc())?;
-        let cut = first_head(&text, &mut fields);
-        assert_eq!(rt; length_of(cut), want, "{size} less {short}");
-    }
-    Ok(())
-}
+/// Sizes of heads, how many bytes are missing, and how long the head is.
+const SIZES: &[(usize, usize, Result<usize, &str>)] = &[
+    (16_384, 0, Ok(16_384)),
+    (16_385, 0, Err("bad")),
+    (16_384, 1, Err("unfinished")),
+    (16_385, 1, Err("bad")),
+];
 
 #[test]
-fn heads_of_over_64_fields_are_bad(rt: HostRuntime) -> Result<(), Fail> {
-    for (count, want) in [
-        (0, Ok(18)),
-        (64, Ok(402)),
-        (65, Err("bad")),
-        (2_000, Err("bad")),
-    ] {
-        let mut text = Vec::new(rt.alloc());
-        text.extend_from_slice(b"GET / HTTP/1.1\r\n")?;
-        for _ in 0..count {
-            text.extend_from_slice(b"A: b\r\n")?;
-        }
-        text.extend_from_slice(b"\r\n")?;
-        let mut fields = room(rt.alloc())?;
-        let cut = first_head(&text, &mut fields);
-        assert_eq!(rt; length_of(cut), want, "{count} fields");
+fn heads_of_over_16384_bytes_are_bad(rt: HostRuntime) {
+    for &(size, short, want) in SIZES {
+        let text = head_of_size(&rt, size, short);
+        let case = (size, short);
+        expect(&rt, &case, text.len(), size.saturating_sub(short));
+        expect(&rt, &case, front_of(&text).len(), text.len().min(16_384));
+        expect(&rt, &case, length_of(&text), want);
     }
-    Ok(())
 }
 
-#[test]
-fn heads_tell_their_parts(rt: HostRuntime) -> Result<(), Fail> {
-    // The fields end at the empty line.
-    let text =
-        b"POST /a.git/info/lfs/locks?b=c HTTP/1.1\r\nAccept: x\r\nACCEPT:\t y \r\nA:\r\n\r\nAccept: z".as_slice();
-    for (name, count, first) in [
-        ("Accept", 2, b"x".as_slice()),
-        ("accept", 2, b"x".as_slice()),
-        ("a", 1, b"".as_slice()),
-        ("accep", 0, b"none".as_slice()),
-        ("", 0, b"none".as_slice()),
-    ] {
-        let mut fields = room(rt.alloc())?;
-        let spans = spans_of(first_head(text, &mut fields))?;
-        let head = Head::new(front_of(text), &fields, spans);
-        assert_eq!(rt; head.method(), b"POST".as_slice());
-        assert_eq!(rt; head.target(), b"/a.git/info/lfs/locks?b=c".as_slice());
-        assert!(rt; !head.is_http_1_0());
-        assert_eq!(rt; head.count(name), count, "{name}");
-        assert_eq!(rt; head.first(name).unwrap_or(b"none"), first, "{name}");
-    }
-    Ok(())
-}
+/// How many fields a head has, and how long it is.
+const COUNTS: &[(usize, Result<usize, &str>)] = &[
+    (0, Ok(18)),
+    (64, Ok(402)),
+    (65, Err("bad")),
+    (2_000, Err("bad")),
+];
 
 #[test]
-fn connections_end_where_the_head_says_so(rt: HostRuntime) -> Result<(), Fail> {
-    for (text, want) in [
-        (b"GET / HTTP/1.1\r\n\r\n".as_slice(), false),
-        (b"GET / HTTP/1.0\r\n\r\n".as_slice(), true),
-        (
-            b"GET / HTTP/1.0\r\nConnection: keep-alive\r\n\r\n".as_slice(),
-            true,
-        ),
-        (
-            b"GET / HTTP/1.1\r\nConnection: close\r\n\r\n".as_slice(),
-            true,
-        ),
-        (
-            b"GET / HTTP/1.1\r\ncONNECTION:CLOSE\r\n\r\n".as_slice(),
-            true,
-        ),
-        (
-            b"GET / HTTP/1.1\r\nConnection: keep-alive,\t close \r\n\r\n".as_slice(),
-            true,
-        ),
-        (
-            b"GET / HTTP/1.1\r\nConnection: close, keep-alive\r\n\r\n".as_slice(),
-            true,
-        ),
-        (
-            b"GET / HTTP/1.1\r\nConnection: a\r\nConnection: close\r\n\r\n".as_slice(),
-            true,
-        ),
-        (
-            b"GET / HTTP/1.1\r\nConnection: keep-alive\r\n\r\n".as_slice(),
-            false,
-        ),
-        (
-            b"GET / HTTP/1.1\r\nConnection: close;x\r\n\r\n".as_slice(),
-            false,
-        ),
-        (
-            b"GET / HTTP/1.1\r\nConnection: closed\r\n\r\n".as_slice(),
-            false,
-        ),
-        (
-            b"GET / HTTP/1.1\r\nConnection: clo se\r\n\r\n".as_slice(),
-            false,
-        ),
-        (b"GET / HTTP/1.1\r\nConnection:\r\n\r\n".as_slice(), false),
-        (
-            b"GET / HTTP/1.1\r\nConnections: close\r\n\r\n".as_slice(),
-            false,
-        ),
-        (
-            b"GET / HTTP/1.1\r\n\r\nConnection: close\r\n\r\n".as_slice(),
-            false,
-        ),
-    ] {
-        let mut fields = room(rt.alloc())?;
-        let spans = spans_of(first_head(text, &mut fields))?;
-        let head = Head::new(front_of(text), &fields, spans);
-        assert_eq!(rt; head.asks_close(), want, "{text:?}");
+fn heads_of_over_64_fields_are_bad(rt: HostRuntime) {
+    for &(count, want) in COUNTS {
+        let fields = sure(&rt, "A: b\r\n".repeat(rt.alloc(), count));
+        let text = sure(
+            &rt,
+            format!(in rt.alloc(); "GET / HTTP/1.1\r\n{fields}\r\n"),
+        );
+        expect(&rt, &count, length_of(text.as_bytes()), want);
     }
-    Ok(())
 }
 
-#[test]
-fn heads_say_how_long_the_body_is(rt: HostRuntime) -> Result<(), Fail> {
-    for (text, want) in [
-        (b"GET / HTTP/1.1\r\n\r\n".as_slice(), Ok(0)),
-        (
-            b"GET / HTTP/1.1\r\nContent-Length: 0\r\n\r\n".as_slice(),
-            Ok(0),
-        ),
-        (
-            b"GET / HTTP/1.1\r\nContent-Length: 1\r\n\r\n".as_slice(),
-            Err(Rule::H4),
-        ),
-        (b"DELETE / HTTP/1.1\r\n\r\n".as_slice(), Ok(0)),
-        (
-            b"DELETE / HTTP/1.1\r\ncontent-length: 999999999999999999\r\n\r\n".as_slice(),
-            Ok(999_999_999_999_999_999),
-        ),
-        (
-            b"POST / HTTP/1.1\r\nContent-Length: 23\r\n\r\n".as_slice(),
-            Ok(23),
-        ),
-        (
-            b"POST / HTTP/1.1\r\nContent-Length: 000000000000000007\r\n\r\n".as_slice(),
-            Ok(7),
-        ),
-        (
-            b"POST / HTTP/1.1\r\nContent-Length: 1048576\r\n\r\n".as_slice(),
-            Ok(1_048_576),
-        ),
-        (
-            b"POST / HTTP/1.1\r\nContent-Length: 1048577\r\n\r\n".as_slice(),
-            Err(Rule::H5),
-        ),
-        (
-            b"PUT / HTTP/1.1\r\nContent-Length: 1048577\r\n\r\n".as_slice(),
-            Ok(1_048_577),
-        ),
-        (
-            b"PUT / HTTP/1.1\r\nContent-Length: 268435456\r\n\r\n".as_slice(),
-            Ok(268_435_456),
-        ),
-        (
-            b"PUT / HTTP/1.1\r\nContent-Length: 268435457\r\n\r\n".as_slice(),
-            Err(Rule::H5),
-        ),
-        (
-            b"post / HTTP/1.1\r\nContent-Length: 1048577\r\n\r\n".as_slice(),
-            Ok(1_048_577),
-        ),
-        (b"POST / HTTP/1.1\r\n\r\n".as_slice(), Err(Rule::H3)),
-        (b"PUT / HTTP/1.0\r\n\r\n".as_slice(), Err(Rule::H3)),
-        (
-            b"POST / HTTP/1.1\r\nTransfer-Encoding: chunked\r\n\r\n".as_slice(),
-            Err(Rule::H2),
-        ),
-        (
-            b"POST / HTTP/1.1\r\nContent-Length: 3\r\nTRANSFER-ENCODING: identity\r\n\r\n".as_slice(),
-            Err(Rule::H2),
-        ),
-        (
-            b"POST / HTTP/1.1\r\nContent-Length: 3\r\nContent-Length: 3\r\n\r\n".as_slice(),
-            Err(Rule::H4),
-        ),
-        (
-            b"POST / HTTP/1.1\r\nContent-Length: 1000000000000000000\r\n\r\n".as_slice(),
-            Err(Rule::H4),
-        ),
-        (
-            b"POST / HTTP/1.1\r\nContent-Length: 0000000000000000007\r\n\r\n".as_slice(),
-            Err(Rule::H4),
-        ),
-        (
-            b"POST / HTTP/1.1\r\nContent-Length: +3\r\n\r\n".as_slice(),
-            Err(Rule::H4),
-        ),
-        (
-            b"POST / HTTP/1.1\r\nContent-Length: -3\r\n\r\n".as_slice(),
-            Err(Rule::H4),
-        ),
-        (
-            b"POST / HTTP/1.1\r\nContent-Length: 3, 3\r\n\r\n".as_slice(),
-            Err(Rule::H4),
-        ),
-        (
-            b"POST / HTTP/1.1\r\nContent-Length: 0x3\r\n\r\n".as_slice(),
-            Err(Rule::H4),
-        ),
-        (
-            b"POST / HTTP/1.1\r\nContent-Length:\r\n\r\n".as_slice(),
-            Err(Rule::H4),
-        ),
-        (
-            b"GET / HTTP/1.1\r\nAuthorization: a\r\nAuthorization: a\r\n\r\n".as_slice(),
-            Err(Rule::H4),
-        ),
-        (
-            b"GET / HTTP/1.1\r\nAccept: a\r\nAccept: a\r\n\r\n".as_slice(),
-            Err(Rule::H4),
-        ),
-        (
-            b"GET / HTTP/1.1\r\nHost: a\r\nHost: a\r\n\r\n".as_slice(),
-            Ok(0),
-        ),
-    ] {
-        let mut fields = room(rt.alloc())?;
-        let spans = spans_of(first_head(text, &mut fields))?;
-        let head = Head::new(front_of(text), &fields, spans);
-        assert_eq!(rt; head.body_length(), want, "{text:?}");
-    }
-    Ok(())
-}
+/// A head whose fields end at the empty line.
+const HEAD: &[u8] =
+    b"POST /a.git/info/lfs/locks?b=c HTTP/1.1\r\nAccept: x\r\nACCEPT:\t y \r\nA:\r\n\r\nAccept: z";
+
+/// Names of fields, how many the head has, and the first.
+const FIELDS: &[(&str, usize, &[u8])] = &[
+    ("Accept", 2, b"x"),
+    ("accept", 2, b"x"),
+    ("a", 1, b""),
+    ("accep", 0, b"none"),
+    ("", 0, b"none"),
+];
 
 #[test]
-fn clients_accept_json_or_not(rt: HostRuntime) -> Result<(), Fail> {
-    for (text, want) in [
-        (b"GET / HTTP/1.1\r\n\r\n".as_slice(), true),
-        (
-            b"GET / HTTP/1.1\r\nAccept: application/vnd.git-lfs+json\r\n\r\n".as_slice(),
-            true,
-        ),
-        (
-            b"GET / HTTP/1.1\r\naccept: text/html, Application/* ;q=0.1\r\n\r\n".as_slice(),
-            true,
-        ),
-        (
-            b"GET / HTTP/1.1\r\nAccept: text/html,\t*/*\t;q=0\r\n\r\n".as_slice(),
-            true,
-        ),
-        (
-            b"GET / HTTP/1.1\r\nAccept: application/json\r\n\r\n".as_slice(),
-            false,
-        ),
-        (
-            b"GET / HTTP/1.1\r\nAccept: application/vnd.git-lfs+json2\r\n\r\n".as_slice(),
-            false,
-        ),
-        (b"GET / HTTP/1.1\r\nAccept:\r\n\r\n".as_slice(), false),
-    ] {
-        let mut fields = room(rt.alloc())?;
-        let spans = spans_of(first_head(text, &mut fields))?;
-        let head = Head::new(front_of(text), &fields, spans);
-        assert_eq!(rt; head.accepts_json(), want, "{text:?}");
+fn heads_tell_their_parts(rt: HostRuntime) {
+    let mut fields = [EMPTY_HEADER_SPAN; FIELD_ROOM];
+    let Cut::Head(spans) = first_head(HEAD, &mut fields) else {
+        panic!(rt; "no head");
+    };
+    let head = Head::new(front_of(HEAD), &fields, spans);
+    expect(&rt, &"method", head.method(), b"POST");
+    expect(&rt, &"target", head.target(), b"/a.git/info/lfs/locks?b=c");
+    expect(&rt, &"HTTP/1.0", head.is_http_1_0(), false);
+    for &(name, count, first) in FIELDS {
+        expect(&rt, &name, head.count(name), count);
+        let value = head.first(name).unwrap_or(b"none");
+        expect(&rt, &name, value, first);
     }
-    Ok(())
+}
+
+/// Texts, and whether the connection ends behind the head at their front.
+const CLOSING: &[(&[u8], bool)] = &[
+    (b"GET / HTTP/1.1\r\n\r\n", false),
+    (b"GET / HTTP/1.0\r\n\r\n", true),
+    (b"GET / HTTP/1.0\r\nConnection: keep-alive\r\n\r\n", true),
+    (b"GET / HTTP/1.1\r\nConnection: close\r\n\r\n", true),
+    (b"GET / HTTP/1.1\r\ncONNECTION:CLOSE\r\n\r\n", true),
+    (
+        b"GET / HTTP/1.1\r\nConnection: keep-alive,\t close \r\n\r\n",
+        true,
+    ),
+    (
+        b"GET / HTTP/1.1\r\nConnection: close, keep-alive\r\n\r\n",
+        true,
+    ),
+    (
+        b"GET / HTTP/1.1\r\nConnection: a\r\nConnection: close\r\n\r\n",
+        true,
+    ),
+    (b"GET / HTTP/1.1\r\nConnection: keep-alive\r\n\r\n", false),
+    (b"GET / HTTP/1.1\r\nConnection: close;x\r\n\r\n", false),
+    (b"GET / HTTP/1.1\r\nConnection: closed\r\n\r\n", false),
+    (b"GET / HTTP/1.1\r\nConnection: clo se\r\n\r\n", false),
+    (b"GET / HTTP/1.1\r\nConnection:\r\n\r\n", false),
+    (b"GET / HTTP/1.1\r\nConnections: close\r\n\r\n", false),
+    (b"GET / HTTP/1.1\r\n\r\nConnection: close\r\n\r\n", false),
+];
+
+#[test]
+fn connections_end_where_the_head_says_so(rt: HostRuntime) {
+    for &(text, want) in CLOSING {
+        let closes = said_by(text).map(|said| said.asks_close);
+        expect(&rt, &text, closes, Some(want));
+    }
+}
+
+/// Texts, and how long the body is of the head at their front, or the rule that refuses it.
+const LENGTHS: &[(&[u8], Result<u64, Rule>)] = &[
+    (b"GET / HTTP/1.1\r\n\r\n", Ok(0)),
+    (b"GET / HTTP/1.1\r\nContent-Length: 0\r\n\r\n", Ok(0)),
+    (
+        b"GET / HTTP/1.1\r\nContent-Length: 1\r\n\r\n",
+        Err(Rule::H4),
+    ),
+    (b"DELETE / HTTP/1.1\r\n\r\n", Ok(0)),
+    (
+        b"DELETE / HTTP/1.1\r\ncontent-length: 999999999999999999\r\n\r\n",
+        Ok(999_999_999_999_999_999),
+    ),
+    (b"POST / HTTP/1.1\r\nContent-Length: 23\r\n\r\n", Ok(23)),
+    (
+        b"POST / HTTP/1.1\r\nContent-Length: 000000000000000007\r\n\r\n",
+        Ok(7),
+    ),
+    (
+        b"POST / HTTP/1.1\r\nContent-Length: 1048576\r\n\r\n",
+        Ok(1_048_576),
+    ),
+    (
+        b"POST / HTTP/1.1\r\nContent-Length: 1048577\r\n\r\n",
+        Err(Rule::H5),
+    ),
+    (
+        b"PUT / HTTP/1.1\r\nContent-Length: 1048577\r\n\r\n",
+        Ok(1_048_577),
+    ),
+    (
+        b"PUT / HTTP/1.1\r\nContent-Length: 268435456\r\n\r\n",
+        Ok(268_435_456),
+    ),
+    (
+        b"PUT / HTTP/1.1\r\nContent-Length: 268435457\r\n\r\n",
+        Err(Rule::H5),
+    ),
+    (
+        b"post / HTTP/1.1\r\nContent-Length: 1048577\r\n\r\n",
+        Ok(1_048_577),
+    ),
+    (b"POST / HTTP/1.1\r\n\r\n", Err(Rule::H3)),
+    (b"PUT / HTTP/1.0\r\n\r\n", Err(Rule::H3)),
+    (
+        b"POST / HTTP/1.1\r\nTransfer-Encoding: chunked\r\n\r\n",
+        Err(Rule::H2),
+    ),
+    (
+        b"POST / HTTP/1.1\r\nContent-Length: 3\r\nTRANSFER-ENCODING: identity\r\n\r\n",
+        Err(Rule::H2),
+    ),
+    (
+        b"POST / HTTP/1.1\r\nContent-Length: 3\r\nContent-Length: 3\r\n\r\n",
+        Err(Rule::H4),
+    ),
+    (
+        b"POST / HTTP/1.1\r\nContent-Length: 1000000000000000000\r\n\r\n",
+        Err(Rule::H4),
+    ),
+    (
+        b"POST / HTTP/1.1\r\nContent-Length: 0000000000000000007\r\n\r\n",
+        Err(Rule::H4),
+    ),
+    (
+        b"POST / HTTP/1.1\r\nContent-Length: +3\r\n\r\n",
+        Err(Rule::H4),
+    ),
+    (
+        b"POST / HTTP/1.1\r\nContent-Length: -3\r\n\r\n",
+        Err(Rule::H4),
+    ),
+    (
+        b"POST / HTTP/1.1\r\nContent-Length: 3, 3\r\n\r\n",
+        Err(Rule::H4),
+    ),
+    (
+        b"POST / HTTP/1.1\r\nContent-Length: 0x3\r\n\r\n",
+        Err(Rule::H4),
+    ),
+    (b"POST / HTTP/1.1\r\nContent-Length:\r\n\r\n", Err(Rule::H4)),
+    (
+        b"GET / HTTP/1.1\r\nAuthorization: a\r\nAuthorization: a\r\n\r\n",
+        Err(Rule::H4),
+    ),
+    (
+        b"GET / HTTP/1.1\r\nAccept: a\r\nAccept: a\r\n\r\n",
+        Err(Rule::H4),
+    ),
+    (b"GET / HTTP/1.1\r\nHost: a\r\nHost: a\r\n\r\n", Ok(0)),
+];
+
+#[test]
+fn heads_say_how_long_the_body_is(rt: HostRuntime) {
+    for &(text, want) in LENGTHS {
+        let length = said_by(text).map(|said| said.body_length);
+        expect(&rt, &text, length, Some(want));
+    }
+}
+
+/// Texts, and whether the head at their front accepts a reply of JSON.
+const ACCEPTS: &[(&[u8], bool)] = &[
+    (b"GET / HTTP/1.1\r\n\r\n", true),
+    (
+        b"GET / HTTP/1.1\r\nAccept: application/vnd.git-lfs+json\r\n\r\n",
+        true,
+    ),
+    (
+        b"GET / HTTP/1.1\r\naccept: text/html, Application/* ;q=0.1\r\n\r\n",
+        true,
+    ),
+    (
+        b"GET / HTTP/1.1\r\nAccept: text/html,\t*/*\t;q=0\r\n\r\n",
+        true,
+    ),
+    (b"GET / HTTP/1.1\r\nAccept: application/json\r\n\r\n", false),
+    (
+        b"GET / HTTP/1.1\r\nAccept: application/vnd.git-lfs+json2\r\n\r\n",
+        false,
+    ),
+    (b"GET / HTTP/1.1\r\nAccept:\r\n\r\n", false),
+];
+
+#[test]
+fn clients_accept_json_or_not(rt: HostRuntime) {
+    for &(text, want) in ACCEPTS {
+        let accepts = said_by(text).map(|said| said.accepts_json);
+        expect(&rt, &text, accepts, Some(want));
+    }
 }
