@@ -12,11 +12,14 @@ fn lengthened(rt: &(impl Abort + Alloc<A = Global>), text: &str, letters: usize)
     long
 }
 
-/// What is written of the name; nothing where there is none.
+/// What is written where there is no name. Each name in these tables is another text.
+const NONE: &str = "none";
+
+/// What is written of the name, or [`NONE`].
 fn printed<T: Copy + Display>(rt: &(impl Abort + Alloc<A = Global>), name: Option<T>) -> String {
     match name {
         Some(name) => sure(rt, name.to_string(rt.alloc())),
-        None => String::new(rt.alloc()),
+        None => sure(rt, NONE.to_owned(rt.alloc())),
     }
 }
 
@@ -40,7 +43,7 @@ fn users_are_1_to_40_bytes_of_their_alphabet(rt: HostRuntime) {
     for &(text, letters, good) in USERS {
         let text = lengthened(&rt, text, letters);
         let shown = printed(&rt, UserName::read(text.as_str()));
-        let want = if good { text.as_str() } else { "" };
+        let want = if good { text.as_str() } else { NONE };
         expect(&rt, &text, shown.as_str(), want);
     }
     let user = UserName::read("anna").map(|user| user.as_str());
@@ -68,7 +71,7 @@ fn repositories_are_an_owner_and_a_name(rt: HostRuntime) {
     for &(text, letters, good) in REPOSITORIES {
         let text = lengthened(&rt, text, letters);
         let shown = printed(&rt, RepoName::read(text.as_str()));
-        let want = if good { text.as_str() } else { "" };
+        let want = if good { text.as_str() } else { NONE };
         expect(&rt, &text, shown.as_str(), want);
     }
     let repo = RepoName::read("studio/film").map(|repo| repo.as_str());
@@ -101,7 +104,7 @@ fn refs_have_no_two_dots_and_no_empty_part(rt: HostRuntime) {
     for &(text, letters, good) in REFS {
         let text = lengthened(&rt, text, letters);
         let shown = printed(&rt, RefName::read(text.as_str()));
-        let want = if good { text.as_str() } else { "" };
+        let want = if good { text.as_str() } else { NONE };
         expect(&rt, &text, shown.as_str(), want);
     }
     let name = RefName::read("refs/heads/main").map(|name| name.as_str());
@@ -142,7 +145,7 @@ fn lock_paths_are_clean(rt: HostRuntime) {
     for &(text, letters, good) in PATHS {
         let text = lengthened(&rt, text, letters);
         let shown = printed(&rt, LockPath::read(text.as_str()));
-        let want = if good { text.as_str() } else { "" };
+        let want = if good { text.as_str() } else { NONE };
         expect(&rt, &text, shown.as_str(), want);
     }
     let path = LockPath::read("a/\u{e9}").map(|path| path.as_str());
@@ -166,7 +169,7 @@ const DIGITS: &[(&str, bool)] = &[
 const SIZES: &[(u64, Option<u64>, &str)] = &[
     (0, Some(0), "0"),
     (268_435_456, Some(268_435_456), "268435456"),
-    (268_435_457, None, ""),
+    (268_435_457, None, NONE),
 ];
 
 #[test]
