@@ -69,12 +69,20 @@ name = "a/b"
 default_ref = "refs/x"
 quota = 0
 """
-# Each row: effect, users, repositories, refs, paths, rights.
-ROWS = [
+# Rows by which most locks are allowed: effect, users, repositories, refs, paths, rights.
+USUAL_ROWS = [
     ("deny", ["bob"], ["studio/film"], ["refs/heads/release/"], ["*"], ["lock", "push"]),
     ("deny", ["*"], ["*"], ["*"], ["secret/", "art/x"], ["lock"]),
     ("allow", ["ann"], ["*"], ["*"], ["*"], ["lock", "list"]),
     ("allow", ["bob"], ["studio/"], ["refs/heads/main", "refs/heads/release"], ["art/", "a"], ["lock"]),
+]
+# What the lists of other rows hold.
+ENTRIES = [
+    ["*", "ann", "bob", "eve"],
+    ["*", "studio/", "studio/film", "a/b", "a/", "film/"],
+    ["*", "refs/", "refs/heads/", "refs/heads/main", "refs/heads/release/", "refs/heads/release", "refs/x"],
+    ["*", "art/", "art/hero.psd", "art/x", "a", "secret/", "art"],
+    ["lock", "lock", "pull", "push", "list", "force"],
 ]
 # Each token's letter: user, repository, operation, when it was issued.
 NOW = 1463500146
@@ -97,9 +105,9 @@ def matches(entries, text):
     return any(it == "*" or it == text or it.endswith("/") and text.startswith(it) for it in entries)
 
 
-def decide(user, repo, ref, path):
-    """Whether the policy allows a lock, and by which row it decides."""
-    for number, (effect, users, repos, refs, paths, rights) in enumerate(ROWS, 1):
+def decide(rows, user, repo, ref, path):
+    """Whether the rows allow a lock, and by which of them it is decided."""
+    for number, (effect, users, repos, refs, paths, rights) in enumerate(rows, 1):
         held = zip((users, repos, refs, paths), (user, repo, ref, path))
         if "lock" in rights and all(matches(entries, text) for entries, text in held):
             return effect == "allow", number
@@ -230,8 +238,8 @@ class Head:
 class Server:
     """What the server keeps, and how it answers."""
 
-    def __init__(self):
-        self.locks, self.made = {}, {}
+    def __init__(self, rows):
+        self.rows, self.locks, self.made = rows, {}, {}
 
     def caller(self, head):
         values = head.all(b"authorization")
@@ -258,7 +266,7 @@ class Server:
         if operation != "upload":
             raise Refused("A5")
         ref = ref or default
-        is_allowed, row = decide(user, repo, ref, path)
+        is_allowed, row = decide(self.rows, user, repo, ref, path)
         if not is_allowed:
             return 403, message(f"P{row}", f"policy row {row} denies lock" if row else "no policy row allows lock")
         stands = self.locks.get((repo, ref, path))
@@ -331,6 +339,14 @@ class Maker:
 
     def __init__(self, seed):
         self.random = random.Random(seed)
+
+    def rows(self):
+        """The rows of a policy."""
+        if self.random.random() < 0.3:
+            return USUAL_ROWS
+        some = lambda entries: [self.random.choice(entries) for _ in range(self.random.choice([1, 1, 2, 3]))]
+        effect = lambda: self.random.choice(["allow", "allow", "deny"])
+        return [(effect(), *map(some, ENTRIES)) for _ in range(self.random.choice([0, 1, 3, 6, 10]))]
 
     def one(self, usual, *others):
         return usual if self.random.random() < 0.85 else self.random.choice(others)
@@ -541,9 +557,21 @@ def run(program, words, given=b""):
     return subprocess.run([program, *words], input=given, stdout=subprocess.PIPE, stderr=subprocess.PIPE, check=False)
 
 
-def new_database(program, room, number):
-    """A database with the tokens."""
+def policy_text(rows):
+    """The policy with the rows, as a file."""
+    keys = ("users", "repos", "refs", "paths", "rights")
+    text = POLICY
+    for effect, *lists in rows:
+        text += f'\n[[row]]\neffect = "{effect}"\n'
+        text += "".join(f"{key} = {json.dumps(entries)}\n" for key, entries in zip(keys, lists))
+    return text
+
+
+def new_database(program, room, number, rows):
+    """A database with the tokens, and the policy with the rows."""
     database = f"{room}/{number}.db"
+    with open(f"{room}/policy", "w", encoding="utf-8") as file:
+        file.write(policy_text(rows))
     for letter, (user, repo, operation, moment) in TOKENS.items():
         with open(f"{room}/random", "wb") as file:
             file.write(bytes([int(letter * 2, 16)]) * 32)
@@ -568,22 +596,13 @@ def new_database(program, room, number):
     return database
 
 
-def policy_text():
-    """The policy as a file."""
-    keys = ("users", "repos", "refs", "paths", "rights")
-    text = POLICY
-    for effect, *lists in ROWS:
-        text += f'\n[[row]]\neffect = "{effect}"\n'
-        text += "".join(f"{key} = {json.dumps(entries)}\n" for key, entries in zip(keys, lists))
-    return text
-
-
 def compare(program, room, make, until):
     """Serves connections until then. Returns how many agreed, how often each code was told, and what differed."""
     agreed, seen = 0, {}
     while time.time() < until:
         if agreed % 40 == 0:
-            database, server = new_database(program, room, agreed), Server()
+            rows = make.rows()
+            database, server = new_database(program, room, agreed, rows), Server(rows)
         stream = make.connection()
         words = ["session", "--db", database, "--policy", f"{room}/policy", "--now", str(NOW)]
         ran = run(program, words, stream)
@@ -604,8 +623,6 @@ def main():
     seconds = float(sys.argv[2]) if len(sys.argv) > 2 else 60
     seed = int(sys.argv[3]) if len(sys.argv) > 3 else random.randrange(2**32)
     with tempfile.TemporaryDirectory() as room:
-        with open(f"{room}/policy", "w", encoding="utf-8") as file:
-            file.write(policy_text())
         agreed, seen, difference = compare(program, room, Maker(seed), time.time() + seconds)
     counts = ", ".join(f"{code} {count}" for code, count in sorted(seen.items()))
     print(f"seed {seed}: {agreed} connections agreed; replies: {counts}")
