@@ -1,0 +1,285 @@
+#!/usr/bin/env python3
+"""Compares the fault that `custody session` tells of random policy files with a second reading of docs/POLICY.md.
+
+The reading below is written from that document alone, over Python's own reader of TOML. It prints the
+first file on which the two differ, and ends with status 1; else how many agreed.
+
+    compare_policies.py PROGRAM [SECONDS [SEED]]
+"""
+import os
+import random
+import re
+import subprocess
+import sys
+import tempfile
+import time
+import tomllib
+
+NAME = r"[a-z0-9_-]{1,40}"
+RIGHTS = ["pull", "push", "list", "lock", "force"]
+PLAIN_ROW = """[[row]]
+effect = "allow"
+users = ["a"]
+repos = ["a/"]
+refs = ["*"]
+paths = ["*"]
+rights = ["pull"]
+"""
+
+
+class Faulty(Exception):
+    """A file has a fault: its code, and where it stands."""
+
+
+def check(holds, fault):
+    if not holds:
+        raise Faulty(fault)
+
+
+def is_ref(text):
+    is_clean = re.fullmatch(r"refs/[A-Za-z0-9/._-]+", text) and ".." not in text
+    return bool(is_clean) and len(text) <= 255 and "" not in text.split("/")
+
+
+def is_path(text):
+    is_clean = not re.search(r"[\x00-\x1f\x7f\\]", text) and not {"", ".", ".."} & set(text.split("/"))
+    return is_clean and 1 <= len(text.encode()) <= 1024
+
+
+def is_entry(key, text):
+    """Whether a list of a row may hold the text."""
+    below = text[:-1] if text.endswith("/") else None
+    return {
+        "users": lambda: text == "*" or re.fullmatch(NAME, text),
+        "repos": lambda: text == "*" or re.fullmatch(f"{NAME}/({NAME})?", text),
+        "refs": lambda: text in ("*", "refs/") or is_ref(text if below is None else below),
+        "paths": lambda: text == "*" or is_path(text if below is None else below),
+        "rights": lambda: text in RIGHTS,
+    }[key]()
+
+
+def is_whole(value, least, most):
+    return least <= value <= most
+
+
+def has_kinds(table, kinds):
+    """Whether a table has these keys and no others, each of its kind."""
+    if not isinstance(table, dict) or table.keys() != kinds.keys():
+        return False
+    is_kind = {
+        "text": lambda value: type(value) is str,
+        "number": lambda value: type(value) is int,
+        "texts": lambda value: type(value) is list and all(type(it) is str for it in value),
+        "list": lambda value: type(value) is list,
+    }
+    return all(is_kind[kind](table[key]) for key, kind in kinds.items())
+
+
+def fits(value):
+    """Whether all whole numbers of a file have 64 bits with sign."""
+    if isinstance(value, dict):
+        return all(map(fits, value.values()))
+    if isinstance(value, list):
+        return all(map(fits, value))
+    return type(value) is not int or -(2**63) <= value < 2**63
+
+
+def read(source):
+    """Reads a policy file; its first fault is raised."""
+    check(len(source) <= 1048576, "Y5")
+    try:
+        file = tomllib.loads(source.decode())
+    except (ValueError, RecursionError):
+        raise Faulty("Y1") from None
+    check(fits(file), "Y1")
+    file = {"repo": [], "row": [], **file}
+    kinds = {"base": "text", "token_seconds": "number", "repo": "list", "row": "list"}
+    check(has_kinds(file, kinds), "Y2 at top")
+    base = file["base"]
+    is_base = re.fullmatch(r"https?://[A-Za-z0-9.:_/-]+", base) and not base.endswith("/")
+    check(is_base and 8 <= len(base) <= 200, "Y3 at top")
+    check(is_whole(file["token_seconds"], 1, 86400), "Y3 at top")
+    check(len(file["repo"]) <= 256 and len(file["row"]) <= 1000, "Y5 at top")
+    names = set()
+    for number, repo in enumerate(file["repo"], 1):
+        check(has_kinds(repo, {"name": "text", "default_ref": "text", "quota": "number"}), f"Y2 at repo {number}")
+        is_good = re.fullmatch(f"{NAME}/{NAME}", repo["name"]) and is_ref(repo["default_ref"])
+        check(is_good and is_whole(repo["quota"], 0, 1099511627776), f"Y3 at repo {number}")
+        check(repo["name"] not in names, f"Y4 at repo {number}")
+        names.add(repo["name"])
+    lists = ("users", "repos", "refs", "paths", "rights")
+    for number, row in enumerate(file["row"], 1):
+        check(has_kinds(row, {"effect": "text", **{key: "texts" for key in lists}}), f"Y2 at row {number}")
+        is_good = all(1 <= len(row[key]) <= 64 and all(is_entry(key, it) for it in row[key]) for key in lists)
+        check(is_good and row["effect"] in ("allow", "deny"), f"Y3 at row {number}")
+
+
+class Maker:
+    """Makes random policy files: most of their parts good, some bent."""
+
+    def __init__(self, seed):
+        self.random = random.Random(seed)
+
+    def one(self, usual, *others):
+        return usual if self.random.random() < 0.97 else self.random.choice(others)
+
+    def text(self, *texts):
+        """One of the texts as TOML has it, or another kind of value."""
+        text = self.random.choice(texts)
+        long = "a" * self.random.choice([40, 41, 250, 251, 1024, 1025])
+        bent = [
+            long,
+            f"refs/{long}",
+            f"{long}/b",
+            f"a/{long}",
+            "",
+            "*",
+            "a b",
+            "A",
+            "é",
+            "a//b",
+            "../a",
+            "refs/a..b",
+            "a\\\\b",
+        ]
+        other = [
+            *(f'"{it}"' for it in bent),
+            "1",
+            "true",
+            "1.0",
+            "[]",
+            '["a"]',
+            "{}",
+            "1979-05-27",
+            "'a'",
+            '"\\u0041"',
+            '"',
+        ]
+        return self.one(f'"{text}"', *other)
+
+    def number(self, *numbers):
+        other = [
+            "0",
+            "-1",
+            "1.0",
+            "1e3",
+            '"1"',
+            "0x10",
+            "1_000",
+            "9223372036854775807",
+            "9223372036854775808",
+            "+5",
+            "05",
+            "inf",
+            "[1]",
+        ]
+        return self.one(str(self.random.choice(numbers)), *other)
+
+    def texts(self, *texts):
+        count = self.one(self.random.choice([1, 2, 3]), 0, 64, 65)
+        items = [self.text(*texts) for _ in range(count)]
+        return self.one("[" + ", ".join(items) + "]", *items, "[[]]", "[1]", "1", '["a",]', "[\n]")
+
+    def table(self, pairs):
+        """Its lines: a key may be missing, stand twice, or be another."""
+        lines = [f"{key} = {value}" for key, value in pairs for _ in range(self.one(1, 0, 2))]
+        lines += [self.random.choice(["colour = 1", "# a comment", "quota = 1", '"" = 1', "a.b = 1"])] * self.one(0, 1)
+        self.random.shuffle(lines)
+        return "\n".join(lines) + "\n"
+
+    def repo(self):
+        head = self.one("[[repo]]\n", "[repo]\n", "[[repos]]\n", "[[repo.a]]\n")
+        names = ("studio/film", "a/b", "studio/score", "x/y", "z_-/0")
+        refs = ("refs/heads/main", "refs/a", "refs/a.b/C-9_")
+        return head + self.table(
+            [
+                ("name", self.text(*names)),
+                ("default_ref", self.text(*refs)),
+                ("quota", self.number(0, 5, 1099511627776, 1099511627777)),
+            ]
+        )
+
+    def row(self):
+        entries = [
+            ("effect", self.text("allow", "deny")),
+            ("users", self.texts("*", "ann", "bob", "a" * 40)),
+            ("repos", self.texts("*", "studio/", "studio/film")),
+            ("refs", self.texts("*", "refs/", "refs/heads/", "refs/heads/main", "refs/" + "a" * 250)),
+            ("paths", self.texts("*", "art/", "art/hero.psd", "é/ü", "a b", "a" * 1024)),
+            ("rights", self.texts(*RIGHTS)),
+        ]
+        return self.one("[[row]]\n", "[row]\n", "[[rows]]\n") + self.table(entries)
+
+    def file(self):
+        bases = ("https://lfs.example", "http://a", "https://a:1/b", "http://" + "a" * 193, "http://" + "a" * 194)
+        top = self.table([("base", self.text(*bases)), ("token_seconds", self.number(1, 3600, 86400, 86401))])
+        more = self.one("", "repo = []\n", "row = []\n", "repo = [1]\n", "row = [{}]\n", "row = 1\n")
+        tables = [self.repo() for _ in range(self.random.choice([0, 1, 1, 2, 3]))]
+        tables += [self.row() for _ in range(self.random.choice([0, 1, 1, 2, 4]))]
+        if self.random.random() < 0.02:
+            tables += [PLAIN_ROW] * self.random.choice([996, 1000, 1001])
+        if self.random.random() < 0.02:
+            tables += [
+                f'[[repo]]\nname = "q/{at}"\ndefault_ref = "refs/a"\nquota = 1\n'
+                for at in range(self.random.choice([250, 256, 257]))
+            ]
+        self.random.shuffle(tables)
+        return self.bent((top + more + "\n".join(tables)).encode())
+
+    def bent(self, source):
+        """The file, in some cases with one byte changed or put in, or filled up to a length."""
+        if self.random.random() < 0.02:
+            return source + b"#" * (self.random.choice([1048576, 1048577]) - len(source))
+        if self.random.random() < 0.9:
+            return source
+        at = self.random.randrange(len(source) + 1)
+        byte = bytes(
+            [self.random.choice([0, 9, 10, 13, 32, 34, 35, 61, 91, 93, 127, 128, 255, self.random.randrange(256)])]
+        )
+        return self.random.choice([source[:at] + byte + source[at + 1 :], source[:at] + byte + source[at:]])
+
+
+def told_by(program, room, source):
+    """The fault that the program tells of the file; nothing where it tells none."""
+    with open(f"{room}/policy", "wb") as file:
+        file.write(source)
+    words = [program, "session", "--db", f"{room}/db", "--policy", f"{room}/policy", "--now", "1463500146"]
+    ran = subprocess.run(words, stdin=subprocess.DEVNULL, stdout=subprocess.PIPE, stderr=subprocess.PIPE, check=False)
+    told = ran.stderr.decode()
+    if ran.stdout or ran.returncode != (1 if told else 0):
+        return f"status {ran.returncode}, {ran.stdout!r}, {told!r}"
+    return told.removeprefix("custody: policy ").removesuffix("\n")
+
+
+def wanted_of(source):
+    """The fault that the document tells of the file."""
+    try:
+        read(source)
+    except Faulty as fault:
+        return str(fault)
+    return ""
+
+
+def main():
+    program = os.path.abspath(sys.argv[1])
+    seconds = float(sys.argv[2]) if len(sys.argv) > 2 else 60
+    seed = int(sys.argv[3]) if len(sys.argv) > 3 else random.randrange(2**32)
+    make, until, agreed, seen = Maker(seed), time.time() + seconds, 0, {}
+    with tempfile.TemporaryDirectory() as room:
+        while time.time() < until:
+            source = make.file()
+            told, wanted = told_by(program, room, source), wanted_of(source)
+            if told != wanted:
+                print(f"seed {seed}, file {agreed}: {source!r}\nthe program: {told!r}\nthe document: {wanted!r}")
+                return 1
+            kind = re.sub(r" \d+$", "", wanted) or "none"
+            seen[kind] = seen.get(kind, 0) + 1
+            agreed += 1
+    print(
+        f"seed {seed}: {agreed} files agreed; faults: "
+        + ", ".join(f"{kind} {count}" for kind, count in sorted(seen.items()))
+    )
+    return 0
+
+
+sys.exit(main())
