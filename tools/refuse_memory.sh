@@ -21,6 +21,9 @@ done
 tests=src/memory.rt
 cd "$room/crates/integration"
 cp "$tests" "$room/memory.rt"
+# No other test is wanted.
+find src -name '*.rt' ! -name memory.rt -delete
+printf '#![tactic(auto)]\n\n#[cfg(test)]\nmod memory;\n' >src/lib.rt
 
 # The outcome of each test from number $1 to $2, one a line.
 outcomes() {
