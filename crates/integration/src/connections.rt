@@ -183,6 +183,15 @@ const FAILING_SOURCES: &[(&[&str], usize, u64, &[&str], End, u32)] = &[
         End::ReadFailed,
         1,
     ),
+    // The seventh tells the end.
+    (
+        &[MESSAGE, MESSAGE],
+        60,
+        7,
+        &[CREATED, HELD],
+        End::InputEnded,
+        1,
+    ),
     // A reply that closes comes before a failing read.
     (&[LAST], usize::MAX, 1, &[CREATED_LAST], End::Closed, 1),
     (&[CHUNKED], usize::MAX, 1, &[REFUSED], End::Closed, 0),

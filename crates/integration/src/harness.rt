@@ -165,6 +165,8 @@ pub(crate) fn told_by<S: Alter>(
     let mut sink = VecSink::new(rt.alloc(), most);
     let alloc = rt.alloc();
     let served = serve(alloc, store, policy, &routes, now, &mut source, &mut sink);
+    // A connection is read to its end, whatever is answered.
+    assert!(rt; source.left().is_empty());
     let text = sure(rt, str::from_utf8(sink.taken()));
     let text = sure(rt, text.to_owned(alloc));
     Told { text, served }

@@ -1,6 +1,13 @@
 //! Tests of the crates over a database, by what they hand out: `tables`, `tokens`, `desk` and
 //! `service`.
 //!
+//! | Of | Modules |
+//! |---|---|
+//! | `tables` | `databases` |
+//! | `tokens` | `issuing` |
+//! | `desk` | `answers` |
+//! | `service` | all others, but for `files` and `harness`, which help |
+//!
 //! They stand in one crate, since a program of tests over a database costs a minute of proof before
 //! its first test, and each crate with tests of its own is proved once more for them.
 #![tactic(auto)]
