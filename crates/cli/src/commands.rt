@@ -6,6 +6,15 @@ use std::alloc::{AllocError, Global};
 const ABOUT: &str =
     "A Git LFS server that keeps locks, so that two people do not paint the same scene in the same hour";
 
+/// What `-V` prints after the program's name.
+const VERSION: &str = "0.1.0";
+
+/// What `--version` prints after the program's name: the version, and the line of `rt version` for the toolchain that
+/// the program is proved with. `tools/check_pages` compares it with `rt version`.
+const LONG_VERSION: &str = "\
+0.1.0
+rattle-kit-13b logic dac8208d650f15bf";
+
 const SESSION_ABOUT: &str =
     "Answers the requests on standard input, and writes the replies to standard output";
 
@@ -137,6 +146,8 @@ fn prune_command<'a>(alloc: Global) -> Result<Command<'a>, AllocError> {
 pub(crate) fn program<'a>(alloc: Global) -> Result<Command<'a>, AllocError> {
     Command::new(alloc, "custody")
         .about(ABOUT)
+        .version(VERSION)
+        .long_version(LONG_VERSION)
         .subcommand_required(true)
         .arg_required_else_help(true)
         .subcommand(session_command(alloc)?)?

@@ -12,9 +12,9 @@ use crate::words::{Asked, read_words};
 use std::io::{self, ErrorKind, Read, Write};
 use std::rt::HostRuntime;
 
-/// Writes the help to its end.
-fn write_help<W: Write>(help: &clap::Error, output: &mut W) -> io::Result<()> {
-    write!(output, "{help}")?;
+/// Writes the help or the version.
+fn write_text<W: Write>(text: &clap::Error, output: &mut W) -> io::Result<()> {
+    write!(output, "{text}")?;
     output.flush()
 }
 
@@ -26,7 +26,7 @@ fn obey<R: Read, W: Write>(
     output: &mut W,
 ) -> Result<(), Fault> {
     match read_words(rt.alloc(), words)? {
-        Asked::Help(help) => write_help(&help, output).map_err(|_| Fault::Output),
+        Asked::Text(text) => write_text(&text, output).map_err(|_| Fault::Output),
         Asked::Session(asked) => session(rt, &asked, input, output),
         Asked::Authenticate(asked) => authenticate(rt, &asked, output),
         Asked::Prune(asked) => prune(rt, &asked, output),

@@ -16,8 +16,8 @@ use tables::Operation;
 /// What the words ask for.
 #[derive(Debug, Drop)]
 pub(crate) enum Asked<'a> {
-    /// The text that tells a person how the program is used.
-    Help(clap::Error),
+    /// The help or the version, for standard output.
+    Text(clap::Error),
     /// The command `session`.
     Session(SessionWords<'a>),
     /// The command `authenticate`.
@@ -148,6 +148,11 @@ fn command_words<'a>(name: &str, matches: &ArgMatches<'a>) -> Result<Option<Aske
     })
 }
 
+/// Whether `clap` reports `--help` or `--version` by this kind of error.
+fn is_text_asked_for(kind: ErrorKind) -> bool {
+    matches!(kind, ErrorKind::DisplayHelp | ErrorKind::DisplayVersion)
+}
+
 /// What the words ask for. The first is the program's name.
 ///
 /// # Errors
@@ -157,7 +162,7 @@ pub(crate) fn read_words<'a>(alloc: Global, words: &'a [String]) -> Result<Asked
     let mut program = program(alloc)?;
     let matches = match program.try_get_matches_from_mut(words) {
         Ok(matches) => matches,
-        Err(error) if error.kind() == ErrorKind::DisplayHelp => return Ok(Asked::Help(error)),
+        Err(error) if is_text_asked_for(error.kind()) => return Ok(Asked::Text(error)),
         Err(error) => return Err(Fault::from(error)),
     };
     let asked = match matches.subcommand() {
