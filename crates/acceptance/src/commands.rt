@@ -6,8 +6,14 @@ use std::fs;
 use std::rt::HostRuntime;
 use std::test::Fail;
 
-/// Words that are no command, and values out of range. No database is made by them.
+/// The version; words that are no command, and values out of range. No database is made by them.
 const WORDS: &str = r#"
+# the second line is that of `rt version`
+$ --version
+| custody 0.1.0
+| rattle-kit-13b logic dac8208d650f15bf
+$ -V
+| custody 0.1.0
 $ lock
 ! error: unrecognized subcommand 'lock'
 !
