@@ -13,6 +13,11 @@ fn sure<T, E>(rt: &impl Abort, answer: Result<T, E>) -> T {
 }
 
 /// That this is told of the case.
-fn expect<T: Copy + PartialEq + Debug>(rt: &impl Abort, case: &impl Debug, told: T, want: T) {
+pub(crate) fn expect<T: Copy + PartialEq + Debug>(
+    rt: &impl Abort,
+    case: &impl Debug,
+    told: T,
+    want: T,
+) {
     assert_eq!(rt; told, want, "of {case:?}");
 }

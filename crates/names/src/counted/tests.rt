@@ -1,4 +1,5 @@
 use super::*;
+use crate::tests::expect;
 
 #[test]
 fn a_source_ends_at_its_cap(rt: HostRuntime) {
@@ -8,10 +9,10 @@ fn a_source_ends_at_its_cap(rt: HostRuntime) {
         handed_out: 1_099_511_627_776 - 4,
         failures: 0,
     };
-    assert_eq!(rt; source.read(&mut piece[..3]), Ok(3));
-    assert_eq!(rt; source.read(&mut piece), Ok(1));
-    assert_eq!(rt; source.read(&mut piece), Ok(0));
-    assert_eq!(rt; source.into_inner(), b"ef".as_slice());
+    expect(&rt, &"3 bytes", source.read(&mut piece[..3]), Ok(3));
+    expect(&rt, &"the last", source.read(&mut piece), Ok(1));
+    expect(&rt, &"the end", source.read(&mut piece), Ok(0));
+    expect(&rt, &"the rest", source.into_inner(), b"ef".as_slice());
 }
 
 /// A reader that always fails.
@@ -32,10 +33,10 @@ fn counts_stay_at_their_greatest_number(rt: HostRuntime) {
         failures: u64::MAX - 1,
     };
     for _ in 0..2 {
-        assert_eq!(rt; source.read(&mut [0]), Err(DeviceFault));
-        assert_eq!(rt; source.failures(), u64::MAX);
+        expect(&rt, &"a read", source.read(&mut [0]), Err(DeviceFault));
+        expect(&rt, &"a read", source.failures(), u64::MAX);
     }
     // Once all is handed out, the reader is not asked again.
     source.handed_out = 1_099_511_627_776;
-    assert_eq!(rt; source.read(&mut [0]), Ok(0));
+    expect(&rt, &"the end", source.read(&mut [0]), Ok(0));
 }

@@ -23,6 +23,55 @@ fn printed<T: Copy + Display>(rt: &(impl Abort + Alloc<A = Global>), name: Optio
     }
 }
 
+/// The kinds of names that are texts.
+#[derive(Clone, Copy)]
+enum Kind {
+    User,
+    Repository,
+    Ref,
+    Path,
+}
+
+/// What is written of the text as a name of that kind, or [`NONE`].
+fn written(rt: &(impl Abort + Alloc<A = Global>), kind: Kind, text: &str) -> String {
+    match kind {
+        Kind::User => printed(rt, UserName::read(text)),
+        Kind::Repository => printed(rt, RepoName::read(text)),
+        Kind::Ref => printed(rt, RefName::read(text)),
+        Kind::Path => printed(rt, LockPath::read(text)),
+    }
+}
+
+/// The text that the name of that kind has, or [`NONE`].
+fn text_of(kind: Kind, text: &str) -> &str {
+    match kind {
+        Kind::User => UserName::read(text).map_or(NONE, |user| user.as_str()),
+        Kind::Repository => RepoName::read(text).map_or(NONE, |repo| repo.as_str()),
+        Kind::Ref => RefName::read(text).map_or(NONE, |name| name.as_str()),
+        Kind::Path => LockPath::read(text).map_or(NONE, |path| path.as_str()),
+    }
+}
+
+/// The text where it is a name, or [`NONE`].
+fn wanted(text: &str, good: bool) -> &str {
+    if good { text } else { NONE }
+}
+
+/// That those texts are names of the kind, or not.
+fn expect_names(
+    rt: &(impl Abort + Alloc<A = Global>),
+    kind: Kind,
+    cases: &[(&'static str, usize, bool)],
+) {
+    for &(text, letters, good) in cases {
+        let text = lengthened(rt, text, letters);
+        let text = text.as_str();
+        let want = wanted(text, good);
+        expect(rt, &text, written(rt, kind, text).as_str(), want);
+        expect(rt, &text, text_of(kind, text), want);
+    }
+}
+
 /// Texts, how many letters `a` stand behind them, and whether that is a user.
 const USERS: &[(&str, usize, bool)] = &[
     ("anna", 0, true),
@@ -40,14 +89,7 @@ const USERS: &[(&str, usize, bool)] = &[
 
 #[test]
 fn users_are_1_to_40_bytes_of_their_alphabet(rt: HostRuntime) {
-    for &(text, letters, good) in USERS {
-        let text = lengthened(&rt, text, letters);
-        let shown = printed(&rt, UserName::read(text.as_str()));
-        let want = if good { text.as_str() } else { NONE };
-        expect(&rt, &text, shown.as_str(), want);
-    }
-    let user = UserName::read("anna").map(|user| user.as_str());
-    expect(&rt, &"the text", user, Some("anna"));
+    expect_names(&rt, Kind::User, USERS);
 }
 
 /// Texts, how many letters `a` stand behind them, and whether that is a repository.
@@ -68,14 +110,7 @@ const REPOSITORIES: &[(&str, usize, bool)] = &[
 
 #[test]
 fn repositories_are_an_owner_and_a_name(rt: HostRuntime) {
-    for &(text, letters, good) in REPOSITORIES {
-        let text = lengthened(&rt, text, letters);
-        let shown = printed(&rt, RepoName::read(text.as_str()));
-        let want = if good { text.as_str() } else { NONE };
-        expect(&rt, &text, shown.as_str(), want);
-    }
-    let repo = RepoName::read("studio/film").map(|repo| repo.as_str());
-    expect(&rt, &"the text", repo, Some("studio/film"));
+    expect_names(&rt, Kind::Repository, REPOSITORIES);
 }
 
 /// Texts, how many letters `a` stand behind them, and whether that is a ref.
@@ -101,14 +136,7 @@ const REFS: &[(&str, usize, bool)] = &[
 
 #[test]
 fn refs_have_no_two_dots_and_no_empty_part(rt: HostRuntime) {
-    for &(text, letters, good) in REFS {
-        let text = lengthened(&rt, text, letters);
-        let shown = printed(&rt, RefName::read(text.as_str()));
-        let want = if good { text.as_str() } else { NONE };
-        expect(&rt, &text, shown.as_str(), want);
-    }
-    let name = RefName::read("refs/heads/main").map(|name| name.as_str());
-    expect(&rt, &"the text", name, Some("refs/heads/main"));
+    expect_names(&rt, Kind::Ref, REFS);
 }
 
 /// Texts, how many letters `a` stand behind them, and whether that is a path.
@@ -142,14 +170,7 @@ const PATHS: &[(&str, usize, bool)] = &[
 
 #[test]
 fn lock_paths_are_clean(rt: HostRuntime) {
-    for &(text, letters, good) in PATHS {
-        let text = lengthened(&rt, text, letters);
-        let shown = printed(&rt, LockPath::read(text.as_str()));
-        let want = if good { text.as_str() } else { NONE };
-        expect(&rt, &text, shown.as_str(), want);
-    }
-    let path = LockPath::read("a/\u{e9}").map(|path| path.as_str());
-    expect(&rt, &"the text", path, Some("a/\u{e9}"));
+    expect_names(&rt, Kind::Path, PATHS);
 }
 
 /// Digits, and whether an object's name may have them.
@@ -172,25 +193,32 @@ const SIZES: &[(u64, Option<u64>, &str)] = &[
     (268_435_457, None, NONE),
 ];
 
+/// How many digits a text has, and whether an object's name may have so many.
+const COUNTS: &[(usize, bool)] = &[(63, false), (64, true), (65, false)];
+
+/// That the digit, repeated, is an object's name, or not.
+fn expect_digit(rt: &(impl Abort + Alloc<A = Global>), digit: &str, good: bool) {
+    for &(count, fits) in COUNTS {
+        let text = sure(rt, digit.repeat(rt.alloc(), count));
+        let read = Oid::read(text.as_bytes()).is_some();
+        expect(rt, &text, read, good && fits);
+    }
+}
+
 #[test]
-fn objects_are_64_digits_and_a_size(rt: HostRuntime) {
+fn objects_are_64_digits(rt: HostRuntime) {
     // The SHA-256 of no byte.
     let empty = "e3b0c44298fc1c149afbf4c8996fb92427ae41e4649b934ca495991b7852b855";
     let name = sure(&rt, Oid::read(empty.as_bytes()).ok_or(()));
     expect(&rt, &"the text", name.text(), empty);
-    expect(
-        &rt,
-        &"what is written",
-        printed(&rt, Some(name)).as_str(),
-        empty,
-    );
+    expect(&rt, &empty, printed(&rt, Some(name)).as_str(), empty);
     for &(digit, good) in DIGITS {
-        for &count in &[63, 64, 65] {
-            let text = sure(&rt, digit.repeat(rt.alloc(), count));
-            let read = Oid::read(text.as_bytes()).is_some();
-            expect(&rt, &text, read, good && count == 64);
-        }
+        expect_digit(&rt, digit, good);
     }
+}
+
+#[test]
+fn sizes_have_a_limit(rt: HostRuntime) {
     for &(bytes, number, text) in SIZES {
         let size = Size::read(bytes).map(|size| size.get());
         expect(&rt, &bytes, size, number);
@@ -297,8 +325,8 @@ const RULES: &[(Rule, &str, u16, &str)] = &[
 fn rules_have_a_code_a_status_and_a_reason(rt: HostRuntime) {
     for &(rule, code, status, reason) in RULES {
         expect(&rt, &rule, printed(&rt, Some(rule)).as_str(), code);
-        expect(&rt, &rule, rule.status(), Some(status));
-        expect(&rt, &rule, rule.reason(), Some(reason));
+        let told = (rule.status(), rule.reason());
+        expect(&rt, &rule, told, (Some(status), Some(reason)));
     }
 }
 

@@ -3,6 +3,7 @@ use crate::{Counted, DeviceFault, FailAfter, Sink, SliceSource, Source, VecSink}
 use std::cell::Cell;
 use std::io;
 use std::io::{Read, Write};
+use std::process::Abort;
 
 fn write_whole<K: Sink>(sink: &mut K, bytes: &[u8]) -> Result<(), DeviceFault> {
     let mut rest = bytes;
@@ -55,12 +56,16 @@ const READS: &[(usize, usize, usize)] = &[(2, 8, 2), (7, 8, 6), (7, 3, 3), (7, 0
 const WRITES: &[(&[u8], usize)] = &[(b"abc", 2), (b"c", 1), (b"", 0)];
 
 #[test]
-fn pieces_are_as_small_as_asked(rt: HostRuntime) {
+fn a_source_hands_out_as_little_as_asked(rt: HostRuntime) {
     for &(most, room, size) in READS {
         let mut piece = sure(&rt, vec![in rt.alloc(); 0; room]);
         let read = SliceSource::new(b"abcdef", most).read(&mut piece);
         expect(&rt, &(most, room), read, Ok(size));
     }
+}
+
+#[test]
+fn a_sink_takes_as_little_as_asked(rt: HostRuntime) {
     let mut sink = VecSink::new(rt.alloc(), 2);
     for &(piece, size) in WRITES {
         expect(&rt, &piece, sink.write(piece), Ok(size));
@@ -69,7 +74,7 @@ fn pieces_are_as_small_as_asked(rt: HostRuntime) {
 }
 
 #[test]
-fn failing_devices_fail_from_then_on(rt: HostRuntime) {
+fn a_source_fails_from_then_on(rt: HostRuntime) {
     let mut source = FailAfter::new(SliceSource::new(b"abcdef", 2), 2);
     let mut sink = VecSink::new(rt.alloc(), 2);
     let copied = copy(&mut source, &mut sink);
@@ -79,7 +84,10 @@ fn failing_devices_fail_from_then_on(rt: HostRuntime) {
     expect(&rt, &"a read", again, Err(DeviceFault));
     expect(&rt, &"a read", source.failures(), 2);
     expect(&rt, &"a read", source.into_inner().left(), b"ef");
+}
 
+#[test]
+fn a_sink_fails_from_then_on(rt: HostRuntime) {
     let mut sink = FailAfter::new(VecSink::new(rt.alloc(), 1), 3);
     let written = write_whole(&mut sink, b"abcdef");
     expect(&rt, &"writes", written, Err(DeviceFault));
@@ -149,16 +157,37 @@ impl Write for Stuck {
     }
 }
 
+/// What is written, one piece after the other, what comes of each, and how many failures are counted
+/// then: where the writer fails, and where it takes nothing.
+const TO_FAILING: &[(&[u8], Result<usize, DeviceFault>, u64)] = &[
+    (b"a", Err(DeviceFault), 1),
+    (b"", Err(DeviceFault), 2),
+    (b"a", Err(DeviceFault), 3),
+];
+
+const TO_FULL: &[(&[u8], Result<usize, DeviceFault>, u64)] = &[
+    (b"a", Err(DeviceFault), 1),
+    (b"", Ok(0), 1),
+    (b"a", Err(DeviceFault), 2),
+];
+
+/// That the writes to that writer are counted so.
+fn expect_writes(
+    rt: &impl Abort,
+    writer: Stuck,
+    writes: &[(&'static [u8], Result<usize, DeviceFault>, u64)],
+) {
+    let mut sink = Counted::new(writer);
+    for &(piece, want, failures) in writes {
+        expect(rt, &piece, sink.write(piece), want);
+        expect(rt, &piece, sink.failures(), failures);
+    }
+}
+
 #[test]
 fn a_writer_that_takes_nothing_is_counted(rt: HostRuntime) {
-    for fails in [true, false] {
-        let mut sink = Counted::new(Stuck(fails));
-        assert_eq!(rt; sink.write(b"a"), Err(DeviceFault));
-        assert_eq!(rt; sink.failures(), 1);
-        assert_eq!(rt; sink.write(b"").is_ok(), !fails);
-        assert_eq!(rt; sink.write(b"a"), Err(DeviceFault));
-        assert_eq!(rt; sink.failures(), if fails { 3 } else { 2 });
-    }
+    expect_writes(&rt, Stuck(true), TO_FAILING);
+    expect_writes(&rt, Stuck(false), TO_FULL);
 }
 
 /// A source or a sink that counts its calls in a cell.
