@@ -18,6 +18,3 @@ mod request;
 pub use answer::{Answer, DenialStatus, ShownLock};
 pub use lock::LockRequest;
 pub use request::{Request, read_form};
-
-#[cfg(test)]
-mod tests;

@@ -1,8 +1,9 @@
-//! Tests of the crates over a database, by what they hand out: `tables`, `tokens`, `desk` and
-//! `service`.
+//! Tests of the crates over a database, by what they export: `schemas`, `tables`, `tokens`, `desk`
+//! and `service`.
 //!
 //! | Of | Modules |
 //! |---|---|
+//! | `schemas` | `comparing` |
 //! | `tables` | `databases` |
 //! | `tokens` | `issuing` |
 //! | `desk` | `answers` |
@@ -18,6 +19,8 @@ mod answers;
 mod bodies;
 #[cfg(test)]
 mod callers;
+#[cfg(test)]
+mod comparing;
 #[cfg(test)]
 mod connections;
 #[cfg(test)]

@@ -101,6 +101,3 @@ impl<W: Write> Sink for Counted<W> {
         self.failures
     }
 }
-
-#[cfg(test)]
-mod tests;

@@ -30,6 +30,3 @@ pub use objects::{Oid, Size};
 pub use rules::Rule;
 pub use streams::{DeviceFault, Sink, Source};
 pub use texts::{LockPath, RefName, RepoName, UserName};
-
-#[cfg(test)]
-mod tests;

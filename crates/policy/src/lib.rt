@@ -17,8 +17,6 @@ mod repos;
 mod rows;
 mod sentences;
 mod tables;
-#[cfg(test)]
-mod tests;
 
 pub use decisions::decide;
 pub use faults::{Fault, FaultCode, Place, PolicyFault};

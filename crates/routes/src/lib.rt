@@ -15,6 +15,3 @@ mod target;
 
 pub use table::{Resource, Route, Routes};
 pub use target::{path_of, query_of};
-
-#[cfg(test)]
-mod tests;

@@ -23,6 +23,3 @@ pub use framing::{LARGEST_FORM, LARGEST_OBJECT};
 pub use head::Head;
 pub use reply::{ALLOW_LIMIT, Content, ReplyHead};
 pub use write::{WriteFault, write_reply, write_whole};
-
-#[cfg(test)]
-mod tests;

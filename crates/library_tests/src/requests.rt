@@ -1,4 +1,6 @@
-use crate::{Request, read_form};
+//! `forms`: requests from JSON.
+
+use forms::{Request, read_form};
 use model::Form;
 use std::alloc::{AllocError, Global};
 use std::test::Fail;

@@ -1,5 +1,7 @@
-use super::{expect, sure};
-use crate::{LockId, LockPath, Moment, Oid, RefName, RepoName, Rule, Size, UserName, moment_text};
+//! `names`: texts and numbers with a range, moments, rules.
+
+use crate::harness::{expect, sure};
+use names::{LockId, LockPath, Moment, Oid, RefName, RepoName, Rule, Size, UserName, moment_text};
 use std::alloc::{Alloc, Global};
 use std::fmt::Display;
 use std::process::Abort;

@@ -1,4 +1,6 @@
-use crate::{Answer, DenialStatus, ShownLock};
+//! `forms`: answers as JSON.
+
+use forms::{Answer, DenialStatus, ShownLock};
 use model::Right;
 use names::{LockId, LockPath, Moment, Rule, UserName};
 use std::alloc::{AllocError, Global};

@@ -1,5 +1,7 @@
-use super::{expect, sure};
-use crate::{Counted, DeviceFault, FailAfter, Sink, SliceSource, Source, VecSink};
+//! `names`: sources and sinks.
+
+use crate::harness::{expect, sure};
+use names::{Counted, DeviceFault, FailAfter, Sink, SliceSource, Source, VecSink};
 use std::cell::Cell;
 use std::io;
 use std::io::{Read, Write};
@@ -138,6 +140,38 @@ fn a_reader_that_fails_is_counted(rt: HostRuntime) {
     expect(&rt, &"the sink", sink.failures(), 0);
     expect(&rt, &"the source", source.into_inner().bytes, b"");
     expect(&rt, &"the sink", sink.into_inner().as_slice(), b"abcdef");
+}
+
+/// A reader that fills any room, leaves the bytes as they are, and counts its calls in a cell.
+#[derive(Drop)]
+struct Endless<'c> {
+    calls: &'c Cell<u32>,
+}
+
+impl Read for Endless<'_> {
+    fn read(&mut self, piece: &mut [u8]) -> io::Result<usize> {
+        self.calls.set(self.calls.get().saturating_add(1));
+        Ok(piece.len())
+    }
+}
+
+/// How much room is offered, and how many bytes are read: at most 1,099,511,627,776 in all, which are 16,384 reads of
+/// 67,108,864 bytes.
+const LAST_READS: &[(usize, usize)] = &[(67_108_860, 67_108_860), (3, 3), (8, 1), (8, 0), (0, 0)];
+
+#[test]
+fn a_source_ends_at_its_cap(rt: HostRuntime) {
+    let calls = Cell::new(0);
+    let mut source = Counted::new(Endless { calls: &calls });
+    let mut piece = sure(&rt, vec![in rt.alloc(); 0; 67_108_864]);
+    for _ in 0..16_383 {
+        expect(&rt, &"a read", source.read(&mut piece), Ok(67_108_864));
+    }
+    for &(room, size) in LAST_READS {
+        expect(&rt, &room, source.read(&mut piece[..room]), Ok(size));
+    }
+    // The reader is not asked once all is handed out.
+    expect(&rt, &"calls", calls.get(), 16_386);
 }
 
 /// A writer that fails, or takes nothing.

@@ -1,5 +1,7 @@
-use crate::{Resource, Routes, path_of, query_of};
+//! `routes`: where a target leads.
+
 use model::Form;
+use routes::{Resource, Routes, path_of, query_of};
 use std::test::Fail;
 
 #[test]

@@ -1,9 +1,11 @@
-use super::{expect, sure};
-use crate::{Cut, FIELD_ROOM, Head, first_head, front_of};
+//! `wire`: heads cut from bytes, and what they say.
+
+use crate::harness::{expect, sure};
 use httparse::spans::EMPTY_HEADER_SPAN;
 use names::Rule;
 use std::alloc::{Alloc, Global};
 use std::process::Abort;
+use wire::{Cut, FIELD_ROOM, Head, first_head, front_of};
 
 /// How long the head at the front of the text is, or what is there in its place.
 fn length_of(text: &[u8]) -> Result<usize, &'static str> {

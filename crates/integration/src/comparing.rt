@@ -1,4 +1,6 @@
-use super::*;
+//! `schemas`: databases of the same schema, and of another.
+
+use schemas::same_schema;
 use sqlite::{Connection, Error};
 use std::alloc::Global;
 use std::test::Fail;

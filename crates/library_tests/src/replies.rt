@@ -1,9 +1,11 @@
-use super::{expect, sure};
-use crate::{ALLOW_LIMIT, Content, ReplyHead, WriteFault, write_reply, write_whole};
+//! `wire`: replies written to sinks that take few bytes, or fail.
+
+use crate::harness::{expect, sure};
 use http::StatusCode;
 use names::{FailAfter, Sink, VecSink};
 use std::alloc::{Alloc, Global};
 use std::process::Abort;
+use wire::{ALLOW_LIMIT, Content, ReplyHead, WriteFault, write_reply, write_whole};
 
 /// The head of a reply, with its status as a number.
 #[derive(Clone, Copy)]

@@ -1,5 +1,7 @@
-//! What the language of policy files and its decisions are held to, by example.
-use crate::*;
+//! `policy`: policy files, their faults, and which row decides.
+
+use crate::harness::sure;
+use policy::*;
 use std::alloc::{Alloc, Global};
 use std::process::Abort;
 
@@ -26,14 +28,6 @@ refs = ["*"]
 paths = ["*"]
 rights = ["pull", "push", "list", "lock"]
 "#;
-
-/// The value of an answer that has to be `Ok`.
-fn sure<T, E>(rt: &impl Abort, answer: Result<T, E>) -> T {
-    match answer {
-        Ok(value) => value,
-        Err(_) => panic!(rt; "an answer is an error"),
-    }
-}
 
 /// The three parts, one after the other.
 fn join(rt: &(impl Abort + Alloc<A = Global>), first: &str, second: &str, third: &str) -> String {
