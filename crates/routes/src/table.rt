@@ -37,7 +37,7 @@ pub struct Route<'t> {
 
 impl Resource {
     ghost use Rattle.std.specs.Prelude.{◌≡◌, ◌≤◌, length, map};
-    ghost use Rattle.model.specs.Heads.{form_of, listed};
+    ghost use Rattle.model.specs.Heads.{form_of, comma_list};
     ghost use Rattle.routes.specs.Table.{row_of};
 
     /// What the method asks for here; `None` where it is not served (H7).
@@ -60,7 +60,7 @@ impl Resource {
     /// The methods that are served here, with a comma and a space between them: what `Allow` says
     /// where another is asked (RFC 9110, Allow).
     pub fn allow(self) -> &'static str
-        ensures methods { result.now ≡ listed (map (λ r. r.0) (row_of self).requests) }
+        ensures methods { result.now ≡ comma_list (map (λ r. r.0) (row_of self).requests) }
         ensures short { length result.now ≤ 128 }
     {
         match self {
