@@ -487,3 +487,11 @@ silence_leaves old e new (by_refusal given sure is) told = is
 
 pub silence_changes_nothing : SilenceChangesNothing
 silence_changes_nothing old e new step told = silence_leaves old e new step.carries told
+
+-- the world after an exchange is the one after the answer that was given
+after_given : (old : World) (e : Exchange) (new : World) → Carries old e new → new ≡ after old e.given
+after_given old e new (by_verdict given is) = is ∙ ap (after old) (sym given)
+after_given old e new (by_refusal given sure is) = is ∙ ap (after old) (sym given)
+
+pub exchange_after : (old : World) (e : Exchange) (new : World) → IsExchange old e new → new ≡ after old e.given
+exchange_after old e new step = after_given old e new step.carries

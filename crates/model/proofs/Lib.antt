@@ -15,3 +15,4 @@ pub mod Seen
 pub mod Views
 pub mod Apart
 pub mod Left
+pub mod Refusals

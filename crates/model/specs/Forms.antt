@@ -72,11 +72,15 @@ query_single [] = Ok None
 query_single (value ∷ []) = Ok (if is_empty value then None else Some value)
 query_single _ = Err J2
 
--- the value of a key of the query
+-- the values of a key of the query
+abbrev pub query_values : List ℕ → List ℕ → List (List ℕ)
+query_values key query =
+    map (λ (p : List ℕ × List ℕ). decode_text p.1)
+    (filter (λ (p : List ℕ × List ℕ). bytes_eq (decode_text p.0) key) (raw_pairs query))
+
+-- the value of a key of the query, if there is one
 unfoldable pub query_value : List ℕ → List ℕ → Result (Option (List ℕ)) Rule
-query_value key query =
-    query_single (map (λ (p : List ℕ × List ℕ). decode_text p.1)
-    (filter (λ (p : List ℕ × List ℕ). bytes_eq (decode_text p.0) key) (raw_pairs query)))
+query_value key query = query_single (query_values key query)
 
 -- what a value that is given reads as, or J2
 abbrev pub read_if_given : {A : Type 0} → (List ℕ → Option A) → Option (List ℕ) → Result (Option A) Rule
