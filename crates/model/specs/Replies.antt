@@ -244,16 +244,35 @@ body_size (json text) = length text
 body_size (content name size) = size
 body_size empty = 0
 
+-- what the head of a reply says: its status, the line with the type of the body and the size of the body, the methods
+-- of Allow, if there are any, and whether the server closes after the reply
+pub record ReplyHead : Type 0 where
+  pub status : ℕ
+  pub type : List ℕ
+  pub size : ℕ
+  pub allow : List ℕ
+  pub close : Bool
+
+-- the lines of the head of a reply
+abbrev pub head_lines : ReplyHead → List ℕ
+head_lines h =
+    line (codes "HTTP/1.1 " ++ decimal h.status ++ codes " " ++ phrase_in phrases h.status)
+    ++ h.type
+    ++ line (codes "Content-Length: " ++ decimal h.size)
+    ++ line_if (not (is_empty h.allow)) (codes "Allow: " ++ h.allow)
+    ++ line_if (h.status == 401) (codes "LFS-Authenticate: Bearer realm=\"Git LFS\"")
+    ++ line_if h.close (codes "Connection: close")
+    ++ crlf_bytes
+
 -- the head of a reply; allow lists methods, if there are any, and close says whether the server closes after it
 unfoldable pub head_text : Reply → List ℕ → Bool → List ℕ
-head_text r allow close =
-    line (codes "HTTP/1.1 " ++ decimal r.status ++ codes " " ++ phrase_in phrases r.status)
-    ++ type_line r.body
-    ++ line (codes "Content-Length: " ++ decimal (body_size r.body))
-    ++ line_if (not (is_empty allow)) (codes "Allow: " ++ allow)
-    ++ line_if (r.status == 401) (codes "LFS-Authenticate: Bearer realm=\"Git LFS\"")
-    ++ line_if close (codes "Connection: close")
-    ++ crlf_bytes
+head_text r allow close = head_lines (record {
+  status = r.status;
+  type = type_line r.body;
+  size = body_size r.body;
+  allow = allow;
+  close = close;
+})
 
 -- the bytes of a body: its JSON, or the content's
 abbrev pub body_text : Body → List ℕ → List ℕ
