@@ -11,6 +11,8 @@ use Rattle.names.specs.declared.rules.Rule.{Rule}
 use Rattle.names.specs.declared.rules.Rule.TheVariants.{H2, H3, H4, H5, H6, H7, H8}
 use Rattle.model.specs.declared.Form.{Form}
 use Rattle.model.specs.declared.Form.TheVariants as form
+use Rattle.model.specs.declared.ServedForm.{ServedForm}
+use Rattle.model.specs.declared.ServedForm.TheVariants as served
 use Rattle.model.specs.Reading.{◌>>=◌, check, ok_or, or_default}
 use Rattle.model.specs.Orders.{first}
 
@@ -114,6 +116,10 @@ routes =
 abbrev pub is_served : Form → Bool
 is_served form.Lock = true
 is_served _ = false
+
+-- the form of a request that is served
+abbrev pub form_of_served : ServedForm → Form
+form_of_served served.Lock = form.Lock
 
 -- one of the route's methods is served
 abbrev pub has_served : RouteRow → Bool

@@ -63,3 +63,11 @@ pub enum Form {
     /// To release a lock.
     Unlock,
 }
+
+/// What the requests that are served ask for. A request that the server learns to serve gets its
+/// variant here.
+#[derive(Clone, Copy, Debug, PartialEq, Eq, Hash)]
+pub enum ServedForm {
+    /// To lock a path.
+    Lock,
+}
