@@ -43,7 +43,8 @@ replied world asked = text_if asked (verdict_on world (at_now studio) asked)
 -- the bytes of the first message, and then any, begin with the first message
 abbrev pub FirstIsFirst : Type 0
 FirstIsFirst =
-    (rest : List ℕ) → BeginsWith (print_request first_head ++ first_body ++ rest) (message first_head first_body true) rest
+    (rest : List ℕ)
+    → BeginsWith (print_request first_head ++ first_body ++ rest) (message first_head first_body true) rest
 
 -- it makes the lock of id 1, and its reply has 187 bytes
 abbrev pub FirstIsLocked : Type 0
@@ -285,7 +286,8 @@ hello_target = record { repo = film; parameter = hello; form = form.Put }
 abbrev pub put_head : List Field → RequestHead
 put_head fields = head_of (codes "PUT") (lfs (codes "content/" ++ hello)) (length_field (codes "5") ∷ fields)
 
--- an upload without a token is denied from its head, and the connection closes; with a token it is not; X2 closes nothing
+-- an upload without a token is denied from its head, and the connection closes; with a token it is not denied; X2, which
+-- comes after the body, closes nothing
 abbrev pub UploadIsRefusedEarly : Type 0
 UploadIsRefusedEarly =
     let asked = message (put_head []) (codes "{\"pat") in
@@ -352,14 +354,15 @@ download_body =
 -- a stored object is downloaded, with the token as it was presented
 abbrev pub DownloadIsOffered : Type 0
 DownloadIsOffered =
-    status_and_body (answer (with_one hello (codes "hello")) studio ann (one_object (codes "download") hello (codes "5")))
+    let world = with_one hello (codes "hello") in
+    status_and_body (answer world studio ann (one_object (codes "download") hello (codes "5")))
     ≡ (200, download_body)
 
 -- the body for one object with an error
 abbrev pub error_body : List ℕ → List ℕ → List ℕ → List ℕ → List ℕ
 error_body code text name size =
-    batch_body (codes "{\"error\":{\"code\":" ++ code ++ codes ",\"message\":\"" ++ text ++ codes "\"},\"oid\":\"" ++ name
-    ++ codes "\",\"size\":" ++ size ++ codes "}")
+    batch_body (codes "{\"error\":{\"code\":" ++ code ++ codes ",\"message\":\"" ++ text
+    ++ codes "\"},\"oid\":\"" ++ name ++ codes "\",\"size\":" ++ size ++ codes "}")
 
 -- the request has this error for its one object
 abbrev pub has_error : Answer → List ℕ → Type 0
@@ -372,7 +375,8 @@ ObjectsAreRefused =
     let bad = codes "B2: the object name or size is not valid" in let fill = codes "hello" in
     has_error (answer nothing studio ann (download hello (codes "5")))
     (error_body (codes "404") (codes "B1: the object is not stored") hello (codes "5"))
-    × has_error (answer nothing studio ann (download (codes "xyz") (codes "5"))) (error_body (codes "422") bad (codes "xyz") (codes "5"))
+    × has_error (answer nothing studio ann (download (codes "xyz") (codes "5")))
+    (error_body (codes "422") bad (codes "xyz") (codes "5"))
     × has_error (answer nothing studio ann (upload hello (codes "-1"))) (error_body (codes "422") bad hello (codes "0"))
     × has_error (answer (with_one hello fill) studio ann (download hello (codes "6")))
     (error_body (codes "422") (codes "B4: the stored size differs") hello (codes "6"))
@@ -482,7 +486,8 @@ two_owners =
 unfoldable pub split_reply : List ℕ
 split_reply =
     json_head (codes "200 OK") (codes "181") []
-    ++ codes "{\"ours\":[" ++ lock_a ++ codes "],\"theirs\":[" ++ lock_text (codes "2") (codes "bob") (codes "b") ++ codes "]}"
+    ++ codes "{\"ours\":[" ++ lock_a ++ codes "],\"theirs\":["
+    ++ lock_text (codes "2") (codes "bob") (codes "b") ++ codes "]}"
 
 -- the answer to ann's request with this body
 abbrev pub verify_locks : List ℕ → Answer
@@ -542,7 +547,8 @@ asked_at now seconds = record {
   seconds = seconds;
 }
 
--- a token for a minute from 40 on expires at 100; it is not issued twice (K1), and none expires after the last moment (K2)
+-- a token for a minute from 40 on expires at 100; it is not issued twice (K1), and none expires after the last
+-- moment (K2)
 abbrev pub TokenIsIssued : Type 0
 TokenIsIssued =
     (after_token nothing (token_verdict nothing (asked_at 40 60)) ≡ expires_at_100)
