@@ -19,3 +19,5 @@ pub mod Refusals
 pub mod OnLiterals
 pub mod Computed
 pub mod Streamed
+pub mod Quota
+pub mod Digests
