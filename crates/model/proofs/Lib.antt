@@ -16,3 +16,8 @@ pub mod Views
 pub mod Apart
 pub mod Left
 pub mod Refusals
+pub mod OnLiterals
+pub mod Computed
+pub mod Streamed
+pub mod Quota
+pub mod Digests

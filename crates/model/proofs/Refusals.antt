@@ -21,7 +21,7 @@ use Rattle.model.specs.Reading.{◌>>=◌, check, ok_or, none_or}
 use Rattle.model.specs.Policy.{Policy, Decision, allowed, denied, decide, repo_named}
 use Rattle.model.specs.World.{World, Object, Lock, find_token, object_named, name_of}
 use Rattle.model.specs.RepoState.{RepoState, size_of, has_room, lock_at}
-use Rattle.model.specs.Forms.{Request, asks_batch, asks_get, asks_put, asks_verify, asks_lock, asks_list, asks_verify_locks, asks_unlock, BatchForm, request_of, batch_form, put_form, verify_form, lock_form, list_form, verify_locks_form, unlock_form, members_of, if_given, optional, required, as_name, as_array_of, as_batch_object, operation_in, is_if_given, has_basic, object_limit, query_value, query_values, query_single, query_ref, read_if_given, limit_in, whole_if_given, is_size}
+use Rattle.model.specs.Forms.{Request, asks_batch, asks_get, asks_put, asks_verify, asks_lock, asks_list, asks_verify_locks, asks_unlock, BatchForm, request_of, batch_keys, batch_form, put_form, verify_form, lock_form, list_form, verify_locks_form, unlock_form, members_of, if_given, optional, required, as_name, as_array_of, as_batch_object, operation_in, is_if_given, has_basic, object_limit, query_value, query_values, query_single, query_ref, read_if_given, limit_in, whole_if_given, is_size}
 use Rattle.model.specs.Heads.{Target, Route, RouteRow, head_verdict, head_verdict_in, check_framing, is_measured, is_clear, is_small, at_most, form_of, accepts, values, route_in, route_of_parts, served_routes, path_of, repo_text, row_fits}
 use Rattle.model.specs.Callers.{Caller, caller_by, bearer, pull_question, push_question, lock_question}
 use Rattle.model.specs.Cases.{Setting, Case, case_in, DeskRequest}
@@ -144,19 +144,24 @@ whole_late : (o : Option Num) → IfErr (whole_if_given o) IsLateRule
 whole_late None = tt
 whole_late (Some n) = then_late (ok_or (as_i64 n) rule.J2) (λ z. Ok (Some z)) (found_late (as_i64 n) rule.J2 j2_late) (λ z. tt)
 
-batch_late : (body : List ℕ) → IfErr (batch_form body) IsLateRule
-unfolding batch_form
-batch_late body =
+keys_late : (body : List ℕ) → IfErr (batch_keys body) IsLateRule
+unfolding batch_keys
+keys_late body =
     then_late (ok_or (members_of body) rule.J1) _ (members_late body) (λ members.
     then_late (required as_str (codes "operation") members) _ (required_late as_str (codes "operation") members) (λ name.
     then_late (optional (as_array_of as_str) (codes "transfers") members) _ (optional_late (as_array_of as_str) (codes "transfers") members) (λ transfers.
     then_late (optional as_name (codes "ref") members) _ (optional_late as_name (codes "ref") members) (λ ref.
     then_late (optional as_str (codes "hash_algo") members) _ (optional_late as_str (codes "hash_algo") members) (λ hash.
-    then_late (required (as_array_of as_batch_object) (codes "objects") members) _ (required_late (as_array_of as_batch_object) (codes "objects") members) (λ objects.
-    then_late (ok_or (operation_in name) rule.J2) _ (found_late (operation_in name) rule.J2 j2_late) (λ known.
-    then_late (check (is_if_given is_ref ref) rule.J2) _ (range_late (is_if_given is_ref ref)) (λ in_range.
-    then_late (check (nat_le (length objects) object_limit) rule.J3) _ (check_late (nat_le (length objects) object_limit) rule.J3 (late refl refl refl refl)) (λ few.
-    then_late (check (is_if_given has_basic transfers) rule.J4) _ (check_late (is_if_given has_basic transfers) rule.J4 (late refl refl refl refl)) (λ basic. tt))))))))))
+    then_late (required (as_array_of as_batch_object) (codes "objects") members) _ (required_late (as_array_of as_batch_object) (codes "objects") members) (λ objects. tt))))))
+
+batch_late : (body : List ℕ) → IfErr (batch_form body) IsLateRule
+unfolding batch_form
+batch_late body =
+    then_late (batch_keys body) _ (keys_late body) (λ keys.
+    then_late (ok_or (operation_in keys.operation) rule.J2) _ (found_late (operation_in keys.operation) rule.J2 j2_late) (λ known.
+    then_late (check (is_if_given is_ref keys.ref) rule.J2) _ (range_late (is_if_given is_ref keys.ref)) (λ in_range.
+    then_late (check (nat_le (length keys.objects) object_limit) rule.J3) _ (check_late (nat_le (length keys.objects) object_limit) rule.J3 (late refl refl refl refl)) (λ few.
+    then_late (check (is_if_given has_basic keys.transfers) rule.J4) _ (check_late (is_if_given has_basic keys.transfers) rule.J4 (late refl refl refl refl)) (λ basic. tt)))))
 
 put_late : (parameter query : List ℕ) → IfErr (put_form parameter query) IsLateRule
 unfolding put_form

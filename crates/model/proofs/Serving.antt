@@ -34,18 +34,18 @@ use Rattle.model.proofs.Lists.{In, into, each_in, in_found}
 -- ---- which requests touch contents
 
 -- a grant that is of no content
-abbrev IsPlain : Grant → Type 0
+abbrev pub IsPlain : Grant → Type 0
 IsPlain (serves o) = ⊥
 IsPlain (stores o) = ⊥
 IsPlain _ = ⊤
 
 -- a content is content_verdict of a Put alone, under the name of its target
-abbrev IsFrom : Form → List ℕ → Plan → Type 0
+abbrev pub IsFrom : Form → List ℕ → Plan → Type 0
 IsFrom f parameter (grants g) = IsPlain g
 IsFrom f parameter (sends name size) = ⊤
 IsFrom f parameter (receives name) = (f ≡ form.Put) × (parameter ≡ name)
 
-abbrev IsAsked : Form → List ℕ → Request → Type 0
+abbrev pub IsAsked : Form → List ℕ → Request → Type 0
 IsAsked f parameter (asks_put asked) = (f ≡ form.Put) × (parameter ≡ asked.name)
 IsAsked f parameter _ = ⊤
 
@@ -55,7 +55,7 @@ put_asked parameter query =
     then_any (λ (asked : PutForm). parameter ≡ asked.name) (check (is_hex_64 parameter) rule.J2) _ (λ name.
     then_any (λ (asked : PutForm). parameter ≡ asked.name) (query_ref query) _ (λ ref. refl))
 
-request_asked : (f : Form) (parameter query body : List ℕ) → IfOk (request_of f parameter query body) (IsAsked f parameter)
+pub request_asked : (f : Form) (parameter query body : List ℕ) → IfOk (request_of f parameter query body) (IsAsked f parameter)
 request_asked form.Put parameter query body = passed (λ (asked : PutForm). parameter ≡ asked.name) (IsAsked form.Put parameter) (put_form parameter query) _ (put_asked parameter query) (λ asked e. (refl, e))
 request_asked form.Lock parameter query body = then_any (IsAsked form.Lock parameter) (lock_form body) _ (λ asked. tt)
 request_asked form.Batch parameter query body = then_any (IsAsked form.Batch parameter) (batch_form body) _ (λ asked. tt)
@@ -112,7 +112,7 @@ module _ (c : Case) (f : Form) (parameter : List ℕ) where
       plan_from (unlock_verdict c asked)
       (then_any IsPlain (by_rules (ok_or (visible_lock c asked.id) rule.L2)) _ (λ l. release_plain asked.force l))
 
-desk_from : (world : World) (setting : Setting) (asked : DeskRequest) (f : Form) (parameter : List ℕ) → IfOk asked.request (IsAsked f parameter)
+pub desk_from : (world : World) (setting : Setting) (asked : DeskRequest) (f : Form) (parameter : List ℕ) → IfOk asked.request (IsAsked f parameter)
     → IfOk (desk_plan world setting asked) (IsFrom f parameter)
 desk_from world setting asked f parameter is =
     let P : Plan → Type 0 = IsFrom f parameter in

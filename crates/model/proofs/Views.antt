@@ -181,7 +181,7 @@ stored_object world repo name size (Some o) e h = record {
   sized_so = same_Some (length o.bytes) size h;
 }
 
-size_stored : (world : World) (repo : Repo) (name : List ℕ) → IsWorld world → size_of name (repo_state repo world) ≡ option_map (λ (s : ObjectSize). s.size) (option_map object_size (object_named repo.name name world))
+pub size_stored : (world : World) (repo : Repo) (name : List ℕ) → IsWorld world → size_of name (repo_state repo world) ≡ option_map (λ (s : ObjectSize). s.size) (option_map object_size (object_named repo.name name world))
 size_stored world repo name w =
     let p : ObjectSize → Bool = λ s. bytes_eq s.name name in
     let named : Object → Bool = λ o. bytes_eq o.name name in

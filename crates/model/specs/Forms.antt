@@ -187,20 +187,34 @@ abbrev pub has_basic : List (List ℕ) → Bool
 has_basic [] = true
 has_basic transfers = list_any (λ t. bytes_eq t (codes "basic")) transfers
 
--- the body of a batch request
-unfoldable pub batch_form : List ℕ → Result BatchForm Rule
-batch_form body = do
+-- the keys of a batch's body, each of its kind
+pub record BatchKeys : Type 0 where
+  pub operation : List ℕ
+  pub transfers : Option (List (List ℕ))
+  pub ref : Option (List ℕ)
+  pub hash_algo : Option (List ℕ)
+  pub objects : List BatchObject
+
+-- the body of a batch request, read by kinds
+unfoldable pub batch_keys : List ℕ → Result BatchKeys Rule
+batch_keys body = do
   members ← ok_or (members_of body) J1
   operation ← required as_str (codes "operation") members
   transfers ← optional (as_array_of as_str) (codes "transfers") members
   ref ← optional as_name (codes "ref") members
   hash_algo ← optional as_str (codes "hash_algo") members
   objects ← required (as_array_of as_batch_object) (codes "objects") members
-  known ← ok_or (operation_in operation) J2
-  in_range ← check (is_if_given is_ref ref) J2
-  few ← check (nat_le (length objects) object_limit) J3
-  basic ← check (is_if_given has_basic transfers) J4
-  Ok (record { operation = known; ref = ref; hash_algo = hash_algo; objects = objects })
+  Ok (record { operation = operation; transfers = transfers; ref = ref; hash_algo = hash_algo; objects = objects })
+
+-- the body of a batch request
+unfoldable pub batch_form : List ℕ → Result BatchForm Rule
+batch_form body = do
+  keys ← batch_keys body
+  operation ← ok_or (operation_in keys.operation) J2
+  in_range ← check (is_if_given is_ref keys.ref) J2
+  few ← check (nat_le (length keys.objects) object_limit) J3
+  basic ← check (is_if_given has_basic keys.transfers) J4
+  Ok (record { operation = operation; ref = keys.ref; hash_algo = keys.hash_algo; objects = keys.objects })
 
 -- the ref that a query names
 abbrev pub query_ref : List ℕ → Result (Option (List ℕ)) Rule

@@ -1,15 +1,17 @@
 -- Laws of the definitions.
-use Rattle.std.specs.Prelude.{◌≡◌, ◌<◌, ◌≤◌, ◌+◌, ℕ, true, false, List, [], ◌∷◌, ◌++◌, length, All, AllPairs, Contains, Some, None, Ok, Err, bytes_eq, ◌⊎◌, ◌↔◌}
+use Rattle.std.specs.Prelude.{◌≡◌, ◌<◌, ◌≤◌, ◌+◌, ℕ, true, false, List, [], ◌∷◌, ◌++◌, length, All, AllPairs, Contains, Some, None, Ok, Err, bytes_eq, ◌⊎◌, ◌↔◌, option_map, ⊤}
 use Rattle.httparse.specs.Grammar.{RequestHead}
+use Rattle.sha2.specs.Sha256.{sha256}
 use Rattle.names.specs.Moments.{IsMomentText}
 use Rattle.model.specs.declared.Form.TheVariants as form
-use Rattle.model.specs.Policy.{Policy, Repo}
+use Rattle.model.specs.Reading.{or_default}
+use Rattle.model.specs.Policy.{Policy, Repo, repo_named}
 use Rattle.model.specs.World.{World, Object, Lock, IsWorld, DiffersInPlace, name_of, nothing, total}
 use Rattle.model.specs.Heads.{Target, head_verdict}
 use Rattle.model.specs.RepoState.{repo_state, has_room, locks_of}
 use Rattle.model.specs.Callers.{Caller, caller_by}
 use Rattle.model.specs.Cases.{Setting}
-use Rattle.model.specs.Answers.{Denial, serves, stores, makes_lock}
+use Rattle.model.specs.Answers.{Answer, Denial, serves, stores, makes_lock}
 use Rattle.model.specs.Pages.{page_of, IsPage, IsBelow, Leg, IsWalk, walk_locks}
 use Rattle.model.specs.Verdict.{verdict, early_verdict, target_verdict, early_check, desk_verdict}
 use Rattle.model.specs.Steps.{Message, message, IsMessage, Event, exchanged, Exchange, IsExchange, IsStep, Run}
@@ -159,6 +161,22 @@ RoomIsQuota =
     (world : World) (repo : Repo) (size : ℕ)
     → (has_room size (repo_state repo world) ≡ true) ↔ (total repo.name world + size ≤ repo.quota)
 
+-- the repository's quota under a policy; 0 if the policy does not have it
+abbrev pub quota_of : List ℕ → Policy → ℕ
+quota_of repo policy = or_default (option_map (λ r. r.quota) (repo_named repo policy)) 0
+
+-- the policy of the event gives the repository at most this quota
+abbrev pub HasQuotaWithin : List ℕ → ℕ → Event → Type 0
+HasQuotaWithin repo most (exchanged e) = quota_of repo e.setting.policy ≤ most
+HasQuotaWithin repo most _ = ⊤
+
+-- a stored total within a bound stays within it in each run whose quotas are within it; the quota may change on the way
+abbrev pub StaysInQuota : Type 0
+StaysInQuota =
+    (repo : List ℕ) (most : ℕ) (old : World) (events : List Event) (new : World)
+    → IsWorld old → Run old events new → All (HasQuotaWithin repo most) events
+    → total repo old ≤ most → total repo new ≤ most
+
 -- ---- pages
 
 -- a page of rising locks has those of least id from the cursor on
@@ -189,6 +207,25 @@ ViewsForetell =
     → IsWorld world → caller_by world setting.now asked.bearers ≡ Ok caller
     → foresee (view_of world setting.policy caller.user caller.repo) setting.now asked
     ≡ Ok (reply_of (desk_verdict world setting (to_desk caller.repo asked) asked.body))
+
+-- two worlds that look the same to a caller, and the same request of that caller to both
+pub record AreAlike (setting : Setting) (caller : Caller) (asked : CallerRequest) (a b : World) : Type 0 where
+  pub left : IsWorld a
+  pub right : IsWorld b
+  pub here : caller_by a setting.now asked.bearers ≡ Ok caller
+  pub there : caller_by b setting.now asked.bearers ≡ Ok caller
+  pub same : view_of a setting.policy caller.user caller.repo ≡ view_of b setting.policy caller.user caller.repo
+
+-- the answer in a world to the request of a caller
+abbrev pub answer_in : World → Setting → Caller → CallerRequest → Answer
+answer_in world setting caller asked = desk_verdict world setting (to_desk caller.repo asked) asked.body
+
+-- what such worlds serve has one SHA-256
+abbrev pub ViewsServeOneDigest : Type 0
+ViewsServeOneDigest =
+    (setting : Setting) (caller : Caller) (asked : CallerRequest) (a b : World) (o p : Object)
+    → AreAlike setting caller asked a b → answer_in a setting caller asked ≡ Ok (serves o)
+    → answer_in b setting caller asked ≡ Ok (serves p) → sha256 o.bytes ≡ sha256 p.bytes
 
 -- the exchange is of a whole message to another repository
 pub record IsElsewhere (repo : List ℕ) (e : Exchange) : Type 0 where

@@ -23,3 +23,5 @@ pub mod Progress
 pub mod Views
 pub mod Bounds
 pub mod Laws
+pub mod Studio
+pub mod Examples

@@ -3,7 +3,7 @@
 ghost use Rattle.model.specs.Laws.{HasOneFirst, BeginsWithMessage, CutIsLast, ChoosesOnlyThere, HeadDecides, TargetDecides};
 ghost use Rattle.model.specs.Laws.{StepsKeepWorlds, RunsKeepWorlds, RunsMakeWorlds, ServesWhatIsKept, ServedHasItsName, ServedWasPut};
 ghost use Rattle.model.specs.Laws.{DenialsChangeNothing, SilenceChangesNothing, OnlyCutIsSilent, NeverLocksTwice, CountsOn, NewIdIsNext};
-ghost use Rattle.model.specs.Laws.{RoomIsQuota, PageIsLeast, LocksRise, WalksAreWhole, ViewsForetell, OthersLeaveViews};
+ghost use Rattle.model.specs.Laws.{RoomIsQuota, StaysInQuota, PageIsLeast, LocksRise, WalksAreWhole, ViewsForetell, ViewsServeOneDigest, OthersLeaveViews};
 ghost use Rattle.model.specs.Laws.{ReportsAreTrue, LeavesOneChange, MomentIsText};
 
 /// A list of bytes has at most one first message and one rest after it. The body is as long as the head
@@ -62,9 +62,11 @@ pub fn id_law()
     ensures next { NewIdIsNext }
 {}
 
-/// An object fits exactly if the stored total and its size are within the quota.
-pub fn room_law()
-    ensures { RoomIsQuota }
+/// An object fits exactly if the stored total and its size are within the quota. A stored total within a
+/// bound stays within it in each run whose quotas are within it.
+pub fn quota_law()
+    ensures room { RoomIsQuota }
+    ensures stays { StaysInQuota }
 {}
 
 /// A page of rising locks has those of least id from the cursor on, and the locks of a repository rise.
@@ -78,10 +80,11 @@ pub fn walk_law()
     ensures { WalksAreWhole }
 {}
 
-/// The reply to a user is the one that the user's view foretells, in every world with that view. An
-/// exchange in another repository leaves the view.
+/// The reply to a user is the one that the user's view foretells, in every world with that view, and the
+/// contents that such worlds serve have one SHA-256. An exchange in another repository leaves the view.
 pub fn view_law()
     ensures foretell { ViewsForetell }
+    ensures digest { ViewsServeOneDigest }
     ensures apart { OthersLeaveViews }
 {}
 

@@ -8,6 +8,7 @@
 //! the proofs of the crates above.
 #![tactic(auto)]
 
+pub mod examples;
 pub mod laws;
 
 /// What a policy row may allow or deny.
