@@ -5,8 +5,9 @@ use Rattle.sqlite_trees.specs.declared.store.Store.{Ghosts}
 use Rattle.names.specs.Names.{repo_text}
 use Rattle.names.specs.Texts.{last_lock_id}
 use Rattle.names.specs.declared.rules.Rule.TheVariants.{L5}
-use Rattle.model.specs.World.{World, Lock, lock_at}
-use Rattle.model.specs.Steps.{Answer, makes_lock, by_lock, by_rule, place_verdict, after}
+use Rattle.model.specs.World.{World, Lock}
+use Rattle.model.specs.Answers.{Answer, makes_lock, by_lock, by_rule}
+use Rattle.model.specs.Steps.{after}
 use Rattle.model.proofs.Keeping.{IsNewLock, counted_itself}
 use Rattle.tables.specs.Shown.{IsHonest, IsOpen, shown, Moves}
 use Rattle.tables.specs.Steps.{LockFields, outcome_of, made_of, read_creation, read_lock, after_create}
@@ -14,27 +15,28 @@ use Rattle.tables.specs.declared.Store.{Store}
 use Rattle.tables.specs.declared.rows.Creation.{Creation}
 use Rattle.tables.specs.declared.rows.Creation.TheVariants.{Created, Held, UsedUp}
 use Rattle.worlds.specs.Standing.{Holds, StandsFor, lock_kept}
+use Rattle.worlds.proofs.Lookups.{lock_in}
 use Rattle.worlds.proofs.Outcomes.{outcome_created, outcome_held, outcome_used}
 use Rattle.worlds.proofs.Holding.{holds_if_held, holds_if_used, holds_created}
 use Rattle.desk.specs.declared.locking.Wanted.{Wanted}
 use Rattle.desk.specs.declared.replies.Reply.{Reply}
 use Rattle.desk.specs.Told.{IsReplyOf}
 use Rattle.desk.specs.Done.{IsDone}
-use Rattle.desk.specs.Locking.{lock_wanted, row_asked, IsInRange, IsReadyAfter, TellsCreation, IsUntold}
+use Rattle.desk.specs.Locking.{placed_verdict, lock_wanted, row_asked, IsInRange, IsReadyAfter, TellsCreation, IsUntold}
 
-granted : (world : World) (l : Lock) → lock_at l.repo l.ref l.path world ≡ None → nat_lt (world.made l.repo) last_lock_id ≡ true → place_verdict world l ≡ Ok (makes_lock l)
+granted : (world : World) (l : Lock) → lock_in l.repo l.ref l.path world ≡ None → nat_lt (world.made l.repo) last_lock_id ≡ true → placed_verdict world l ≡ Ok (makes_lock l)
 granted world l free left = rw (free, left) refl
 
-stands : (world : World) (l k : Lock) → lock_at l.repo l.ref l.path world ≡ Some k → place_verdict world l ≡ Err (by_lock k)
+stands : (world : World) (l k : Lock) → lock_in l.repo l.ref l.path world ≡ Some k → placed_verdict world l ≡ Err (by_lock k)
 stands world l k there = rw there refl
 
-no_id : (world : World) (l : Lock) → lock_at l.repo l.ref l.path world ≡ None → nat_lt (world.made l.repo) last_lock_id ≡ false → place_verdict world l ≡ Err (by_rule L5)
+no_id : (world : World) (l : Lock) → lock_in l.repo l.ref l.path world ≡ None → nat_lt (world.made l.repo) last_lock_id ≡ false → placed_verdict world l ≡ Err (by_rule L5)
 no_id world l free left = rw (free, left) refl
 
 less : (a b : ℕ) → a < b → nat_lt a b ≡ true
 less a b h = grind (arith, nat_tests)
 
-is_new : (world : World) (w : Wanted) → IsInRange w → lock_at (lock_wanted world w).repo (lock_wanted world w).ref (lock_wanted world w).path world ≡ None
+is_new : (world : World) (w : Wanted) → IsInRange w → lock_in (lock_wanted world w).repo (lock_wanted world w).ref (lock_wanted world w).path world ≡ None
     → world.made (repo_text w.repo) < last_lock_id → IsNewLock world (lock_wanted world w)
 is_new world w range free room = record {
   is = record {
@@ -53,10 +55,10 @@ is_new world w range free room = record {
 
 module _ {S : Type 0} (g : Ghosts S) (mid new : Store S) (world : World) (w : Wanted) where
   -- the verdict is this one, the reply tells it, and the store holds what it leaves
-  by : (reply : Reply) (given : Answer) → place_verdict world (lock_wanted world w) ≡ given → IsReplyOf reply given → Holds g new (after world given) → IsDone g new world (place_verdict world (lock_wanted world w)) reply
+  by : (reply : Reply) (given : Answer) → placed_verdict world (lock_wanted world w) ≡ given → IsReplyOf reply given → Holds g new (after world (Some given)) → IsDone g new world (placed_verdict world (lock_wanted world w)) reply
   by reply given is tells holds = record {
     tells = subst (λ (v : Answer). IsReplyOf reply v) (sym is) tells;
-    holds = subst (λ (v : Answer). Holds g new (after world v)) (sym is) holds;
+    holds = subst (λ (v : Answer). Holds g new (after world (Some v))) (sym is) holds;
   }
 
   -- what is known where the tables were asked for the lock
@@ -72,7 +74,7 @@ module _ {S : Type 0} (g : Ghosts S) (mid new : Store S) (world : World) (w : Wa
   shows : (creation : Creation) (ready : Option Reply) → WasAsked creation ready → StandsFor (shown g mid) world
   shows creation ready a = a.holds.shows (a.moves.was_honest a.honest) a.is_open
 
-  pub placed : (creation : Creation) (ready : Option Reply) (reply : Reply) → WasAsked creation ready → TellsCreation creation ready reply → IsDone g new world (place_verdict world (lock_wanted world w)) reply
+  pub placed : (creation : Creation) (ready : Option Reply) (reply : Reply) → WasAsked creation ready → TellsCreation creation ready reply → IsDone g new world (placed_verdict world (lock_wanted world w)) reply
   placed (Created id) ready reply a told =
       let l = lock_wanted world w in
       let o = outcome_created (shown g mid) world (row_asked w) id (shows (Created id) ready a) a.holds.laws a.outcome in

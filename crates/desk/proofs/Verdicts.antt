@@ -1,6 +1,7 @@
 -- The way of a request through the definitions.
-use Rattle.std.proofs.Common.{◌≡◌, ◌∙◌, ℕ, Bool, true, false, not, ◌||◌, nat_lt, List, Result, Ok, Err, bytes_eq, string_bytes, refl, sym, ap, ap₂, subst}
+use Rattle.std.proofs.Common.{◌≡◌, ◌∙◌, ℕ, not, ◌||◌, List, Result, Ok, Err, bytes_eq, string_bytes, refl, sym, ap, ap₂, subst}
 use Rattle.std.specs.Bool.{⊤}
+use Rattle.sqlite_trees.specs.declared.store.Store.{Ghosts}
 use Rattle.names.specs.declared.rules.Rule.{Rule}
 use Rattle.names.specs.declared.rules.Rule.TheVariants as rule
 use Rattle.names.specs.Names.{user_text}
@@ -8,33 +9,38 @@ use Rattle.names.specs.declared.texts.UserName.{UserName}
 use Rattle.model.specs.declared.Operation.{Operation}
 use Rattle.model.specs.declared.Operation.TheVariants as model_operation
 use Rattle.model.specs.declared.Right.TheVariants as right
-use Rattle.model.specs.Reading.{◌>>=◌, check, found}
+use Rattle.model.specs.Reading.{◌>>=◌, check, ok_or}
 use Rattle.model.specs.World as kept
-use Rattle.model.specs.World.{World, Issued}
-use Rattle.model.specs.Policy.{Policy, Repo, Question, decide, repo_named}
-use Rattle.model.specs.Forms.{Request, LockForm, asks_lock, needs_upload}
-use Rattle.model.specs.Steps.{Answer, Denial, by_rule, by_rules, caller_by, is_upload, state_verdict, lock_verdict, lock_question, new_lock, ref_asked, permitted, place_verdict, desk_verdict}
-use Rattle.forms.specs.Requests.{lock_asked}
-use Rattle.forms.specs.declared.lock.LockRequest.{LockRequest}
+use Rattle.model.specs.World.{World}
+use Rattle.model.specs.Policy.{Policy, Repo, Question, repo_named}
+use Rattle.model.specs.Forms.{Request, needs_upload, is_upload}
+use Rattle.model.specs.Callers as model
+use Rattle.model.specs.Callers.{caller_by, lock_question}
+use Rattle.model.specs.Cases.{Setting, DeskRequest, case_in}
+use Rattle.model.specs.Answers.{Answer, Denial, Plan, by_rule, by_rules, permit}
+use Rattle.model.specs.Locks.{lock_verdict, new_lock}
+use Rattle.model.specs.Objects.{finish}
+use Rattle.model.specs.Verdict.{plan_to, plan_for, caller_plan, desk_verdict}
 use Rattle.policy.specs.Values.{repo_view}
 use Rattle.policy.specs.declared.repos.Repo as policy_repo
+use Rattle.forms.specs.Requests.{lock_asked}
+use Rattle.forms.specs.declared.lock.LockRequest.{LockRequest}
 use Rattle.tables.specs.Steps.{code_of}
 use Rattle.tables.specs.declared.rows.Operation as row_operation
 use Rattle.tables.specs.declared.rows.Operation.TheVariants.{Download, Upload}
-use Rattle.sqlite_trees.specs.declared.store.Store.{Ghosts}
 use Rattle.tables.specs.declared.Store.{Store}
 use Rattle.worlds.specs.Standing.{Holds, operation_code}
+use Rattle.tokens.specs.Callers.{IsHolder}
+use Rattle.tokens.specs.declared.callers.Caller.{Caller}
 use Rattle.desk.specs.Done.{IsDone}
 use Rattle.desk.specs.Told.{IsReplyOf}
 use Rattle.desk.specs.declared.replies.Reply.{Reply}
-use Rattle.desk.specs.Admission.{admitted, holder_verdict, is_for_upload}
-use Rattle.tokens.specs.Callers.{IsHolder}
-use Rattle.desk.specs.Locking.{IsWantedBy, lock_wanted, question_on, allowed_verdict}
-use Rattle.tokens.specs.declared.callers.Caller.{Caller}
+use Rattle.desk.specs.Admission.{admitted, case_verdict, caller_verdict, is_for_upload}
+use Rattle.desk.specs.Locking.{IsWantedBy, lock_wanted, question_on, placed_verdict, allowed_verdict}
 use Rattle.desk.specs.declared.locking.Wanted.{Wanted}
 
 -- checks by rules, one after the other, are a check by the first of them that fails
-checks_joined : (own : Result ⊤ Rule) (repo : Result Repo Rule) (asked : Result Request Rule) (covered : Request → Result ⊤ Rule) (f : Repo → Request → Answer)
+checks_joined : (own : Result ⊤ Rule) (repo : Result Repo Rule) (asked : Result Request Rule) (covered : Request → Result ⊤ Rule) (f : Repo → Request → Result Plan Denial)
     → (by_rules own >>= λ _. by_rules repo >>= λ r. by_rules asked >>= λ q. by_rules (covered q) >>= λ _. f r q)
     ≡ (by_rules (own >>= λ _. repo >>= λ r. asked >>= λ q. covered q >>= λ _. Ok (r, q)) >>= λ (taken : Repo × Request). f taken.0 taken.1)
 checks_joined (Err e) repo asked covered f = refl
@@ -46,24 +52,35 @@ checks_joined (Ok x) (Ok r) (Ok q) covered f = at (covered q)
     at (Err e) = refl
     at (Ok y) = refl
 
-module _ (world : World) (policy : Policy) (now : ℕ) (values : List (List ℕ)) (repo_asked : List ℕ) (asked : Result Request Rule) where
-  -- the verdict where a token bears a holder
-  pub held_by : (holder : Issued) → caller_by world now values ≡ Ok holder → desk_verdict world policy now values repo_asked asked ≡ holder_verdict world policy now holder repo_asked asked
-  held_by holder is = rw is (checks_joined (check (bytes_eq holder.repo repo_asked) rule.A4) (found (repo_named repo_asked policy) rule.R1) asked
-      (λ request. check (not (needs_upload request) || is_upload holder.operation) rule.A5) (λ repo request. state_verdict world policy now holder repo request))
+module _ (world : World) (setting : Setting) (asked : DeskRequest) (body : List ℕ) where
+  -- the verdict where a token bears a caller
+  pub held_by : (who : model.Caller) → caller_by world setting.now asked.bearers ≡ Ok who → desk_verdict world setting asked body ≡ caller_verdict world setting who asked body
+  held_by who is = rw is refl
 
   -- and where it bears none
-  pub held_by_none : (r : Rule) → caller_by world now values ≡ Err r → desk_verdict world policy now values repo_asked asked ≡ Err (by_rule r)
+  pub held_by_none : (r : Rule) → caller_by world setting.now asked.bearers ≡ Err r → desk_verdict world setting asked body ≡ Err (by_rule r)
   held_by_none r is = rw is refl
 
-module _ (world : World) (policy : Policy) (now : ℕ) (repo_asked : List ℕ) (asked : Result Request Rule) where
-  -- the verdict on a request that is refused before the state is asked
-  pub not_taken : (holder : Issued) (r : Rule) → admitted policy holder.repo (is_upload holder.operation) repo_asked asked ≡ Err r → holder_verdict world policy now holder repo_asked asked ≡ Err (by_rule r)
-  not_taken holder r is = rw is refl
+  module _ (who : model.Caller) where
+    abbrev admits : Result (Repo × Request) Rule
+    admits = admitted setting.policy who.repo (is_upload who.operation) asked.repo asked.request
 
-  pub taken_up : (holder : Issued) (repo : Repo) (request : Request) → admitted policy holder.repo (is_upload holder.operation) repo_asked asked ≡ Ok (repo, request)
-      → holder_verdict world policy now holder repo_asked asked ≡ state_verdict world policy now holder repo request
-  taken_up holder repo request is = rw is refl
+    finished : Result Plan Denial → Answer
+    finished plan = plan >>= λ p. finish world asked.repo body p
+
+    by_admission : caller_plan world setting who asked ≡ (by_rules admits >>= λ (taken : Repo × Request). plan_for (case_in world setting who taken.0) asked.left taken.1)
+    by_admission =
+        checks_joined (check (bytes_eq who.repo asked.repo) rule.A4) (ok_or (repo_named asked.repo setting.policy) rule.R1) asked.request
+        (λ request. check (not (needs_upload request) || is_upload who.operation) rule.A5) (λ repo request. plan_for (case_in world setting who repo) asked.left request)
+
+    -- the verdict on a request that is refused before the state is asked
+    pub not_taken : (r : Rule) → admits ≡ Err r → caller_verdict world setting who asked body ≡ Err (by_rule r)
+    unfolding finished
+    not_taken r is = ap finished by_admission ∙ rw is refl
+
+    pub taken_up : (repo : Repo) (request : Request) → admits ≡ Ok (repo, request) → caller_verdict world setting who asked body ≡ case_verdict world (case_in world setting who repo) request asked body
+    unfolding finished
+    taken_up repo request is = ap finished by_admission ∙ rw is refl
 
 covers : (a : row_operation.Operation) (b : Operation) → code_of a ≡ operation_code b → is_for_upload a ≡ is_upload b
 covers Download model_operation.Download e = refl
@@ -71,21 +88,27 @@ covers Upload model_operation.Upload e = refl
 covers Download model_operation.Upload e = absurd (cc)
 covers Upload model_operation.Download e = absurd (cc)
 
--- what is admitted for the caller is what is admitted for the holder
-pub admitted_alike : (policy : Policy) (c : Caller) (i : Issued) (repo_asked : List ℕ) (asked : Result Request Rule) → IsHolder c i
-    → admitted policy (string_bytes c.repo) (is_for_upload c.operation) repo_asked asked ≡ admitted policy i.repo (is_upload i.operation) repo_asked asked
-admitted_alike policy c i repo_asked asked h = ap₂ (λ own covered. admitted policy own covered repo_asked asked) h.repo (covers c.operation i.operation h.operation)
+-- what is admitted for the caller is what is admitted for the caller of the definitions
+pub admitted_alike : (policy : Policy) (c : Caller) (who : model.Caller) (repo_asked : List ℕ) (asked : Result Request Rule) → IsHolder c who
+    → admitted policy (string_bytes c.repo) (is_for_upload c.operation) repo_asked asked ≡ admitted policy who.repo (is_upload who.operation) repo_asked asked
+admitted_alike policy c who repo_asked asked h = ap₂ (λ own covered. admitted policy own covered repo_asked asked) h.repo (covers c.operation who.operation h.operation)
 
 -- what is wanted is what the definitions have of the request
-pub verdict_alike : (world : World) (policy : Policy) (now : ℕ) (i : Issued) (r : policy_repo.Repo) (user : UserName) (asked : LockRequest) (w : Wanted)
-    → user_text user ≡ i.user → IsWantedBy r user now asked w → allowed_verdict world policy w ≡ lock_verdict world policy now i (repo_view r) (lock_asked asked)
-verdict_alike world policy now i r user asked w is_user is = ap₂ (λ (q : Question) (l : kept.Lock). permitted (decide policy q) right.Lock 403 >>= λ may. place_verdict world l) question place
+pub verdict_alike : (world : World) (setting : Setting) (who : model.Caller) (r : policy_repo.Repo) (user : UserName) (asked : LockRequest) (w : Wanted)
+    → user_text user ≡ who.user → IsWantedBy r user setting.now asked w
+    → allowed_verdict world setting.policy w ≡ lock_verdict (case_in world setting who (repo_view r)) (lock_asked asked)
+verdict_alike world setting who r user asked w is_user is = ap₂ (λ (q : Question) (l : kept.Lock). permit setting.policy q 403 >>= λ may. placed_verdict world l) question place
   where
-    question : question_on w ≡ lock_question i (repo_view r) (lock_asked asked)
+    place : lock_wanted world w ≡ new_lock (case_in world setting who (repo_view r)) (lock_asked asked)
+    place = rw (is.repo, is.ref, is.path, is.owner, is.at, is_user) refl
+
+    question : question_on w ≡ lock_question right.Lock who.user (new_lock (case_in world setting who (repo_view r)) (lock_asked asked))
     question = rw (is.repo, is.ref, is.path, is.owner, is_user) refl
 
-    place : lock_wanted world w ≡ new_lock world now i (repo_view r) (lock_asked asked)
-    place = rw (is.repo, is.ref, is.path, is.owner, is.at, is_user) refl
+-- the answer to a lock that is allowed needs no content
+pub lock_finished : (world : World) (repo body : List ℕ) (answer : Answer) → (plan_to answer >>= λ plan. finish world repo body plan) ≡ answer
+lock_finished world repo body (Ok grant) = refl
+lock_finished world repo body (Err denial) = refl
 
 -- a request that a rule refuses leaves the world
 pub refused_done : {S : Type 0} (g : Ghosts S) (new : Store S) (world : World) (given : Answer) (r : Rule) (reply : Reply) → given ≡ Err (by_rule r) → IsReplyOf reply (Err (by_rule r)) → Holds g new world → IsDone g new world given reply

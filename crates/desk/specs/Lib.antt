@@ -1,4 +1,5 @@
 pub mod Told
+pub mod Asking
 pub mod Locking
 pub mod Done
 pub mod Admission

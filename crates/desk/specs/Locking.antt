@@ -1,10 +1,12 @@
 -- A lock that is asked for.
-use Rattle.std.specs.Prelude.{◌≡◌, ◌+◌, ◌≤◌, ◌≤ℤ◌, ℕ, pos, Option, Some, None, Ok, Err, string_bytes, IsTrue}
+use Rattle.std.specs.Prelude.{◌≡◌, ◌+◌, ◌≤◌, ◌≤ℤ◌, ℕ, pos, List, [], Option, Some, None, Ok, Err, string_bytes, IsTrue}
 use Rattle.names.specs.Texts.{last_lock_id, last_moment, is_repo, is_ref, is_lock_path, is_user}
 use Rattle.names.specs.declared.rules.Rule.TheVariants.{L5}
-use Rattle.model.specs.Steps.{Answer, makes_lock, by_lock, by_rule, place_verdict, permitted, ref_asked}
 use Rattle.model.specs.Reading.{◌>>=◌}
-use Rattle.model.specs.Policy.{Policy, Question, decide}
+use Rattle.model.specs.Policy.{Policy, Question}
+use Rattle.model.specs.RepoState.{RepoState, repo_state}
+use Rattle.model.specs.Answers.{Answer, makes_lock, by_lock, by_rule, permit}
+use Rattle.model.specs.Locks.{place_verdict, ref_or_default}
 use Rattle.model.specs.declared.Right.TheVariants as right
 use Rattle.names.specs.declared.texts.UserName.{UserName}
 use Rattle.forms.specs.Requests.{lock_asked}
@@ -23,6 +25,10 @@ use Rattle.model.specs.World.{World, Lock}
 use Rattle.forms.specs.declared.answer.ShownLock.{ShownLock}
 use Rattle.tables.specs.declared.rows.LockRow.{LockRow}
 use Rattle.desk.specs.declared.locking.Wanted.{Wanted}
+
+-- what a repository of this name has; the locks of a policy's repository do not depend on its quota or default ref
+abbrev pub state_of : List ℕ → World → RepoState
+state_of name world = repo_state (record { name = name; default_ref = []; quota = 0 }) world
 
 -- the lock that is made of it in the world
 abbrev pub lock_wanted : World → Wanted → Lock
@@ -93,10 +99,14 @@ IsUntold UsedUp ready = Unit {0}
 -- what is wanted is what the request asks, of the repository and for the user
 pub record IsWantedBy (r : Repo) (user : UserName) (now : ℕ) (asked : LockRequest) (w : Wanted) : Type 0 where
   pub repo : repo_text w.repo ≡ (repo_view r).name
-  pub ref : ref_text w.ref_name ≡ ref_asked (lock_asked asked) (repo_view r)
+  pub ref : ref_text w.ref_name ≡ ref_or_default (lock_asked asked).ref (repo_view r)
   pub path : path_text w.path ≡ (lock_asked asked).path
   pub owner : user_text w.owner ≡ user_text user
   pub at : w.now ≡ now
+
+-- the verdict on its place
+abbrev pub placed_verdict : World → Lock → Answer
+placed_verdict world l = place_verdict (state_of l.repo world) l
 
 -- whether the policy allows it
 abbrev pub question_on : Wanted → Question
@@ -105,4 +115,4 @@ question_on w = record { user = user_text w.owner; repo = repo_text w.repo; righ
 -- the answer to it: the policy's denial, or the verdict on the place
 abbrev pub allowed_verdict : World → Policy → Wanted → Answer
 allowed_verdict world policy w =
-    permitted (decide policy (question_on w)) right.Lock 403 >>= λ may. place_verdict world (lock_wanted world w)
+    permit policy (question_on w) 403 >>= λ may. placed_verdict world (lock_wanted world w)

@@ -1,7 +1,7 @@
 -- A reply as the definitions see it.
 use Rattle.std.specs.Prelude.{◌≡◌, ℕ, List, string_bytes}
-use Rattle.model.specs.Steps.{Answer, is_store_refusal}
-use Rattle.model.specs.Replies.{IsBody, status_of}
+use Rattle.model.specs.Answers.{Answer, is_store_refusal}
+use Rattle.model.specs.Replies.{reply_of, json}
 use Rattle.desk.specs.declared.replies.Body.{Body}
 use Rattle.desk.specs.declared.replies.Body.TheVariants.{Made, Fixed}
 use Rattle.desk.specs.declared.replies.Reply.{Reply}
@@ -13,6 +13,6 @@ body_text (Fixed text) = text.now
 
 -- the reply tells this answer
 pub record IsReplyOf (reply : Reply) (given : Answer) : Type 0 where
-  pub status : reply.status ≡ status_of given
-  pub body : IsBody given (body_text reply.body)
+  pub status : reply.status ≡ (reply_of given).status
+  pub body : (reply_of given).body ≡ json (body_text reply.body)
   pub refusal : reply.is_store_refusal ≡ is_store_refusal given

@@ -1,13 +1,14 @@
 //! Which requests are taken up: by a token for the repository, in a repository that is there.
 
 ghost use Rattle.std.specs.Prelude.{◌≡◌, not, IfOk, string_bytes};
-ghost use Rattle.model.specs.Forms.{request_of, needs_upload};
+ghost use Rattle.model.specs.Forms.{needs_upload};
 ghost use Rattle.policy.specs.Values.{policy_view};
 ghost use Rattle.forms.specs.Requests.{request_asked};
+ghost use Rattle.desk.specs.Asking.{request_seen};
 ghost use Rattle.desk.specs.Admission.{Admits, admitted, is_for_upload};
 
 use forms::{Request, read_form};
-use model::Form;
+use model::ServedForm;
 use names::Rule;
 use policy::{Policy, Repo};
 use std::alloc::{AllocError, Global};
@@ -22,7 +23,7 @@ pub struct Asked<'a> {
     /// The repository's text in the target.
     pub repo: &'a str,
     /// What the route and the method ask.
-    pub form: Form,
+    pub form: ServedForm,
     /// The route's parameter, and empty where it has none.
     pub parameter: &'a str,
     /// What stands behind the target's first question mark.
@@ -60,7 +61,7 @@ pub(crate) fn admit<'a>(
     caller: &Caller,
     asked: &Asked<'_>,
 ) -> Result<Result<(&'a Repo, Request), Rule>, AllocError>
-    ensures { IfOk result (Admits (admitted (policy_view policy.entry.now) (string_bytes caller.entry.now.repo) (is_for_upload caller.entry.now.operation) asked.entry.now.repo.now (request_of asked.entry.now.form asked.entry.now.parameter.now asked.entry.now.query.now asked.entry.now.body.now))) }
+    ensures { IfOk result (Admits (admitted (policy_view policy.entry.now) (string_bytes caller.entry.now.repo) (is_for_upload caller.entry.now.operation) asked.entry.now.repo.now (request_seen asked.entry.now).request)) }
 {
     if caller.repo.as_str() != asked.repo {
         return Ok(Err(Rule::A4));

@@ -1,17 +1,20 @@
 //! The way of a request: who calls, whether it is taken up, and what comes of it.
-ghost use Rattle.std.specs.Prelude.{◌≡◌, IfOk, OnErr, Err, option_map};
-ghost use Rattle.model.specs.World.{World, Issued};
-ghost use Rattle.model.specs.Steps.{by_rule, desk_verdict, state_verdict};
-ghost use Rattle.model.specs.Forms.{request_of, asks_lock};
-ghost use Rattle.policy.specs.Values.{policy_view, repo_view};
+ghost use Rattle.std.specs.Prelude.{◌≡◌, ℕ, List, IfOk, OnErr, Err};
+ghost use Rattle.model.specs.World.{World};
+ghost use Rattle.model.specs.Forms.{asks_lock};
+ghost use Rattle.model.specs.Callers as model;
+ghost use Rattle.model.specs.Cases.{DeskRequest, case_in};
+ghost use Rattle.model.specs.Answers.{by_rule};
+ghost use Rattle.model.specs.Verdict.{desk_verdict};
+ghost use Rattle.policy.specs.Values.{repo_view};
 ghost use Rattle.forms.specs.Requests.{request_asked, lock_asked};
 ghost use Rattle.tables.specs.Shown.{IsHonest};
 ghost use Rattle.worlds.specs.Standing.{Holds};
-ghost use Rattle.tokens.specs.Bearers.{the_one};
 ghost use Rattle.tokens.specs.Callers.{IsHolder};
 ghost use Rattle.desk.specs.Told.{IsReplyOf};
 ghost use Rattle.desk.specs.Done.{IsDone};
-ghost use Rattle.desk.specs.Admission.{holder_verdict};
+ghost use Rattle.desk.specs.Asking.{setting_of, request_seen};
+ghost use Rattle.desk.specs.Admission.{case_verdict, caller_verdict};
 
 use crate::admission::{Asked, admit};
 use crate::locking::{lock, wanted_by};
@@ -40,7 +43,7 @@ pub fn answer<S: Alter>(
     asked: &Asked<'_>,
 ) -> Result<Reply, StoreFault>
     ensures told { IsHonest S.Store store.new → (world : World) → Holds S.Store store.old world
-        → IfOk result (IsDone S.Store store.new world (desk_verdict world (policy_view policy.entry.now) now (the_one (option_map (λ v. v.now) asked.entry.now.authorization)) asked.entry.now.repo.now (request_of asked.entry.now.form asked.entry.now.parameter.now asked.entry.now.query.now asked.entry.now.body.now))) }
+        → IfOk result (IsDone S.Store store.new world (desk_verdict world (setting_of policy.entry.now now) (request_seen asked.entry.now) asked.entry.now.body.now)) }
     ensures honest { IsHonest S.Store store.new → IsHonest S.Store store.old }
     ensures refused { IsHonest S.Store store.new → (world : World) → Holds S.Store store.old world → OnErr result (Holds S.Store store.new world) }
 {
@@ -70,8 +73,8 @@ fn answer_caller<S: Alter>(
     caller: &Caller,
     asked: &Asked<'_>,
 ) -> Result<Reply, StoreFault>
-    ensures told { IsHonest S.Store store.new → (world : World) → Holds S.Store store.old world → (i : Issued) → IsHolder caller.entry.now i
-        → IfOk result (IsDone S.Store store.new world (holder_verdict world (policy_view policy.entry.now) now i asked.entry.now.repo.now (request_of asked.entry.now.form asked.entry.now.parameter.now asked.entry.now.query.now asked.entry.now.body.now))) }
+    ensures told { IsHonest S.Store store.new → (world : World) → Holds S.Store store.old world → (who : model.Caller) → IsHolder caller.entry.now who
+        → IfOk result (IsDone S.Store store.new world (caller_verdict world (setting_of policy.entry.now now) who (request_seen asked.entry.now) asked.entry.now.body.now)) }
     ensures honest { IsHonest S.Store store.new → IsHonest S.Store store.old }
     ensures refused { IsHonest S.Store store.new → (world : World) → Holds S.Store store.old world → OnErr result (Holds S.Store store.new world) }
 {
@@ -104,8 +107,8 @@ fn answer_request<S: Alter>(
     repo: &Repo,
     request: &Request,
 ) -> Result<Reply, StoreFault>
-    ensures told { IsHonest S.Store store.new → (world : World) → Holds S.Store store.old world → (i : Issued) → IsHolder caller.entry.now i
-        → IfOk result (IsDone S.Store store.new world (state_verdict world (policy_view policy.entry.now) now i (repo_view repo.entry.now) (request_asked request.entry.now))) }
+    ensures told { IsHonest S.Store store.new → (world : World) → Holds S.Store store.old world → (who : model.Caller) → IsHolder caller.entry.now who
+        → (asked : DeskRequest) (body : List ℕ) → IfOk result (IsDone S.Store store.new world (case_verdict world (case_in world (setting_of policy.entry.now now) who (repo_view repo.entry.now)) (request_asked request.entry.now) asked body)) }
     ensures honest { IsHonest S.Store store.new → IsHonest S.Store store.old }
     ensures refused { IsHonest S.Store store.new → (world : World) → Holds S.Store store.old world → OnErr result (Holds S.Store store.new world) }
 {

@@ -3,7 +3,7 @@
 ghost use Rattle.std.specs.Prelude.{◌≡◌, ◌↔◌, ◌⊎◌, IfOk, IfErr, IsErrOf, OnErr, IfSome, IsSome, Err};
 ghost use Rattle.names.specs.declared.rules.Rule.TheVariants.{L5};
 ghost use Rattle.model.specs.World.{World};
-ghost use Rattle.model.specs.Steps.{by_rule, by_row, place_verdict};
+ghost use Rattle.model.specs.Answers.{by_rule, by_row};
 ghost use Rattle.model.specs.declared.Right.TheVariants as right;
 ghost use Rattle.model.specs.Policy.{decide};
 ghost use Rattle.policy.specs.Values.{policy_view, decision_view};
@@ -11,7 +11,7 @@ ghost use Rattle.tables.specs.Shown.{IsHonest};
 ghost use Rattle.tables.specs.declared.fault.StoreFault.TheVariants.{Refused, Memory};
 ghost use Rattle.worlds.specs.Standing.{Holds};
 ghost use Rattle.desk.specs.Told.{IsReplyOf};
-ghost use Rattle.desk.specs.Locking.{ShowsRow, IsShowable, IsReadyAfter, TellsHeld, IsAskedFor, TellsCreation, IsUntold, IsWantedBy, lock_wanted, question_on, allowed_verdict};
+ghost use Rattle.desk.specs.Locking.{ShowsRow, IsShowable, IsReadyAfter, TellsHeld, IsAskedFor, TellsCreation, IsUntold, IsWantedBy, lock_wanted, question_on, placed_verdict, allowed_verdict};
 ghost use Rattle.desk.specs.Done.{IsDone};
 
 use crate::replies::Reply;
@@ -135,7 +135,7 @@ pub(crate) fn make_lock<S: Alter>(
     alloc: Global,
     wanted: &Wanted<'_>,
 ) -> Result<Reply, StoreFault>
-    ensures told { IsHonest S.Store store.new → (world : World) → Holds S.Store store.old world → IfOk result (IsDone S.Store store.new world (place_verdict world (lock_wanted world wanted.entry.now))) }
+    ensures told { IsHonest S.Store store.new → (world : World) → Holds S.Store store.old world → IfOk result (IsDone S.Store store.new world (placed_verdict world (lock_wanted world wanted.entry.now))) }
     ensures honest { IsHonest S.Store store.new → IsHonest S.Store store.old }
     ensures refused { IsHonest S.Store store.new → (world : World) → Holds S.Store store.old world → OnErr result (Holds S.Store store.new world) }
 {

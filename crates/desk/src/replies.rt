@@ -2,8 +2,10 @@
 
 ghost use Rattle.std.specs.Prelude.{◌≡◌, IfSome, IsSome, IsNone, true, false};
 ghost use Rattle.names.specs.declared.rules.Rule.TheVariants.{S1};
-ghost use Rattle.model.specs.Replies.{message_body, rule_message};
-ghost use Rattle.model.specs.Steps.{is_of_head, is_store_refusal};
+ghost use Rattle.serde_json.specs.Written.{compact_text};
+ghost use Rattle.model.specs.Answers.{is_store_refusal};
+ghost use Rattle.model.specs.Steps.{is_of_head};
+ghost use Rattle.model.specs.Replies.{message_json, rule_message};
 ghost use Rattle.forms.specs.Told.{Tells};
 
 use forms::Answer;
@@ -33,7 +35,7 @@ pub struct Reply {
 
 /// The body of a refusal that takes no memory: of a head, or by the store.
 fn fixed_body(rule: Rule) -> Option<&'static str>
-    ensures text { IfSome result (λ text. text.now ≡ message_body (rule_message rule)) }
+    ensures text { IfSome result (λ text. text.now ≡ compact_text (message_json (rule_message rule))) }
     ensures all { is_of_head rule ≡ true → IsSome result }
     ensures other { is_of_head rule ≡ false → IsNone result }
 {
@@ -51,7 +53,7 @@ fn fixed_body(rule: Rule) -> Option<&'static str>
 }
 /// The body of the refusal by the store.
 fn refusal_body() -> &'static str
-    ensures { result.now ≡ message_body (rule_message S1) }
+    ensures { result.now ≡ compact_text (message_json (rule_message S1)) }
 {
     "{\"message\":\"S1: the store refused\"}"
 }
@@ -67,12 +69,13 @@ fn is_store_refusal(answer: &Answer<'_>) -> bool
 
 impl Reply {
     ghost use Rattle.std.specs.Prelude.{◌≡◌, IfOk, true, false, Err};
-    ghost use Rattle.model.specs.Steps.{store_refused, by_rule, is_of_head};
+    ghost use Rattle.model.specs.Answers.{store_refusal, by_rule};
+    ghost use Rattle.model.specs.Steps.{is_of_head};
     ghost use Rattle.forms.specs.Told.{Tells};
     ghost use Rattle.desk.specs.Told.{IsReplyOf};
     /// The store or memory refused. It takes no memory.
     pub fn store_refused() -> Reply
-        ensures { IsReplyOf result store_refused }
+        ensures { IsReplyOf result store_refusal }
     {
         Reply {
             status: StatusCode::INTERNAL_SERVER_ERROR,
@@ -84,7 +87,7 @@ impl Reply {
     /// told as a refusal by the store.
     pub fn head_refused(rule: Rule) -> Reply
         ensures told { is_of_head rule ≡ true → IsReplyOf result (Err (by_rule rule)) }
-        ensures other { is_of_head rule ≡ false → IsReplyOf result store_refused }
+        ensures other { is_of_head rule ≡ false → IsReplyOf result store_refusal }
     {
         match fixed_body(rule) {
             Some(text) => Reply {

@@ -2,13 +2,13 @@
 use Rattle.std.specs.Prelude.{◌≡◌, ℕ, ◌&&◌, List, Option, None, Result, Ok, Err, codes, if◌then◌else◌}
 use Rattle.std.specs.Str.{is_utf8}
 use Rattle.serde_json.specs.Data.{Data}
-use Rattle.serde_json.specs.Find.{get}
+use Rattle.serde_json.specs.Find.{get, as_str}
 use Rattle.serde_json.specs.Read.{read}
-use Rattle.names.specs.Texts.{is_lock_path}
+use Rattle.names.specs.Texts.{is_lock_path, is_ref}
 use Rattle.names.specs.declared.rules.Rule.{Rule}
-use Rattle.names.specs.declared.rules.Rule.TheVariants.{J2}
-use Rattle.model.specs.Reading.{◌>>=◌, check}
-use Rattle.model.specs.Forms.{LockForm, text_if_given, ref_if_given, required, is_ref_if_given}
+use Rattle.names.specs.declared.rules.Rule.TheVariants.{J1, J2}
+use Rattle.model.specs.Reading.{◌>>=◌, check, ok_or}
+use Rattle.model.specs.Forms.{LockForm, if_given, as_name, is_if_given}
 
 -- what is answered is what the definitions read: the same value, seen by view, or the same refusal
 abbrev pub Gives : {X Y : Type 0} → (X → Y) → Result X Rule → Result Y Rule → Type 0
@@ -22,13 +22,14 @@ value_of body = if is_utf8 body then read body else None
 -- the path and the ref, whatever their range
 abbrev pub lock_fields : Data → Result LockForm Rule
 lock_fields d = do
-  path ← required (text_if_given (get (codes "path") d))
-  ref ← ref_if_given (get (codes "ref") d)
+  given ← if_given as_str (get (codes "path") d)
+  path ← ok_or given J1
+  ref ← if_given as_name (get (codes "ref") d)
   Ok (record { path = path; ref = ref })
 
 -- the form, where its texts are in range
 abbrev pub in_range : LockForm → Result LockForm Rule
-in_range form = check (is_lock_path form.path && is_ref_if_given form.ref) J2 >>= λ valid. Ok form
+in_range form = check (is_lock_path form.path && is_if_given is_ref form.ref) J2 >>= λ valid. Ok form
 
 -- what a value asks for
 abbrev pub lock_of_value : Data → Result LockForm Rule

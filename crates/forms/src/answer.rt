@@ -1,15 +1,10 @@
 //! What a client is told, as a status and a JSON body (Git LFS API, File Locking, "Create Lock").
 
-ghost use Rattle.std.specs.Prelude.{◌≡◌, ◌∷◌, [], codes, decimal, IfOk, string_bytes};
+ghost use Rattle.std.specs.Prelude.{◌≡◌, IfOk, string_bytes};
 ghost use Rattle.serde_json.specs.View.{view};
-ghost use Rattle.serde_json.specs.Data.{object, member, string, no_members};
 ghost use Rattle.serde_json.specs.Written.{compact_text};
-ghost use Rattle.names.specs.declared.rules.Rule.TheVariants.{L1};
-ghost use Rattle.names.specs.Moments.{IsMomentText};
-ghost use Rattle.names.specs.Rules.{row_of};
-ghost use Rattle.model.specs.Reading.{or_default};
-ghost use Rattle.model.specs.Replies.{rule_message, row_message, right_text, row_reason, told, message_body, lock_members};
-ghost use Rattle.forms.specs.Told.{locked_data, held_data, locked_with, held_with, IsBodyOf};
+ghost use Rattle.model.specs.Replies.{rule_status, rule_message, row_message, right_text, row_reason, with_code, message_json, lock_json, conflict_json};
+ghost use Rattle.forms.specs.Told.{lock_shown, json_of_texts, conflict_of_texts};
 
 use http::StatusCode;
 use model::Right;
@@ -76,12 +71,12 @@ pub enum Answer<'a> {
 
 impl Answer<'_> {
     ghost use Rattle.std.specs.Prelude.{◌≡◌, IfOk, string_bytes};
-    ghost use Rattle.model.specs.Replies.{IsBody, status_of};
+    ghost use Rattle.model.specs.Replies.{reply_of, json};
     ghost use Rattle.forms.specs.Told.{Tells};
 
     /// The status of the reply.
     pub fn status(&self) -> StatusCode
-        ensures { (given : _) → Tells self.now given → result ≡ status_of given }
+        ensures { (given : _) → Tells self.now given → result ≡ (reply_of given).status }
     {
         match self {
             Answer::Locked(_) => StatusCode::CREATED,
@@ -97,7 +92,7 @@ impl Answer<'_> {
     ///
     /// Only where memory refused.
     pub fn body(&self, alloc: Global) -> Result<String, AllocError>
-        ensures { IfOk result (λ text. (given : _) → Tells self.now given → IsBody given (string_bytes text)) }
+        ensures { IfOk result (λ text. (given : _) → Tells self.now given → (reply_of given).body ≡ json (string_bytes text)) }
     {
         match self {
             Answer::Locked(lock) => locked_body(alloc, lock),
@@ -116,7 +111,7 @@ impl Answer<'_> {
 
 /// The status of a rule that refuses, and 403 for a rule that has none.
 fn status_of_rule(rule: Rule) -> StatusCode
-    ensures { result ≡ or_default (row_of rule).status 403 }
+    ensures { result ≡ rule_status rule }
 {
     let number = rule.status().unwrap_or(403);
     StatusCode::from_u16(number).unwrap()
@@ -137,7 +132,7 @@ fn right_text(right: Right) -> &'static str
 
 /// A rule's code, a colon, a space and the reason.
 fn told(alloc: Global, rule: Rule, reason: &str) -> Result<String, AllocError>
-    ensures { IfOk result (λ text. string_bytes text ≡ told rule reason.now) }
+    ensures { IfOk result (λ text. string_bytes text ≡ with_code rule reason.now) }
 {
     let mut text = rule.to_string(alloc)?;
     text.push_str(": ")?;
@@ -177,14 +172,14 @@ fn row_message(alloc: Global, row: u32, right: Right) -> Result<String, AllocErr
 
 /// A JSON object with the one text `message`.
 fn message_value(alloc: Global, message: &str) -> Result<Value, AllocError>
-    ensures { IfOk result (λ value. view value ≡ object (member (codes "message") (string message.now) no_members)) }
+    ensures { IfOk result (λ value. view value ≡ message_json message.now) }
 {
     json!(in alloc; {"message": message})
 }
 
 /// The JSON of a message.
 fn message_body(alloc: Global, message: &str) -> Result<String, AllocError>
-    ensures { IfOk result (λ text. string_bytes text ≡ message_body message.now) }
+    ensures { IfOk result (λ text. string_bytes text ≡ compact_text (message_json message.now)) }
 {
     message_value(alloc, message)?.to_string(alloc)
 }
@@ -200,35 +195,35 @@ struct LockTexts<'a> {
 
 /// The JSON value with the lock.
 fn locked_value(alloc: Global, lock: &LockTexts<'_>) -> Result<Value, AllocError>
-    ensures { IfOk result (λ value. view value ≡ locked_data lock.now) }
+    ensures { IfOk result (λ value. view value ≡ json_of_texts lock.now) }
 {
     json!(in alloc; {"lock": {"id": lock.id, "locked_at": lock.locked_at, "owner": {"name": lock.owner}, "path": lock.path}})
 }
 
 /// The text of that.
 fn locked_text(alloc: Global, lock: &LockTexts<'_>) -> Result<String, AllocError>
-    ensures { IfOk result (λ text. string_bytes text ≡ compact_text (locked_data lock.now)) }
+    ensures { IfOk result (λ text. string_bytes text ≡ compact_text (json_of_texts lock.now)) }
 {
     locked_value(alloc, lock)?.to_string(alloc)
 }
 
 /// The JSON value with the lock and a message.
 fn held_value(alloc: Global, lock: &LockTexts<'_>, message: &str) -> Result<Value, AllocError>
-    ensures { IfOk result (λ value. view value ≡ held_data lock.now message.now) }
+    ensures { IfOk result (λ value. view value ≡ conflict_of_texts lock.now message.now) }
 {
     json!(in alloc; {"lock": {"id": lock.id, "locked_at": lock.locked_at, "owner": {"name": lock.owner}, "path": lock.path}, "message": message})
 }
 
 /// The text of that.
 fn held_text(alloc: Global, lock: &LockTexts<'_>, message: &str) -> Result<String, AllocError>
-    ensures { IfOk result (λ text. string_bytes text ≡ compact_text (held_data lock.now message.now)) }
+    ensures { IfOk result (λ text. string_bytes text ≡ compact_text (conflict_of_texts lock.now message.now)) }
 {
     held_value(alloc, lock, message)?.to_string(alloc)
 }
 
 /// The body of a lock that was made.
 fn locked_body(alloc: Global, lock: &ShownLock<'_>) -> Result<String, AllocError>
-    ensures { IfOk result (λ text. IsBodyOf locked_with lock.now (string_bytes text)) }
+    ensures { IfOk result (λ text. string_bytes text ≡ compact_text (lock_json (lock_shown lock.now))) }
 {
     let id = lock.id.to_string(alloc)?;
     let locked_at = moment_text(alloc, lock.locked_at)?;
@@ -243,7 +238,7 @@ fn locked_body(alloc: Global, lock: &ShownLock<'_>) -> Result<String, AllocError
 
 /// The body of a lock that stands in the way.
 fn held_body(alloc: Global, lock: &ShownLock<'_>) -> Result<String, AllocError>
-    ensures { IfOk result (λ text. IsBodyOf held_with lock.now (string_bytes text)) }
+    ensures { IfOk result (λ text. string_bytes text ≡ compact_text (conflict_json (lock_shown lock.now))) }
 {
     let id = lock.id.to_string(alloc)?;
     let locked_at = moment_text(alloc, lock.locked_at)?;

@@ -2,7 +2,8 @@
 
 ghost use Rattle.std.specs.Prelude.{◌≡◌, option_map, IfOk};
 ghost use Rattle.serde_json.specs.View.{view};
-ghost use Rattle.model.specs.Forms.{text_if_given, ref_if_given};
+ghost use Rattle.serde_json.specs.Find.{as_str};
+ghost use Rattle.model.specs.Forms.{if_given, as_name};
 ghost use Rattle.forms.specs.Given.{Gives, value_of};
 
 use names::Rule;
@@ -39,7 +40,7 @@ pub(crate) fn value_of(alloc: Global, body: &[u8]) -> Result<Option<Value>, Allo
 ///
 /// J1 where it is of another kind. `null` counts as missing.
 pub(crate) fn text_if_given(value: Option<&Value>) -> Result<Option<&str>, Rule>
-    ensures { Gives (option_map (λ s. s.now)) result (text_if_given (option_map (λ v. view v.now) value.entry)) }
+    ensures { Gives (option_map (λ s. s.now)) result (if_given as_str (option_map (λ v. view v.now) value.entry)) }
 {
     match value {
         None | Some(Value::Null) => Ok(None),
@@ -55,7 +56,7 @@ pub(crate) fn text_if_given(value: Option<&Value>) -> Result<Option<&str>, Rule>
 /// J1 where it is of another kind, or has no such text. `null` in its place counts as missing, and
 /// `null` as its `name` does not.
 pub(crate) fn ref_if_given(value: Option<&Value>) -> Result<Option<&str>, Rule>
-    ensures { Gives (option_map (λ s. s.now)) result (ref_if_given (option_map (λ v. view v.now) value.entry)) }
+    ensures { Gives (option_map (λ s. s.now)) result (if_given as_name (option_map (λ v. view v.now) value.entry)) }
 {
     let Some(value) = value else {
         return Ok(None);

@@ -21,7 +21,7 @@ pub struct LockRequest {
     /// meant.
     pub ref_name: Option<String>,
     pub ghost path_in_range: { IsTrue (is_lock_path (string_bytes path)) },
-    pub ghost ref_in_range: { IsTrue (asked.is_ref_if_given (option_map string_bytes ref_name)) },
+    pub ghost ref_in_range: { IsTrue (asked.is_if_given is_ref (option_map string_bytes ref_name)) },
 }
 
 /// What the body asks, or the rule that refuses it: J1 before J2.
@@ -65,7 +65,7 @@ fn is_ref(name: &str) -> bool
 
 /// Whether it is a ref, where there is one.
 fn is_ref_if_given(name: Option<&str>) -> bool
-    ensures { result ≡ asked.is_ref_if_given (option_map (λ s. s.now) name.entry) }
+    ensures { result ≡ asked.is_if_given is_ref (option_map (λ s. s.now) name.entry) }
 {
     match name {
         Some(name) => is_ref(name),

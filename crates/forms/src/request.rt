@@ -2,11 +2,12 @@
 
 ghost use Rattle.std.specs.Prelude.{IfOk};
 ghost use Rattle.model.specs.Forms.{request_of};
+ghost use Rattle.model.specs.Heads.{form_of_served};
 ghost use Rattle.forms.specs.Given.{Gives};
 ghost use Rattle.forms.specs.Requests.{request_asked};
 
 use crate::lock::{LockRequest, read_lock};
-use model::Form;
+use model::ServedForm;
 use names::Rule;
 use std::alloc::{AllocError, Global};
 
@@ -29,15 +30,15 @@ pub enum Request {
 /// Only where memory refused. What a rule refuses is an answer.
 pub fn read_form(
     alloc: Global,
-    form: Form,
+    form: ServedForm,
     parameter: &str,
     query: &str,
     body: &[u8],
 ) -> Result<Result<Request, Rule>, AllocError>
-    ensures { IfOk result (λ r. Gives request_asked r (request_of form parameter.now query.now body.now)) }
+    ensures { IfOk result (λ r. Gives request_asked r (request_of (form_of_served form) parameter.now query.now body.now)) }
 {
     match form {
-        Form::Lock => match read_lock(alloc, body)? {
+        ServedForm::Lock => match read_lock(alloc, body)? {
             Ok(asked) => Ok(Ok(Request::Lock(asked))),
             Err(rule) => Ok(Err(rule)),
         },

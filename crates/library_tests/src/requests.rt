@@ -1,13 +1,13 @@
 //! `forms`: requests from JSON.
 
 use forms::{Request, read_form};
-use model::Form;
+use model::ServedForm;
 use std::alloc::{AllocError, Global};
 use std::test::Fail;
 
 /// What a lock's body asks, as `PATH` or `PATH at REF`, or the rule that refuses it.
 fn asked(alloc: Global, body: &[u8]) -> Result<String, AllocError> {
-    match read_form(alloc, Form::Lock, "", "", body)? {
+    match read_form(alloc, ServedForm::Lock, "", "", body)? {
         Ok(Request::Lock(lock)) => {
             let mut text = lock.path;
             if let Some(name) = &lock.ref_name {

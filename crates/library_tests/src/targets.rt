@@ -1,6 +1,6 @@
 //! `routes`: where a target leads.
 
-use model::Form;
+use model::ServedForm;
 use routes::{Resource, Routes, path_of, query_of};
 use std::test::Fail;
 
@@ -102,7 +102,7 @@ fn queries_stand_behind_the_first_question_mark(rt: HostRuntime) {
 // docs/PROTOCOL.md, "Routes": of the methods at `/locks`, those that are built.
 #[test]
 fn locks_serve_post_and_json(rt: HostRuntime) {
-    assert_eq!(rt; Resource::Locks.form_of(b"POST"), Some(Form::Lock));
+    assert_eq!(rt; Resource::Locks.form_of(b"POST"), Some(ServedForm::Lock));
     for method in [
         b"".as_slice(),
         b"post",

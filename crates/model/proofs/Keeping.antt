@@ -1,60 +1,42 @@
--- Each step keeps the laws of worlds.
-use Rattle.std.proofs.Common.{◌≡◌, ℕ, ◌+◌, ◌<◌, ◌≤◌, inl, inr, Bool, true, false, not, ◌||◌, ◌&&◌, nat_lt, nat_le, List, [], ◌∷◌, refl, sym, ap, subst, ◌∙◌, arith, Result, Ok, Err, Option, Some, None, find, bytes_eq, cond, IfOk, IfSome, IsTrue, codes}
+-- Each step stores the laws of worlds.
+use Rattle.std.proofs.Common.{◌≡◌, ℕ, ◌+◌, ◌<◌, ◌≤◌, Bool, true, false, not, ◌||◌, ◌&&◌, nat_lt, nat_le, List, [], ◌∷◌, length, filter, refl, sym, ap, subst, ◌∙◌, arith, Result, Ok, Err, Option, Some, None, find, bytes_eq, cond, IfOk, IfSome, IsTrue, codes, is_err, is_some, ◌==◌}
 use Rattle.std.specs.Bool.{⊤}
 use Rattle.std.specs.List.{AllByRecursion}
 use Rattle.std.proofs.lemmas.List.Elements.{recursion_from_All, All-from_recursion, All-cons, All-filter}
 use Rattle.std.proofs.lemmas.List.Kept.{AllPairs-cons, AllPairs-filter}
-use Rattle.std.proofs.lemmas.Option.{none-some}
 use Rattle.std.proofs.lemmas.Bool.{ltb-true, leb-true, cond_both, and_from, true≢false}
+use Rattle.std.proofs.lemmas.Option.{none-some}
 use Rattle.std.proofs.lemmas.Slice.Eq.{bytes_eq-Decides}
 use Rattle.httparse.specs.Grammar.{RequestHead}
 use Rattle.sha2.specs.Sha256.{sha256}
-use Rattle.serde_json.specs.Find.{get_member}
-use Rattle.names.specs.Texts.{last_lock_id, last_moment, is_repo, is_ref, is_lock_path}
+use Rattle.serde_json.specs.Find.{as_str}
+use Rattle.names.specs.Texts.{last_lock_id, last_moment, is_hex_64, is_user, is_repo, is_ref, is_lock_path, largest_object}
 use Rattle.names.specs.declared.rules.Rule.{Rule}
 use Rattle.names.specs.declared.rules.Rule.TheVariants as rule
 use Rattle.model.specs.declared.Form.{Form}
 use Rattle.model.specs.declared.Form.TheVariants as form
 use Rattle.model.specs.declared.Right.TheVariants as right
-use Rattle.model.specs.Heads.{judged, values, query_of}
-use Rattle.model.specs.Reading.{◌>>=◌, check, found, none_of, or_default}
-use Rattle.model.specs.Policy.{Policy, IsPolicy, Repo, decide, repo_named}
-use Rattle.model.specs.World.{World, Lock, Issued, IsWorld, IsLock, IsIssued, DiffersInId, DiffersInPlace, DiffersInDigest, stands_at, lock_at, with_lock, with_token, without_expired, counted, nothing}
-use Rattle.model.specs.Forms.{LockForm, Request, asks_lock, lock_form, is_ref_if_given, members_of, text_if_given, ref_if_given, required, request_of, needs_upload}
-use Rattle.model.specs.Steps.{Granted, makes_lock, Answer, Denial, by_lock, by_rules, permitted, is_upload, bearer, issued_as, caller_by, ref_asked, lock_question, new_lock, verdict, state_verdict, lock_verdict, after, Message, bad_head, broken, message, verdict_on, Carries, exchanged, issues, prunes, TokenRequest, IsTokenRequest, already_issued, expires_too_late, token_verdict, after_token}
+use Rattle.model.specs.Reading.{◌>>=◌, check, ok_or, none_or, or_default}
+use Rattle.model.specs.Policy.{Policy, IsPolicy, Repo, repo_named}
+use Rattle.model.specs.World.{World, Object, Lock, Token, IsWorld, IsObject, IsLock, IsToken, DiffersInName, DiffersInId, DiffersInPlace, DiffersInDigest, object_named, find_token, with_lock, without_lock, with_object, with_token, without_expired, has_id, one_more, nothing, name_of}
+use Rattle.model.specs.RepoState.{lock_at, locks_of, size_of, has_room}
+use Rattle.model.specs.Forms.{LockForm, Request, asks_batch, asks_get, asks_put, asks_verify, asks_lock, asks_list, asks_verify_locks, asks_unlock, lock_form, batch_form, put_form, verify_form, list_form, verify_locks_form, unlock_form, is_if_given, members_of, required, optional, as_name, request_of}
+use Rattle.model.specs.Heads.{Target, head_verdict, query_of, content_length, body_length}
+use Rattle.model.specs.Callers.{Caller, bearer, caller_by, lock_question, push_question}
+use Rattle.model.specs.Cases.{Setting, Case, case_in, DeskRequest}
+use Rattle.model.specs.Answers.{Grant, stores, makes_lock, offers, serves, confirms, lists, splits, releases, Answer, Denial, by_lock, by_rules, permit, may_pull, may_push, Plan, grants, sends, receives}
+use Rattle.model.specs.Locks.{ref_or_default, new_lock, lock_verdict, list_verdict, verify_locks_verdict, unlock_verdict, visible_lock, release_verdict}
+use Rattle.model.specs.Batch.{may_batch, batch_verdict}
+use Rattle.model.specs.Pages.{cursor_in}
+use Rattle.model.specs.Objects.{finish, verify_verdict}
+use Rattle.model.specs.Verdict.{plan_to, plan_for, is_covered, caller_plan, desk_plan, desk_request, verdict, early_verdict}
+use Rattle.model.specs.Operator.{TokenRequest, IsTokenRequest, new_token, already_issued, expires_too_late, token_verdict, after_token, Outcome, issue_outcome, prune_outcome, Reports, by_success, by_fault}
+use Rattle.model.specs.Steps.{verdict_on, denial_alone, after, after_grant, Message, message, bad_head, IsMessage, Exchange, judgement, Carries, by_verdict, by_refusal, IsExchange, exchanged, issues, prunes}
+use Rattle.model.specs.Laws.{StepsKeepWorlds, RunsKeepWorlds, RunsMakeWorlds, NeverLocksTwice, DenialsChangeNothing, SilenceChangesNothing}
 use Rattle.model.proofs.Tests.{both_true}
-use Rattle.model.specs.Laws.{StepsKeepWorlds, RunsKeepWorlds, RunsMakeWorlds, NeverLocksTwice, DenialsChangeNothing}
-
--- ---- what a chain of checks has passed
-
-passed : {A B E : Type 0} (Q : A → Type 0) (P : B → Type 0) (r : Result A E) (f : A → Result B E)
-    → IfOk r Q → ((x : A) → Q x → IfOk (f x) P) → IfOk (r >>= f) P
-passed Q P (Ok x) f is then = then x is
-passed Q P (Err e) f is then = tt
-
-any : {A E : Type 0} (r : Result A E) → IfOk r (λ _. ⊤)
-any (Ok x) = tt
-any (Err e) = tt
-
-then_any : {A B E : Type 0} (P : B → Type 0) (r : Result A E) (f : A → Result B E) → ((x : A) → IfOk (f x) P) → IfOk (r >>= f) P
-then_any P r f then = passed (λ _. ⊤) P r f (any r) (λ x _. then x)
-
-by_rules_ok : {A : Type 0} (Q : A → Type 0) (r : Result A Rule) → IfOk r Q → IfOk (by_rules r) Q
-by_rules_ok Q (Ok x) is = is
-by_rules_ok Q (Err e) is = tt
-
-found_ok : {A E : Type 0} (Q : A → Type 0) (o : Option A) (e : E) → IfSome o Q → IfOk (found o e) Q
-found_ok Q (Some x) e is = is
-found_ok Q None e is = tt
-
-check_ok : {E : Type 0} (test : Bool) (e : E) → IfOk (check test e) (λ _. IsTrue test)
-check_ok true e = refl
-check_ok false e = tt
-
-find_ok : {A : Type 0} (Q : A → Type 0) (test : A → Bool) (xs : List A) → AllByRecursion Q xs → IfSome (find test xs) Q
-find_ok Q test [] all = tt
-find_ok Q test (x ∷ xs) all =
-    cond_both (test x) (Some x) (find test xs) (λ o. IfSome o Q) (λ _. all.0) (λ _. find_ok Q test xs all.1)
+use Rattle.model.proofs.Checks.{passed, then_any, by_rules_ok, found_ok, check_ok, rules_check_ok, find_ok}
+use Rattle.model.proofs.Lists.{not_found, none_rising, none_filter}
+use Rattle.model.proofs.Sizes.{judged_small}
 
 -- ---- what is in range
 
@@ -64,17 +46,21 @@ pub record IsRepoInRange (r : Repo) : Type 0 where
 
 pub record IsLockForm (asked : LockForm) : Type 0 where
   pub path : IsTrue (is_lock_path asked.path)
-  pub ref : IsTrue (is_ref_if_given asked.ref)
+  pub ref : IsTrue (is_if_given is_ref asked.ref)
 
 abbrev IsRequest : Request → Type 0
 IsRequest (asks_lock asked) = IsLockForm asked
+IsRequest _ = ⊤
 
-caller_in_range : (world : World) (now : ℕ) (values : List (List ℕ)) → IsWorld world → IfOk (caller_by world now values) IsIssued
+pub record IsCaller (c : Caller) : Type 0 where
+  pub user : IsTrue (is_user c.user)
+  pub repo : IsTrue (is_repo c.repo)
+
+caller_in_range : (world : World) (now : ℕ) (values : List (List ℕ)) → IsWorld world → IfOk (caller_by world now values) IsCaller
 caller_in_range world now values w =
-    let good : Issued → Result Issued Rule = λ issued. check (nat_lt now issued.expires) rule.A3 >>= λ _. Ok issued in
-    then_any IsIssued (found (bearer values) rule.A1) _ (λ text.
-    passed IsIssued IsIssued (found (issued_as text world) rule.A2) good (found_ok IsIssued (issued_as text world) rule.A2 (find_ok IsIssued _ world.issued (recursion_from_All IsIssued world.issued w.issued))) (λ issued is.
-    then_any IsIssued (check (nat_lt now issued.expires) rule.A3) (λ _. Ok issued) (λ _. is)))
+    then_any IsCaller (ok_or (bearer values) rule.A1) _ (λ text.
+    passed IsToken IsCaller (ok_or (find_token text world) rule.A2) _ (found_ok IsToken (find_token text world) rule.A2 (find_ok IsToken _ world.tokens (recursion_from_All IsToken world.tokens w.tokens))) (λ t is.
+    then_any IsCaller (check (nat_lt now t.expires) rule.A3) _ (λ good. record { user = is.user; repo = is.repo })))
 
 repos_in_range : (repos : List Repo) → AllByRecursion (λ r. IsTrue (is_repo r.name) × IsTrue (is_ref r.default_ref)) repos → AllByRecursion IsRepoInRange repos
 repos_in_range [] all = tt
@@ -84,23 +70,29 @@ repo_in_range : (name : List ℕ) (policy : Policy) → IsPolicy policy → IfSo
 repo_in_range name policy p =
     find_ok IsRepoInRange (λ r. bytes_eq r.name name) policy.repos (repos_in_range policy.repos (recursion_from_All _ policy.repos p))
 
-form_is : (path : List ℕ) (ref : Option (List ℕ)) → IfOk (check {E = Rule} (is_lock_path path && is_ref_if_given ref) rule.J2 >>= λ _. Ok (record { path = path; ref = ref })) IsLockForm
+form_is : (path : List ℕ) (ref : Option (List ℕ)) → IfOk (check {E = Rule} (is_lock_path path && is_if_given is_ref ref) rule.J2 >>= λ _. Ok (record { path = path; ref = ref })) IsLockForm
 form_is path ref =
-    passed (λ _. IsTrue (is_lock_path path && is_ref_if_given ref)) IsLockForm (check (is_lock_path path && is_ref_if_given ref) rule.J2) (λ _. Ok (record { path = path; ref = ref })) (check_ok _ rule.J2)
+    passed (λ _. IsTrue (is_lock_path path && is_if_given is_ref ref)) IsLockForm (check (is_lock_path path && is_if_given is_ref ref) rule.J2) (λ _. Ok (record { path = path; ref = ref })) (check_ok _ rule.J2)
     (λ _ is. record { path = (both_true _ _ is).0; ref = (both_true _ _ is).1 })
 
 form_in_range : (body : List ℕ) → IfOk (lock_form body) IsLockForm
 unfolding lock_form
 form_in_range body =
-    then_any IsLockForm (found (members_of body) rule.J1) _ (λ members.
-    then_any IsLockForm (required (text_if_given (get_member (codes "path") members))) _ (λ path.
-    then_any IsLockForm (ref_if_given (get_member (codes "ref") members)) _ (λ ref. form_is path ref)))
+    then_any IsLockForm (ok_or (members_of body) rule.J1) _ (λ members.
+    then_any IsLockForm (required as_str (codes "path") members) _ (λ path.
+    then_any IsLockForm (optional as_name (codes "ref") members) _ (λ ref. form_is path ref)))
 
 request_in_range : (form : Form) (parameter query body : List ℕ) → IfOk (request_of form parameter query body) IsRequest
-request_in_range form.Lock parameter query body =
-    passed IsLockForm IsRequest (lock_form body) _ (form_in_range body) (λ asked is. is)
+request_in_range form.Lock parameter query body = passed IsLockForm IsRequest (lock_form body) _ (form_in_range body) (λ asked is. is)
+request_in_range form.Batch parameter query body = then_any IsRequest (batch_form body) _ (λ asked. tt)
+request_in_range form.Get parameter query body = then_any IsRequest (check (is_hex_64 parameter) rule.J2) _ (λ asked. tt)
+request_in_range form.Put parameter query body = then_any IsRequest (put_form parameter query) _ (λ asked. tt)
+request_in_range form.Verify parameter query body = then_any IsRequest (verify_form query body) _ (λ asked. tt)
+request_in_range form.List parameter query body = then_any IsRequest (list_form query) _ (λ asked. tt)
+request_in_range form.VerifyLocks parameter query body = then_any IsRequest (verify_locks_form body) _ (λ asked. tt)
+request_in_range form.Unlock parameter query body = then_any IsRequest (unlock_form parameter body) _ (λ asked. tt)
 
-ref_in_range : (ref : Option (List ℕ)) (default_ref : List ℕ) → IsTrue (is_ref_if_given ref) → IsTrue (is_ref default_ref) → IsTrue (is_ref (or_default ref default_ref))
+ref_in_range : (ref : Option (List ℕ)) (default_ref : List ℕ) → IsTrue (is_if_given is_ref ref) → IsTrue (is_ref default_ref) → IsTrue (is_ref (or_default ref default_ref))
 ref_in_range (Some ref) default_ref given default = given
 ref_in_range None default_ref given default = default
 
@@ -108,82 +100,169 @@ ref_in_range None default_ref given default = default
 
 -- the lock is in range, its place is free, and its id is the next
 pub record IsNewLock (world : World) (l : Lock) : Type 0 where
-  pub is : IsLock (counted l.repo world.made) l
-  pub free : lock_at l.repo l.ref l.path world ≡ None
+  pub is : IsLock (one_more l.repo world.made) l
+  pub free : find (λ (k : Lock). bytes_eq k.ref l.ref && bytes_eq k.path l.path) (locks_of l.repo world) ≡ None
   pub room : world.made l.repo < last_lock_id
   pub next : l.id ≡ world.made l.repo + 1
 
-abbrev IsGrantable : World → Granted → Type 0
+abbrev pub IsGrantable : World → Grant → Type 0
 IsGrantable world (makes_lock l) = IsNewLock world l
+IsGrantable world (stores o) = IsObject o
+IsGrantable world _ = ⊤
 
-pub counted_itself : (repo : List ℕ) (made : List ℕ → ℕ) → counted repo made repo ≡ made repo + 1
+abbrev pub IsFeasible : World → Plan → Type 0
+IsFeasible world (grants grant) = IsGrantable world grant
+IsFeasible world _ = ⊤
+
+pub counted_itself : (repo : List ℕ) (made : List ℕ → ℕ) → one_more repo made repo ≡ made repo + 1
 counted_itself repo made = rw ((bytes_eq-Decides repo repo).1 refl) refl
 
-lock_passed : (P : Granted → Type 0) (may : Result ⊤ Denial) (there : Option Lock) (room : Bool) (g : Granted)
+-- the setting of an exchange is in range
+pub record IsSetting (setting : Setting) : Type 0 where
+  pub policy : IsPolicy setting.policy
+  pub now : setting.now ≤ last_moment
+
+-- so is a case in a world
+pub record IsCase (setting : Setting) (who : Caller) (entry : Repo) : Type 0 where
+  pub now : setting.now ≤ last_moment
+  pub caller : IsCaller who
+  pub repo : IsRepoInRange entry
+
+lock_passed : (P : Grant → Type 0) (may : Result ⊤ Denial) (there : Option Lock) (room : Bool) (g : Grant)
     → (there ≡ None → room ≡ true → P g)
-    → IfOk (may >>= λ _. none_of there by_lock >>= λ _. by_rules (check room rule.L5) >>= λ _. Ok g) P
+    → IfOk (may >>= λ _. none_or there by_lock >>= λ _. by_rules (check room rule.L5) >>= λ _. Ok g) P
 lock_passed P (Ok x) None true g then = then refl refl
 lock_passed P (Ok x) None false g then = tt
 lock_passed P (Ok x) (Some l) room g then = tt
 lock_passed P (Err e) there room g then = tt
 
-lock_grantable : (world : World) (policy : Policy) (now : ℕ) (caller : Issued) (repo : Repo) (asked : LockForm)
-    → now ≤ last_moment → IsIssued caller → IsRepoInRange repo → IsLockForm asked
-    → IfOk (lock_verdict world policy now caller repo asked) (IsGrantable world)
-lock_grantable world policy now caller repo asked at who entry what =
-    lock_passed (IsGrantable world) (permitted (decide policy (lock_question caller repo asked)) right.Lock 403) (lock_at repo.name (ref_asked asked repo) asked.path world)
-    (nat_lt (world.made repo.name) last_lock_id) (makes_lock (new_lock world now caller repo asked))
-    (λ free room. record {
-      is = record {
-        repo = entry.name;
-        ref = ref_in_range asked.ref repo.default_ref what.ref entry.default_ref;
-        path = what.path;
-        owner = who.user;
-        at = at;
-        first = omega arith;
-        last = omega (arith, counted_itself repo.name world.made);
-      };
-      free = free;
-      room = ltb-true (world.made repo.name) last_lock_id room;
-      next = refl;
-    })
+module _ (world : World) (setting : Setting) (caller : Caller) (repo : Repo) where
+  abbrev c : Case
+  c = case_in world setting caller repo
 
-state_grantable : (world : World) (policy : Policy) (now : ℕ) (caller : Issued) (repo : Repo) (asked : Request)
-    → now ≤ last_moment → IsIssued caller → IsRepoInRange repo → IsRequest asked
-    → IfOk (state_verdict world policy now caller repo asked) (IsGrantable world)
-state_grantable world policy now caller repo (asks_lock asked) = lock_grantable world policy now caller repo asked
+  lock_grantable : (asked : LockForm) → IsCase setting caller repo → IsLockForm asked → IfOk (lock_verdict c asked) (IsGrantable world)
+  lock_grantable asked is what =
+      lock_passed (IsGrantable world) (permit setting.policy (lock_question right.Lock caller.user (new_lock c asked)) 403) (lock_at (ref_or_default asked.ref repo) asked.path c.state)
+      (nat_lt (world.made repo.name) last_lock_id) (makes_lock (new_lock c asked))
+      (λ free room. record {
+        is = record {
+          repo = is.repo.name;
+          ref = ref_in_range asked.ref repo.default_ref what.ref is.repo.default_ref;
+          path = what.path;
+          owner = is.caller.user;
+          at = is.now;
+          first = omega arith;
+          last = omega (arith, counted_itself repo.name world.made);
+        };
+        free = free;
+        room = ltb-true (world.made repo.name) last_lock_id room;
+        next = refl;
+      })
 
-verdict_grantable : (world : World) (policy : Policy) (now : ℕ) (head : RequestHead) (body : List ℕ)
-    → IsWorld world → IsPolicy policy → now ≤ last_moment
-    → IfOk (verdict world policy now head body) (IsGrantable world)
+  release_grantable : (force : Bool) (l : Lock) → IfOk (release_verdict c force l) (IsGrantable world)
+  release_grantable force l =
+      cond_both (bytes_eq l.owner caller.user) _ _ (λ a. IfOk a (IsGrantable world))
+      (λ _. then_any (IsGrantable world) (permit setting.policy (lock_question right.Lock caller.user l) 403) _ (λ may. tt))
+      (λ _. then_any (IsGrantable world) (by_rules (check force rule.L3)) _ (λ forced. then_any (IsGrantable world) (permit setting.policy (lock_question right.Force caller.user l) 403) _ (λ may. tt)))
+
+  plan_feasible : (answer : Answer) → IfOk answer (IsGrantable world) → IfOk (plan_to answer) (IsFeasible world)
+  plan_feasible answer is = passed (IsGrantable world) (IsFeasible world) answer _ is (λ g good. good)
+
+  plans_feasible : (left : ℕ) (asked : Request) → IsCase setting caller repo → IsRequest asked → IfOk (plan_for c left asked) (IsFeasible world)
+  plans_feasible left (asks_lock asked) is what = plan_feasible _ (lock_grantable asked is what)
+  plans_feasible left (asks_batch asked) is what = plan_feasible (batch_verdict c asked) (then_any (IsGrantable world) (may_batch c asked asked.operation) _ (λ may. tt))
+  plans_feasible left (asks_get name) is what =
+      then_any (IsFeasible world) (may_pull setting.policy caller.user repo.name 404) _ (λ may.
+      then_any (IsFeasible world) (by_rules (ok_or (size_of name c.state) rule.X1)) _ (λ size. tt))
+  plans_feasible left (asks_put asked) is what =
+      then_any (IsFeasible world) (may_push setting.policy caller.user repo.name (ref_or_default asked.ref repo)) _ (λ may.
+      then_any (IsFeasible world) (by_rules (check (has_room left c.state || is_some (size_of asked.name c.state)) rule.X3)) _ (λ fits. tt))
+  plans_feasible left (asks_verify asked) is what =
+      plan_feasible (verify_verdict c asked)
+      (then_any (IsGrantable world) (may_push setting.policy caller.user repo.name (ref_or_default asked.ref repo)) _ (λ may.
+      then_any (IsGrantable world) (by_rules (ok_or (size_of asked.name c.state) rule.V1)) _ (λ size.
+      then_any (IsGrantable world) (by_rules (check (size == asked.size) rule.V2)) _ (λ same. tt))))
+  plans_feasible left (asks_list asked) is what =
+      plan_feasible (list_verdict c asked)
+      (then_any (IsGrantable world) (may_pull setting.policy caller.user repo.name 403) _ (λ may. then_any (IsGrantable world) (by_rules (cursor_in asked.cursor)) _ (λ cursor. tt)))
+  plans_feasible left (asks_verify_locks asked) is what =
+      plan_feasible (verify_locks_verdict c asked)
+      (then_any (IsGrantable world) (permit setting.policy (push_question caller.user repo.name (ref_or_default asked.ref repo)) 403) _ (λ may.
+      then_any (IsGrantable world) (by_rules (cursor_in asked.cursor)) _ (λ cursor. tt)))
+  plans_feasible left (asks_unlock asked) is what =
+      plan_feasible (unlock_verdict c asked)
+      (then_any (IsGrantable world) (by_rules (ok_or (visible_lock c asked.id) rule.L2)) _ (λ l. release_grantable asked.force l))
+
+both_ok : {A B : Type 0} (P : A → Type 0) (r : Result A B) (Q : Type 0) → IfOk r P → Q → IfOk r (λ x. P x × Q)
+both_ok P (Ok x) Q is also = (is, also)
+both_ok P (Err e) Q is also = tt
+
+-- a plan that a caller's request leads to is feasible, and its repository is in range
+abbrev IsGoodPlan : World → List ℕ → Plan → Type 0
+IsGoodPlan world repo plan = IsFeasible world plan × IsTrue (is_repo repo)
+
+caller_feasible : (world : World) (setting : Setting) (caller : Caller) (asked : DeskRequest) → IsSetting setting → IsCaller caller → IfOk asked.request IsRequest
+    → IfOk (caller_plan world setting caller asked) (IsGoodPlan world asked.repo)
+caller_feasible world setting caller asked is who what =
+    let P : Plan → Type 0 = IsGoodPlan world asked.repo in
+    passed (λ _. IsTrue (bytes_eq caller.repo asked.repo)) P (by_rules (check (bytes_eq caller.repo asked.repo) rule.A4)) _ (rules_check_ok (bytes_eq caller.repo asked.repo) rule.A4) (λ _ own.
+    passed IsRepoInRange P (by_rules (ok_or (repo_named asked.repo setting.policy) rule.R1)) _ (by_rules_ok IsRepoInRange _ (found_ok IsRepoInRange _ rule.R1 (repo_in_range asked.repo setting.policy is.policy))) (λ repo entry.
+    passed IsRequest P (by_rules asked.request) _ (by_rules_ok IsRequest _ what) (λ request fine.
+    then_any P (by_rules (check (is_covered caller request) rule.A5)) _ (λ covered.
+    both_ok (IsFeasible world) (plan_for (case_in world setting caller repo) asked.left request) (IsTrue (is_repo asked.repo))
+    (plans_feasible world setting caller repo asked.left request (record { now = is.now; caller = who; repo = entry }) fine)
+    (subst (λ (r : List ℕ). IsTrue (is_repo r)) ((bytes_eq-Decides caller.repo asked.repo).0 own) who.repo)))))
+
+desk_feasible : (world : World) (setting : Setting) (asked : DeskRequest) → IsWorld world → IsSetting setting → IfOk asked.request IsRequest
+    → IfOk (desk_plan world setting asked) (IsGoodPlan world asked.repo)
+desk_feasible world setting asked w is what =
+    passed IsCaller (IsGoodPlan world asked.repo) (by_rules (caller_by world setting.now asked.bearers)) _ (by_rules_ok IsCaller _ (caller_in_range world setting.now asked.bearers w)) (λ caller who.
+    caller_feasible world setting caller asked is who what)
+
+finish_grantable : (world : World) (repo body : List ℕ) (plan : Plan) → IsGoodPlan world repo plan → length body ≤ largest_object
+    → IfOk (finish world repo body plan) (IsGrantable world)
+finish_grantable world repo body (grants g) good small = good.0
+finish_grantable world repo body (sends name size) good small = then_any (IsGrantable world) (by_rules (ok_or (object_named repo name world) rule.X1)) _ (λ o. tt)
+finish_grantable world repo body (receives name) good small =
+    passed (λ _. IsTrue (bytes_eq name (name_of body))) (IsGrantable world) (by_rules (check (bytes_eq name (name_of body)) rule.X2)) _ (rules_check_ok (bytes_eq name (name_of body)) rule.X2) (λ _ same.
+    record { repo = good.1; name = (bytes_eq-Decides name (name_of body)).0 same; size = small })
+
+body_small : (head : RequestHead) (body : List ℕ) → IsMessage (message head body true) → IfOk (head_verdict head) (λ _. length body ≤ largest_object)
+body_small head body is = at (head_verdict head) refl (judged_small head)
+  where
+    at : (r : Result Target Rule) → head_verdict head ≡ r → IfOk r (λ _. content_length head ≤ largest_object) → IfOk r (λ _. length body ≤ largest_object)
+    at (Err e) j small = tt
+    at (Ok t) j small =
+        let same : body_length head ≡ content_length head = ap (λ (r : Result Target Rule). cond (is_err r) 0 (content_length head)) j in
+        omega (arith, is, same, small)
+
+verdict_grantable : (world : World) (setting : Setting) (head : RequestHead) (body : List ℕ)
+    → IsWorld world → IsSetting setting → IsMessage (message head body true)
+    → IfOk (verdict world setting head body) (IsGrantable world)
 unfolding verdict
-verdict_grantable world policy now head body w p at =
-    let P = IsGrantable world in
-    then_any P (by_rules (judged head)) _ (λ target.
-    passed IsIssued P (by_rules (caller_by world now (values (codes "authorization") head))) _ (by_rules_ok IsIssued _ (caller_in_range world now (values (codes "authorization") head) w)) (λ caller who.
-    then_any P (by_rules (check (bytes_eq caller.repo target.repo) rule.A4)) _ (λ own.
-    passed IsRepoInRange P (by_rules (found (repo_named target.repo policy) rule.R1)) _ (by_rules_ok IsRepoInRange _ (found_ok IsRepoInRange _ rule.R1 (repo_in_range target.repo policy p))) (λ repo entry.
-    passed IsRequest P (by_rules (request_of target.form target.parameter (query_of head.target) body)) _ (by_rules_ok IsRequest _ (request_in_range target.form target.parameter (query_of head.target) body)) (λ request what.
-    then_any P (by_rules (check (not (needs_upload request) || is_upload caller.operation) rule.A5)) _ (λ covered.
-    state_grantable world policy now caller repo request at who entry what))))))
+verdict_grantable world setting head body w at is =
+    passed (λ _. length body ≤ largest_object) (IsGrantable world) (by_rules (head_verdict head)) _ (by_rules_ok (λ _. length body ≤ largest_object) (head_verdict head) (body_small head body is)) (λ target small.
+    passed (IsGoodPlan world target.repo) (IsGrantable world) (desk_plan world setting (desk_request head target body)) _
+    (desk_feasible world setting (desk_request head target body) w at (request_in_range target.form target.parameter (query_of head.target) body)) (λ plan good.
+    finish_grantable world target.repo body plan good small))
 
 -- ---- one lock more
 
 -- the place of the lock is free, so each other lock stands elsewhere
-other_place : (l k : Lock) → stands_at l.repo l.ref l.path k ≡ false → DiffersInPlace l k
-other_place l k is repo ref path =
-    let both : stands_at l.repo l.ref l.path k ≡ true = and_from _ _ (and_from _ _ ((bytes_eq-Decides k.repo l.repo).1 (sym repo)) ((bytes_eq-Decides k.ref l.ref).1 (sym ref))) ((bytes_eq-Decides k.path l.path).1 (sym path)) in
-    true≢false (sym both ∙ is)
+elsewhere : (l k : Lock) → (bytes_eq k.repo l.repo ≡ true → (bytes_eq k.ref l.ref && bytes_eq k.path l.path) ≡ false) → DiffersInPlace l k
+elsewhere l k free repo ref path =
+    true≢false (sym (and_from _ _ ((bytes_eq-Decides k.ref l.ref).1 (sym ref)) ((bytes_eq-Decides k.path l.path).1 (sym path))) ∙ free ((bytes_eq-Decides k.repo l.repo).1 (sym repo)))
 
-not_found : (b : Bool) (k : Lock) (rest : Option Lock) → cond b (Some k) rest ≡ None → (b ≡ false) × (rest ≡ None)
-not_found true k rest e = absurd (none-some k (sym e))
-not_found false k rest e = (refl, e)
+all_elsewhere : (l : Lock) (locks : List Lock) → AllByRecursion (λ k. bytes_eq k.repo l.repo ≡ true → (bytes_eq k.ref l.ref && bytes_eq k.path l.path) ≡ false) locks
+    → AllByRecursion (DiffersInPlace l) locks
+all_elsewhere l [] all = tt
+all_elsewhere l (k ∷ locks) all = (elsewhere l k all.0, all_elsewhere l locks all.1)
 
-free_place : (l : Lock) (locks : List Lock) → find (stands_at l.repo l.ref l.path) locks ≡ None → AllByRecursion (DiffersInPlace l) locks
-free_place l [] e = tt
-free_place l (k ∷ locks) e =
-    let no = not_found (stands_at l.repo l.ref l.path k) k (find (stands_at l.repo l.ref l.path) locks) e in
-    (other_place l k no.0, free_place l locks no.1)
+free_place : (world : World) (l : Lock) → IsNewLock world l → AllByRecursion (DiffersInPlace l) world.locks
+free_place world l new =
+    let place : Lock → Bool = λ k. bytes_eq k.ref l.ref && bytes_eq k.path l.path in
+    let own : Lock → Bool = λ k. bytes_eq k.repo l.repo in
+    all_elsewhere l world.locks (none_filter place own world.locks (none_rising (λ a b. nat_lt a.id b.id) place (filter own world.locks) new.free))
 
 -- the id is past all that were made, so each other lock has another
 new_id : (l : Lock) (made : List ℕ → ℕ) (locks : List Lock) → l.id ≡ made l.repo + 1 → AllByRecursion (IsLock made) locks → AllByRecursion (DiffersInId l) locks
@@ -191,11 +270,11 @@ new_id l made [] e all = tt
 new_id l made (k ∷ locks) e all =
     (λ repo id. omega (arith, e, id, all.0.last, ap made repo), new_id l made locks e all.1)
 
-counted_above : (repo : List ℕ) (made : List ℕ → ℕ) (other : List ℕ) → made other ≤ counted repo made other
+pub counted_above : (repo : List ℕ) (made : List ℕ → ℕ) (other : List ℕ) → made other ≤ one_more repo made other
 counted_above repo made other =
     cond_both (bytes_eq other repo) (made other + 1) (made other) (λ n. made other ≤ n) (λ _. omega arith) (λ _. omega arith)
 
-still_lock : (repo : List ℕ) (made : List ℕ → ℕ) (k : Lock) → IsLock made k → IsLock (counted repo made) k
+still_lock : (repo : List ℕ) (made : List ℕ → ℕ) (k : Lock) → IsLock made k → IsLock (one_more repo made) k
 still_lock repo made k is = record {
   repo = is.repo;
   ref = is.ref;
@@ -206,11 +285,11 @@ still_lock repo made k is = record {
   last = omega (arith, is.last, counted_above repo made k.repo);
 }
 
-still_locks : (repo : List ℕ) (made : List ℕ → ℕ) (locks : List Lock) → AllByRecursion (IsLock made) locks → AllByRecursion (IsLock (counted repo made)) locks
+still_locks : (repo : List ℕ) (made : List ℕ → ℕ) (locks : List Lock) → AllByRecursion (IsLock made) locks → AllByRecursion (IsLock (one_more repo made)) locks
 still_locks repo made [] all = tt
 still_locks repo made (k ∷ locks) all = (still_lock repo made k all.0, still_locks repo made locks all.1)
 
-still_within : (repo : List ℕ) (made : List ℕ → ℕ) (other : List ℕ) → made repo < last_lock_id → made other ≤ last_lock_id → counted repo made other ≤ last_lock_id
+still_within : (repo : List ℕ) (made : List ℕ → ℕ) (other : List ℕ) → made repo < last_lock_id → made other ≤ last_lock_id → one_more repo made other ≤ last_lock_id
 still_within repo made other room within =
     cond_both (bytes_eq other repo) (made other + 1) (made other) (λ n. n ≤ last_lock_id)
     (λ e. omega (arith, room, ap made ((bytes_eq-Decides other repo).0 e))) (λ _. within)
@@ -221,30 +300,26 @@ keeps_with_lock world l new w =
     record {
       objects = w.objects;
       names = w.names;
-      locks = All-cons (IsLock (counted l.repo world.made)) l world.locks new.is (All-from_recursion (IsLock (counted l.repo world.made)) world.locks (still_locks l.repo world.made world.locks locks));
+      locks = All-cons (IsLock (one_more l.repo world.made)) l world.locks new.is (All-from_recursion (IsLock (one_more l.repo world.made)) world.locks (still_locks l.repo world.made world.locks locks));
       ids = AllPairs-cons DiffersInId l world.locks (All-from_recursion (DiffersInId l) world.locks (new_id l world.made world.locks new.next locks)) w.ids;
-      places = AllPairs-cons DiffersInPlace l world.locks (All-from_recursion (DiffersInPlace l) world.locks (free_place l world.locks new.free)) w.places;
+      places = AllPairs-cons DiffersInPlace l world.locks (All-from_recursion (DiffersInPlace l) world.locks (free_place world l new)) w.places;
       made = λ repo. still_within l.repo world.made repo new.room (w.made repo);
-      issued = w.issued;
+      tokens = w.tokens;
       digests = w.digests;
     }
 
 -- ---- one token more, and fewer tokens
 
-other_digest : (i j : Issued) → bytes_eq (sha256 j.text) (sha256 i.text) ≡ false → DiffersInDigest i j
+other_digest : (i j : Token) → bytes_eq (sha256 j.text) (sha256 i.text) ≡ false → DiffersInDigest i j
 other_digest i j is same = true≢false (sym ((bytes_eq-Decides (sha256 j.text) (sha256 i.text)).1 (sym same)) ∙ is)
 
-not_issued : (b : Bool) (i : Issued) (rest : Option Issued) → cond b (Some i) rest ≡ None → (b ≡ false) × (rest ≡ None)
-not_issued true i rest e = absurd (none-some i (sym e))
-not_issued false i rest e = (refl, e)
-
-new_digest : (i : Issued) (issued : List Issued) → find (λ j. bytes_eq (sha256 j.text) (sha256 i.text)) issued ≡ None → AllByRecursion (DiffersInDigest i) issued
+new_digest : (i : Token) (issued : List Token) → find (λ j. bytes_eq (sha256 j.text) (sha256 i.text)) issued ≡ None → AllByRecursion (DiffersInDigest i) issued
 new_digest i [] e = tt
 new_digest i (j ∷ issued) e =
-    let no = not_issued (bytes_eq (sha256 j.text) (sha256 i.text)) j (find (λ k. bytes_eq (sha256 k.text) (sha256 i.text)) issued) e in
+    let no = not_found (bytes_eq (sha256 j.text) (sha256 i.text)) j (find (λ k. bytes_eq (sha256 k.text) (sha256 i.text)) issued) e in
     (other_digest i j no.0, new_digest i issued no.1)
 
-pub keeps_with_token : (world : World) (i : Issued) → IsIssued i → issued_as i.text world ≡ None → IsWorld world → IsWorld (with_token i world)
+pub keeps_with_token : (world : World) (i : Token) → IsToken i → find_token i.text world ≡ None → IsWorld world → IsWorld (with_token i world)
 keeps_with_token world i is new w = record {
   objects = w.objects;
   names = w.names;
@@ -252,8 +327,8 @@ keeps_with_token world i is new w = record {
   ids = w.ids;
   places = w.places;
   made = w.made;
-  issued = All-cons IsIssued i world.issued is w.issued;
-  digests = AllPairs-cons DiffersInDigest i world.issued (All-from_recursion (DiffersInDigest i) world.issued (new_digest i world.issued new)) w.digests;
+  tokens = All-cons IsToken i world.tokens is w.tokens;
+  digests = AllPairs-cons DiffersInDigest i world.tokens (All-from_recursion (DiffersInDigest i) world.tokens (new_digest i world.tokens new)) w.digests;
 }
 
 pub keeps_without_expired : (now : ℕ) (world : World) → IsWorld world → IsWorld (without_expired now world)
@@ -264,43 +339,108 @@ keeps_without_expired now world w = record {
   ids = w.ids;
   places = w.places;
   made = w.made;
-  issued = All-filter (λ i. nat_lt now i.expires) IsIssued world.issued w.issued;
-  digests = AllPairs-filter DiffersInDigest (λ i. nat_lt now i.expires) world.issued w.digests;
+  tokens = All-filter (λ i. nat_lt now i.expires) IsToken world.tokens w.tokens;
+  digests = AllPairs-filter DiffersInDigest (λ i. nat_lt now i.expires) world.tokens w.digests;
 }
 
-keeps_token : (world : World) (asked : TokenRequest) → IsTokenRequest asked → IsWorld world → IsWorld (after_token world (token_verdict world asked))
-keeps_token world asked is w = at (issued_as asked.text world) refl (nat_le (asked.now + asked.seconds) last_moment) refl
-  where
-    token : Issued
-    token = record { text = asked.text; user = asked.user; repo = asked.repo; operation = asked.operation; expires = asked.now + asked.seconds }
+keeps_without_lock : (l : Lock) (world : World) → IsWorld world → IsWorld (without_lock l world)
+keeps_without_lock l world w = record {
+  objects = w.objects;
+  names = w.names;
+  locks = All-filter (λ k. not (has_id l.repo l.id k)) (IsLock world.made) world.locks w.locks;
+  ids = AllPairs-filter DiffersInId (λ k. not (has_id l.repo l.id k)) world.locks w.ids;
+  places = AllPairs-filter DiffersInPlace (λ k. not (has_id l.repo l.id k)) world.locks w.places;
+  made = w.made;
+  tokens = w.tokens;
+  digests = w.digests;
+}
 
-    at : (there : Option Issued) → issued_as asked.text world ≡ there → (in_time : Bool) → nat_le (asked.now + asked.seconds) last_moment ≡ in_time
-        → IsWorld (after_token world (none_of there (λ _. already_issued) >>= λ _. check in_time expires_too_late >>= λ _. Ok token))
+-- ---- one object more
+
+other_name : (o p : Object) → (bytes_eq p.repo o.repo && bytes_eq p.name o.name) ≡ false → DiffersInName o p
+other_name o p is repo name = true≢false (sym (and_from _ _ ((bytes_eq-Decides p.repo o.repo).1 (sym repo)) ((bytes_eq-Decides p.name o.name).1 (sym name))) ∙ is)
+
+new_name : (o : Object) (objects : List Object) → find (λ (p : Object). bytes_eq p.repo o.repo && bytes_eq p.name o.name) objects ≡ None → AllByRecursion (DiffersInName o) objects
+new_name o [] e = tt
+new_name o (p ∷ objects) e =
+    let none = not_found (bytes_eq p.repo o.repo && bytes_eq p.name o.name) p (find (λ (q : Object). bytes_eq q.repo o.repo && bytes_eq q.name o.name) objects) e in
+    (other_name o p none.0, new_name o objects none.1)
+
+keeps_with_object : (world : World) (o : Object) → IsObject o → IsWorld world → IsWorld (with_object o world)
+keeps_with_object world o is w = at (object_named o.repo o.name world) refl
+  where
+    at : (there : Option Object) → object_named o.repo o.name world ≡ there → IsWorld (cond (is_some there) world (record world { objects = o ∷ world.objects }))
+    at (Some p) stored = w
+    at None free = record {
+      objects = All-cons IsObject o world.objects is w.objects;
+      names = AllPairs-cons DiffersInName o world.objects (All-from_recursion (DiffersInName o) world.objects (new_name o world.objects free)) w.names;
+      locks = w.locks;
+      ids = w.ids;
+      places = w.places;
+      made = w.made;
+      tokens = w.tokens;
+      digests = w.digests;
+    }
+
+keeps_token : (world : World) (asked : TokenRequest) → IsTokenRequest asked → IsWorld world → IsWorld (after_token world (token_verdict world asked))
+keeps_token world asked is w = at (find_token asked.text world) refl (nat_le (asked.now + asked.seconds) last_moment) refl
+  where
+    token : Token
+    token = new_token asked
+
+    at : (there : Option Token) → find_token asked.text world ≡ there → (in_time : Bool) → nat_le (asked.now + asked.seconds) last_moment ≡ in_time
+        → IsWorld (after_token world (none_or there (λ _. already_issued) >>= λ _. check in_time expires_too_late >>= λ _. Ok token))
     at (Some i) known in_time e = w
     at None unknown false e = w
     at None unknown true e = keeps_with_token world token (record { text = is.text; user = is.user; repo = is.repo; expires = leb-true (asked.now + asked.seconds) last_moment e }) unknown w
 
 -- ---- steps and runs
 
-keeps_after : (world : World) (answer : Answer) → IfOk answer (IsGrantable world) → IsWorld world → IsWorld (after world answer)
-keeps_after world (Ok (makes_lock l)) new w = keeps_with_lock world l new w
-keeps_after world (Err denial) new w = w
+keeps_grant : (world : World) (g : Grant) → IsGrantable world g → IsWorld world → IsWorld (after_grant world g)
+keeps_grant world (makes_lock l) new w = keeps_with_lock world l new w
+keeps_grant world (stores o) is w = keeps_with_object world o is w
+keeps_grant world (releases l) is w = keeps_without_lock l world w
+keeps_grant world (offers some) is w = w
+keeps_grant world (serves o) is w = w
+keeps_grant world confirms is w = w
+keeps_grant world (lists page) is w = w
+keeps_grant world (splits user page) is w = w
 
-message_grantable : (world : World) (policy : Policy) (now : ℕ) (asked : Message) → IsWorld world → IsPolicy policy → now ≤ last_moment
-    → IfOk (verdict_on world policy now asked) (IsGrantable world)
-message_grantable world policy now bad_head w p at = tt
-message_grantable world policy now broken w p at = tt
-message_grantable world policy now (message head body) w p at = verdict_grantable world policy now head body w p at
+abbrev pub IfGranted : World → Option Answer → Type 0
+IfGranted world (Some answer) = IfOk answer (IsGrantable world)
+IfGranted world None = ⊤
 
-keeps_carried : (old : World) (answer given : Answer) (new : World) → IfOk answer (IsGrantable old) → Carries old answer given new → IsWorld old → IsWorld new
-keeps_carried old answer given new may (inl c) w = subst IsWorld (sym c.1) (keeps_after old answer may w)
-keeps_carried old answer given new may (inr c) w = subst IsWorld (sym c.2) w
+keeps_after : (world : World) (answer : Option Answer) → IfGranted world answer → IsWorld world → IsWorld (after world answer)
+keeps_after world (Some (Ok g)) may w = keeps_grant world g may w
+keeps_after world (Some (Err denial)) may w = w
+keeps_after world None may w = w
+
+early_grantable : {A : Type 0} (world : World) (r : Result A Denial) → IfGranted world (denial_alone r)
+early_grantable world (Ok x) = tt
+early_grantable world (Err d) = tt
+
+pub message_grantable : (world : World) (setting : Setting) (asked : Message) → IsWorld world → IsSetting setting → IsMessage asked
+    → IfGranted world (verdict_on world setting asked)
+message_grantable world setting bad_head w at is = tt
+message_grantable world setting (message head body true) w at is = verdict_grantable world setting head body w at is
+message_grantable world setting (message head body false) w at is = early_grantable world (early_verdict world setting head)
+
+-- the verdict on the message of an exchange
+pub exchange_grantable : (old : World) (e : Exchange) (new : World) → IsWorld old → IsExchange old e new → IfGranted old (judgement old e)
+exchange_grantable old e new w step = message_grantable old e.setting e.asked w (record { policy = step.policy; now = step.now }) step.asked
+
+keeps_exchange : (old : World) (e : Exchange) (new : World) → IsExchange old e new → Carries old e new → IsWorld old → IsWorld new
+keeps_exchange old e new step (by_verdict given is) w = subst IsWorld (sym is) (keeps_after old (judgement old e) (exchange_grantable old e new w step) w)
+keeps_exchange old e new step (by_refusal given sure is) w = subst IsWorld (sym is) w
+
+keeps_report : {A : Type 0} (given : Option A) (outcome : Outcome A) (old new : World) → Reports given outcome old new → IsWorld old → IsWorld outcome.world → IsWorld new
+keeps_report given outcome old new (by_success t is) w d = subst IsWorld (sym is) d
+keeps_report given outcome old new (by_fault t is) w d = subst IsWorld (sym is) w
 
 pub keeps_step : StepsKeepWorlds
-keeps_step old (issues asked) new step w = subst IsWorld (sym step.1) (keeps_token old asked step.0 w)
-keeps_step old (prunes now) new step w = subst IsWorld (sym step) (keeps_without_expired now old w)
-keeps_step old (exchanged e) new step w =
-    keeps_carried old (verdict_on old e.policy e.now e.asked) e.given new (message_grantable old e.policy e.now e.asked w step.policy step.now) step.carries w
+keeps_step old (issues asked given) new step w = keeps_report given (issue_outcome old asked) old new step.1 w (keeps_token old asked step.0 w)
+keeps_step old (prunes now given) new step w = keeps_report given (prune_outcome old now) old new step w (keeps_without_expired now old w)
+keeps_step old (exchanged e) new step w = keeps_exchange old e new step step.carries w
 
 pub keeps_run : RunsKeepWorlds
 keeps_run old [] new run w = subst IsWorld (sym run) w
@@ -314,7 +454,7 @@ nothing_is = record {
   ids = λ i j d h l. absurd (omega arith);
   places = λ i j d h l. absurd (omega arith);
   made = λ repo. omega arith;
-  issued = λ k d h. absurd (omega arith);
+  tokens = λ k d h. absurd (omega arith);
   digests = λ i j d h l. absurd (omega arith);
 }
 
@@ -324,13 +464,34 @@ makes_world events new run = keeps_run nothing events new run nothing_is
 pub never_twice : NeverLocksTwice
 never_twice events new run = (makes_world events new run).places
 
-left_by_denial : (old : World) (answer : Answer) (denial : Denial) → answer ≡ Err denial → after old answer ≡ old
-left_by_denial old (Ok granted) denial e = absurd (cc)
-left_by_denial old (Err d) denial e = refl
+left_by_denial : (old : World) (answer : Option Answer) (denial : Denial) → answer ≡ Some (Err denial) → after old answer ≡ old
+left_by_denial old (Some (Ok granted)) denial e = absurd (cc)
+left_by_denial old (Some (Err d)) denial e = refl
+left_by_denial old None denial e = refl
 
-denial_leaves : (old : World) (answer given : Answer) (denial : Denial) (new : World) → Carries old answer given new → given ≡ Err denial → new ≡ old
-denial_leaves old answer given denial new (inl c) e = c.1 ∙ left_by_denial old answer denial (sym c.0 ∙ e)
-denial_leaves old answer given denial new (inr c) e = c.2
+denial_leaves : (old : World) (e : Exchange) (denial : Denial) (new : World) → Carries old e new → e.given ≡ Some (Err denial) → new ≡ old
+denial_leaves old e denial new (by_verdict given is) told = is ∙ left_by_denial old (judgement old e) denial (sym given ∙ told)
+denial_leaves old e denial new (by_refusal given sure is) told = is
 
 pub denials_change_nothing : DenialsChangeNothing
-denials_change_nothing old e denial new step is = denial_leaves old (verdict_on old e.policy e.now e.asked) e.given denial new step.carries is
+denials_change_nothing old e denial new step told = denial_leaves old e denial new step.carries told
+
+left_by_silence : (old : World) (answer : Option Answer) → answer ≡ None → after old answer ≡ old
+left_by_silence old (Some (Ok granted)) e = absurd (none-some (Ok granted) (sym e))
+left_by_silence old (Some (Err d)) e = refl
+left_by_silence old None e = refl
+
+silence_leaves : (old : World) (e : Exchange) (new : World) → Carries old e new → e.given ≡ None → new ≡ old
+silence_leaves old e new (by_verdict given is) told = is ∙ left_by_silence old (judgement old e) (sym given ∙ told)
+silence_leaves old e new (by_refusal given sure is) told = is
+
+pub silence_changes_nothing : SilenceChangesNothing
+silence_changes_nothing old e new step told = silence_leaves old e new step.carries told
+
+-- the world after an exchange is the one after the answer that was given
+after_given : (old : World) (e : Exchange) (new : World) → Carries old e new → new ≡ after old e.given
+after_given old e new (by_verdict given is) = is ∙ ap (after old) (sym given)
+after_given old e new (by_refusal given sure is) = is ∙ ap (after old) (sym given)
+
+pub exchange_after : (old : World) (e : Exchange) (new : World) → IsExchange old e new → new ≡ after old e.given
+exchange_after old e new step = after_given old e new step.carries

@@ -1,293 +1,565 @@
 -- Worked examples: what the definitions say of small cases.
-use Rattle.std.specs.Prelude.{◌≡◌, ℕ, true, false, List, [], ◌∷◌, ◌++◌, length, Ok, Err, codes, replicate}
-use Rattle.httparse.specs.Grammar.{RequestHead, Field, crlf, print_request}
+use Rattle.std.specs.Prelude.{◌≡◌, ℕ, Bool, true, false, List, [], ◌∷◌, ◌++◌, length, Some, None, Ok, Err, codes, replicate}
+use Rattle.httparse.specs.Grammar.{RequestHead, Field, print_request}
+use Rattle.names.specs.declared.rules.Rule.{Rule}
 use Rattle.names.specs.declared.rules.Rule.TheVariants as rule
-use Rattle.model.specs.declared.Effect.TheVariants as effect
-use Rattle.model.specs.declared.Right.{Right}
+use Rattle.model.specs.declared.Form.{Form}
+use Rattle.model.specs.declared.Form.TheVariants as form
 use Rattle.model.specs.declared.Right.TheVariants as right
-use Rattle.model.specs.declared.Operation.{Operation}
 use Rattle.model.specs.declared.Operation.TheVariants as operation
-use Rattle.model.specs.Policy.{Policy, Row}
-use Rattle.model.specs.World.{World, Lock, Issued, nothing, with_lock, without_expired}
-use Rattle.model.specs.Heads.{values}
-use Rattle.model.specs.Steps.{message, Answer, by_rule, by_row, by_lock, makes_lock, verdict, may_push, caller_by, allow, is_last, TokenRequest, token_verdict, after_token, already_issued, expires_too_late}
+use Rattle.model.specs.World.{World, Lock, nothing, with_lock, without_lock, with_object, without_expired}
+use Rattle.model.specs.Heads.{Target, values, routes, head_verdict_in, route_in, methods_of}
+use Rattle.model.specs.Callers.{caller_by}
+use Rattle.model.specs.Cases.{DeskRequest}
+use Rattle.model.specs.Answers.{Answer, by_rule, by_row, by_lock, makes_lock, stores, confirms, releases, may_push, store_refusal}
+use Rattle.model.specs.Verdict.{caller_plan, early_check}
+use Rattle.model.specs.Operator.{TokenRequest, token_verdict, after_token, already_issued, expires_too_late}
+use Rattle.model.specs.Steps.{Message, message, bad_head, verdict_on, closes_after, Exchange}
+use Rattle.model.specs.Moments.{moment_text}
 use Rattle.model.specs.Stream.{BeginsWith}
-use Rattle.model.specs.Replies.{IsReply}
-
--- ---- the studio
-
-abbrev pub film : List ℕ
-film = codes "studio/film"
-
-abbrev pub main_branch : List ℕ
-main_branch = codes "refs/heads/main"
-
-abbrev pub all : List (List ℕ)
-all = codes "*" ∷ []
-
-abbrev pub studio_with : List Row → Policy
-studio_with rows = record {
-  base = codes "https://lfs.example";
-  token_seconds = 3600;
-  repos = record { name = film; default_ref = main_branch; quota = 1000000 } ∷ [];
-  rows = rows;
-}
-
-abbrev pub every_right : List Right
-every_right = right.Pull ∷ right.Push ∷ right.List ∷ right.Lock ∷ right.Force ∷ []
-
--- ann and bob may do all but force
-unfoldable pub studio : Policy
-studio = studio_with (record {
-  effect = effect.Allow;
-  users = codes "ann" ∷ codes "bob" ∷ [];
-  repos = film ∷ [];
-  refs = all;
-  paths = all;
-  rights = right.Pull ∷ right.Push ∷ right.List ∷ right.Lock ∷ [];
-} ∷ [])
-
-abbrev pub allows_all : Row
-allows_all = record { effect = effect.Allow; users = all; repos = all; refs = all; paths = all; rights = every_right }
-
--- nobody may lock below art/, and everybody everything else
-unfoldable pub frozen_art : Policy
-frozen_art = studio_with (
-    record { effect = effect.Deny; users = all; repos = all; refs = all; paths = codes "art/" ∷ []; rights = right.Lock ∷ [] }
-    ∷ allows_all ∷ [])
-
--- ann may push below art/ alone, and nobody may pull
-unfoldable pub paths_alone : Policy
-paths_alone = studio_with (
-    record { effect = effect.Allow; users = codes "ann" ∷ []; repos = all; refs = all; paths = codes "art/" ∷ []; rights = right.Push ∷ [] }
-    ∷ [])
-
--- everybody may pull, and nobody may push
-unfoldable pub readers : Policy
-readers = studio_with (record allows_all { rights = right.Pull ∷ [] } ∷ [])
-
-abbrev pub token_of : ℕ → List ℕ
-token_of letter = replicate 64 letter
-
-abbrev pub issued_until : ℕ → Operation → Issued
-issued_until expires op = record { text = token_of 97; user = codes "ann"; repo = film; operation = op; expires = expires }
-
--- a store with ann's upload token, 64 times the letter a
-unfoldable pub opened : World
-opened = record nothing { issued = issued_until 1463503600 operation.Upload ∷ [] }
-
--- ---- messages
-
-abbrev pub field : List ℕ → List ℕ → Field
-field name value = record { name = name; raw = codes " " ++ value; end = crlf }
-
-abbrev pub authorization : Field
-authorization = field (codes "Authorization") (codes "Bearer " ++ token_of 97)
-
-abbrev pub locks_target : List ℕ
-locks_target = codes "/studio/film.git/info/lfs/locks"
-
-abbrev pub post : List Field → RequestHead
-post fields = record { blank = []; method = codes "POST"; target = locks_target; minor = 1; line_end = crlf; fields = fields; last = crlf }
-
-abbrev pub length_field : List ℕ → Field
-length_field digits = field (codes "Content-Length") digits
-
-abbrev pub lock_head : List ℕ → RequestHead
-lock_head digits = post (authorization ∷ length_field digits ∷ [])
-
--- the first message: ann asks for a lock of 23 bytes of body
-abbrev pub first_head : RequestHead
-first_head = lock_head (codes "23")
-
-abbrev pub first_body : List ℕ
-first_body = codes "{\"path\":\"art/hero.psd\"}"
-
-abbrev pub with_field : Field → RequestHead → RequestHead
-with_field f head = record head { fields = f ∷ head.fields }
-
-abbrev pub now : ℕ
-now = 1463500146
-
-abbrev pub answered : World → Policy → RequestHead → List ℕ → Answer
-answered world policy head body = verdict world policy now head body
+use Rattle.model.specs.Replies.{reply_text}
+use Rattle.model.specs.Sessions.{Session, InputEnded, Closed, IsSession, text_if}
+use Rattle.model.specs.Studio.{film, main_branch, studio, small_studio, frozen_art, paths_alone, readers, b_is_hidden, forcing, now, at_now, token_of, token_until, opened, expires_at_100, caller_named, ann, bob, Asking, with_body, put, get, list, unlock, to_film, answer, status_and_body, field, authorization, length_field, lfs, head_of, post_lock, lock_head, first_head, first_body, with_field, judge, lock_by, first_lock, object_of, with_one, hello, abc, nil, lines, json_head, close_line, bearer_line, message_of, lock_text}
 
 -- ---- a lock, and the same again
 
-abbrev pub locked_by_ann : ℕ → List ℕ → List ℕ → Lock
-locked_by_ann id ref path = record { repo = film; id = id; ref = ref; path = path; owner = codes "ann"; at = now }
-
-unfoldable pub first_lock : Lock
-first_lock = locked_by_ann 1 main_branch (codes "art/hero.psd")
-
-abbrev pub crlf_text : List ℕ
-crlf_text = codes "\r\n"
-
-abbrev pub lines : List (List ℕ) → List ℕ
-lines [] = crlf_text
-lines (l ∷ ls) = l ++ crlf_text ++ lines ls
-
+-- the reply to the first request for a lock
 unfoldable pub first_reply : List ℕ
 first_reply =
-    lines (codes "HTTP/1.1 201 Created" ∷ codes "Content-Type: application/vnd.git-lfs+json" ∷ codes "Content-Length: 99" ∷ [])
-    ++ codes "{\"lock\":{\"id\":\"1\",\"locked_at\":\"2016-05-17T15:49:06Z\",\"owner\":{\"name\":\"ann\"},\"path\":\"art/hero.psd\"}}"
+    json_head (codes "201 Created") (codes "99") [] ++ codes "{\"lock\":"
+    ++ lock_text (codes "1") (codes "ann") (codes "art/hero.psd") ++ codes "}"
 
+-- the reply to the second
 unfoldable pub second_reply : List ℕ
 second_reply =
-    lines (codes "HTTP/1.1 409 Conflict" ∷ codes "Content-Type: application/vnd.git-lfs+json" ∷ codes "Content-Length: 142" ∷ [])
-    ++ codes "{\"lock\":{\"id\":\"1\",\"locked_at\":\"2016-05-17T15:49:06Z\",\"owner\":{\"name\":\"ann\"},\"path\":\"art/hero.psd\"},\"message\":\"L1: the path is already locked\"}"
+    json_head (codes "409 Conflict") (codes "142") [] ++ codes "{\"lock\":"
+    ++ lock_text (codes "1") (codes "ann") (codes "art/hero.psd")
+    ++ codes ",\"message\":\"L1: the path is already locked\"}"
 
--- the first message makes the lock of id 1
-abbrev pub FirstIsLocked : Type 0
-FirstIsLocked = answered opened studio first_head first_body ≡ Ok (makes_lock first_lock)
-
--- and that is its reply, of 187 bytes
-abbrev pub FirstIsTold : Type 0
-FirstIsTold =
-    IsReply (Ok (makes_lock first_lock)) (allow (message first_head first_body) (Ok (makes_lock first_lock))) false first_reply
-    × (length first_reply ≡ 187)
-
--- the same message again finds the lock
-abbrev pub SecondIsRefused : Type 0
-SecondIsRefused = answered (with_lock first_lock opened) studio first_head first_body ≡ Err (by_lock first_lock)
-
-abbrev pub SecondIsTold : Type 0
-SecondIsTold =
-    IsReply (Err (by_lock first_lock)) (allow (message first_head first_body) (Err (by_lock first_lock))) false second_reply
-    × (length second_reply ≡ 232)
-
-abbrev pub other_ref : List ℕ
-other_ref = codes "refs/heads/dev"
-
--- on another ref the path is free, and the lock has the next id
-abbrev pub OtherRefIsLocked : Type 0
-OtherRefIsLocked =
-    answered (with_lock first_lock opened) studio (lock_head (codes "55")) (codes "{\"path\":\"art/hero.psd\",\"ref\":{\"name\":\"refs/heads/dev\"}}")
-    ≡ Ok (makes_lock (locked_by_ann 2 other_ref (codes "art/hero.psd")))
+-- the text of the reply to a message in the studio
+abbrev pub replied : World → Message → List ℕ
+replied world asked = text_if asked (verdict_on world (at_now studio) asked)
 
 -- the bytes of the first message, and then any, begin with the first message
 abbrev pub FirstIsFirst : Type 0
-FirstIsFirst = (rest : List ℕ) → BeginsWith (print_request first_head ++ first_body ++ rest) (message first_head first_body) rest
+FirstIsFirst =
+    (rest : List ℕ)
+    → BeginsWith (print_request first_head ++ first_body ++ rest) (message first_head first_body true) rest
 
--- ---- the policy
+-- it makes the lock of id 1, and its reply has 187 bytes
+abbrev pub FirstIsLocked : Type 0
+FirstIsLocked =
+    (judge opened first_head first_body ≡ Ok (makes_lock first_lock))
+    × (replied opened (message first_head first_body true) ≡ first_reply) × (length first_reply ≡ 187)
 
--- a row for a folder denies what lies in it
-abbrev pub FolderIsFrozen : Type 0
-FolderIsFrozen = answered opened frozen_art (lock_head (codes "16")) (codes "{\"path\":\"art/x\"}") ≡ Err (by_row 1 right.Lock 403)
+-- the same message again finds the lock (L1), and its reply has 232 bytes
+abbrev pub SecondIsRefused : Type 0
+SecondIsRefused =
+    let world = with_lock first_lock opened in
+    (judge world first_head first_body ≡ Err (by_lock first_lock))
+    × (replied world (message first_head first_body true) ≡ second_reply) × (length second_reply ≡ 232)
 
-unfoldable pub frozen_reply : List ℕ
-frozen_reply =
-    lines (codes "HTTP/1.1 403 Forbidden" ∷ codes "Content-Type: application/vnd.git-lfs+json" ∷ codes "Content-Length: 42" ∷ [])
-    ++ codes "{\"message\":\"P1: policy row 1 denies lock\"}"
+-- on another ref the path is free, and the lock has the next id; without an id that is left it is L5
+abbrev pub OtherRefIsLocked : Type 0
+OtherRefIsLocked =
+    let asked = with_body form.Lock (codes "{\"path\":\"art/hero.psd\",\"ref\":{\"name\":\"refs/heads/dev\"}}") in
+    let other = record (lock_by (codes "ann") 2 (codes "art/hero.psd")) { ref = codes "refs/heads/dev" } in
+    (answer (with_lock first_lock nothing) studio ann asked ≡ Ok (makes_lock other))
+    × (answer (record nothing { made = λ _. 4294967295 }) studio ann asked ≡ Err (by_rule rule.L5))
 
-abbrev pub FolderIsTold : Type 0
-FolderIsTold = IsReply (Err (by_row 1 right.Lock 403)) [] false frozen_reply
+-- ---- sessions
 
--- and not what lies beside it
-abbrev pub BesideIsLocked : Type 0
-BesideIsLocked =
-    answered opened frozen_art (lock_head (codes "15")) (codes "{\"path\":\"artx\"}")
-    ≡ Ok (makes_lock (locked_by_ann 1 main_branch (codes "artx")))
+-- the first message twice
+abbrev pub two_messages : List ℕ
+two_messages = print_request first_head ++ first_body ++ print_request first_head ++ first_body
 
--- a row for a folder does not match a question without a path; who may not pull gets 404
-abbrev pub PushIsHidden : Type 0
-PushIsHidden = may_push paths_alone (codes "ann") film main_branch ≡ Err (by_row 0 right.Push 404)
+-- its first exchange
+abbrev pub first_exchange : Exchange
+first_exchange = record {
+  setting = at_now studio;
+  asked = message first_head first_body true;
+  given = Some (Ok (makes_lock first_lock));
+}
 
-unfoldable pub hidden_reply : List ℕ
-hidden_reply =
-    lines (codes "HTTP/1.1 404 Not Found" ∷ codes "Content-Type: application/vnd.git-lfs+json" ∷ codes "Content-Length: 43" ∷ [])
-    ++ codes "{\"message\":\"P0: no policy row allows push\"}"
+-- its second exchange
+abbrev pub second_exchange : Exchange
+second_exchange = record first_exchange { given = Some (Err (by_lock first_lock)) }
 
-abbrev pub PushIsTold : Type 0
-PushIsTold = IsReply (Err (by_row 0 right.Push 404)) [] false hidden_reply
+-- the session of a connection with these bytes
+abbrev pub session_of : List ℕ → List Exchange → List ℕ → ℕ → Session
+session_of bytes exchanges written answered = record {
+  setting = at_now studio;
+  bytes = bytes;
+  exchanges = exchanges;
+  written = written;
+  answered = answered;
+}
 
--- who may pull is told that pushing is denied
-abbrev pub PushIsDenied : Type 0
-PushIsDenied = may_push readers (codes "ann") film main_branch ≡ Err (by_row 0 right.Push 403)
+-- two messages are a run: the lock is made, and then it is found
+abbrev pub TwoAreServed : Type 0
+TwoAreServed =
+    IsSession (session_of two_messages (first_exchange ∷ second_exchange ∷ []) (first_reply ++ second_reply) 2)
+    InputEnded opened (with_lock first_lock opened)
+
+-- an upload whose body is the first message, without a token
+abbrev pub smuggling_head : RequestHead
+smuggling_head = head_of (codes "PUT") (lfs (codes "content/" ++ hello)) (length_field (codes "180") ∷ [])
+
+-- while uploads are not served, its reply is H6
+unfoldable pub smuggling_reply : List ℕ
+smuggling_reply =
+    json_head (codes "404 Not Found") (codes "31") (close_line ∷ []) ++ message_of (codes "H6: no such route")
+
+-- its exchange
+abbrev pub smuggling_exchange : Exchange
+smuggling_exchange = record {
+  setting = at_now studio;
+  asked = message smuggling_head [] true;
+  given = Some (Err (by_rule rule.H6));
+}
+
+-- it is refused from its head, the connection closes, and the message in its body makes no lock
+abbrev pub BodyIsNoMessage : Type 0
+BodyIsNoMessage =
+    IsSession
+    (session_of (print_request smuggling_head ++ print_request first_head ++ first_body) (smuggling_exchange ∷ [])
+    smuggling_reply 1)
+    Closed opened opened
 
 -- ---- heads
 
--- a transfer coding is refused, and the connection closes
-abbrev pub CodingIsRefused : Type 0
-CodingIsRefused =
-    let head = with_field (field (codes "Transfer-Encoding") (codes "chunked")) first_head in
-    (answered opened studio head [] ≡ Err (by_rule rule.H2)) × (is_last (message head []) ≡ true)
+-- 65 fields are one too many (H1)
+abbrev pub CrowdedIsRefused : Type 0
+CrowdedIsRefused =
+    BeginsWith (print_request (post_lock (replicate 65 (field (codes "X") (codes "x"))))) bad_head []
 
-abbrev pub TypeIsRefused : Type 0
-TypeIsRefused =
-    let head = with_field (field (codes "Accept") (codes "text/html")) first_head in
-    (answered opened studio head [] ≡ Err (by_rule rule.H8)) × (is_last (message head []) ≡ true)
+-- the head is refused by the rule, and the connection closes
+abbrev pub refuses : RequestHead → Rule → Type 0
+refuses head r =
+    (judge opened head [] ≡ Err (by_rule r)) × (closes_after (message head [] true) (Err (by_rule r)) ≡ true)
 
-abbrev pub SecondLengthIsRefused : Type 0
-SecondLengthIsRefused =
-    let head = with_field (length_field (codes "23")) first_head in
-    (answered opened studio head [] ≡ Err (by_rule rule.H4)) × (is_last (message head []) ≡ true)
+-- the rules of heads, each with a head that it refuses
+abbrev pub HeadsAreRefused : Type 0
+HeadsAreRefused =
+    refuses (with_field (field (codes "Transfer-Encoding") (codes "chunked")) first_head) rule.H2
+    × refuses (post_lock (authorization ∷ [])) rule.H3
+    × refuses (with_field (length_field (codes "23")) first_head) rule.H4
+    × refuses (post_lock (length_field (codes "1048577") ∷ [])) rule.H5
+    × refuses (head_of (codes "PUT") (lfs (codes "locks")) (length_field (codes "268435457") ∷ [])) rule.H5
+    × refuses (head_of (codes "GET") (lfs (codes "locks/")) []) rule.H6
+    × refuses (with_field (field (codes "Accept") (codes "text/html")) first_head) rule.H8
 
--- a path that climbs is refused, and the connection goes on
-abbrev pub ClimbingIsRefused : Type 0
-ClimbingIsRefused =
-    let head = lock_head (codes "17") in
-    (answered opened studio head (codes "{\"path\":\"a/../b\"}") ≡ Err (by_rule rule.J2)) × (is_last (message head []) ≡ false)
+-- the reply to a method that is not served here (H7)
+unfoldable pub method_reply : List ℕ
+method_reply =
+    json_head (codes "405 Method Not Allowed") (codes "47") (codes "Allow: POST" ∷ close_line ∷ [])
+    ++ message_of (codes "H7: the method is not served here")
 
--- a method that the route has not, and the methods that it has
+-- it lists the methods that are
 abbrev pub MethodIsRefused : Type 0
-MethodIsRefused =
-    let head = record (post []) { method = codes "DELETE" } in
-    (answered opened studio head [] ≡ Err (by_rule rule.H7)) × (allow (message head []) (Err (by_rule rule.H7)) ≡ codes "POST")
+MethodIsRefused = replied opened (message (head_of (codes "DELETE") (lfs (codes "locks")) []) [] true) ≡ method_reply
 
--- ---- tokens
+-- a request of the whole table of routes asks for this form
+abbrev pub leads : List ℕ → List ℕ → Form → List ℕ → Type 0
+leads method rest form parameter =
+    head_verdict_in routes (head_of method (lfs rest) (length_field (codes "0") ∷ []))
+    ≡ Ok (record { repo = film; parameter = parameter; form = form })
 
--- without a token
-abbrev pub nameless_head : RequestHead
-nameless_head = post (length_field (codes "23") ∷ field (codes "Connection") (codes "close") ∷ [])
+-- the routes, with what each method asks for
+abbrev pub RoutesLead : Type 0
+RoutesLead =
+    leads (codes "POST") (codes "objects/batch") form.Batch []
+    × leads (codes "GET") (codes "locks?limit=1") form.List [] × leads (codes "POST") (codes "locks") form.Lock []
+    × leads (codes "POST") (codes "locks/verify") form.VerifyLocks []
+    × leads (codes "POST") (codes "locks/1/unlock") form.Unlock (codes "1")
+    × leads (codes "GET") (codes "content/x") form.Get (codes "x")
+    × leads (codes "PUT") (codes "content/x") form.Put (codes "x")
+    × leads (codes "POST") (codes "verify") form.Verify []
+    × (methods_of (route_in routes (lfs (codes "content/x"))) ≡ codes "GET, PUT")
 
-abbrev pub NamelessIsRefused : Type 0
-NamelessIsRefused = answered opened studio nameless_head first_body ≡ Err (by_rule rule.A1)
+-- ---- callers
 
+-- the reply to a message without a token (A1), which asks to close
 unfoldable pub nameless_reply : List ℕ
 nameless_reply =
-    lines (codes "HTTP/1.1 401 Unauthorized" ∷ codes "Content-Type: application/vnd.git-lfs+json" ∷ codes "Content-Length: 42"
-    ∷ codes "LFS-Authenticate: Bearer realm=\"Git LFS\"" ∷ codes "Connection: close" ∷ [])
-    ++ codes "{\"message\":\"A1: a bearer token is needed\"}"
+    json_head (codes "401 Unauthorized") (codes "42") (bearer_line ∷ close_line ∷ [])
+    ++ message_of (codes "A1: a bearer token is needed")
 
-abbrev pub NamelessIsTold : Type 0
-NamelessIsTold = IsReply (Err (by_rule rule.A1)) [] (is_last (message nameless_head first_body)) nameless_reply
+-- the reply asks for a token
+abbrev pub NamelessIsRefused : Type 0
+NamelessIsRefused =
+    let head = post_lock (length_field (codes "23") ∷ field (codes "Connection") (codes "close") ∷ []) in
+    replied opened (message head first_body true) ≡ nameless_reply
 
-unfoldable pub expires_at_100 : World
-expires_at_100 = record nothing { issued = issued_until 100 operation.Upload ∷ [] }
-
--- a token is good before it expires, and not from then on
+-- a token is good before it expires, and A3 from then on; an unknown one is A2
 abbrev pub TokenExpires : Type 0
 TokenExpires =
-    (caller_by expires_at_100 99 (values (codes "authorization") first_head) ≡ Ok (issued_until 100 operation.Upload))
-    × (caller_by expires_at_100 100 (values (codes "authorization") first_head) ≡ Err rule.A3)
+    let bearers = values (codes "authorization") first_head in
+    (caller_by expires_at_100 99 bearers ≡ Ok (record ann { expires = 100 }))
+    × (caller_by expires_at_100 100 bearers ≡ Err rule.A3) × (caller_by nothing 99 bearers ≡ Err rule.A2)
 
--- a download token locks nothing
+-- the request is in this repository, and refused by J1
+abbrev pub in_repo : List ℕ → DeskRequest
+in_repo repo = record { bearers = []; repo = repo; left = 0; request = Err rule.J1 }
+
+-- another repository than the token's is A4, and one that the policy does not have R1; both come before J1
+abbrev pub RepositoryIsUnknown : Type 0
+RepositoryIsUnknown =
+    (caller_plan nothing (at_now studio) ann (in_repo (codes "studio/other")) ≡ Err (by_rule rule.A4))
+    × (caller_plan nothing (at_now studio) (record ann { repo = codes "a/b" }) (in_repo (codes "a/b"))
+    ≡ Err (by_rule rule.R1))
+
+-- a download token locks nothing (A5), and J2 comes before that
 abbrev pub DownloadLocksNothing : Type 0
 DownloadLocksNothing =
-    answered (record nothing { issued = issued_until 1463503600 operation.Download ∷ [] }) studio first_head first_body
-    ≡ Err (by_rule rule.A5)
+    let caller = caller_named (codes "ann") 97 operation.Download in
+    (answer nothing studio caller (with_body form.Lock first_body) ≡ Err (by_rule rule.A5))
+    × (answer nothing studio caller (with_body form.Lock (codes "{\"path\":\"a/../b\"}")) ≡ Err (by_rule rule.J2))
 
--- ---- the operator
+-- a message that is cut off has no answer
+abbrev pub CutIsUnanswered : Type 0
+CutIsUnanswered = verdict_on opened (at_now studio) (message first_head (codes "{\"pat") false) ≡ None
 
--- a token for ann, 64 times the letter a, for so many seconds from the moment on
+-- ---- the policy
+
+-- the first row that matches decides: below art/ it denies with P1, and beside it the next allows
+abbrev pub FolderIsFrozen : Type 0
+FolderIsFrozen =
+    (status_and_body (answer nothing frozen_art ann (with_body form.Lock (codes "{\"path\":\"art/x\"}")))
+    ≡ (403, message_of (codes "P1: policy row 1 denies lock")))
+    × (answer nothing frozen_art ann (with_body form.Lock (codes "{\"path\":\"artx\"}"))
+    ≡ Ok (makes_lock (lock_by (codes "ann") 1 (codes "artx"))))
+
+-- a batch with one object
+abbrev pub one_object : List ℕ → List ℕ → List ℕ → Asking
+one_object operation name size =
+    with_body form.Batch (codes "{\"operation\":\"" ++ operation ++ codes "\",\"objects\":[{\"oid\":\"" ++ name
+    ++ codes "\",\"size\":" ++ size ++ codes "}]}")
+
+-- a row for a folder does not match a question without a path; a denied push is 404 if pull is denied, and else 403
+abbrev pub PushIsDenied : Type 0
+PushIsDenied =
+    (status_and_body (answer nothing paths_alone ann (one_object (codes "upload") hello (codes "5")))
+    ≡ (404, message_of (codes "P0: no policy row allows push")))
+    × (may_push readers (codes "ann") film main_branch ≡ Err (by_row 0 right.Push 403))
+
+-- ---- objects
+
+-- an object is stored under the name of its bytes alone (X2); one that is not stored is X1
+abbrev pub ContentHasItsName : Type 0
+ContentHasItsName =
+    (answer nothing studio ann (put abc (codes "abc")) ≡ Ok (stores (object_of abc (codes "abc"))))
+    × (answer nothing studio ann (put nil []) ≡ Ok (stores (object_of nil [])))
+    × (answer nothing studio ann (put hello (codes "abc")) ≡ Err (by_rule rule.X2))
+    × (answer nothing studio ann (get hello) ≡ Err (by_rule rule.X1))
+    × (with_object (object_of abc (codes "abc")) (with_one abc (codes "abc")) ≡ with_one abc (codes "abc"))
+
+-- the reply to a stored upload
+unfoldable pub stored_reply : List ℕ
+stored_reply = lines (codes "HTTP/1.1 200 OK" ∷ codes "Content-Length: 0" ∷ [])
+
+-- the reply to a download
+unfoldable pub content_reply : List ℕ
+content_reply =
+    lines (codes "HTTP/1.1 200 OK" ∷ codes "Content-Type: application/octet-stream" ∷ codes "Content-Length: 3" ∷ [])
+    ++ codes "abc"
+
+-- what was stored is served
+abbrev pub ContentIsServed : Type 0
+ContentIsServed =
+    (reply_text (answer nothing studio ann (put abc (codes "abc"))) [] false ≡ stored_reply)
+    × (reply_text (answer (with_one abc (codes "abc")) studio ann (get abc)) [] false ≡ content_reply)
+
+-- the quota holds an upload exactly (5 of 5 bytes) or not (X3); a name that is stored fits
+abbrev pub QuotaIsKept : Type 0
+QuotaIsKept =
+    (answer nothing small_studio ann (put hello (codes "hello")) ≡ Ok (stores (object_of hello (codes "hello"))))
+    × (answer (with_one hello (codes "hello")) small_studio ann (put abc (codes "abc")) ≡ Err (by_rule rule.X3))
+    × (answer (with_one hello (codes "hello")) small_studio ann (put hello (codes "hello"))
+    ≡ Ok (stores (object_of hello (codes "hello"))))
+
+-- what an upload of hello asks for
+abbrev pub hello_target : Target
+hello_target = record { repo = film; parameter = hello; form = form.Put }
+
+-- an upload of 5 bytes, with these fields
+abbrev pub put_head : List Field → RequestHead
+put_head fields = head_of (codes "PUT") (lfs (codes "content/" ++ hello)) (length_field (codes "5") ∷ fields)
+
+-- an upload without a token is denied from its head, and the connection closes; with a token it is not denied; X2, which
+-- comes after the body, closes nothing
+abbrev pub UploadIsRefusedEarly : Type 0
+UploadIsRefusedEarly =
+    let asked = message (put_head []) (codes "{\"pat") in
+    (early_check opened (at_now studio) (put_head []) hello_target form.Put ≡ Err (by_rule rule.A1))
+    × (text_if (asked true) (Some (Err (by_rule rule.A1))) ≡ nameless_reply)
+    × (early_check opened (at_now studio) (put_head (authorization ∷ [])) hello_target form.Put ≡ Ok tt)
+    × (closes_after (asked true) (Err (by_rule rule.X3)) ≡ true)
+    × (closes_after (asked true) (Err (by_rule rule.X2)) ≡ false)
+    × (closes_after (asked true) (Ok (stores (object_of hello []))) ≡ false)
+
+-- a request to verify an object
+abbrev pub verify : List ℕ → List ℕ → Asking
+verify name size =
+    with_body form.Verify (codes "{\"oid\":\"" ++ name ++ codes "\",\"size\":" ++ size ++ codes "}")
+
+-- an object is confirmed if it is stored (V1) with this size (V2)
+abbrev pub StoredIsConfirmed : Type 0
+StoredIsConfirmed =
+    let world = with_one hello (codes "hello") in
+    (answer world studio ann (verify hello (codes "5")) ≡ Ok confirms)
+    × (answer world studio ann (verify hello (codes "4")) ≡ Err (by_rule rule.V2))
+    × (answer world studio ann (verify abc (codes "3")) ≡ Err (by_rule rule.V1))
+    × (answer world studio ann (verify hello (codes "5.0")) ≡ Err (by_rule rule.J2))
+    × (answer world studio ann (verify hello (codes "true")) ≡ Err (by_rule rule.J1))
+
+-- ---- batches
+
+-- the body of a batch with these objects
+abbrev pub batch_body : List ℕ → List ℕ
+batch_body objects =
+    codes "{\"hash_algo\":\"sha256\",\"objects\":[" ++ objects ++ codes "],\"transfer\":\"basic\"}"
+
+-- an action
+abbrev pub action_text : List ℕ → List ℕ
+action_text rest =
+    codes "{\"expires_in\":3454,\"header\":{\"Authorization\":\"Bearer " ++ token_of 97
+    ++ codes "\"},\"href\":\"https://lfs.example/studio/film.git/info/lfs/" ++ rest ++ codes "\"}"
+
+-- an upload of two objects
+abbrev pub two_objects : Asking
+two_objects =
+    with_body form.Batch (codes "{\"operation\":\"upload\",\"objects\":[{\"oid\":\"" ++ nil
+    ++ codes "\",\"size\":0},{\"oid\":\"" ++ hello ++ codes "\",\"size\":5}]}")
+
+-- the reply, while the first is stored
+unfoldable pub upload_reply : List ℕ
+upload_reply =
+    json_head (codes "200 OK") (codes "771") []
+    ++ batch_body (codes "{\"authenticated\":true,\"oid\":\"" ++ nil ++ codes "\",\"size\":0},{\"actions\":{\"upload\":"
+    ++ action_text (codes "content/" ++ hello ++ codes "?ref=refs%2Fheads%2Fmain") ++ codes ",\"verify\":"
+    ++ action_text (codes "verify?ref=refs%2Fheads%2Fmain")
+    ++ codes "},\"authenticated\":true,\"oid\":\"" ++ hello ++ codes "\",\"size\":5}")
+
+-- a stored object has no actions, and one that is not stored is uploaded and verified
+abbrev pub UploadIsOffered : Type 0
+UploadIsOffered = reply_text (answer (with_one nil []) studio ann two_objects) [] false ≡ upload_reply
+
+-- the body of the reply to a download
+unfoldable pub download_body : List ℕ
+download_body =
+    batch_body (codes "{\"actions\":{\"download\":" ++ action_text (codes "content/" ++ hello)
+    ++ codes "},\"authenticated\":true,\"oid\":\"" ++ hello ++ codes "\",\"size\":5}")
+
+-- a stored object is downloaded, with the token as it was presented
+abbrev pub DownloadIsOffered : Type 0
+DownloadIsOffered =
+    let world = with_one hello (codes "hello") in
+    status_and_body (answer world studio ann (one_object (codes "download") hello (codes "5")))
+    ≡ (200, download_body)
+
+-- the body for one object with an error
+abbrev pub error_body : List ℕ → List ℕ → List ℕ → List ℕ → List ℕ
+error_body code text name size =
+    batch_body (codes "{\"error\":{\"code\":" ++ code ++ codes ",\"message\":\"" ++ text
+    ++ codes "\"},\"oid\":\"" ++ name ++ codes "\",\"size\":" ++ size ++ codes "}")
+
+-- the request has this error for its one object
+abbrev pub has_error : Answer → List ℕ → Type 0
+has_error given body = status_and_body given ≡ (200, body)
+
+-- the rules of objects of a batch, each with an object that it refuses
+abbrev pub ObjectsAreRefused : Type 0
+ObjectsAreRefused =
+    let download = one_object (codes "download") in let upload = one_object (codes "upload") in
+    let bad = codes "B2: the object name or size is not valid" in let fill = codes "hello" in
+    has_error (answer nothing studio ann (download hello (codes "5")))
+    (error_body (codes "404") (codes "B1: the object is not stored") hello (codes "5"))
+    × has_error (answer nothing studio ann (download (codes "xyz") (codes "5")))
+    (error_body (codes "422") bad (codes "xyz") (codes "5"))
+    × has_error (answer nothing studio ann (upload hello (codes "-1"))) (error_body (codes "422") bad hello (codes "0"))
+    × has_error (answer (with_one hello fill) studio ann (download hello (codes "6")))
+    (error_body (codes "422") (codes "B4: the stored size differs") hello (codes "6"))
+    × has_error (answer nothing small_studio ann (upload hello (codes "6")))
+    (error_body (codes "507") (codes "B5: the quota does not hold the object") hello (codes "6"))
+
+-- an upload of hello with another hash
+abbrev pub other_hash : Asking
+other_hash =
+    with_body form.Batch (codes "{\"hash_algo\":\"sha512\",\"operation\":\"upload\",\"objects\":[{\"oid\":\"" ++ hello
+    ++ codes "\",\"size\":5}]}")
+
+-- it is B3
+abbrev pub HashIsRefused : Type 0
+HashIsRefused =
+    has_error (answer nothing studio ann other_hash)
+    (error_body (codes "409") (codes "B3: the hash algorithm is not served") hello (codes "5"))
+
+-- the texts, joined
+abbrev pub joined : List (List ℕ) → List ℕ
+joined [] = []
+joined (text ∷ texts) = text ++ joined texts
+
+-- a batch of 101 objects
+abbrev pub many_objects : List ℕ
+many_objects =
+    codes "{\"operation\":\"upload\",\"objects\":["
+    ++ joined (replicate 100 (codes "{\"oid\":\"\",\"size\":0},")) ++ codes "{\"oid\":\"\",\"size\":0}]}"
+
+-- the rule refuses the batch
+abbrev pub batch_refused : List ℕ → Rule → Type 0
+batch_refused body r = answer nothing studio ann (with_body form.Batch body) ≡ Err (by_rule r)
+
+-- a batch as a whole: without basic J4, a missing key J1, another operation J2, more than 100 objects J3
+abbrev pub BatchIsRefused : Type 0
+BatchIsRefused =
+    batch_refused (codes "{\"operation\":\"upload\",\"transfers\":[\"tus\"],\"objects\":[]}") rule.J4
+    × batch_refused (codes "{\"operation\":\"delete\"}") rule.J1
+    × batch_refused (codes "{\"operation\":\"delete\",\"objects\":[]}") rule.J2 × batch_refused many_objects rule.J3
+
+-- ---- pages of locks
+
+-- ann's locks of a, b and c, not in order
+abbrev pub three_locks : World
+three_locks =
+    record nothing {
+      locks = lock_by (codes "ann") 3 (codes "c") ∷ lock_by (codes "ann") 1 (codes "a")
+          ∷ lock_by (codes "ann") 2 (codes "b") ∷ [];
+      made = λ _. 3;
+    }
+
+-- the texts of the locks of a and of c
+abbrev pub lock_a : List ℕ
+lock_a = lock_text (codes "1") (codes "ann") (codes "a")
+
+-- the text of the lock of c
+abbrev pub lock_c : List ℕ
+lock_c = lock_text (codes "3") (codes "ann") (codes "c")
+
+-- the reply to a list with the limit 1
+unfoldable pub list_reply : List ℕ
+list_reply =
+    json_head (codes "200 OK") (codes "109") []
+    ++ codes "{\"locks\":[" ++ lock_a ++ codes "],\"next_cursor\":\"3\"}"
+
+-- a page counts only the locks that the caller may list
+abbrev pub HiddenIsLeftOut : Type 0
+HiddenIsLeftOut =
+    (reply_text (answer three_locks b_is_hidden bob (list (codes "limit=1"))) [] false ≡ list_reply)
+    × (status_and_body (answer three_locks b_is_hidden bob (list (codes "limit=1&cursor=3")))
+    ≡ (200, codes "{\"locks\":[" ++ lock_c ++ codes "]}"))
+
+-- the list with this query, once b is released, has this body
+abbrev pub lists_as : List ℕ → List ℕ → Type 0
+lists_as query body =
+    status_and_body (answer (without_lock (lock_by (codes "ann") 2 (codes "b")) three_locks) studio bob (list query))
+    ≡ (200, body)
+
+-- the cursor needs no lock; a limit below 1 is 1 and one above 100 is 100; filters
+abbrev pub PagesAreCut : Type 0
+PagesAreCut =
+    lists_as (codes "cursor=2&limit=1") (codes "{\"locks\":[" ++ lock_c ++ codes "]}")
+    × lists_as (codes "limit=0") (codes "{\"locks\":[" ++ lock_a ++ codes "],\"next_cursor\":\"3\"}")
+    × lists_as (codes "limit=-5") (codes "{\"locks\":[" ++ lock_a ++ codes "],\"next_cursor\":\"3\"}")
+    × lists_as (codes "limit=1000") (codes "{\"locks\":[" ++ lock_a ++ codes "," ++ lock_c ++ codes "]}")
+    × lists_as (codes "path=c&x=1&id=") (codes "{\"locks\":[" ++ lock_c ++ codes "]}")
+
+-- the rule refuses the list with this query
+abbrev pub list_refused : List ℕ → Rule → Type 0
+list_refused query r = answer three_locks studio bob (list query) ≡ Err (by_rule r)
+
+-- a cursor that is no id is L4, a limit that is no number J2, and so is a key that is there twice
+abbrev pub PagesAreRefused : Type 0
+PagesAreRefused =
+    list_refused (codes "cursor=01") rule.L4 × list_refused (codes "cursor=4294967296") rule.L4
+    × list_refused (codes "limit=99999999999") rule.J2 × list_refused (codes "path=&path=b") rule.J2
+
+-- ann has locked a, and bob b
+abbrev pub two_owners : World
+two_owners =
+    record nothing {
+      locks = lock_by (codes "bob") 2 (codes "b") ∷ lock_by (codes "ann") 1 (codes "a") ∷ [];
+      made = λ _. 2;
+    }
+
+-- the reply to a request of ann for the locks of the ref
+unfoldable pub split_reply : List ℕ
+split_reply =
+    json_head (codes "200 OK") (codes "181") []
+    ++ codes "{\"ours\":[" ++ lock_a ++ codes "],\"theirs\":["
+    ++ lock_text (codes "2") (codes "bob") (codes "b") ++ codes "]}"
+
+-- the answer to ann's request with this body
+abbrev pub verify_locks : List ℕ → Answer
+verify_locks body = answer two_owners studio ann (with_body form.VerifyLocks body)
+
+-- the caller's own locks, and the others; the page is cut before it is split
+abbrev pub LocksAreSplit : Type 0
+LocksAreSplit =
+    (reply_text (verify_locks (codes "{\"cursor\":\"\"}")) [] false ≡ split_reply)
+    × (status_and_body (verify_locks (codes "{\"limit\":1}"))
+    ≡ (200, codes "{\"next_cursor\":\"2\",\"ours\":[" ++ lock_a ++ codes "],\"theirs\":[]}"))
+    × (verify_locks (codes "{\"cursor\":\"x\"}") ≡ Err (by_rule rule.L4))
+
+-- ---- releasing locks
+
+-- a world with the first lock
+abbrev pub first_locked : World
+first_locked = record nothing { locks = first_lock ∷ []; made = λ _. 1 }
+
+-- the reply to a release
+unfoldable pub released_reply : List ℕ
+released_reply =
+    json_head (codes "200 OK") (codes "99") [] ++ codes "{\"lock\":"
+    ++ lock_text (codes "1") (codes "ann") (codes "art/hero.psd") ++ codes "}"
+
+-- another user's lock needs force (L3) and the right to it; no lock of that id is L2
+abbrev pub LockIsReleased : Type 0
+LockIsReleased =
+    let force = codes "{\"force\":true}" in
+    (answer first_locked studio bob (unlock (codes "1") (codes "{}")) ≡ Err (by_rule rule.L3))
+    × (answer first_locked studio bob (unlock (codes "1") force) ≡ Err (by_row 0 right.Force 403))
+    × (reply_text (answer first_locked forcing bob (unlock (codes "1") force)) [] false ≡ released_reply)
+    × (answer first_locked studio ann (unlock (codes "1") (codes "{}")) ≡ Ok (releases first_lock))
+    × (answer first_locked studio bob (unlock (codes "9") (codes "{}")) ≡ Err (by_rule rule.L2))
+    × ((without_lock first_lock first_locked).locks ≡ []) × ((without_lock first_lock first_locked).made film ≡ 1)
+
+-- ---- the store, the operator, moments
+
+-- the reply by which the store or memory refuses (S1)
+unfoldable pub refusal_reply : List ℕ
+refusal_reply =
+    json_head (codes "500 Internal Server Error") (codes "35") (close_line ∷ [])
+    ++ message_of (codes "S1: the store refused")
+
+-- it closes the connection
+abbrev pub RefusalCloses : Type 0
+RefusalCloses = text_if (message first_head first_body true) (Some store_refusal) ≡ refusal_reply
+
+-- a request for ann's token at a moment, for this many seconds
 abbrev pub asked_at : ℕ → ℕ → TokenRequest
-asked_at now seconds = record { text = token_of 97; user = codes "ann"; repo = film; operation = operation.Upload; now = now; seconds = seconds }
+asked_at now seconds = record {
+  text = token_of 97;
+  user = codes "ann";
+  repo = film;
+  operation = operation.Upload;
+  now = now;
+  seconds = seconds;
+}
 
--- a token that is asked for at 40 for a minute expires at 100
+-- a token for a minute from 40 on expires at 100; it is not issued twice (K1), and none expires after the last
+-- moment (K2)
 abbrev pub TokenIsIssued : Type 0
-TokenIsIssued = after_token nothing (token_verdict nothing (asked_at 40 60)) ≡ expires_at_100
-
--- it is not issued twice, whatever else is wrong with the request
-abbrev pub TokenIsIssuedOnce : Type 0
-TokenIsIssuedOnce =
-    (token_verdict expires_at_100 (asked_at 40 60) ≡ Err already_issued)
+TokenIsIssued =
+    (after_token nothing (token_verdict nothing (asked_at 40 60)) ≡ expires_at_100)
     × (token_verdict expires_at_100 (asked_at 253402300799 1) ≡ Err already_issued)
-
--- no token expires after the last moment
-abbrev pub TokenIsTooLate : Type 0
-TokenIsTooLate = token_verdict nothing (asked_at 253402300799 1) ≡ Err expires_too_late
+    × (token_verdict nothing (asked_at 253402300799 1) ≡ Err expires_too_late)
 
 -- it is removed at its expiry, and not before
 abbrev pub TokenIsPruned : Type 0
 TokenIsPruned = (without_expired 99 expires_at_100 ≡ expires_at_100) × (without_expired 100 expires_at_100 ≡ nothing)
+
+-- the first and the last moment
+abbrev pub MomentsArePrinted : Type 0
+MomentsArePrinted =
+    (moment_text 0 ≡ codes "1970-01-01T00:00:00Z") × (moment_text 253402300799 ≡ codes "9999-12-31T23:59:59Z")

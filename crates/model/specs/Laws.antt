@@ -1,45 +1,275 @@
 -- Laws of the definitions.
-use Rattle.std.specs.Prelude.{◌≡◌, ◌<◌, ℕ, List, length, false, AllPairs, Err}
-use Rattle.model.specs.World.{World, IsWorld, DiffersInPlace, nothing}
-use Rattle.model.specs.Steps.{Message, Event, Exchange, Denial, IsExchange, IsStep, Run, is_last}
-use Rattle.model.specs.Stream.{HasNoHead, NeverIsHead, BeginsWith, BeginsBadly, IsUnfinished, head_limit}
+use Rattle.std.specs.Prelude.{◌≡◌, ◌<◌, ◌≤◌, ◌+◌, ℕ, true, false, List, [], ◌∷◌, ◌++◌, length, All, AllPairs, Contains, Some, None, Ok, Err, bytes_eq, ◌⊎◌, ◌↔◌, option_map, ⊤}
+use Rattle.httparse.specs.Grammar.{RequestHead}
+use Rattle.sha2.specs.Sha256.{sha256}
+use Rattle.names.specs.Moments.{IsMomentText}
+use Rattle.model.specs.declared.Form.TheVariants as form
+use Rattle.model.specs.Reading.{or_default}
+use Rattle.model.specs.Policy.{Policy, Repo, repo_named}
+use Rattle.model.specs.World.{World, Object, Lock, IsWorld, DiffersInPlace, name_of, nothing, total}
+use Rattle.model.specs.Heads.{Target, head_verdict}
+use Rattle.model.specs.RepoState.{repo_state, has_room, locks_of}
+use Rattle.model.specs.Callers.{Caller, caller_by}
+use Rattle.model.specs.Cases.{Setting}
+use Rattle.model.specs.Answers.{Answer, Denial, serves, stores, makes_lock}
+use Rattle.model.specs.Pages.{page_of, IsPage, IsBelow, Leg, IsWalk, walk_locks}
+use Rattle.model.specs.Verdict.{verdict, early_verdict, target_verdict, early_check, desk_verdict}
+use Rattle.model.specs.Steps.{Message, message, IsMessage, Event, exchanged, Exchange, IsExchange, IsStep, Run}
+use Rattle.model.specs.Stream.{HasNoHead, NeverIsHead, BeginsWith, IsUnfinished, head_limit}
+use Rattle.model.specs.Moments.{moment_text}
+use Rattle.model.specs.Replies.{reply_of}
+use Rattle.model.specs.Views.{view_of, CallerRequest, to_desk, foresee}
+use Rattle.model.specs.Bounds.{SameWorld, IsWithin, failed, is_changed, ending_of, intended_world, next_world, bound_of_run}
 
--- less than a head, which nothing can make one: that it is bad may be told, or not
+-- ---- streams
+
+-- less than a head is there, and nothing that follows makes it one: H1 and no reply are both allowed
 pub record IsFreeChoice (bytes : List ℕ) : Type 0 where
   pub none : HasNoHead bytes
   pub short : length bytes < head_limit
   pub never : NeverIsHead bytes
 
--- one message, and one rest where the connection goes on
-abbrev pub AreOne : Message → List ℕ → Message → List ℕ → Type 0
-AreOne a rest b more = (a ≡ b) × (is_last a ≡ false → rest ≡ more)
-
--- a list of bytes has at most one first message
+-- a list of bytes has at most one first message, and one rest after it
 abbrev pub HasOneFirst : Type 0
 HasOneFirst =
-    (bytes : List ℕ) (a b : Message) (rest more : List ℕ) → BeginsWith bytes a rest → BeginsWith bytes b more → AreOne a rest b more
+    (bytes : List ℕ) (a b : Message) (rest more : List ℕ) → BeginsWith bytes a rest → BeginsWith bytes b more
+    → (a ≡ b) × (rest ≡ more)
 
--- that the first message is bad, and that there is none, can both be said only where the choice is free
+-- bytes that have a first message are less than a head only if the choice is free; a whole message never is
 abbrev pub ChoosesOnlyThere : Type 0
-ChoosesOnlyThere = (bytes : List ℕ) → BeginsBadly bytes → IsUnfinished bytes → IsFreeChoice bytes
+ChoosesOnlyThere =
+    (bytes : List ℕ) (a : Message) (rest : List ℕ) → BeginsWith bytes a rest → IsUnfinished bytes → IsFreeChoice bytes
+
+-- the body of the first message is as long as its head says, or cut off
+abbrev pub BeginsWithMessage : Type 0
+BeginsWithMessage = (bytes : List ℕ) (a : Message) (rest : List ℕ) → BeginsWith bytes a rest → IsMessage a
+
+-- after a body that is cut off there is nothing
+abbrev pub CutIsLast : Type 0
+CutIsLast =
+    (bytes : List ℕ) (head : RequestHead) (body rest : List ℕ) → BeginsWith bytes (message head body false) rest
+    → rest ≡ []
+
+-- what denies a message before its body is read denies it with any body
+abbrev pub HeadDecides : Type 0
+HeadDecides =
+    (world : World) (setting : Setting) (head : RequestHead) (body : List ℕ) (denial : Denial)
+    → early_verdict world setting head ≡ Err denial → verdict world setting head body ≡ Err denial
+
+-- the same for every form of request, served or not
+abbrev pub TargetDecides : Type 0
+TargetDecides =
+    (world : World) (setting : Setting) (head : RequestHead) (target : Target) (body : List ℕ) (denial : Denial)
+    → early_check world setting head target target.form ≡ Err denial
+    → target_verdict world setting head target body ≡ Err denial
+
+-- ---- worlds
 
 -- each step keeps the laws of worlds
 abbrev pub StepsKeepWorlds : Type 0
 StepsKeepWorlds = (old : World) (event : Event) (new : World) → IsStep old event new → IsWorld old → IsWorld new
 
--- and so does each run
+-- each run keeps the laws of worlds
 abbrev pub RunsKeepWorlds : Type 0
 RunsKeepWorlds = (old : World) (events : List Event) (new : World) → Run old events new → IsWorld old → IsWorld new
 
--- a run that began with nothing leads to a world
+-- a run from the empty world leads to a world
 abbrev pub RunsMakeWorlds : Type 0
 RunsMakeWorlds = (events : List Event) (new : World) → Run nothing events new → IsWorld new
 
 -- a denial leaves the world as it was
 abbrev pub DenialsChangeNothing : Type 0
 DenialsChangeNothing =
-    (old : World) (e : Exchange) (denial : Denial) (new : World) → IsExchange old e new → e.given ≡ Err denial → new ≡ old
+    (old : World) (e : Exchange) (denial : Denial) (new : World) → IsExchange old e new
+    → e.given ≡ Some (Err denial) → new ≡ old
 
--- no path of a repository's ref is locked twice, after any run that began with nothing
+-- a message without an answer leaves the world as it was
+abbrev pub SilenceChangesNothing : Type 0
+SilenceChangesNothing = (old : World) (e : Exchange) (new : World) → IsExchange old e new → e.given ≡ None → new ≡ old
+
+-- the message is cut off, and nothing denies it before its body is read
+pub record IsCutShort (old : World) (e : Exchange) : Type 0 where
+  pub head : RequestHead
+  pub body : List ℕ
+  pub cut : e.asked ≡ message head body false
+  pub passes : early_verdict old e.setting head ≡ Ok tt
+
+-- only such a message has no answer
+abbrev pub OnlyCutIsSilent : Type 0
+OnlyCutIsSilent = (old : World) (e : Exchange) (new : World) → IsExchange old e new → e.given ≡ None → IsCutShort old e
+
+-- no path of a repository's ref is locked twice, after any run from the empty world
 abbrev pub NeverLocksTwice : Type 0
-NeverLocksTwice = (events : List Event) (new : World) → Run nothing events new → AllPairs DiffersInPlace new.locks
+NeverLocksTwice =
+    (events : List Event) (new : World) → Run nothing events new → AllPairs DiffersInPlace new.locks
+
+-- the count of made locks never falls
+abbrev pub CountsOn : Type 0
+CountsOn =
+    (old : World) (events : List Event) (new : World) → Run old events new
+    → (repo : List ℕ) → old.made repo ≤ new.made repo
+
+-- a new lock has the next id, and is counted; so no id is given twice
+abbrev pub NewIdIsNext : Type 0
+NewIdIsNext =
+    (old : World) (e : Exchange) (l : Lock) (new : World)
+    → IsWorld old → IsExchange old e new → e.given ≡ Some (Ok (makes_lock l))
+    → (l.id ≡ old.made l.repo + 1) × (new.made l.repo ≡ l.id)
+
+-- ---- contents
+
+-- the exchange is a granted upload of just these bytes, under this name, in this repository
+pub record IsPutOf (o : Object) (e : Exchange) : Type 0 where
+  pub head : RequestHead
+  pub target : Target
+  pub asked : e.asked ≡ message head o.bytes true
+  pub verdict : head_verdict head ≡ Ok target
+  pub form : target.form ≡ form.Put
+  pub repo : target.repo ≡ o.repo
+  pub name : target.parameter ≡ o.name
+  pub given : e.given ≡ Some (Ok (stores o))
+
+-- a download is answered with an object that is stored
+abbrev pub ServesWhatIsKept : Type 0
+ServesWhatIsKept =
+    (old : World) (e : Exchange) (o : Object) (new : World) → IsExchange old e new
+    → e.given ≡ Some (Ok (serves o)) → Contains old.objects o
+
+-- an object that a download is answered with has the name of its bytes
+abbrev pub ServedHasItsName : Type 0
+ServedHasItsName =
+    (old : World) (e : Exchange) (o : Object) (new : World)
+    → IsWorld old → IsExchange old e new → e.given ≡ Some (Ok (serves o)) → o.name ≡ name_of o.bytes
+
+-- among the events there is a granted upload of the object
+pub record WasPut (events : List Event) (o : Object) : Type 0 where
+  pub put : Exchange
+  pub among : Contains events (exchanged put)
+  pub is : IsPutOf o put
+
+-- what is served was uploaded before, in a run from the empty world
+abbrev pub ServedWasPut : Type 0
+ServedWasPut =
+    (events : List Event) (old : World) (e : Exchange) (o : Object) (new : World)
+    → Run nothing events old → IsExchange old e new → e.given ≡ Some (Ok (serves o)) → WasPut events o
+
+-- ---- the quota
+
+-- an object fits exactly if the stored total and its size are within the quota
+abbrev pub RoomIsQuota : Type 0
+RoomIsQuota =
+    (world : World) (repo : Repo) (size : ℕ)
+    → (has_room size (repo_state repo world) ≡ true) ↔ (total repo.name world + size ≤ repo.quota)
+
+-- the repository's quota under a policy; 0 if the policy does not have it
+abbrev pub quota_of : List ℕ → Policy → ℕ
+quota_of repo policy = or_default (option_map (λ r. r.quota) (repo_named repo policy)) 0
+
+-- the policy of the event gives the repository at most this quota
+abbrev pub HasQuotaWithin : List ℕ → ℕ → Event → Type 0
+HasQuotaWithin repo most (exchanged e) = quota_of repo e.setting.policy ≤ most
+HasQuotaWithin repo most _ = ⊤
+
+-- a stored total within a bound stays within it in each run whose quotas are within it; the quota may change on the way
+abbrev pub StaysInQuota : Type 0
+StaysInQuota =
+    (repo : List ℕ) (most : ℕ) (old : World) (events : List Event) (new : World)
+    → IsWorld old → Run old events new → All (HasQuotaWithin repo most) events
+    → total repo old ≤ most → total repo new ≤ most
+
+-- ---- pages
+
+-- a page of rising locks has those of least id from the cursor on
+abbrev pub PageIsLeast : Type 0
+PageIsLeast =
+    (cursor limit : ℕ) (locks : List Lock) → AllPairs IsBelow locks
+    → IsPage locks cursor limit (page_of cursor limit locks)
+
+-- the locks of a repository rise by id
+abbrev pub LocksRise : Type 0
+LocksRise = (world : World) (repo : List ℕ) → IsWorld world → AllPairs IsBelow (locks_of repo world)
+
+-- the joined pages of a walk rise, so none is there twice; and each lock that was shown at every page is there
+pub record IsWholeWalk (cursor : ℕ) (legs : List Leg) : Type 0 where
+  pub rise : AllPairs IsBelow (walk_locks legs)
+  pub complete : (l : Lock) → cursor ≤ l.id → All (λ leg. Contains leg.shown l) legs → Contains (walk_locks legs) l
+
+-- each walk is whole, whatever happens between its pages
+abbrev pub WalksAreWhole : Type 0
+WalksAreWhole = (cursor : ℕ) (legs : List Leg) → IsWalk cursor legs → IsWholeWalk cursor legs
+
+-- ---- views
+
+-- the reply to a caller is the one that the caller's view foretells
+abbrev pub ViewsForetell : Type 0
+ViewsForetell =
+    (world : World) (setting : Setting) (caller : Caller) (asked : CallerRequest)
+    → IsWorld world → caller_by world setting.now asked.bearers ≡ Ok caller
+    → foresee (view_of world setting.policy caller.user caller.repo) setting.now asked
+    ≡ Ok (reply_of (desk_verdict world setting (to_desk caller.repo asked) asked.body))
+
+-- two worlds that look the same to a caller, and the same request of that caller to both
+pub record AreAlike (setting : Setting) (caller : Caller) (asked : CallerRequest) (a b : World) : Type 0 where
+  pub left : IsWorld a
+  pub right : IsWorld b
+  pub here : caller_by a setting.now asked.bearers ≡ Ok caller
+  pub there : caller_by b setting.now asked.bearers ≡ Ok caller
+  pub same : view_of a setting.policy caller.user caller.repo ≡ view_of b setting.policy caller.user caller.repo
+
+-- the answer in a world to the request of a caller
+abbrev pub answer_in : World → Setting → Caller → CallerRequest → Answer
+answer_in world setting caller asked = desk_verdict world setting (to_desk caller.repo asked) asked.body
+
+-- what such worlds serve has one SHA-256
+abbrev pub ViewsServeOneDigest : Type 0
+ViewsServeOneDigest =
+    (setting : Setting) (caller : Caller) (asked : CallerRequest) (a b : World) (o p : Object)
+    → AreAlike setting caller asked a b → answer_in a setting caller asked ≡ Ok (serves o)
+    → answer_in b setting caller asked ≡ Ok (serves p) → sha256 o.bytes ≡ sha256 p.bytes
+
+-- the exchange is of a whole message to another repository
+pub record IsElsewhere (repo : List ℕ) (e : Exchange) : Type 0 where
+  pub head : RequestHead
+  pub body : List ℕ
+  pub target : Target
+  pub asked : e.asked ≡ message head body true
+  pub verdict : head_verdict head ≡ Ok target
+  pub other : bytes_eq target.repo repo ≡ false
+
+-- an exchange in another repository leaves every user's view
+abbrev pub OthersLeaveViews : Type 0
+OthersLeaveViews =
+    (old : World) (e : Exchange) (new : World) (repo : List ℕ) → IsExchange old e new → IsElsewhere repo e
+    → (policy : Policy) (user : List ℕ) → view_of new policy user repo ≡ view_of old policy user repo
+
+-- ---- moments
+
+-- what is a moment's text is the text that is computed
+abbrev pub MomentIsText : Type 0
+MomentIsText = (moment : ℕ) (text : List ℕ) → IsMomentText moment text → text ≡ moment_text moment
+
+-- ---- stops
+
+-- each step leads to the world that its report says
+abbrev pub ReportsAreTrue : Type 0
+ReportsAreTrue = (old : World) (event : Event) (new : World) → IsStep old event new → new ≡ next_world old event
+
+-- none of the events, in this world, made a change
+abbrev pub NoneChanges : World → List Event → Type 0
+NoneChanges world events = All (λ event. is_changed (ending_of world event) ≡ false) events
+
+-- since the last change the store refused an event, and this is the world that it was to make
+pub record IsHalfDone (events : List Event) (new world : World) : Type 0 where
+  pub before : List Event
+  pub event : Event
+  pub later : List Event
+  pub order : events ≡ before ++ event ∷ later
+  pub refused : ending_of new event ≡ failed
+  pub same : SameWorld (intended_world new event) world
+  pub since : NoneChanges new later
+
+-- a stop leaves the last world of a run, or that world with one change that the store refused after the last change
+abbrev pub LeavesOneChange : Type 0
+LeavesOneChange =
+    (old : World) (events : List Event) (new : World) → Run old events new → (world : World)
+    → IsWithin (bound_of_run old events (old ∷ [])) world → SameWorld new world ⊎ IsHalfDone events new world

@@ -1,42 +1,121 @@
--- What one connection is sent, and the world that it leaves.
-use Rattle.std.specs.Prelude.{◌≡◌, ℕ, Bool, List, [], ◌∷◌, ◌++◌, All, map}
-use Rattle.model.specs.Policy.{Policy}
-use Rattle.model.specs.World.{World}
-use Rattle.model.specs.Steps.{Exchange, exchanged, Run, allow, closes, store_refused}
-use Rattle.model.specs.Stream.{Ended, closed, Answers, AnswersFirst}
-use Rattle.model.specs.Replies.{IsReply}
+-- What one connection is sent, how it ends, and the world after it.
+use Rattle.std.specs.Prelude.{◌≡◌, ℕ, ◌+◌, true, List, [], ◌∷◌, ◌++◌, All, map, count_by, is_some, Option, Some, None, Ok}
+use Rattle.model.specs.World.{World, Object}
+use Rattle.model.specs.Cases.{Setting}
+use Rattle.model.specs.Answers.{Answer, serves, store_refusal}
+use Rattle.model.specs.Steps.{Message, Exchange, exchanged, Run, allow, closes_after, closes}
+use Rattle.model.specs.Stream.{input_ended, closed, Answers, AnswersFirst}
+use Rattle.model.specs.Replies.{reply_text, reply_of, head_text}
 
--- the texts of the replies, one after the other
-abbrev pub IsText : List Exchange → List ℕ → Type 0
-IsText [] text = text ≡ []
-IsText (e ∷ exchanges) text =
-    (reply : List ℕ) × (rest : List ℕ) × IsReply e.given (allow e.asked e.given) (closes e) reply × IsText exchanges rest × (text ≡ reply ++ rest)
+-- ---- the text
 
--- all under one policy, at one moment
-abbrev pub AreUnder : Policy → ℕ → List Exchange → Type 0
-AreUnder policy now exchanges = All (λ e. (e.policy ≡ policy) × (e.now ≡ now)) exchanges
+-- the text of the reply to a message; nothing if there is no answer
+abbrev pub text_if : Message → Option Answer → List ℕ
+text_if asked (Some given) = reply_text given (allow asked given) (closes_after asked given)
+text_if asked None = []
 
--- the exchanges answer the stream, lead from the old world to the new one, and their replies are the text
-pub record IsSession
-    (policy : Policy) (now : ℕ) (bytes : List ℕ) (old : World)
-    (exchanges : List Exchange) (text : List ℕ) (new : World) (end : Ended) : Type 0 where
-  pub answers : Answers bytes exchanges end
-  pub under : AreUnder policy now exchanges
-  pub run : Run old (map exchanged exchanges) new
-  pub written : IsText exchanges text
+-- the text of an exchange's reply
+abbrev pub text_of : Exchange → List ℕ
+text_of e = text_if e.asked e.given
 
--- a session that broke off: what was answered of the stream so far
-pub record IsBrokenOff
-    (policy : Policy) (now : ℕ) (bytes : List ℕ) (old : World)
-    (exchanges : List Exchange) (text : List ℕ) (new : World) : Type 0 where
-  pub answers : AnswersFirst bytes exchanges
-  pub under : AreUnder policy now exchanges
-  pub run : Run old (map exchanged exchanges) new
-  pub written : IsText exchanges text
+-- the texts of the replies, joined
+abbrev pub session_text : List Exchange → List ℕ
+session_text [] = []
+session_text (e ∷ exchanges) = text_of e ++ session_text exchanges
 
--- there was no memory to read the stream with, and nothing was done
-pub record IsUnread (old : World) (exchanges : List Exchange) (text : List ℕ) (new : World) (end : Ended) : Type 0 where
-  pub nothing_done : exchanges ≡ []
+-- the number of replies
+abbrev pub reply_count : List Exchange → ℕ
+reply_count exchanges = count_by (λ e. is_some e.given) exchanges
+
+-- ---- sessions
+
+-- the bytes that a connection read, how they were answered, and what was written; answered counts the replies that were
+-- written whole. That bytes are all that there was is for the contract of the code to say.
+pub record Session : Type 0 where
+  pub setting : Setting
+  pub bytes : List ℕ
+  pub exchanges : List Exchange
+  pub written : List ℕ
+  pub answered : ℕ
+
+-- why a session ended: its input did; the last reply closes; a read, a write, or the store failed
+pub data End : Type 0 where
+  InputEnded Closed ReadFailed WriteFailed StoreFailed : End
+
+-- each reply is written whole
+pub record IsWritten (s : Session) : Type 0 where
+  pub written : s.written ≡ session_text s.exchanges
+  pub answered : s.answered ≡ reply_count s.exchanges
+
+-- the part is a beginning of the text, and not all of it
+pub record IsPartOf (part text : List ℕ) : Type 0 where
+  pub byte : ℕ
+  pub rest : List ℕ
+  pub is : text ≡ part ++ byte ∷ rest
+
+-- all replies but the last are written whole, and of the last a part
+pub record BreaksInLast (s : Session) : Type 0 where
+  pub before : List Exchange
+  pub last : Exchange
+  pub part : List ℕ
+  pub order : s.exchanges ≡ before ++ last ∷ []
+  pub partial : IsPartOf part (text_of last)
+  pub written : s.written ≡ session_text before ++ part
+  pub answered : s.answered ≡ reply_count before
+
+-- how many replies are written whole: the last one too, if nothing of it is missing
+abbrev pub whole_count : List Exchange → (missing : List ℕ) → ℕ
+whole_count before [] = reply_count before + 1
+whole_count before (byte ∷ missing) = reply_count before
+
+-- all replies but the last are written whole, and of the last its head and a beginning of the object, which may be all
+-- of it: the store can also fail after the last byte
+pub record BreaksInContent (s : Session) : Type 0 where
+  pub before : List Exchange
+  pub last : Exchange
+  pub object : Object
+  pub part : List ℕ
+  pub rest : List ℕ
+  pub order : s.exchanges ≡ before ++ last ∷ []
+  pub serving : last.given ≡ Some (Ok (serves object))
+  pub beginning : object.bytes ≡ part ++ rest
+  pub written : s.written ≡ session_text before ++ head_text (reply_of (Ok (serves object))) [] (closes last) ++ part
+  pub answered : s.answered ≡ whole_count before rest
+
+-- all exchanges are under this policy and at this moment
+abbrev pub AreUnder : Setting → List Exchange → Type 0
+AreUnder setting exchanges = All (λ e. e.setting ≡ setting) exchanges
+
+-- the bytes are answered and the replies written, as the end says; what was read before a read failed is answered as a
+-- stream of its own
+abbrev pub EndsWith : Session → End → Type 0
+EndsWith s InputEnded = Answers s.bytes s.exchanges input_ended × IsWritten s
+EndsWith s ReadFailed = Answers s.bytes s.exchanges input_ended × IsWritten s
+EndsWith s Closed = Answers s.bytes s.exchanges closed × IsWritten s
+EndsWith s WriteFailed = AnswersFirst s.bytes s.exchanges × BreaksInLast s
+EndsWith s StoreFailed = AnswersFirst s.bytes s.exchanges × BreaksInContent s
+
+-- the exchanges answer the stream, lead from the old world to the new one, and their replies are what is written
+pub record IsSession (s : Session) (end : End) (old new : World) : Type 0 where
+  pub ends : EndsWith s end
+  pub under : AreUnder s.setting s.exchanges
+  pub run : Run old (map exchanged s.exchanges) new
+
+-- ---- without memory to read
+
+-- the reply by which the store refuses
+abbrev pub refusal_text : List ℕ
+refusal_text = reply_text store_refusal [] true
+
+-- the refusal is written, or a write failed within it
+abbrev pub WritesRefusal : Session → End → Type 0
+WritesRefusal s Closed = (s.written ≡ refusal_text) × (s.answered ≡ 1)
+WritesRefusal s WriteFailed = IsPartOf s.written refusal_text × (s.answered ≡ 0)
+WritesRefusal s _ = ⊥
+
+-- there was no memory to read the stream with: nothing was read or changed, and the store's refusal is the reply
+pub record IsUnread (s : Session) (end : End) (old new : World) : Type 0 where
+  pub bytes : s.bytes ≡ []
+  pub exchanges : s.exchanges ≡ []
   pub same : new ≡ old
-  pub told : IsReply store_refused [] Bool.true text
-  pub shut : end ≡ closed
+  pub writes : WritesRefusal s end

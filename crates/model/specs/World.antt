@@ -1,17 +1,17 @@
 -- What the server keeps.
-use Rattle.std.specs.Prelude.{◌≡◌, ℕ, ◌+◌, ◌≤◌, Bool, ◌&&◌, List, [], ◌∷◌, length, if◌then◌else◌, IsTrue, All, AllPairs, bytes_eq, Option, find, filter, nat_lt}
+use Rattle.std.specs.Prelude.{◌≡◌, ℕ, ◌+◌, ◌≤◌, Bool, ◌&&◌, ◌==◌, not, List, [], ◌∷◌, length, if◌then◌else◌, IsTrue, All, AllPairs, bytes_eq, Option, is_some, find, filter, nat_lt, sum_by}
 use Rattle.sha2.specs.Sha256.{sha256}
 use Rattle.hex.specs.Hex.{encode_lower}
 use Rattle.names.specs.Texts.{largest_object, last_lock_id, last_moment, is_hex_64, is_user, is_repo, is_ref, is_lock_path}
 use Rattle.model.specs.declared.Operation.{Operation}
 
--- the bytes that are stored in a repository under a name
+-- the bytes that a repository has under a name
 pub record Object : Type 0 where
   pub repo : List ℕ
   pub name : List ℕ
   pub bytes : List ℕ
 
--- who may change a path of a ref, since that moment
+-- a path of a ref that one user alone may change, and since when
 pub record Lock : Type 0 where
   pub repo : List ℕ
   pub id : ℕ
@@ -21,30 +21,34 @@ pub record Lock : Type 0 where
   pub at : ℕ
 
 -- a bearer token that was issued
-pub record Issued : Type 0 where
+pub record Token : Type 0 where
   pub text : List ℕ
   pub user : List ℕ
   pub repo : List ℕ
   pub operation : Operation
   pub expires : ℕ
 
--- the three lists are sets: their order says nothing. Each repository made so many locks.
+-- the three lists are sets: their order says nothing; made is how many locks each repository ever made
 pub record World : Type 0 where
   pub objects : List Object
   pub locks : List Lock
   pub made : List ℕ → ℕ
-  pub issued : List Issued
+  pub tokens : List Token
 
 -- the world of a new server
 abbrev pub nothing : World
-nothing = record { objects = []; locks = []; made = λ _. 0; issued = [] }
+nothing = record { objects = []; locks = []; made = λ _. 0; tokens = [] }
 
 -- ---- the laws of worlds
 
--- an object's name is the SHA-256 of its bytes (FIPS 180-4), in lower hexadecimal digits
+-- the name of the bytes: their SHA-256 (FIPS 180-4), in lower hexadecimal digits
+abbrev pub name_of : List ℕ → List ℕ
+name_of bytes = encode_lower (sha256 bytes)
+
+-- an object has the name of its bytes, and a size in range
 pub record IsObject (o : Object) : Type 0 where
   pub repo : IsTrue (is_repo o.repo)
-  pub name : o.name ≡ encode_lower (sha256 o.bytes)
+  pub name : o.name ≡ name_of o.bytes
   pub size : length o.bytes ≤ largest_object
 
 -- a lock's parts are in range, and its id is one of those that its repository made
@@ -57,25 +61,30 @@ pub record IsLock (made : List ℕ → ℕ) (l : Lock) : Type 0 where
   pub first : 1 ≤ l.id
   pub last : l.id ≤ made l.repo
 
-pub record IsIssued (i : Issued) : Type 0 where
-  pub text : IsTrue (is_hex_64 i.text)
-  pub user : IsTrue (is_user i.user)
-  pub repo : IsTrue (is_repo i.repo)
-  pub expires : i.expires ≤ last_moment
+-- a token's parts are in range
+pub record IsToken (t : Token) : Type 0 where
+  pub text : IsTrue (is_hex_64 t.text)
+  pub user : IsTrue (is_user t.user)
+  pub repo : IsTrue (is_repo t.repo)
+  pub expires : t.expires ≤ last_moment
 
+-- not the same name in one repository
 abbrev pub DiffersInName : Object → Object → Type 0
 DiffersInName a b = a.repo ≡ b.repo → a.name ≡ b.name → ⊥
 
+-- not the same id in one repository
 abbrev pub DiffersInId : Lock → Lock → Type 0
 DiffersInId a b = a.repo ≡ b.repo → a.id ≡ b.id → ⊥
 
+-- not the same path of one ref of one repository
 abbrev pub DiffersInPlace : Lock → Lock → Type 0
 DiffersInPlace a b = a.repo ≡ b.repo → a.ref ≡ b.ref → a.path ≡ b.path → ⊥
 
-abbrev pub DiffersInDigest : Issued → Issued → Type 0
+-- not the same digest of the text
+abbrev pub DiffersInDigest : Token → Token → Type 0
 DiffersInDigest a b = sha256 a.text ≡ sha256 b.text → ⊥
 
--- everything is in range and nothing stands twice
+-- everything is in range and nothing is there twice
 pub record IsWorld (world : World) : Type 0 where
   pub objects : All IsObject world.objects
   pub names : AllPairs DiffersInName world.objects
@@ -83,30 +92,55 @@ pub record IsWorld (world : World) : Type 0 where
   pub ids : AllPairs DiffersInId world.locks
   pub places : AllPairs DiffersInPlace world.locks
   pub made : (repo : List ℕ) → world.made repo ≤ last_lock_id
-  pub issued : All IsIssued world.issued
-  pub digests : AllPairs DiffersInDigest world.issued
+  pub tokens : All IsToken world.tokens
+  pub digests : AllPairs DiffersInDigest world.tokens
 
--- ---- reading and changing a world
+-- ---- reading a world
 
-abbrev pub stands_at : List ℕ → List ℕ → List ℕ → Lock → Bool
-stands_at repo ref path l = bytes_eq l.repo repo && bytes_eq l.ref ref && bytes_eq l.path path
+-- the object that the repository has under the name
+abbrev pub object_named : List ℕ → List ℕ → World → Option Object
+object_named repo name world = find (λ o. bytes_eq o.repo repo && bytes_eq o.name name) world.objects
 
--- the lock that stands on the path of the ref
-abbrev pub lock_at : List ℕ → List ℕ → List ℕ → World → Option Lock
-lock_at repo ref path world = find (stands_at repo ref path) world.locks
+-- the sizes of the repository's objects, added up
+abbrev pub total : List ℕ → World → ℕ
+total repo world = sum_by (λ o. length o.bytes) (filter (λ o. bytes_eq o.repo repo) world.objects)
 
--- one lock more of the repository
-abbrev pub counted : List ℕ → (List ℕ → ℕ) → List ℕ → ℕ
-counted repo made other = if bytes_eq other repo then made other + 1 else made other
+-- the token whose text has the digest of this text
+abbrev pub find_token : List ℕ → World → Option Token
+find_token text world = find (λ t. bytes_eq (sha256 t.text) (sha256 text)) world.tokens
 
--- the world with a token more
-abbrev pub with_token : Issued → World → World
-with_token i world = record world { issued = i ∷ world.issued }
+-- ---- changing a world
 
--- the world without the tokens that are not good at the moment
-abbrev pub without_expired : ℕ → World → World
-without_expired now world = record world { issued = filter (λ i. nat_lt now i.expires) world.issued }
+-- the counts of made locks, with one more of the repository
+abbrev pub one_more : List ℕ → (List ℕ → ℕ) → List ℕ → ℕ
+one_more repo made other = if bytes_eq other repo then made other + 1 else made other
 
 -- the world with a new lock
 abbrev pub with_lock : Lock → World → World
-with_lock l world = record world { locks = l ∷ world.locks; made = counted l.repo world.made }
+with_lock l world = record world { locks = l ∷ world.locks; made = one_more l.repo world.made }
+
+-- the lock of the repository has this id
+abbrev pub has_id : List ℕ → ℕ → Lock → Bool
+has_id repo id l = bytes_eq l.repo repo && l.id == id
+
+-- the world without a lock; its id is not used again
+abbrev pub without_lock : Lock → World → World
+without_lock l world = record world { locks = filter (λ k. not (has_id l.repo l.id k)) world.locks }
+
+-- the world with an object, unless the repository has one of that name
+abbrev pub with_object : Object → World → World
+with_object o world =
+    if is_some (object_named o.repo o.name world) then world
+    else record world { objects = o ∷ world.objects }
+
+-- the world with a new token
+abbrev pub with_token : Token → World → World
+with_token t world = record world { tokens = t ∷ world.tokens }
+
+-- the world without the tokens that are not good at the moment
+abbrev pub without_expired : ℕ → World → World
+without_expired now world = record world { tokens = filter (λ t. nat_lt now t.expires) world.tokens }
+
+-- how many tokens are not good at the moment
+abbrev pub expired_count : ℕ → World → ℕ
+expired_count now world = length (filter (λ t. not (nat_lt now t.expires)) world.tokens)

@@ -1,62 +1,87 @@
 //! Worked examples of the definitions: the answers and the texts of small cases, byte for byte.
 //! Each function does nothing, and its contract is the example.
 
-ghost use Rattle.model.specs.Examples.{FirstIsLocked, FirstIsTold, FirstIsFirst, SecondIsRefused, SecondIsTold, OtherRefIsLocked, FolderIsFrozen, FolderIsTold, BesideIsLocked, PushIsHidden, PushIsTold, PushIsDenied, CodingIsRefused, TypeIsRefused, SecondLengthIsRefused, ClimbingIsRefused, MethodIsRefused, NamelessIsRefused, NamelessIsTold, TokenExpires, DownloadLocksNothing, TokenIsIssued, TokenIsIssuedOnce, TokenIsTooLate, TokenIsPruned};
+ghost use Rattle.model.specs.Examples.{FirstIsFirst, FirstIsLocked, SecondIsRefused, OtherRefIsLocked, TwoAreServed, BodyIsNoMessage};
+ghost use Rattle.model.specs.Examples.{CrowdedIsRefused, HeadsAreRefused, MethodIsRefused, RoutesLead, NamelessIsRefused, TokenExpires};
+ghost use Rattle.model.specs.Examples.{RepositoryIsUnknown, DownloadLocksNothing, CutIsUnanswered, FolderIsFrozen, PushIsDenied};
+ghost use Rattle.model.specs.Examples.{ContentHasItsName, ContentIsServed, QuotaIsKept, UploadIsRefusedEarly, StoredIsConfirmed};
+ghost use Rattle.model.specs.Examples.{UploadIsOffered, DownloadIsOffered, ObjectsAreRefused, HashIsRefused, BatchIsRefused};
+ghost use Rattle.model.specs.Examples.{HiddenIsLeftOut, PagesAreCut, PagesAreRefused, LocksAreSplit, LockIsReleased};
+ghost use Rattle.model.specs.Examples.{RefusalCloses, TokenIsIssued, TokenIsPruned, MomentsArePrinted};
 
-/// The first message of a stream makes the first lock, and is told so in 187 bytes.
-pub fn first_lock()
-    ensures first { FirstIsFirst }
-    ensures locked { FirstIsLocked }
-    ensures told { FirstIsTold }
+/// The first message of a stream makes the first lock. The same message again finds it (L1). The path is
+/// free on another ref, and without an id that is left it is L5.
+pub fn locks()
+    ensures first_is_first { FirstIsFirst }
+    ensures first_is_locked { FirstIsLocked }
+    ensures second_is_refused { SecondIsRefused }
+    ensures other_ref_is_locked { OtherRefIsLocked }
 {}
 
-/// The same message again is told of the lock that stands.
-pub fn second_lock()
-    ensures refused { SecondIsRefused }
-    ensures told { SecondIsTold }
+/// A session of two messages is a run. The body of an upload that is refused from its head is no message.
+pub fn sessions()
+    ensures two_are_served { TwoAreServed }
+    ensures body_is_no_message { BodyIsNoMessage }
 {}
 
-/// The path is free on another ref.
-pub fn other_ref()
-    ensures { OtherRefIsLocked }
+/// Heads that are refused, each by its rule, and the routes of the table.
+pub fn heads()
+    ensures crowded_is_refused { CrowdedIsRefused }
+    ensures heads_are_refused { HeadsAreRefused }
+    ensures method_is_refused { MethodIsRefused }
+    ensures routes_lead { RoutesLead }
 {}
 
-/// The first policy row that matches decides, and a pattern of a folder holds what lies in it.
-pub fn frozen_folder()
-    ensures frozen { FolderIsFrozen }
-    ensures told { FolderIsTold }
-    ensures beside { BesideIsLocked }
+/// No token, an unknown one, an expired one, a download token, another repository; a message that is cut
+/// off.
+pub fn callers()
+    ensures nameless_is_refused { NamelessIsRefused }
+    ensures token_expires { TokenExpires }
+    ensures repository_is_unknown { RepositoryIsUnknown }
+    ensures download_locks_nothing { DownloadLocksNothing }
+    ensures cut_is_unanswered { CutIsUnanswered }
 {}
 
-/// A push denied to one who may not pull is 404, and 403 to one who may.
-pub fn denied_push()
-    ensures hidden { PushIsHidden }
-    ensures told { PushIsTold }
-    ensures denied { PushIsDenied }
+/// The first policy row that matches decides. A denied push hides the repository from those who may not
+/// pull.
+pub fn policies()
+    ensures folder_is_frozen { FolderIsFrozen }
+    ensures push_is_denied { PushIsDenied }
 {}
 
-/// Heads that are refused, each with its rule; and whether the connection ends there.
-pub fn refused_heads()
-    ensures coding { CodingIsRefused }
-    ensures accept { TypeIsRefused }
-    ensures length { SecondLengthIsRefused }
-    ensures method { MethodIsRefused }
-    ensures path { ClimbingIsRefused }
+/// An object is stored under the name of its bytes, and served; the quota holds it or not; an upload is
+/// denied before its body; an object is confirmed.
+pub fn objects()
+    ensures content_has_its_name { ContentHasItsName }
+    ensures content_is_served { ContentIsServed }
+    ensures quota_is_kept { QuotaIsKept }
+    ensures upload_is_refused_early { UploadIsRefusedEarly }
+    ensures stored_is_confirmed { StoredIsConfirmed }
 {}
 
-/// No token; a token until it expires; a download token.
-pub fn tokens()
-    ensures nameless { NamelessIsRefused }
-    ensures told { NamelessIsTold }
-    ensures expires { TokenExpires }
-    ensures download { DownloadLocksNothing }
+/// What a batch is offered, and each rule that refuses an object of it or the whole.
+pub fn batches()
+    ensures upload_is_offered { UploadIsOffered }
+    ensures download_is_offered { DownloadIsOffered }
+    ensures objects_are_refused { ObjectsAreRefused }
+    ensures hash_is_refused { HashIsRefused }
+    ensures batch_is_refused { BatchIsRefused }
 {}
 
-/// A token is issued for a minute, and not twice; none expires past the last moment; it is removed
-/// at its expiry.
+/// Pages of locks: who sees what, where they begin and end, and one's own apart. Locks are released by
+/// their owner, or by force.
+pub fn pages()
+    ensures hidden_is_left_out { HiddenIsLeftOut }
+    ensures pages_are_cut { PagesAreCut }
+    ensures pages_are_refused { PagesAreRefused }
+    ensures locks_are_split { LocksAreSplit }
+    ensures lock_is_released { LockIsReleased }
+{}
+
+/// The refusal by the store; tokens that are issued and removed; the first and the last moment.
 pub fn operator()
-    ensures issued { TokenIsIssued }
-    ensures once { TokenIsIssuedOnce }
-    ensures late { TokenIsTooLate }
-    ensures pruned { TokenIsPruned }
+    ensures refusal_closes { RefusalCloses }
+    ensures token_is_issued { TokenIsIssued }
+    ensures token_is_pruned { TokenIsPruned }
+    ensures moments_are_printed { MomentsArePrinted }
 {}

@@ -1,36 +1,101 @@
 //! Laws of the definitions. Each function does nothing, and its contract is the law.
 
-ghost use Rattle.model.specs.Laws.{HasOneFirst, ChoosesOnlyThere, StepsKeepWorlds, RunsKeepWorlds, RunsMakeWorlds, DenialsChangeNothing, NeverLocksTwice};
+ghost use Rattle.model.specs.Laws.{HasOneFirst, BeginsWithMessage, CutIsLast, ChoosesOnlyThere, HeadDecides, TargetDecides};
+ghost use Rattle.model.specs.Laws.{StepsKeepWorlds, RunsKeepWorlds, RunsMakeWorlds, ServesWhatIsKept, ServedHasItsName, ServedWasPut};
+ghost use Rattle.model.specs.Laws.{DenialsChangeNothing, SilenceChangesNothing, OnlyCutIsSilent, NeverLocksTwice, CountsOn, NewIdIsNext};
+ghost use Rattle.model.specs.Laws.{RoomIsQuota, StaysInQuota, PageIsLeast, LocksRise, WalksAreWhole, ViewsForetell, ViewsServeOneDigest, OthersLeaveViews};
+ghost use Rattle.model.specs.Laws.{ReportsAreTrue, LeavesOneChange, MomentIsText};
 
-/// A list of bytes has at most one first message, and one rest behind it.
+/// A list of bytes has at most one first message and one rest after it. The body is as long as the head
+/// says, or cut off, and then nothing is after it.
 pub fn message_law()
-    ensures { HasOneFirst }
+    ensures one { HasOneFirst }
+    ensures is { BeginsWithMessage }
+    ensures cut { CutIsLast }
 {}
 
-/// A stream's end may be told as a bad head, or not at all, only where less than a head is there
-/// and nothing that follows could make one.
+/// At the end of a stream, H1 and no reply are both allowed only if less than a head is there and nothing
+/// that follows could complete it.
 pub fn choice_law()
     ensures { ChoosesOnlyThere }
 {}
 
-/// Each step keeps the laws of worlds: everything is in range, objects have the names of their
-/// bytes, no place and no id is taken twice, ids are within those made, digests differ.
+/// What denies a message before its body is read denies it with any body, for every form of request.
+pub fn head_law()
+    ensures head { HeadDecides }
+    ensures target { TargetDecides }
+{}
+
+/// Each step keeps the laws of worlds: everything is in range, objects have the names of their bytes, no
+/// place and no id is used twice, ids are within those made, digests differ.
 pub fn step_law()
     ensures { StepsKeepWorlds }
 {}
 
-/// A run keeps the laws of worlds, and one that began with nothing has them.
+/// A run keeps the laws of worlds, and one from the empty world has them. What a download is answered with
+/// is stored and has its name, and in such a run just these bytes were uploaded before, under this name in
+/// this repository.
 pub fn run_law()
     ensures keeps { RunsKeepWorlds }
     ensures makes { RunsMakeWorlds }
+    ensures kept { ServesWhatIsKept }
+    ensures named { ServedHasItsName }
+    ensures put { ServedWasPut }
 {}
 
-/// A denial leaves the world as it was.
+/// A denial leaves the world as it was, and so does a message without an answer. Only a message that is
+/// cut off has none, if nothing denies it before its body is read.
 pub fn denial_law()
-    ensures { DenialsChangeNothing }
+    ensures denial { DenialsChangeNothing }
+    ensures silence { SilenceChangesNothing }
+    ensures cut { OnlyCutIsSilent }
 {}
 
 /// No path of a repository's ref is ever locked twice.
 pub fn place_law()
     ensures { NeverLocksTwice }
+{}
+
+/// The count of made locks never falls, and a new lock has the next id. So no id is given twice.
+pub fn id_law()
+    ensures counts { CountsOn }
+    ensures next { NewIdIsNext }
+{}
+
+/// An object fits exactly if the stored total and its size are within the quota. A stored total within a
+/// bound stays within it in each run whose quotas are within it.
+pub fn quota_law()
+    ensures room { RoomIsQuota }
+    ensures stays { StaysInQuota }
+{}
+
+/// A page of rising locks has those of least id from the cursor on, and the locks of a repository rise.
+pub fn page_law()
+    ensures least { PageIsLeast }
+    ensures rise { LocksRise }
+{}
+
+/// The joined pages of a walk rise, have no lock twice, and have each lock that was shown at every page.
+pub fn walk_law()
+    ensures { WalksAreWhole }
+{}
+
+/// The reply to a user is the one that the user's view foretells, in every world with that view, and the
+/// contents that such worlds serve have one SHA-256. An exchange in another repository leaves the view.
+pub fn view_law()
+    ensures foretell { ViewsForetell }
+    ensures digest { ViewsServeOneDigest }
+    ensures apart { OthersLeaveViews }
+{}
+
+/// Each step leads to the world that its report says. A stop leaves the last world of a run, or that world
+/// with one change that the store refused after the last change.
+pub fn stop_law()
+    ensures reports { ReportsAreTrue }
+    ensures leaves { LeavesOneChange }
+{}
+
+/// What is the text of a moment equals the text that is computed.
+pub fn moment_law()
+    ensures { MomentIsText }
 {}

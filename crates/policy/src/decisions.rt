@@ -1,7 +1,7 @@
 //! How the policy decides.
 
 ghost use Rattle.std.specs.Prelude.{◌≡◌};
-ghost use Rattle.model.specs.Policy.{decide, decided};
+ghost use Rattle.model.specs.Policy.{decide, decision_by};
 ghost use Rattle.policy.specs.Values.{policy_view, question_view, decision_view};
 
 use crate::policies::Policy;
@@ -10,7 +10,7 @@ use model::Effect;
 
 /// The answer of the row of that number.
 fn decided(effect: Effect, number: u32) -> Verdict
-    ensures { decision_view result ≡ decided effect number }
+    ensures { decision_view result ≡ decision_by effect number }
 {
     match effect {
         Effect::Allow => Verdict::Allow(number),

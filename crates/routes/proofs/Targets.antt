@@ -5,9 +5,9 @@ use Rattle.std.specs.Str.{IsUtf8}
 use Rattle.std.proofs.lemmas.Str.{is_utf8-from_IsUtf8}
 use Rattle.names.specs.declared.rules.Rule.{Rule}
 use Rattle.names.specs.declared.rules.Rule.TheVariants.{H6}
-use Rattle.model.specs.Reading.{◌>>=◌, check, found}
+use Rattle.model.specs.Reading.{◌>>=◌, check, ok_or}
 use Rattle.names.specs.Texts.{parts}
-use Rattle.model.specs.Heads.{Segment, literal, parameter, Route, RouteRow, under_lfs, taken, row_fits, repo_text, route_of_parts, path_of, route_at}
+use Rattle.model.specs.Heads.{Segment, literal, parameter, Route, RouteRow, under_lfs, parameter_in, row_fits, repo_text, route_of_parts, served_routes, path_of, route_at}
 use Rattle.routes.specs.Patterns.{is_some_text, fitting, row_at}
 use Rattle.routes.specs.declared.table.Resource.{Resource}
 use Rattle.routes.specs.declared.table.Resource.TheVariants.{Locks}
@@ -26,11 +26,11 @@ has_parameter [] = false
 has_parameter (literal text ∷ row) = has_parameter row
 has_parameter (parameter ∷ row) = true
 
-taken-none : (row : List Segment) (rest : List (List ℕ)) → has_parameter row ≡ false → taken row rest ≡ []
-taken-none [] rest e = refl
-taken-none (literal text ∷ row) [] e = refl
-taken-none (literal text ∷ row) (part ∷ rest) e = taken-none row rest e
-taken-none (parameter ∷ row) rest e = absurd (cc)
+no-parameter : (row : List Segment) (rest : List (List ℕ)) → has_parameter row ≡ false → parameter_in row rest ≡ []
+no-parameter [] rest e = refl
+no-parameter (literal text ∷ row) [] e = refl
+no-parameter (literal text ∷ row) (part ∷ rest) e = no-parameter row rest e
+no-parameter (parameter ∷ row) rest e = absurd (cc)
 
 -- one line for each resource
 no_parameter : (resource : Resource) → has_parameter (under_lfs (row_of resource).rest) ≡ false
@@ -60,16 +60,16 @@ by_resource o None part = Err H6
 by_resource o (Some owner) None = Err H6
 by_resource o (Some owner) (Some part) = by_repo o (repo_text owner part)
 
-judged : (all : Bool) (o : Option Resource) (repo : Option (List ℕ)) (rest : List (List ℕ))
-    → (check all H6 >>= λ whole. found repo H6 >>= λ text. found (option_map row_of o) H6 >>= λ row. routed text (taken (under_lfs row.rest) rest) row)
+by_checks : (all : Bool) (o : Option Resource) (repo : Option (List ℕ)) (rest : List (List ℕ))
+    → (check all H6 >>= λ whole. ok_or repo H6 >>= λ text. ok_or (option_map row_of o) H6 >>= λ row. routed text (parameter_in (under_lfs row.rest) rest) row)
     ≡ by_repo (cond all o None) repo
-judged false o repo rest = refl
-judged true None None rest = refl
-judged true (Some resource) None rest = refl
-judged true None (Some repo) rest = refl
-judged true (Some resource) (Some repo) rest = ap (λ part. routed repo part (row_of resource)) (taken-none (under_lfs (row_of resource).rest) rest (no_parameter resource))
+by_checks false o repo rest = refl
+by_checks true None None rest = refl
+by_checks true (Some resource) None rest = refl
+by_checks true None (Some repo) rest = refl
+by_checks true (Some resource) (Some repo) rest = ap (λ part. routed repo part (row_of resource)) (no-parameter (under_lfs (row_of resource).rest) rest (no_parameter resource))
 
-of_parts : (ps : List (List ℕ)) → route_of_parts ps ≡ by_resource (row_at table ps) (slice_get ps 1) (slice_get ps 2)
+of_parts : (ps : List (List ℕ)) → route_of_parts served_routes ps ≡ by_resource (row_at table ps) (slice_get ps 1) (slice_get ps 2)
 of_parts [] = refl
 of_parts ((b ∷ front) ∷ []) = refl
 of_parts ((b ∷ front) ∷ owner ∷ []) = refl
@@ -78,14 +78,14 @@ of_parts ([] ∷ []) = refl
 of_parts ([] ∷ owner ∷ []) = refl
 of_parts ([] ∷ owner ∷ part ∷ rest) =
     let all = list_all is_some_text (owner ∷ part ∷ rest) in
-    ap (λ o. check all H6 >>= λ whole. found (repo_text owner part) H6 >>= λ text. found o H6 >>= λ row. routed text (taken (under_lfs row.rest) rest) row) (find-row resources owner part rest)
-    ∙ judged all (fitting table (owner ∷ part ∷ rest)) (repo_text owner part) rest
+    ap (λ o. check all H6 >>= λ whole. ok_or (repo_text owner part) H6 >>= λ text. ok_or o H6 >>= λ row. routed text (parameter_in (under_lfs row.rest) rest) row) (find-row resources owner part rest)
+    ∙ by_checks all (fitting table (owner ∷ part ∷ rest)) (repo_text owner part) rest
 
 pub by_parts : (target path : List ℕ) (resource : Option Resource) (o p : Option (List ℕ)) → IsUtf8 target → path ≡ path_of target
     → resource ≡ resource_at path → o ≡ slice_get (parts path) 1 → p ≡ slice_get (parts path) 2 → route_at target ≡ by_resource resource o p
 by_parts target path resource o p utf8 e f g h =
-    ap (λ v. check v H6 >>= λ text. route_of_parts (parts (path_of target))) (is_utf8-from_IsUtf8 target utf8)
-    ∙ ap (λ t. route_of_parts (parts t)) (sym e) ∙ of_parts (parts path)
+    ap (λ v. check v H6 >>= λ text. route_of_parts served_routes (parts (path_of target))) (is_utf8-from_IsUtf8 target utf8)
+    ∙ ap (λ t. route_of_parts served_routes (parts t)) (sym e) ∙ of_parts (parts path)
     ∙ ap (λ x. by_resource x (slice_get (parts path) 1) (slice_get (parts path) 2)) (sym f)
     ∙ ap (λ x. by_resource resource x (slice_get (parts path) 2)) (sym g) ∙ ap (λ x. by_resource resource o x) (sym h)
 

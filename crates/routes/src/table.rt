@@ -7,7 +7,7 @@ ghost use Rattle.routes.specs.Table.{table};
 
 use crate::target::{part_at, path_of, without_git};
 use matchit::{InsertError, Router};
-use model::Form;
+use model::ServedForm;
 use std::alloc::{AllocError, Global};
 
 /// What a route leads to in a repository: a row of the table of routes.
@@ -36,20 +36,20 @@ pub struct Route<'t> {
 }
 
 impl Resource {
-    ghost use Rattle.std.specs.Prelude.{◌≡◌, ◌≤◌, length, map};
-    ghost use Rattle.model.specs.Heads.{form_of, listed};
+    ghost use Rattle.std.specs.Prelude.{◌≡◌, ◌≤◌, length, map, option_map};
+    ghost use Rattle.model.specs.Heads.{form_of, form_of_served, comma_list};
     ghost use Rattle.routes.specs.Table.{row_of};
 
     /// What the method asks for here; `None` where it is not served (H7).
     ///
     /// Methods are compared byte by byte (RFC 9110, Methods).
-    pub fn form_of(self, method: &[u8]) -> Option<Form>
-        ensures { result ≡ form_of method.now (row_of self).requests }
+    pub fn form_of(self, method: &[u8]) -> Option<ServedForm>
+        ensures { option_map form_of_served result ≡ form_of method.now (row_of self).requests }
     {
         match self {
             Resource::Locks => {
                 if method == b"POST".as_slice() {
-                    Some(Form::Lock)
+                    Some(ServedForm::Lock)
                 } else {
                     None
                 }
@@ -60,7 +60,7 @@ impl Resource {
     /// The methods that are served here, with a comma and a space between them: what `Allow` says
     /// where another is asked (RFC 9110, Allow).
     pub fn allow(self) -> &'static str
-        ensures methods { result.now ≡ listed (map (λ r. r.0) (row_of self).requests) }
+        ensures methods { result.now ≡ comma_list (map (λ r. r.0) (row_of self).requests) }
         ensures short { length result.now ≤ 128 }
     {
         match self {

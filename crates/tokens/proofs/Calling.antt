@@ -6,8 +6,9 @@ use Rattle.std.proofs.lemmas.Option.{none-some}
 use Rattle.sha2.specs.Sha256.{sha256}
 use Rattle.names.specs.declared.rules.Rule.{Rule}
 use Rattle.names.specs.declared.rules.Rule.TheVariants.{A2, A3}
-use Rattle.model.specs.World.{World, IsWorld, Issued}
-use Rattle.model.specs.Steps.{bearer, issued_as, caller_by}
+use Rattle.model.specs.World.{World, IsWorld, Token, find_token}
+use Rattle.model.specs.Callers as model
+use Rattle.model.specs.Callers.{bearer, caller_by}
 use Rattle.tables.specs.Rows as row
 use Rattle.tables.specs.Rows.{Tables}
 use Rattle.tables.specs.Statements.{has_digest}
@@ -29,14 +30,18 @@ some_of_map f g x (Some y) e = (y, refl, same e)
     same : Some (f x) ≡ Some (g y) → f x ≡ g y
     same e = cc
 
-refused_unknown : (world : World) (now : ℕ) (values : List (List ℕ)) (text : List ℕ) → bearer values ≡ Some text → issued_as text world ≡ None → caller_by world now values ≡ Err A2
+refused_unknown : (world : World) (now : ℕ) (values : List (List ℕ)) (text : List ℕ) → bearer values ≡ Some text → find_token text world ≡ None → caller_by world now values ≡ Err A2
 refused_unknown world now values text bears none = rw (bears, none) refl
 
-accepted : (world : World) (now : ℕ) (values : List (List ℕ)) (text : List ℕ) (i : Issued) → bearer values ≡ Some text → issued_as text world ≡ Some i → nat_lt now i.expires ≡ true
-    → caller_by world now values ≡ Ok i
+-- the caller who presents this text, by the token that was issued under its digest
+abbrev presented_by : List ℕ → Token → model.Caller
+presented_by text t = record { token = text; user = t.user; repo = t.repo; operation = t.operation; expires = t.expires }
+
+accepted : (world : World) (now : ℕ) (values : List (List ℕ)) (text : List ℕ) (i : Token) → bearer values ≡ Some text → find_token text world ≡ Some i → nat_lt now i.expires ≡ true
+    → caller_by world now values ≡ Ok (presented_by text i)
 accepted world now values text i bears known good = rw (bears, known, good) refl
 
-refused_expired : (world : World) (now : ℕ) (values : List (List ℕ)) (text : List ℕ) (i : Issued) → bearer values ≡ Some text → issued_as text world ≡ Some i → nat_lt now i.expires ≡ false
+refused_expired : (world : World) (now : ℕ) (values : List (List ℕ)) (text : List ℕ) (i : Token) → bearer values ≡ Some text → find_token text world ≡ Some i → nat_lt now i.expires ≡ false
     → caller_by world now values ≡ Err A3
 refused_expired world now values text i bears known past = rw (bears, known, past) refl
 
@@ -44,16 +49,16 @@ pub unknown_token : (t : Tables) (world : World) (now : ℕ) (values : List (Lis
     → option_map read_token None ≡ option_map token_fields (find (has_digest digest) t.tokens) → caller_by world now values ≡ Err A2
 unknown_token t world now values text digest s w bears is e =
     let none : find (has_digest (sha256 text)) t.tokens ≡ None = ap (λ d. find (has_digest d) t.tokens) (sym is) ∙ none_of_map read_token token_fields (find (has_digest digest) t.tokens) e in
-    refused_unknown world now values text bears (none_of_map token_kept token_row (issued_as text world) (ap (option_map token_kept) (sym none) ∙ token_found t world text s w))
+    refused_unknown world now values text bears (none_of_map token_kept token_row (find_token text world) (ap (option_map token_kept) (sym none) ∙ token_found t world text s w))
 
 -- a row and the token that it keeps agree
-record Keeps (found : TokenRow) (i : Issued) : Type 0 where
+record Keeps (found : TokenRow) (i : Token) : Type 0 where
   user : string_bytes found.user ≡ i.user
   repo : string_bytes found.repo ≡ i.repo
   operation : code_of found.operation ≡ operation_code i.operation
   expires : found.expires ≡ pos i.expires
 
-keeps : (found : TokenRow) (r : row.Token) (i : Issued) → read_token found ≡ token_fields r → token_kept r ≡ token_row i → Keeps found i
+keeps : (found : TokenRow) (r : row.Token) (i : Token) → read_token found ≡ token_fields r → token_kept r ≡ token_row i → Keeps found i
 keeps found r i a b = record {
   user = ap (λ (f : TokenFields). f.user) a ∙ ap (λ (k : row.Token). k.user) b;
   repo = ap (λ (f : TokenFields). f.repo) a ∙ ap (λ (k : row.Token). k.repo) b;
@@ -67,12 +72,12 @@ lt_true a b h = grind (arith, nat_tests)
 lt_false : (a b : ℕ) → b ≤ a → nat_lt a b ≡ false
 lt_false a b h = grind (arith, nat_tests)
 
-calling : (world : World) (now : ℕ) (values : List (List ℕ)) (text : List ℕ) (i : Issued) (found : TokenRow) (r : Result Caller Rule)
-    → bearer values ≡ Some text → issued_as text world ≡ Some i → Keeps found i → IsGoodAt found now r → IsCalling world now values r
+calling : (world : World) (now : ℕ) (values : List (List ℕ)) (text : List ℕ) (i : Token) (found : TokenRow) (r : Result Caller Rule)
+    → bearer values ≡ Some text → find_token text world ≡ Some i → Keeps found i → IsGoodAt found now r → IsCalling world now values r
 calling world now values text i found (Ok c) bears known k good =
     let soon : pos now <ℤ pos i.expires = subst (λ (z : ℤ). pos now <ℤ z) k.expires good.0 in
     let before : now < i.expires = omega (arith, ints, soon) in
-    (i, accepted world now values text i bears known (lt_true now i.expires before), record { user = good.1 ∙ k.user; repo = good.2 ∙ k.repo; operation = ap code_of good.3 ∙ k.operation })
+    (presented_by text i, accepted world now values text i bears known (lt_true now i.expires before), record { user = good.1 ∙ k.user; repo = good.2 ∙ k.repo; operation = ap code_of good.3 ∙ k.operation })
 calling world now values text i found (Err rule) bears known k late =
     let past : pos i.expires ≤ℤ pos now = subst (λ (z : ℤ). z ≤ℤ pos now) k.expires late.0 in
     let after : i.expires ≤ now = omega (arith, ints, past) in
@@ -84,5 +89,5 @@ pub known_token : (t : Tables) (world : World) (now : ℕ) (values : List (List 
 known_token t world now values text digest found r s w bears is e good =
     let some = some_of_map read_token token_fields found (find (has_digest digest) t.tokens) e in
     let there : find (has_digest (sha256 text)) t.tokens ≡ Some some.0 = ap (λ d. find (has_digest d) t.tokens) (sym is) ∙ some.1 in
-    let kept = some_of_map token_kept token_row some.0 (issued_as text world) (ap (option_map token_kept) (sym there) ∙ token_found t world text s w) in
+    let kept = some_of_map token_kept token_row some.0 (find_token text world) (ap (option_map token_kept) (sym there) ∙ token_found t world text s w) in
     calling world now values text kept.0 found r bears kept.1 (keeps found some.0 kept.0 some.2 kept.2) good

@@ -1,3 +1,4 @@
 pub mod Calling
 pub mod Listed
 pub mod Kept
+pub mod Digits

@@ -1,9 +1,9 @@
 -- The rows of a user's tokens in a repository, and the tokens of the world.
-use Rattle.std.proofs.Common.{◌≡◌, ◌∙◌, ℕ, Bool, ◌&&◌, List, [], ◌∷◌, map, filter, bytes_eq, refl, sym, ap, subst, IsPermutation}
+use Rattle.std.proofs.Common.{◌≡◌, ◌∙◌, ℕ, Bool, List, [], ◌∷◌, map, filter, refl, ap, subst, IsPermutation}
 use Rattle.std.proofs.lemmas.List.Sorted.{IsPermutation-map}
 use Rattle.std.proofs.lemmas.Map.Text.{is_eq-slice_cmp}
 use Rattle.sqlite_trees.proofs.ListLemmas.{IsPermutation-filter, filter-map}
-use Rattle.model.specs.World.{World, Issued}
+use Rattle.model.specs.World.{World, Token}
 use Rattle.tables.specs.Rows as row
 use Rattle.tables.specs.Rows.{Tables}
 use Rattle.tables.specs.Statements.{is_held_by}
@@ -16,20 +16,20 @@ twice : {A B C : Type 0} (f : B → C) (g : A → B) (xs : List A) → map f (ma
 twice f g [] = refl
 twice f g (x ∷ xs) = ap (λ rest. f (g x) ∷ rest) (twice f g xs)
 
-held_alike : (user repo : List ℕ) (i : Issued) → is_held_by user repo (token_row i) ≡ is_of user repo i
+held_alike : (user repo : List ℕ) (i : Token) → is_held_by user repo (token_row i) ≡ is_of user repo i
 held_alike user repo i = rw (is_eq-slice_cmp i.user user, is_eq-slice_cmp i.repo repo) refl
 
 -- the rows of the user's tokens tell the user's tokens, in any order
 pub held_told : (t : Tables) (world : World) (user repo : List ℕ) → StandsFor t world
-    → IsPermutation (map token_fields (filter (is_held_by user repo) t.tokens)) (map told_of (filter (is_of user repo) world.issued))
+    → IsPermutation (map token_fields (filter (is_held_by user repo) t.tokens)) (map told_of (filter (is_of user repo) world.tokens))
 held_told t world user repo s =
     let held : row.Token → Bool = is_held_by user repo in
-    let rows = IsPermutation-map token_fields (filter held (map token_kept t.tokens)) (filter held (map token_row world.issued))
-    (IsPermutation-filter held (map token_kept t.tokens) (map token_row world.issued) s.issued) in
+    let rows = IsPermutation-map token_fields (filter held (map token_kept t.tokens)) (filter held (map token_row world.tokens))
+    (IsPermutation-filter held (map token_kept t.tokens) (map token_row world.tokens) s.tokens) in
     let left : map token_fields (filter held (map token_kept t.tokens)) ≡ map token_fields (filter held t.tokens) =
     ap (map token_fields) (filter-map held token_kept t.tokens) ∙ twice token_fields token_kept (filter held t.tokens) in
-    let right : map token_fields (filter held (map token_row world.issued)) ≡ map told_of (filter (is_of user repo) world.issued) =
-    ap (map token_fields) (filter-map held token_row world.issued) ∙ twice token_fields token_row (filter (λ i. held (token_row i)) world.issued)
-    ∙ ap (map told_of) (filter_alike (λ i. held (token_row i)) (is_of user repo) world.issued (held_alike user repo)) in
-    subst (λ (xs : List TokenFields). IsPermutation xs (map told_of (filter (is_of user repo) world.issued))) left
+    let right : map token_fields (filter held (map token_row world.tokens)) ≡ map told_of (filter (is_of user repo) world.tokens) =
+    ap (map token_fields) (filter-map held token_row world.tokens) ∙ twice token_fields token_row (filter (λ i. held (token_row i)) world.tokens)
+    ∙ ap (map told_of) (filter_alike (λ i. held (token_row i)) (is_of user repo) world.tokens (held_alike user repo)) in
+    subst (λ (xs : List TokenFields). IsPermutation xs (map told_of (filter (is_of user repo) world.tokens))) left
     (subst (λ (xs : List TokenFields). IsPermutation (map token_fields (filter held (map token_kept t.tokens))) xs) right rows)

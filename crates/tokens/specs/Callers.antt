@@ -2,22 +2,23 @@
 use Rattle.std.specs.Prelude.{◌≡◌, ◌<ℤ◌, ◌≤ℤ◌, ℕ, pos, List, Result, Ok, Err, string_bytes}
 use Rattle.names.specs.declared.rules.Rule.{Rule}
 use Rattle.names.specs.declared.rules.Rule.TheVariants.{A3}
-use Rattle.model.specs.World.{World, Issued}
-use Rattle.model.specs.Steps.{caller_by}
+use Rattle.model.specs.World.{World}
+use Rattle.model.specs.Callers as model
+use Rattle.model.specs.Callers.{caller_by}
 use Rattle.tables.specs.Steps.{code_of}
 use Rattle.tables.specs.declared.rows.TokenRow.{TokenRow}
 use Rattle.worlds.specs.Standing.{operation_code}
 use Rattle.tokens.specs.declared.callers.Caller.{Caller}
 
--- the caller is the holder of this token
-pub record IsHolder (c : Caller) (i : Issued) : Type 0 where
-  pub user : string_bytes c.user ≡ i.user
-  pub repo : string_bytes c.repo ≡ i.repo
-  pub operation : code_of c.operation ≡ operation_code i.operation
+-- the caller is this one of the definitions
+pub record IsHolder (c : Caller) (who : model.Caller) : Type 0 where
+  pub user : string_bytes c.user ≡ who.user
+  pub repo : string_bytes c.repo ≡ who.repo
+  pub operation : code_of c.operation ≡ operation_code who.operation
 
 -- it is the caller, or the refusal, that the world gives for these values of Authorization
 abbrev pub IsCalling : World → ℕ → List (List ℕ) → Result Caller Rule → Type 0
-IsCalling world now values (Ok c) = (i : Issued) × (caller_by world now values ≡ Ok i) × IsHolder c i
+IsCalling world now values (Ok c) = (who : model.Caller) × (caller_by world now values ≡ Ok who) × IsHolder c who
 IsCalling world now values (Err rule) = caller_by world now values ≡ Err rule
 
 -- the caller of a row that is good at the moment, or A3

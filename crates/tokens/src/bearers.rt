@@ -3,8 +3,8 @@
 ghost use Rattle.std.specs.Prelude.{◌≡◌, option_map, Some, IfOk};
 ghost use Rattle.std.specs.List.{list_all};
 ghost use Rattle.sha2.specs.Sha256.{sha256};
-ghost use Rattle.model.specs.Steps.{bearer, is_visible};
 ghost use Rattle.model.specs.World.{World};
+ghost use Rattle.model.specs.Callers.{bearer, is_visible};
 ghost use Rattle.tables.specs.Shown.{IsHonest, Moves};
 ghost use Rattle.worlds.specs.Standing.{Holds};
 ghost use Rattle.tokens.specs.Bearers.{the_one};

@@ -24,7 +24,7 @@ pub fn of<S: Alter>(
     user: UserName<'_>,
     repo: RepoName<'_>,
 ) -> Result<Vec<TokenRow>, StoreFault>
-    ensures answer { IsHonest S.Store store.new → (world : World) → Holds S.Store store.old world → IfOk result (λ found. IsPermutation (map read_token found.items) (map told_of (filter (is_of (user_text user.entry) (repo_text repo.entry)) world.issued))) }
+    ensures answer { IsHonest S.Store store.new → (world : World) → Holds S.Store store.old world → IfOk result (λ found. IsPermutation (map read_token found.items) (map told_of (filter (is_of (user_text user.entry) (repo_text repo.entry)) world.tokens))) }
     ensures same { Moves S.Store (λ t. t) store.old store.new }
 {
     store.tokens_of(alloc, user.as_str(), repo.as_str())

@@ -3,15 +3,15 @@
 ghost use Rattle.std.specs.Prelude.{◌≡◌, ◌+◌, true, false, is_some, nat_le, Ok, IfOk, OnErr, IsTrue, MatchOption, MatchResult, string_bytes};
 ghost use Rattle.hex.specs.Hex.{encode_lower};
 ghost use Rattle.names.specs.Texts.{last_moment, is_hex_64};
-ghost use Rattle.model.specs.World.{World};
-ghost use Rattle.model.specs.Steps.{issued_as, token_verdict};
+ghost use Rattle.model.specs.World.{World, find_token};
+ghost use Rattle.model.specs.Operator.{token_verdict};
 ghost use Rattle.tables.specs.Shown.{IsHonest, Moves};
 ghost use Rattle.worlds.specs.Standing.{Holds};
 ghost use Rattle.tokens.specs.Issuing.{Issues, Refuses, Keeps, Offers, denial_of, token_asked, token_until};
 ghost use Rattle.tokens.specs.declared.issuing.TokenFault.TheVariants.{Store as by_store};
 
 use crate::moments::second_of;
-use names::{Moment, Oid, RepoName, UserName};
+use names::{Moment, RepoName, UserName};
 use sha2::{Digest, Sha256};
 use std::alloc::Global;
 use tables::{Alter, NewToken, Operation, Store, StoreFault};
@@ -59,18 +59,14 @@ impl From<StoreFault> for TokenFault {
 /// The text that tells the bytes: two hexadecimal digits for each.
 fn text_of(alloc: Global, random: &[u8; 32]) -> Result<String, StoreFault>
     ensures text { IfOk result (λ text. string_bytes text ≡ encode_lower random.now) }
-    ensures digits { IfOk result (λ text. IsTrue (is_hex_64 (string_bytes text))) }
+    ensures digits { IsTrue (is_hex_64 (encode_lower random.now)) }
 {
-    let text = hex::encode(alloc, random.as_slice())?;
-    if Oid::read(text.as_bytes()).is_none() {
-        return Err(StoreFault::Refused);
-    }
-    Ok(text)
+    Ok(hex::encode(alloc, random.as_slice())?)
 }
 
 /// Whether a token of this text was issued.
 fn is_known<S: Alter>(store: &mut Store<S>, text: &str) -> Result<bool, StoreFault>
-    ensures answer { IsHonest S.Store store.new → (world : World) → Holds S.Store store.old world → IfOk result (λ known. known ≡ is_some (issued_as text.now world)) }
+    ensures answer { IsHonest S.Store store.new → (world : World) → Holds S.Store store.old world → IfOk result (λ known. known ≡ is_some (find_token text.now world)) }
     ensures same { Moves S.Store (λ t. t) store.old store.new }
 {
     let digest = Sha256::digest(text.as_bytes());

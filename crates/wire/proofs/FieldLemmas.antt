@@ -12,7 +12,8 @@ use Rattle.httparse.specs.Grammar.{RequestHead, Field, field_value, trim_ows}
 use Rattle.httparse.specs.Spans.{span_bytes, header_bytes, name_and_value, IsWithin, IsHeaderWithin}
 use Rattle.httparse.specs.declared.spans.Span.{Span}
 use Rattle.httparse.specs.declared.spans.HeaderSpan.{HeaderSpan}
-use Rattle.model.specs.Heads.{values, first, items, asks_close}
+use Rattle.model.specs.Orders.{first}
+use Rattle.model.specs.Heads.{values, items, asks_close}
 use Rattle.wire.specs.declared.head.Head.{Head}
 use Rattle.wire.specs.Fields.{covered, is_named, values_at, Shows, head_bytes, field_spans, values_shown, lists_close, is_closing_field}
 

@@ -9,7 +9,8 @@ use Rattle.std.proofs.lemmas.Bool.{and_parts, le-leb}
 use Rattle.std.proofs.lemmas.Bool.Decides.{nat_tests}
 use Rattle.std.proofs.lemmas.Str.{IsUtf8-from_ascii}
 use Rattle.std.proofs.lemmas.Str.Parse.{IsNumeralModel, numerals_by_value, parse_gives, digits_value_short}
-use Rattle.model.specs.Heads.{is_length, at_most_one, first}
+use Rattle.model.specs.Orders.{first}
+use Rattle.model.specs.Heads.{is_length, at_most}
 use Rattle.model.specs.Reading.{or_default}
 
 abbrev AreDigits : List ℕ → Type 0
@@ -56,14 +57,14 @@ some_same e = cc
 -- what is read of the first value is the length that the values state, where there is one value
 pub stated_some : (values : List (List ℕ)) (value : List ℕ) (o : Option ℕ) → length values ≤ 1 → Some value ≡ first values
     → MatchOption o (is_length value ≡ false) (λ n. (is_length value ≡ true) × (n ≡ digits_value 10 value))
-    → MatchOption o ((at_most_one values && list_all is_length values) ≡ false)
-    (λ n. ((at_most_one values && list_all is_length values) ≡ true) × (n ≡ digits_value 10 (or_default (first values) [])))
+    → MatchOption o ((at_most 1 values && list_all is_length values) ≡ false)
+    (λ n. ((at_most 1 values && list_all is_length values) ≡ true) × (n ≡ digits_value 10 (or_default (first values) [])))
 stated_some [] value o one e read = absurd (cc)
 stated_some (x ∷ y ∷ more) value o one e read = absurd (omega (arith, one))
 stated_some (x ∷ []) value None one e read = rw (sym (some_same e)) (rw read refl)
 stated_some (x ∷ []) value (Some n) one e read = rw (sym (some_same e)) (rw read.0 refl, read.1)
 
 pub stated_none : (values : List (List ℕ)) → length values ≤ 1 → None ≡ first values
-    → ((at_most_one values && list_all is_length values) ≡ true) × (0 ≡ digits_value 10 (or_default (first values) []))
+    → ((at_most 1 values && list_all is_length values) ≡ true) × (0 ≡ digits_value 10 (or_default (first values) []))
 stated_none [] one e = (refl, refl)
 stated_none (x ∷ more) one e = absurd (cc)

@@ -6,7 +6,7 @@ ghost use Rattle.std.specs.List.{list_all};
 ghost use Rattle.std.specs.Str.Parse.{digits_value};
 ghost use Rattle.std.specs.Char.{is_ascii_digit};
 ghost use Rattle.httparse.specs.Grammar.{RequestHead};
-ghost use Rattle.model.specs.Heads.{is_length, is_method, lengths, content_length, at_most_one, framed};
+ghost use Rattle.model.specs.Heads.{is_length, is_method, lengths, content_length, at_most, check_framing};
 ghost use Rattle.wire.specs.Fields.{Shows};
 
 use crate::head::Head;
@@ -33,7 +33,7 @@ impl<'a> Head<'a> {
     /// - H5: a POST over [`LARGEST_FORM`] bytes, or a PUT over [`LARGEST_OBJECT`].
     pub fn body_length(&self) -> Result<u64, Rule>
         ensures { (head : RequestHead) → Shows self.now head
-            → MatchResult result (λ n. (framed head ≡ Ok tt) × (n ≡ content_length head)) (λ rule. framed head ≡ Err rule) }
+            → MatchResult result (λ n. (check_framing head ≡ Ok tt) × (n ≡ content_length head)) (λ rule. check_framing head ≡ Err rule) }
     {
         if self.count("transfer-encoding") > 0 {
             return Err(Rule::H2);
@@ -62,8 +62,8 @@ impl<'a> Head<'a> {
     /// one that is not 1 to 18 digits.
     fn stated_length(&self) -> Option<u64>
         ensures { (head : RequestHead) → Shows self.now head → MatchOption result
-            ((at_most_one (lengths head) && list_all is_length (lengths head)) ≡ false)
-            (λ n. ((at_most_one (lengths head) && list_all is_length (lengths head)) ≡ true) × (n ≡ content_length head)) }
+            ((at_most 1 (lengths head) && list_all is_length (lengths head)) ≡ false)
+            (λ n. ((at_most 1 (lengths head) && list_all is_length (lengths head)) ≡ true) × (n ≡ content_length head)) }
     {
         if self.count("content-length") > 1 {
             return None;

@@ -20,7 +20,8 @@ impl<'a> Head<'a> {
     ghost use Rattle.std.specs.Prelude.{◌≡◌, ◌==◌, length, option_map};
     ghost use Rattle.std.specs.List.{list_any};
     ghost use Rattle.httparse.specs.Grammar.{RequestHead};
-    ghost use Rattle.model.specs.Heads.{values, first, asks_close};
+    ghost use Rattle.model.specs.Orders.{first};
+    ghost use Rattle.model.specs.Heads.{values, asks_close};
     ghost use Rattle.wire.specs.Cut.{Covers};
     ghost use Rattle.wire.specs.Fields.{Shows, head_bytes, field_spans, is_closing_field};
 

@@ -5,8 +5,8 @@
 
 ghost use Rattle.std.specs.Prelude.{◌≡◌, ◌+◌, ◌≤◌, ◌<◌, ◌++◌, ◌==◌, length, codes, decimal, not};
 ghost use Rattle.arrayvec.specs.ArrayString.{array_string_len};
-ghost use Rattle.model.specs.Replies.{line, line_if, type_line, phrases, phrase_in};
-ghost use Rattle.wire.specs.Replies.{content_of};
+ghost use Rattle.model.specs.Replies.{line, line_if, phrases, phrase_in};
+ghost use Rattle.wire.specs.Replies.{type_of};
 ghost use Rattle.names.specs.Texts.{is_empty};
 
 use arrayvec::ArrayString;
@@ -131,7 +131,7 @@ fn push_line_if(text: &mut ArrayString<HEAD_ROOM>, wanted: bool, name: &str, val
 /// Adds the line of the type, where there is a body.
 fn push_type(text: &mut ArrayString<HEAD_ROOM>, content: Content)
     requires { array_string_len text.old + 48 ≤ HEAD_ROOM }
-    ensures bytes { text.new.bytes ≡ text.old.bytes ++ type_line (content_of content) }
+    ensures bytes { text.new.bytes ≡ text.old.bytes ++ type_of content }
     ensures len { array_string_len text.new ≤ array_string_len text.old + 48 }
 {
     match content {

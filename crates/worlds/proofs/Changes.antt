@@ -6,7 +6,7 @@ use Rattle.std.proofs.lemmas.List.Sorted.{IsPermutation-refl, IsPermutation-tran
 use Rattle.std.proofs.lemmas.Map.Text.{is_eq-slice_cmp}
 use Rattle.std.proofs.lemmas.Slice.Eq.{bytes_eq-Decides}
 use Rattle.sqlite_keyed.specs.Keyed.{next_key}
-use Rattle.model.specs.World.{World, Lock, with_lock, counted, nothing}
+use Rattle.model.specs.World.{World, Lock, with_lock, one_more, nothing}
 use Rattle.tables.specs.Rows as row
 use Rattle.tables.specs.Rows.{Repo, Tables}
 use Rattle.tables.specs.Statements.{is_named, same_bytes, with_lock as with_lock_row}
@@ -63,7 +63,7 @@ pub fresh_stands : StandsFor fresh nothing
 fresh_stands = record {
   locks = IsPermutation-refl [];
   made = λ repo. refl;
-  issued = IsPermutation-refl [];
+  tokens = IsPermutation-refl [];
   uploads = refl;
   chunks = refl;
   objects = refl;
@@ -72,7 +72,7 @@ fresh_stands = record {
 -- ---- a lock more
 
 count_made : (world : World) (repo other : List ℕ) (t : Tables) (id : ℤ) → ((r : List ℕ) → made_of r t ≡ pos (world.made r)) → id ≡ pos (world.made repo + 1)
-    → made_in (find (is_named other) (set_made repo id (next_key (λ x. x.rowid) t.repos) t.repos)) ≡ pos (counted repo world.made other)
+    → made_in (find (is_named other) (set_made repo id (next_key (λ x. x.rowid) t.repos) t.repos)) ≡ pos (one_more repo world.made other)
 count_made world repo other t id made e = at (bytes_eq other repo) refl
   where
     at : (v : Bool) → bytes_eq other repo ≡ v
@@ -84,9 +84,9 @@ count_made world repo other t id made e = at (bytes_eq other repo) refl
     at false is = made_other repo other id (next_key (λ x. x.rowid) t.repos) t.repos is ∙ made other
 
 -- one row more at the end, one lock or token more at the front
-pub one_more : {A B K : Type 0} (kept : A → K) (row : B → K) (xs : List A) (ys : List B) (x : A) (y : B)
+pub one_item_more : {A B K : Type 0} (kept : A → K) (row : B → K) (xs : List A) (ys : List B) (x : A) (y : B)
     → IsPermutation (map kept xs) (map row ys) → kept x ≡ row y → IsPermutation (map kept (xs ++ x ∷ [])) (map row (y ∷ ys))
-one_more {K = K} kept row xs ys x y same e =
+one_item_more {K = K} kept row xs ys x y same e =
     let P : List K → Type 0 = λ ks. IsPermutation ks (map row (y ∷ ys)) in
     let Q : K → Type 0 = λ k. IsPermutation (map kept xs ++ k ∷ []) (map row (y ∷ ys)) in
     subst P (sym (map-append kept xs (x ∷ [])))
@@ -98,10 +98,10 @@ pub new_lock_stands : (t : Tables) (world : World) (asked : row.Lock) (id : ℤ)
     → StandsFor (with_new_lock asked id t) (with_lock l world)
 unfolding with_new_lock with_made with_lock_row
 new_lock_stands t world asked id l s kept repo e = record {
-  locks = one_more lock_kept lock_row t.locks world.locks _ l s.locks kept;
-  made = λ other. subst (λ (r : List ℕ). made_in (find (is_named other) (set_made r id (next_key (λ x. x.rowid) t.repos) t.repos)) ≡ pos (counted l.repo world.made other)) (sym repo)
+  locks = one_item_more lock_kept lock_row t.locks world.locks _ l s.locks kept;
+  made = λ other. subst (λ (r : List ℕ). made_in (find (is_named other) (set_made r id (next_key (λ x. x.rowid) t.repos) t.repos)) ≡ pos (one_more l.repo world.made other)) (sym repo)
       (count_made world l.repo other t id s.made e);
-  issued = s.issued;
+  tokens = s.tokens;
   uploads = s.uploads;
   chunks = s.chunks;
   objects = s.objects;

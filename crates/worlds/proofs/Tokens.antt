@@ -7,8 +7,7 @@ use Rattle.std.proofs.lemmas.List.Sorted.{length_permutation}
 use Rattle.sqlite_trees.proofs.ListLemmas.{IsPermutation-filter, filter-map}
 use Rattle.sqlite_trees.specs.declared.store.Store.{Ghosts}
 use Rattle.sha2.specs.Sha256.{sha256}
-use Rattle.model.specs.World.{World, IsWorld, Issued, IsIssued, with_token, without_expired}
-use Rattle.model.specs.Steps.{issued_as}
+use Rattle.model.specs.World.{World, IsWorld, Token, IsToken, find_token, with_token, without_expired}
 use Rattle.model.proofs.Keeping.{keeps_with_token, keeps_without_expired}
 use Rattle.tables.specs.Rows as row
 use Rattle.tables.specs.Rows.{Tables}
@@ -18,17 +17,17 @@ use Rattle.tables.specs.Steps.{has_token, after_add}
 use Rattle.tables.specs.Shown.{IsHonest, IsOpen, shown, Moves}
 use Rattle.tables.specs.declared.Store.{Store}
 use Rattle.worlds.specs.Standing.{token_kept, token_row, StandsFor, Holds}
-use Rattle.worlds.proofs.Changes.{one_more}
+use Rattle.worlds.proofs.Changes.{one_item_more}
 use Rattle.worlds.proofs.Lookups.{token_found}
 
 -- ---- a token more
 
-new_token_stands : (t : Tables) (world : World) (k : row.Token) (i : Issued) → StandsFor t world → token_kept k ≡ token_row i → StandsFor (tables.with_token k t) (with_token i world)
+new_token_stands : (t : Tables) (world : World) (k : row.Token) (i : Token) → StandsFor t world → token_kept k ≡ token_row i → StandsFor (tables.with_token k t) (with_token i world)
 unfolding tables.with_token
 new_token_stands t world k i s kept = record {
   locks = s.locks;
   made = s.made;
-  issued = one_more token_kept token_row t.tokens world.issued _ i s.issued kept;
+  tokens = one_item_more token_kept token_row t.tokens world.tokens _ i s.tokens kept;
   uploads = s.uploads;
   chunks = s.chunks;
   objects = s.objects;
@@ -41,8 +40,8 @@ some_alike f g None (Some y) e = absurd (cc)
 some_alike f g (Some x) None e = absurd (cc)
 
 -- a token with the digest is in the tables where one was issued under it
-pub token_known : (t : Tables) (world : World) (text : List ℕ) → StandsFor t world → IsWorld world → has_token (sha256 text) t ≡ is_some (issued_as text world)
-token_known t world text s w = some_alike token_kept token_row (find (has_digest (sha256 text)) t.tokens) (issued_as text world) (token_found t world text s w)
+pub token_known : (t : Tables) (world : World) (text : List ℕ) → StandsFor t world → IsWorld world → has_token (sha256 text) t ≡ is_some (find_token text world)
+token_known t world text s w = some_alike token_kept token_row (find (has_digest (sha256 text)) t.tokens) (find_token text world) (token_found t world text s w)
 
 pub none_is : {A : Type 0} (o : Option A) → is_some o ≡ false → o ≡ None
 none_is None e = refl
@@ -71,29 +70,29 @@ is_gone now expires = grind (arith, nat_tests)
 expired_gone : (t : Tables) (world : World) (now : ℕ) → StandsFor t world → StandsFor (tables.without_expired (pos now) t) (without_expired now world)
 unfolding tables.without_expired stays
 expired_gone t world now s =
-    let P : List row.Token → Type 0 = λ ks. IsPermutation ks (map token_row (filter (λ i. nat_lt now i.expires) world.issued)) in
+    let P : List row.Token → Type 0 = λ ks. IsPermutation ks (map token_row (filter (λ i. nat_lt now i.expires) world.tokens)) in
     let Q : List row.Token → Type 0 = λ ks. IsPermutation (filter (stays now) (map token_kept t.tokens)) ks in
     record {
       locks = s.locks;
       made = s.made;
-      issued = subst P (filter-map (stays now) token_kept t.tokens)
-          (subst Q (filter-map (stays now) token_row world.issued ∙ ap (map token_row) (filter_alike (λ i. stays now (token_row i)) (λ i. nat_lt now i.expires) world.issued (λ i. is_good now i.expires)))
-          (IsPermutation-filter (stays now) (map token_kept t.tokens) (map token_row world.issued) s.issued));
+      tokens = subst P (filter-map (stays now) token_kept t.tokens)
+          (subst Q (filter-map (stays now) token_row world.tokens ∙ ap (map token_row) (filter_alike (λ i. stays now (token_row i)) (λ i. nat_lt now i.expires) world.tokens (λ i. is_good now i.expires)))
+          (IsPermutation-filter (stays now) (map token_kept t.tokens) (map token_row world.tokens) s.tokens));
       uploads = s.uploads;
       chunks = s.chunks;
       objects = s.objects;
     }
 
 -- as many tokens have expired in the tables as in the world
-pub expired_counted : (t : Tables) (world : World) (now : ℕ) → StandsFor t world → length (filter (has_expired (pos now)) t.tokens) ≡ length (filter (λ i. not (nat_lt now i.expires)) world.issued)
+pub expired_counted : (t : Tables) (world : World) (now : ℕ) → StandsFor t world → length (filter (has_expired (pos now)) t.tokens) ≡ length (filter (λ i. not (nat_lt now i.expires)) world.tokens)
 expired_counted t world now s =
     let gone : row.Token → Bool = has_expired (pos now) in
     let kept = filter gone (map token_kept t.tokens) in
-    let rows = filter gone (map token_row world.issued) in
+    let rows = filter gone (map token_row world.tokens) in
     sym (length-map (filter gone t.tokens) token_kept) ∙ sym (ap length (filter-map gone token_kept t.tokens))
-    ∙ sym (length_permutation kept rows (IsPermutation-filter gone (map token_kept t.tokens) (map token_row world.issued) s.issued))
-    ∙ ap length (filter-map gone token_row world.issued) ∙ length-map (filter (λ i. gone (token_row i)) world.issued) token_row
-    ∙ ap length (filter_alike (λ i. gone (token_row i)) (λ i. not (nat_lt now i.expires)) world.issued (λ i. is_gone now i.expires))
+    ∙ sym (length_permutation kept rows (IsPermutation-filter gone (map token_kept t.tokens) (map token_row world.tokens) s.tokens))
+    ∙ ap length (filter-map gone token_row world.tokens) ∙ length-map (filter (λ i. gone (token_row i)) world.tokens) token_row
+    ∙ ap length (filter_alike (λ i. gone (token_row i)) (λ i. not (nat_lt now i.expires)) world.tokens (λ i. is_gone now i.expires))
 
 -- ---- what a store holds after a call
 
@@ -107,8 +106,8 @@ module _ {S : Type 0} (g : Ghosts S) (old new : Store S) (world : World) where
   not_added k t e = rw e refl
 
   -- a token that was added is issued
-  pub holds_token : (k : row.Token) (i : Issued) → Moves g (after_add k) old new → has_token k.digest (shown g old) ≡ false
-      → token_kept k ≡ token_row i → IsIssued i → issued_as i.text world ≡ None → Holds g old world → Holds g new (with_token i world)
+  pub holds_token : (k : row.Token) (i : Token) → Moves g (after_add k) old new → has_token k.digest (shown g old) ≡ false
+      → token_kept k ≡ token_row i → IsToken i → find_token i.text world ≡ None → Holds g old world → Holds g new (with_token i world)
   holds_token k i moves free kept is unknown h = record {
     stands = moves.stands h.stands;
     laws = keeps_with_token world i is unknown h.laws;

@@ -4,7 +4,7 @@ use Rattle.sha2.specs.Sha256.{sha256}
 use Rattle.sqlite_trees.specs.declared.store.Store.{Ghosts}
 use Rattle.model.specs.declared.Operation.{Operation}
 use Rattle.model.specs.declared.Operation.TheVariants.{Download, Upload}
-use Rattle.model.specs.World.{World, IsWorld, Lock, Issued}
+use Rattle.model.specs.World.{World, IsWorld, Lock, Token}
 use Rattle.tables.specs.Rows as row
 use Rattle.tables.specs.Rows.{Tables}
 use Rattle.tables.specs.Steps.{made_of}
@@ -27,14 +27,14 @@ operation_code Download = pos 1
 operation_code Upload = pos 2
 
 -- the row of an issued token, of which the digest alone is kept
-abbrev pub token_row : Issued → row.Token
-token_row i = record { rowid = pos 0; digest = sha256 i.text; user = i.user; repo = i.repo; op = operation_code i.operation; expires = pos i.expires }
+abbrev pub token_row : Token → row.Token
+token_row t = record { rowid = pos 0; digest = sha256 t.text; user = t.user; repo = t.repo; op = operation_code t.operation; expires = pos t.expires }
 
 -- the rows are those of the world's locks and tokens, in any order, and of no object
 pub record StandsFor (t : Tables) (world : World) : Type 0 where
   pub locks : IsPermutation (map lock_kept t.locks) (map lock_row world.locks)
   pub made : (repo : List ℕ) → made_of repo t ≡ pos (world.made repo)
-  pub issued : IsPermutation (map token_kept t.tokens) (map token_row world.issued)
+  pub tokens : IsPermutation (map token_kept t.tokens) (map token_row world.tokens)
   pub uploads : t.uploads ≡ []
   pub chunks : t.chunks ≡ []
   pub objects : world.objects ≡ []

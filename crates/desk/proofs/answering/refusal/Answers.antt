@@ -1,6 +1,6 @@
 use Rattle.std.proofs.Common.{Err, refl}
 use Rattle.std.proofs.lemmas.Result.{IfOk-weaker}
-use Rattle.model.specs.Steps.{by_rule}
+use Rattle.model.specs.Answers.{by_rule}
 use Rattle.desk.proofs.answering.refusal.Goals as goal
 
 pub returns : goal.returns

@@ -1,7 +1,7 @@
 use Rattle.std.proofs.Common.{Err, refl}
 use Rattle.std.proofs.lemmas.Result.{IfOk-weaker}
 use Rattle.model.specs.declared.Right.TheVariants as right
-use Rattle.model.specs.Steps.{by_row}
+use Rattle.model.specs.Answers.{by_row}
 use Rattle.desk.proofs.locking.denied_reply.Goals as goal
 
 pub returns : goal.returns

@@ -1,5 +1,5 @@
 use Rattle.std.proofs.Common.{refl, Err}
-use Rattle.model.specs.Steps.{by_lock}
+use Rattle.model.specs.Answers.{by_lock}
 use Rattle.desk.proofs.Placing.{of_row}
 use Rattle.desk.proofs.locking.held_reply.Goals as goal
 

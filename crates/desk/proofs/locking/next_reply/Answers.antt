@@ -1,5 +1,5 @@
 use Rattle.std.proofs.Common.{◌∙◌, sym, refl, Ok}
-use Rattle.model.specs.Steps.{makes_lock}
+use Rattle.model.specs.Answers.{makes_lock}
 use Rattle.desk.proofs.locking.next_reply.Goals as goal
 
 pub returns-in-Ok : goal.returns-in-Ok

@@ -1,7 +1,7 @@
 use Rattle.std.proofs.Common.{Err, refl}
 use Rattle.std.proofs.lemmas.Result.{IfOk-weaker}
 use Rattle.names.specs.declared.rules.Rule.TheVariants.{L5}
-use Rattle.model.specs.Steps.{by_rule}
+use Rattle.model.specs.Answers.{by_rule}
 use Rattle.desk.proofs.locking.used_up_reply.Goals as goal
 
 pub returns : goal.returns

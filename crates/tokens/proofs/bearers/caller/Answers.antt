@@ -1,6 +1,6 @@
 use Rattle.std.proofs.Common.{◌≡◌, ◌∷◌, [], sym, ap, ◌∙◌, option_map, subst, List, ℕ, Err}
 use Rattle.names.specs.declared.rules.Rule.TheVariants.{A2}
-use Rattle.model.specs.Steps.{caller_by}
+use Rattle.model.specs.Callers.{caller_by}
 use Rattle.tables.specs.Shown.{shown}
 use Rattle.tables.specs.Steps.{read_token}
 use Rattle.tokens.specs.Bearers.{the_one}

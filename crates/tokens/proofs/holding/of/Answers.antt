@@ -1,4 +1,4 @@
-use Rattle.std.proofs.Common.{◌≡◌, ◌∙◌, List, ℕ, map, filter, subst, IfOk, IsPermutation, sym}
+use Rattle.std.proofs.Common.{◌≡◌, List, map, filter, subst, IfOk, IsPermutation, sym}
 use Rattle.names.specs.Names.{user_text, repo_text}
 use Rattle.tables.specs.Shown.{shown, IsOpen}
 use Rattle.tables.specs.Statements.{is_held_by}
@@ -13,7 +13,7 @@ returns-clause-answer g c honest world h =
     let t = shown g.S.Store c.args.store.now in
     let user = user_text c.args.user in
     let repo = repo_text c.args.repo in
-    let told = map told_of (filter (is_of user repo) world.issued) in
+    let told = map told_of (filter (is_of user repo) world.tokens) in
     let is_open = c.tokens_of.ensures.open honest h.stands in
     let answer : IfOk c.tokens_of.result (λ found. map read_token found.items ≡ map token_fields (filter (is_held_by user repo) t.tokens)) =
     rw (← c.as_str.ensures.value, ← c.as_str-2.ensures.value) (c.tokens_of.ensures.answer honest h.stands) in

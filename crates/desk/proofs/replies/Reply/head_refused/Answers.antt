@@ -1,10 +1,11 @@
-use Rattle.std.proofs.Common.{rules, Err, refl}
-use Rattle.model.specs.Steps.{by_rule}
+use Rattle.std.proofs.Common.{rules, Err, refl, sym, ap}
+use Rattle.model.specs.Answers.{by_rule}
+use Rattle.model.specs.Replies.{json}
 use Rattle.desk.proofs.replies.Reply.head_refused.Goals as goal
 
 pub returns-in-Some-clause-told : goal.returns-in-Some-clause-told
 returns-in-Some-clause-told c of_head = record {
   status = c.status.ensures (Err (by_rule c.args.rule)) refl;
-  body = c.in-Some.ensures.text;
+  body = ap json (sym c.in-Some.ensures.text);
   refusal = search rules;
 }

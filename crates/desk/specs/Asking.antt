@@ -1,0 +1,22 @@
+-- A request, as the definitions see it.
+use Rattle.std.specs.Prelude.{ℕ, length, option_map}
+use Rattle.model.specs.Forms.{request_of}
+use Rattle.model.specs.Heads.{form_of_served}
+use Rattle.model.specs.Cases.{Setting, DeskRequest}
+use Rattle.policy.specs.Values.{policy_view}
+use Rattle.policy.specs.declared.policies.Policy.{Policy}
+use Rattle.tokens.specs.Bearers.{the_one}
+use Rattle.desk.specs.declared.admission.Asked.{Asked}
+
+-- the policy and the moment
+abbrev pub setting_of : Policy → ℕ → Setting
+setting_of policy now = record { policy = policy_view policy; now = now }
+
+-- what is asked of the desk
+abbrev pub request_seen : Asked → DeskRequest
+request_seen a = record {
+  bearers = the_one (option_map (λ v. v.now) a.authorization);
+  repo = a.repo.now;
+  left = length a.body.now;
+  request = request_of (form_of_served a.form) a.parameter.now a.query.now a.body.now;
+}

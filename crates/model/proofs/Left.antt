@@ -1,0 +1,163 @@
+-- What a stop may leave.
+use Rattle.std.proofs.Common.{◌≡◌, ℕ, inl, inr, ◌⊎◌, Bool, true, false, not, nat_lt, List, [], ◌∷◌, ◌++◌, length, filter, refl, sym, ap, subst, ◌∙◌, arith, Result, Ok, Err, Option, Some, None, cond, is_some, is_none, append_assoc, append-nil}
+use Rattle.std.specs.List.{AllByRecursion}
+use Rattle.std.proofs.lemmas.Bool.{true≢false, ltb-false}
+use Rattle.std.proofs.lemmas.Option.{none-some, same_Some}
+use Rattle.std.proofs.lemmas.List.Elements.{All-from_recursion, recursion_from_All}
+use Rattle.model.specs.World.{World, Object, Token, object_named, with_object, without_expired, expired_count}
+use Rattle.model.specs.Answers.{stores, makes_lock, offers, serves, confirms, lists, splits, releases, Answer, Grant, is_store_refusal}
+use Rattle.model.specs.Operator.{TokenRequest, TokenDenial, token_verdict, after_token, issue_outcome, prune_outcome, Reports, by_success, by_fault}
+use Rattle.model.specs.Steps.{Exchange, judgement, Carries, by_verdict, by_refusal, after, after_grant, Event, exchanged, issues, prunes, IsStep, Run}
+use Rattle.model.specs.Bounds.{SameWorld, Bound, IsWithin, Ending, changed, unchanged, failed, is_changed, left_by, is_change, answer_ending, ending_of, intended_world, world_by, next_world, bound_after, bound_of_run}
+use Rattle.model.specs.Laws.{ReportsAreTrue, NoneChanges, IsHalfDone, LeavesOneChange}
+
+-- ---- each step leads to the world that its report says
+
+same_object : (o : Object) (world : World) → is_none (object_named o.repo o.name world) ≡ false → with_object o world ≡ world
+same_object o world e = at (object_named o.repo o.name world) e
+  where
+    at : (there : Option Object) → is_none there ≡ false → cond (is_some there) world (record world { objects = o ∷ world.objects }) ≡ world
+    at (Some p) h = refl
+    at None h = absurd (true≢false h)
+
+-- a grant that is no change leaves the world
+same_grant : (world : World) (g : Grant) → is_change world g ≡ false → after_grant world g ≡ world
+same_grant world (stores o) e = same_object o world e
+same_grant world (makes_lock l) e = absurd (true≢false e)
+same_grant world (releases l) e = absurd (true≢false e)
+same_grant world (serves o) e = refl
+same_grant world (offers some) e = refl
+same_grant world confirms e = refl
+same_grant world (lists page) e = refl
+same_grant world (splits user page) e = refl
+
+-- the world after a verdict, as its ending says
+after_is : (world : World) (given : Option Answer) → after world given ≡ world_by (answer_ending world given) world (after world given)
+after_is world (Some (Ok g)) = at (is_change world g) refl
+  where
+    at : (v : Bool) → is_change world g ≡ v → after_grant world g ≡ world_by (cond v changed unchanged) world (after_grant world g)
+    at true e = refl
+    at false e = same_grant world g e
+after_is world (Some (Err d)) = at (is_store_refusal (Err d))
+  where
+    at : (v : Bool) → world ≡ world_by (cond v failed unchanged) world world
+    at true = refl
+    at false = refl
+after_is world None = refl
+
+exchange_true : (old : World) (e : Exchange) (new : World) → Carries old e new → new ≡ next_world old (exchanged e)
+exchange_true old e new (by_verdict given is) =
+    is ∙ after_is old (judgement old e) ∙ ap (λ (a : Option Answer). world_by (answer_ending old a) old (after old (judgement old e))) (sym given)
+exchange_true old e new (by_refusal given sure is) =
+    is ∙ ap (λ (a : Option Answer). world_by (answer_ending old a) old (after old (judgement old e))) (sym given)
+
+none_expired : {A : Type 0} (p : A → Bool) (xs : List A) → length (filter (λ x. not (p x)) xs) ≡ 0 → filter p xs ≡ xs
+none_expired p [] e = refl
+none_expired {A = A} p (x ∷ xs) e = at (p x) e (none_expired p xs)
+  where
+    at : (v : Bool) → length (cond (not v) (x ∷ filter (λ y. not (p y)) xs) (filter (λ y. not (p y)) xs)) ≡ 0 → (length (filter (λ y. not (p y)) xs) ≡ 0 → filter p xs ≡ xs)
+        → cond v (x ∷ filter p xs) (filter p xs) ≡ x ∷ xs
+    at true h rest = ap (λ ys. x ∷ ys) (rest h)
+    at false h rest = absurd (omega (arith, h))
+
+pruned_true : (now n : ℕ) (world : World) → expired_count now world ≡ n → without_expired now world ≡ next_world world (prunes now (Some n))
+pruned_true now n world e = at (nat_lt 0 n) refl
+  where
+    at : (v : Bool) → nat_lt 0 n ≡ v → without_expired now world ≡ world_by (cond v changed unchanged) world (without_expired now world)
+    at true some = refl
+    at false none =
+        ap (λ (tokens : List Token). record world { tokens = tokens }) (none_expired (λ (t : Token). nat_lt now t.expires) world.tokens (let few = ltb-false 0 n none in omega (arith, e, few)))
+
+issue_true : (old : World) (asked : TokenRequest) (given : Option (Result Token TokenDenial)) (new : World) → Reports given (issue_outcome old asked) old new
+    → new ≡ next_world old (issues asked given)
+issue_true old asked None new (by_fault none is) = is
+issue_true old asked (Some x) new (by_fault none is) = absurd (none-some x (sym none))
+issue_true old asked None new (by_success e is) = absurd (none-some (token_verdict old asked) e)
+issue_true old asked (Some (Ok t)) new (by_success e is) = is
+issue_true old asked (Some (Err d)) new (by_success e is) = is ∙ ap (after_token old) (sym (same_Some (Err d) (token_verdict old asked) e))
+
+prune_true : (old : World) (now : ℕ) (given : Option ℕ) (new : World) → Reports given (prune_outcome old now) old new → new ≡ next_world old (prunes now given)
+prune_true old now None new (by_fault none is) = is
+prune_true old now (Some n) new (by_fault none is) = absurd (none-some n (sym none))
+prune_true old now None new (by_success e is) = absurd (none-some (expired_count now old) e)
+prune_true old now (Some n) new (by_success e is) = is ∙ pruned_true now n old (sym (same_Some n (expired_count now old) e))
+
+pub reports_are_true : ReportsAreTrue
+reports_are_true old (exchanged e) new step = exchange_true old e new step.carries
+reports_are_true old (issues asked given) new step = issue_true old asked given new step.1
+reports_are_true old (prunes now given) new step = prune_true old now given new step
+
+-- ---- the bound of a run
+
+-- the store refused one of the events, and after it none made a change; done is in order
+abbrev IsLeft : List Event → World → World → Type 0
+IsLeft done new world = SameWorld new world ⊎ IsHalfDone done new world
+
+each_append : {A : Type 0} (P : A → Type 0) (xs : List A) (x : A) → AllByRecursion P xs → P x → AllByRecursion P (xs ++ x ∷ [])
+each_append P [] x all is = (is, tt)
+each_append P (y ∷ xs) x all is = (all.0, each_append P xs x all.1 is)
+
+-- one event more, which made no change
+half_done_on : (done : List Event) (event : Event) (world left : World) → is_changed (ending_of world event) ≡ false → IsHalfDone done world left
+    → IsHalfDone (done ++ event ∷ []) world left
+half_done_on done event world left quiet h = record {
+  before = h.before;
+  event = h.event;
+  later = h.later ++ event ∷ [];
+  order = ap (λ (es : List Event). es ++ event ∷ []) h.order ∙ append_assoc h.before (h.event ∷ h.later) (event ∷ []);
+  refused = h.refused;
+  same = h.same;
+  since = All-from_recursion (λ (e : Event). is_changed (ending_of world e) ≡ false) (h.later ++ event ∷ [])
+      (each_append (λ e. is_changed (ending_of world e) ≡ false) h.later event (recursion_from_All (λ (e : Event). is_changed (ending_of world e) ≡ false) h.later h.since) quiet);
+}
+
+left_on : (done : List Event) (event : Event) (world left : World) → is_changed (ending_of world event) ≡ false → IsLeft done world left → IsLeft (done ++ event ∷ []) world left
+left_on done event world left quiet (inl same) = inl same
+left_on done event world left quiet (inr h) = inr (half_done_on done event world left quiet h)
+
+-- the event that the store refused
+half_done_now : (done : List Event) (event : Event) (world left : World) → ending_of world event ≡ failed → SameWorld (intended_world world event) left
+    → IsHalfDone (done ++ event ∷ []) world left
+half_done_now done event world left refused same = record {
+  before = done;
+  event = event;
+  later = [];
+  order = refl;
+  refused = refused;
+  same = same;
+  since = All-from_recursion (λ (e : Event). is_changed (ending_of world e) ≡ false) [] tt;
+}
+
+step_left : (bound : Bound) (done : List Event) (old : World) (event : Event) → ((w : World) → IsWithin bound w → IsLeft done old w)
+    → (left : World) → IsWithin (bound_after old event bound) left → IsLeft (done ++ event ∷ []) (next_world old event) left
+step_left bound done old event so_far left = at (ending_of old event) refl
+  where
+    made : World
+    made = intended_world old event
+
+    at : (v : Ending) → ending_of old event ≡ v → IsWithin (left_by v old made bound) left → IsLeft (done ++ event ∷ []) (world_by v old made) left
+    at changed e (inl same) = inl same
+    at changed e (inr none) = absurd none
+    at unchanged e (inl same) = inl same
+    at unchanged e (inr is) = left_on done event old left (ap is_changed e) (so_far left is)
+    at failed e (inl same) = inr (half_done_now done event old left e same)
+    at failed e (inr (inl same)) = inl same
+    at failed e (inr (inr is)) = left_on done event old left (ap is_changed e) (so_far left is)
+
+run_left : (bound : Bound) (done : List Event) (old : World) (events : List Event) (new : World) → Run old events new
+    → ((w : World) → IsWithin bound w → IsLeft done old w) → (left : World) → IsWithin (bound_of_run old events bound) left → IsLeft (done ++ events) new left
+run_left bound done old [] new run so_far left is =
+    subst (λ (es : List Event). IsLeft es new left) (sym (append-nil done)) (subst (λ (w : World). IsLeft done w left) (sym run) (so_far left is))
+run_left bound done old (event ∷ events) new run so_far left is =
+    let there : next_world old event ≡ run.0 = sym (reports_are_true old event run.0 run.1) in
+    subst (λ (es : List Event). IsLeft es new left) (append_assoc done (event ∷ []) events)
+    (run_left (bound_after old event bound) (done ++ event ∷ []) run.0 events new run.2
+    (λ w within. subst (λ (mid : World). IsLeft (done ++ event ∷ []) mid w) there (step_left bound done old event so_far w within)) left
+    (subst (λ (mid : World). IsWithin (bound_of_run mid events (bound_after old event bound)) left) there is))
+
+first_left : (old w : World) → IsWithin (old ∷ []) w → IsLeft [] old w
+first_left old w (inl same) = inl same
+first_left old w (inr none) = absurd none
+
+pub leaves_one_change : LeavesOneChange
+leaves_one_change old events new run left is = run_left (old ∷ []) [] old events new run (first_left old) left is
