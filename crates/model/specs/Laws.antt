@@ -189,6 +189,21 @@ PageIsLeast =
 abbrev pub LocksRise : Type 0
 LocksRise = (world : World) (repo : List ℕ) → IsWorld world → AllPairs IsBelow (locks_of repo world)
 
+-- the two lists have the same members
+abbrev pub HaveSame : List Lock → List Lock → Type 0
+HaveSame xs ys = (l : Lock) → Contains xs l ↔ Contains ys l
+
+-- the locks of a repository, and so its pages, do not depend on the order in which the world lists them
+abbrev pub LocksIgnoreOrder : Type 0
+LocksIgnoreOrder =
+    (a b : World) (repo : List ℕ) → IsWorld a → IsWorld b → HaveSame a.locks b.locks → locks_of repo a ≡ locks_of repo b
+
+-- they are the locks of that repository, and no others
+abbrev pub LocksAreThose : Type 0
+LocksAreThose =
+    (world : World) (repo : List ℕ) (l : Lock)
+    → Contains (locks_of repo world) l ↔ (Contains world.locks l × (l.repo ≡ repo))
+
 -- the joined pages of a walk rise, so none is there twice; and each lock that was shown at every page is there
 pub record IsWholeWalk (cursor : ℕ) (legs : List Leg) : Type 0 where
   pub rise : AllPairs IsBelow (walk_locks legs)

@@ -3,7 +3,7 @@
 ghost use Rattle.model.specs.Laws.{HasOneFirst, BeginsWithMessage, CutIsLast, ChoosesOnlyThere, HeadDecides, TargetDecides};
 ghost use Rattle.model.specs.Laws.{StepsKeepWorlds, RunsKeepWorlds, RunsMakeWorlds, ServesWhatIsKept, ServedHasItsName, ServedWasPut};
 ghost use Rattle.model.specs.Laws.{DenialsChangeNothing, SilenceChangesNothing, OnlyCutIsSilent, NeverLocksTwice, CountsOn, NewIdIsNext};
-ghost use Rattle.model.specs.Laws.{RoomIsQuota, StaysInQuota, PageIsLeast, LocksRise, WalksAreWhole, ViewsForetell, ViewsServeOneDigest, OthersLeaveViews};
+ghost use Rattle.model.specs.Laws.{RoomIsQuota, StaysInQuota, PageIsLeast, LocksRise, LocksAreThose, LocksIgnoreOrder, WalksAreWhole, ViewsForetell, ViewsServeOneDigest, OthersLeaveViews};
 ghost use Rattle.model.specs.Laws.{ReportsAreTrue, LeavesOneChange, MomentIsText};
 
 /// A list of bytes has at most one first message and one rest after it. The body is as long as the head
@@ -69,10 +69,13 @@ pub fn quota_law()
     ensures stays { StaysInQuota }
 {}
 
-/// A page of rising locks has those of least id from the cursor on, and the locks of a repository rise.
+/// A page of rising locks has those of least id from the cursor on. The locks of a repository, as its pages
+/// are cut from them, rise, are those of the world, and do not depend on the world's order.
 pub fn page_law()
     ensures least { PageIsLeast }
     ensures rise { LocksRise }
+    ensures those { LocksAreThose }
+    ensures order { LocksIgnoreOrder }
 {}
 
 /// The joined pages of a walk rise, have no lock twice, and have each lock that was shown at every page.
