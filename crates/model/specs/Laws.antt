@@ -8,8 +8,8 @@ use Rattle.model.specs.Reading.{or_default}
 use Rattle.model.specs.Policy.{Policy, Repo, repo_named}
 use Rattle.model.specs.World.{World, Object, Lock, IsWorld, DiffersInPlace, name_of, nothing, total}
 use Rattle.model.specs.Heads.{Target, head_verdict}
-use Rattle.model.specs.RepoState.{repo_state, has_room, locks_of}
-use Rattle.model.specs.Callers.{Caller, caller_by}
+use Rattle.model.specs.RepoState.{RepoState, repo_state, has_room, locks_of}
+use Rattle.model.specs.Callers.{Caller, caller_by, sees}
 use Rattle.model.specs.Cases.{Setting}
 use Rattle.model.specs.Answers.{Answer, Denial, serves, stores, makes_lock}
 use Rattle.model.specs.Pages.{page_of, IsPage, IsBelow, Leg, IsWalk, walk_locks}
@@ -18,7 +18,7 @@ use Rattle.model.specs.Steps.{Message, message, IsMessage, Event, exchanged, Exc
 use Rattle.model.specs.Stream.{HasNoHead, NeverIsHead, BeginsWith, IsUnfinished, head_limit}
 use Rattle.model.specs.Moments.{moment_text}
 use Rattle.model.specs.Replies.{reply_of}
-use Rattle.model.specs.Views.{view_of, CallerRequest, to_desk, foresee}
+use Rattle.model.specs.Views.{view_of, sees_objects, CallerRequest, to_desk, foresee}
 use Rattle.model.specs.Bounds.{SameWorld, IsWithin, failed, is_changed, ending_of, intended_world, next_world, bound_of_run}
 
 -- ---- streams
@@ -222,6 +222,17 @@ ViewsForetell =
     → IsWorld world → caller_by world setting.now asked.bearers ≡ Ok caller
     → foresee (view_of world setting.policy caller.user caller.repo) setting.now asked
     ≡ Ok (reply_of (desk_verdict world setting (to_desk caller.repo asked) asked.body))
+
+-- what the user does not see is not in the view
+pub record IsSeen (policy : Policy) (user repo : List ℕ) (state : RepoState) : Type 0 where
+  pub locks : All (λ l. sees policy user l ≡ true) state.locks
+  pub objects : sees_objects policy user repo ≡ false → state.objects ≡ []
+
+-- a view has only the locks that the user sees, and no objects unless the user sees them
+abbrev pub ViewsShowWhatIsSeen : Type 0
+ViewsShowWhatIsSeen =
+    (world : World) (policy : Policy) (user repo : List ℕ)
+    → IsSeen policy user repo (view_of world policy user repo).state
 
 -- two worlds that look the same to a caller, and the same request of that caller to both
 pub record AreAlike (setting : Setting) (caller : Caller) (asked : CallerRequest) (a b : World) : Type 0 where

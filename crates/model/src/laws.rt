@@ -3,7 +3,7 @@
 ghost use Rattle.model.specs.Laws.{HasOneFirst, BeginsWithMessage, CutIsLast, ChoosesOnlyThere, HeadDecides, TargetDecides};
 ghost use Rattle.model.specs.Laws.{StepsKeepWorlds, RunsKeepWorlds, RunsMakeWorlds, ServesWhatIsKept, ServedHasItsName, ServedWasPut};
 ghost use Rattle.model.specs.Laws.{DenialsChangeNothing, SilenceChangesNothing, OnlyCutIsSilent, NeverLocksTwice, CountsOn, NewIdIsNext};
-ghost use Rattle.model.specs.Laws.{RoomIsQuota, StaysInQuota, PageIsLeast, LocksRise, LocksAreThose, LocksIgnoreOrder, WalksAreWhole, ViewsForetell, ViewsServeOneDigest, OthersLeaveViews};
+ghost use Rattle.model.specs.Laws.{RoomIsQuota, StaysInQuota, PageIsLeast, LocksRise, LocksAreThose, LocksIgnoreOrder, WalksAreWhole, ViewsForetell, ViewsServeOneDigest, ViewsShowWhatIsSeen, OthersLeaveViews};
 ghost use Rattle.model.specs.Laws.{ReportsAreTrue, LeavesOneChange, MomentIsText};
 
 /// A list of bytes has at most one first message and one rest after it. The body is as long as the head
@@ -84,10 +84,12 @@ pub fn walk_law()
 {}
 
 /// The reply to a user is the one that the user's view foretells, in every world with that view, and the
-/// contents that such worlds serve have one SHA-256. An exchange in another repository leaves the view.
+/// contents that such worlds serve have one SHA-256. A view shows only what the user sees, and an exchange in
+/// another repository leaves it.
 pub fn view_law()
     ensures foretell { ViewsForetell }
     ensures digest { ViewsServeOneDigest }
+    ensures seen { ViewsShowWhatIsSeen }
     ensures apart { OthersLeaveViews }
 {}
 
