@@ -109,12 +109,36 @@ CountsOn =
     (old : World) (events : List Event) (new : World) → Run old events new
     → (repo : List ℕ) → old.made repo ≤ new.made repo
 
--- a new lock has the next id, and is counted; so no id is given twice
+-- a new lock has the next id, and is counted
 abbrev pub NewIdIsNext : Type 0
 NewIdIsNext =
     (old : World) (e : Exchange) (l : Lock) (new : World)
     → IsWorld old → IsExchange old e new → e.given ≡ Some (Ok (makes_lock l))
     → (l.id ≡ old.made l.repo + 1) × (new.made l.repo ≡ l.id)
+
+-- an event that reports no change leaves the world as it was: a denial, a refusal by the store, a message without an answer
+abbrev pub OnlyReportedChanges : Type 0
+OnlyReportedChanges =
+    (old : World) (event : Event) (new : World) → IsStep old event new → is_changed (ending_of old event) ≡ false
+    → new ≡ old
+
+-- two locks of one repository, the second made after the first, with any run between them
+pub record AreInTurn (old : World) (e f : Exchange) (l m : Lock) : Type 0 where
+  pub mid : World
+  pub late : World
+  pub new : World
+  pub between : List Event
+  pub first : IsExchange old e mid
+  pub run : Run mid between late
+  pub second : IsExchange late f new
+  pub made : e.given ≡ Some (Ok (makes_lock l))
+  pub made_later : f.given ≡ Some (Ok (makes_lock m))
+  pub repo : l.repo ≡ m.repo
+
+-- no id is given twice: a later lock has a greater one
+abbrev pub NoIdComesAgain : Type 0
+NoIdComesAgain =
+    (old : World) (e f : Exchange) (l m : Lock) → IsWorld old → AreInTurn old e f l m → l.id < m.id
 
 -- ---- contents
 

@@ -2,7 +2,7 @@
 
 ghost use Rattle.model.specs.Laws.{HasOneFirst, BeginsWithMessage, CutIsLast, ChoosesOnlyThere, HeadDecides, TargetDecides};
 ghost use Rattle.model.specs.Laws.{StepsKeepWorlds, RunsKeepWorlds, RunsMakeWorlds, ServesWhatIsKept, ServedHasItsName, ServedWasPut};
-ghost use Rattle.model.specs.Laws.{DenialsChangeNothing, SilenceChangesNothing, OnlyCutIsSilent, NeverLocksTwice, CountsOn, NewIdIsNext};
+ghost use Rattle.model.specs.Laws.{DenialsChangeNothing, SilenceChangesNothing, OnlyReportedChanges, OnlyCutIsSilent, NeverLocksTwice, CountsOn, NewIdIsNext, NoIdComesAgain};
 ghost use Rattle.model.specs.Laws.{RoomIsQuota, StaysInQuota, PageIsLeast, LocksRise, LocksAreThose, LocksIgnoreOrder, WalksAreWhole, ViewsForetell, ViewsServeOneDigest, ViewsShowWhatIsSeen, OthersLeaveViews};
 ghost use Rattle.model.specs.Laws.{ReportsAreTrue, LeavesOneChange, MomentIsText};
 
@@ -43,11 +43,13 @@ pub fn run_law()
     ensures put { ServedWasPut }
 {}
 
-/// A denial leaves the world as it was, and so does a message without an answer. Only a message that is
-/// cut off has none, if nothing denies it before its body is read.
+/// A denial leaves the world as it was, and so does a message without an answer, and each step of the
+/// operator that reports no change. Only a message that is cut off has no answer, if nothing denies it before
+/// its body is read.
 pub fn denial_law()
     ensures denial { DenialsChangeNothing }
     ensures silence { SilenceChangesNothing }
+    ensures reported { OnlyReportedChanges }
     ensures cut { OnlyCutIsSilent }
 {}
 
@@ -56,10 +58,12 @@ pub fn place_law()
     ensures { NeverLocksTwice }
 {}
 
-/// The count of made locks never falls, and a new lock has the next id. So no id is given twice.
+/// The count of made locks never falls, and a new lock has the next id. So no id is given twice, whatever is
+/// released meanwhile.
 pub fn id_law()
     ensures counts { CountsOn }
     ensures next { NewIdIsNext }
+    ensures again { NoIdComesAgain }
 {}
 
 /// An object fits exactly if the stored total and its size are within the quota. A stored total within a
