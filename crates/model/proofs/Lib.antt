@@ -21,3 +21,4 @@ pub mod Computed
 pub mod Streamed
 pub mod Quota
 pub mod Digests
+pub mod Ordered

@@ -286,8 +286,8 @@ hello_target = record { repo = film; parameter = hello; form = form.Put }
 abbrev pub put_head : List Field → RequestHead
 put_head fields = head_of (codes "PUT") (lfs (codes "content/" ++ hello)) (length_field (codes "5") ∷ fields)
 
--- an upload without a token is denied from its head, and the connection closes; with a token it is not denied; X2, which
--- comes after the body, closes nothing
+-- an upload without a token is denied from its head, and the connection closes; with a token it is not; X2, which comes
+-- after the body, closes nothing
 abbrev pub UploadIsRefusedEarly : Type 0
 UploadIsRefusedEarly =
     let asked = message (put_head []) (codes "{\"pat") in
@@ -372,13 +372,13 @@ has_error given body = status_and_body given ≡ (200, body)
 abbrev pub ObjectsAreRefused : Type 0
 ObjectsAreRefused =
     let download = one_object (codes "download") in let upload = one_object (codes "upload") in
-    let bad = codes "B2: the object name or size is not valid" in let fill = codes "hello" in
+    let bad = codes "B2: the object name or size is not valid" in let world = with_one hello (codes "hello") in
     has_error (answer nothing studio ann (download hello (codes "5")))
     (error_body (codes "404") (codes "B1: the object is not stored") hello (codes "5"))
     × has_error (answer nothing studio ann (download (codes "xyz") (codes "5")))
     (error_body (codes "422") bad (codes "xyz") (codes "5"))
     × has_error (answer nothing studio ann (upload hello (codes "-1"))) (error_body (codes "422") bad hello (codes "0"))
-    × has_error (answer (with_one hello fill) studio ann (download hello (codes "6")))
+    × has_error (answer world studio ann (download hello (codes "6")))
     (error_body (codes "422") (codes "B4: the stored size differs") hello (codes "6"))
     × has_error (answer nothing small_studio ann (upload hello (codes "6")))
     (error_body (codes "507") (codes "B5: the quota does not hold the object") hello (codes "6"))

@@ -2,8 +2,8 @@
 
 ghost use Rattle.model.specs.Laws.{HasOneFirst, BeginsWithMessage, CutIsLast, ChoosesOnlyThere, HeadDecides, TargetDecides};
 ghost use Rattle.model.specs.Laws.{StepsKeepWorlds, RunsKeepWorlds, RunsMakeWorlds, ServesWhatIsKept, ServedHasItsName, ServedWasPut};
-ghost use Rattle.model.specs.Laws.{DenialsChangeNothing, SilenceChangesNothing, OnlyCutIsSilent, NeverLocksTwice, CountsOn, NewIdIsNext};
-ghost use Rattle.model.specs.Laws.{RoomIsQuota, StaysInQuota, PageIsLeast, LocksRise, WalksAreWhole, ViewsForetell, ViewsServeOneDigest, OthersLeaveViews};
+ghost use Rattle.model.specs.Laws.{DenialsChangeNothing, SilenceChangesNothing, OnlyReportedChanges, OnlyCutIsSilent, NeverLocksTwice, CountsOn, NewIdIsNext, NoIdComesAgain};
+ghost use Rattle.model.specs.Laws.{RoomIsQuota, StaysInQuota, PageIsLeast, LocksRise, LocksAreThose, LocksIgnoreOrder, WalksAreWhole, ViewsForetell, ViewsServeOneDigest, ViewsShowWhatIsSeen, OthersLeaveViews};
 ghost use Rattle.model.specs.Laws.{ReportsAreTrue, LeavesOneChange, MomentIsText};
 
 /// A list of bytes has at most one first message and one rest after it. The body is as long as the head
@@ -43,11 +43,13 @@ pub fn run_law()
     ensures put { ServedWasPut }
 {}
 
-/// A denial leaves the world as it was, and so does a message without an answer. Only a message that is
-/// cut off has none, if nothing denies it before its body is read.
+/// A denial leaves the world as it was, and so does a message without an answer, and each step of the
+/// operator that reports no change. Only a message that is cut off has no answer, if nothing denies it before
+/// its body is read.
 pub fn denial_law()
     ensures denial { DenialsChangeNothing }
     ensures silence { SilenceChangesNothing }
+    ensures reported { OnlyReportedChanges }
     ensures cut { OnlyCutIsSilent }
 {}
 
@@ -56,10 +58,12 @@ pub fn place_law()
     ensures { NeverLocksTwice }
 {}
 
-/// The count of made locks never falls, and a new lock has the next id. So no id is given twice.
+/// The count of made locks never falls, and a new lock has the next id. So no id is given twice, whatever is
+/// released meanwhile.
 pub fn id_law()
     ensures counts { CountsOn }
     ensures next { NewIdIsNext }
+    ensures again { NoIdComesAgain }
 {}
 
 /// An object fits exactly if the stored total and its size are within the quota. A stored total within a
@@ -69,10 +73,13 @@ pub fn quota_law()
     ensures stays { StaysInQuota }
 {}
 
-/// A page of rising locks has those of least id from the cursor on, and the locks of a repository rise.
+/// A page of rising locks has those of least id from the cursor on. The locks of a repository, as its pages
+/// are cut from them, rise, are those of the world, and do not depend on the world's order.
 pub fn page_law()
     ensures least { PageIsLeast }
     ensures rise { LocksRise }
+    ensures those { LocksAreThose }
+    ensures order { LocksIgnoreOrder }
 {}
 
 /// The joined pages of a walk rise, have no lock twice, and have each lock that was shown at every page.
@@ -81,10 +88,12 @@ pub fn walk_law()
 {}
 
 /// The reply to a user is the one that the user's view foretells, in every world with that view, and the
-/// contents that such worlds serve have one SHA-256. An exchange in another repository leaves the view.
+/// contents that such worlds serve have one SHA-256. A view shows only what the user sees, and an exchange in
+/// another repository leaves it.
 pub fn view_law()
     ensures foretell { ViewsForetell }
     ensures digest { ViewsServeOneDigest }
+    ensures seen { ViewsShowWhatIsSeen }
     ensures apart { OthersLeaveViews }
 {}
 
