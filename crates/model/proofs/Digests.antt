@@ -1,25 +1,24 @@
 -- What worlds with equal views serve has one digest.
-use Rattle.std.proofs.Common.{◌≡◌, ℕ, ◌<◌, List, [], ◌∷◌, ◌++◌, length, refl, sym, ap, subst, ◌∙◌, arith, Result, Ok, Err, Option, Some, None, zero, suc, slice_index, IfOk, bytes_eq, ◌&&◌}
+use Rattle.std.proofs.Common.{◌≡◌, ℕ, ◌<◌, List, [], ◌∷◌, refl, sym, ap, subst, ◌∙◌, arith, Result, Ok, Err, Option, Some, None, zero, suc, slice_index, IfOk, bytes_eq, ◌&&◌}
 use Rattle.std.specs.Bool.{⊤}
 use Rattle.std.specs.List.{AllByRecursion}
 use Rattle.std.specs.Int.{w32, to_be_bytes}
 use Rattle.std.proofs.lemmas.List.Elements.{recursion_from_All}
-use Rattle.hex.specs.Hex.{IsBytes, encode_lower, decode_of}
+use Rattle.hex.specs.Hex.{IsBytes, decode_of}
 use Rattle.hex.proofs.HexLemmas.{decode_of-encode_lower, decode_of-same}
 use Rattle.sha2.specs.Sha256.{sha256, digest_bytes}
-use Rattle.names.specs.declared.rules.Rule.{Rule}
 use Rattle.names.specs.declared.rules.Rule.TheVariants as rule
 use Rattle.model.specs.declared.Form.TheVariants as form
 use Rattle.model.specs.Reading.{◌>>=◌, check, ok_or}
 use Rattle.model.specs.World.{World, Object, IsObject, object_named, name_of}
 use Rattle.model.specs.Forms.{Request, asks_batch, asks_get, asks_put, asks_verify, asks_lock, asks_list, asks_verify_locks, asks_unlock}
-use Rattle.model.specs.Callers.{Caller, caller_by}
-use Rattle.model.specs.Cases.{Setting, DeskRequest}
+use Rattle.model.specs.Callers.{Caller}
+use Rattle.model.specs.Cases.{Setting}
 use Rattle.model.specs.Answers.{Answer, Grant, stores, makes_lock, offers, serves, confirms, lists, splits, releases, by_rules, Plan, grants, sends, receives}
 use Rattle.model.specs.Objects.{finish}
-use Rattle.model.specs.Verdict.{desk_plan, desk_verdict}
-use Rattle.model.specs.Replies.{Reply, Body, empty, json, content, reply_of}
-use Rattle.model.specs.Views.{View, view_of, NoCaller, CallerRequest, to_desk, foresee}
+use Rattle.model.specs.Verdict.{desk_plan}
+use Rattle.model.specs.Replies.{Reply, Body, content, reply_of}
+use Rattle.model.specs.Views.{View, NoCaller, CallerRequest, to_desk, foresee}
 use Rattle.model.specs.Laws.{AreAlike, answer_in, ViewsServeOneDigest}
 use Rattle.model.proofs.Checks.{passed, then_any, ok_is}
 use Rattle.model.proofs.Lists.{In, each_in, each_append, in_found}

@@ -1,5 +1,5 @@
 -- A list of bytes has at most one first message.
-use Rattle.std.proofs.Common.{◌≡◌, ℕ, ◌<◌, ◌≤◌, true, false, Bool, List, [], length, take, drop, refl, sym, ap, subst, ◌∙◌, arith, length-take, length-take-le}
+use Rattle.std.proofs.Common.{◌≡◌, ℕ, true, false, Bool, List, length, take, drop, refl, sym, ap, subst, ◌∙◌, arith, length-take, length-take-le}
 use Rattle.std.specs.Prelude.{nat_le}
 use Rattle.std.proofs.lemmas.Bool.{leb-false, leb-true}
 use Rattle.std.proofs.lemmas.List.{drop_all}
@@ -7,7 +7,7 @@ use Rattle.httparse.specs.Grammar.{RequestHead}
 use Rattle.httparse.proofs.GrammarLemmas.{request_unique}
 use Rattle.model.specs.Heads.{body_length}
 use Rattle.model.specs.Steps.{Message, message, bad_head, IsMessage}
-use Rattle.model.specs.Stream.{IsHeadThen, BeginsBadly, too_many_fields, too_long, hopeless, BeginsWithHead, BeginsWith, with_message, with_bad_head, message_with, IsUnfinished}
+use Rattle.model.specs.Stream.{IsHeadThen, BeginsBadly, too_many_fields, too_long, hopeless, BeginsWithHead, with_message, with_bad_head, message_with, IsUnfinished}
 use Rattle.model.specs.Laws.{HasOneFirst, ChoosesOnlyThere, CutIsLast, BeginsWithMessage, IsFreeChoice}
 
 -- the head of the bytes is one, and so is what follows it

@@ -2,6 +2,7 @@
 use Rattle.std.specs.Prelude.{◌≡◌, ◌<◌, ◌≤◌, ◌+◌, ℕ, true, false, List, [], ◌∷◌, ◌++◌, length, All, AllPairs, Contains, Some, None, Ok, Err, bytes_eq, ◌⊎◌, ◌↔◌, option_map, ⊤}
 use Rattle.httparse.specs.Grammar.{RequestHead}
 use Rattle.sha2.specs.Sha256.{sha256}
+use Rattle.names.specs.Texts.{last_moment}
 use Rattle.names.specs.Moments.{IsMomentText}
 use Rattle.model.specs.declared.Form.TheVariants as form
 use Rattle.model.specs.Reading.{or_default}
@@ -297,6 +298,10 @@ OthersLeaveViews =
 -- what is a moment's text is the text that is computed
 abbrev pub MomentIsText : Type 0
 MomentIsText = (moment : ℕ) (text : List ℕ) → IsMomentText moment text → text ≡ moment_text moment
+
+-- the text that is computed of a moment in range is its text
+abbrev pub MomentHasText : Type 0
+MomentHasText = (moment : ℕ) → moment ≤ last_moment → IsMomentText moment (moment_text moment)
 
 -- ---- stops
 

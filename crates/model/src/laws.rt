@@ -4,7 +4,7 @@ ghost use Rattle.model.specs.Laws.{HasOneFirst, BeginsWithMessage, CutIsLast, Ch
 ghost use Rattle.model.specs.Laws.{StepsKeepWorlds, RunsKeepWorlds, RunsMakeWorlds, ServesWhatIsKept, ServedHasItsName, ServedWasPut};
 ghost use Rattle.model.specs.Laws.{DenialsChangeNothing, SilenceChangesNothing, OnlyReportedChanges, OnlyCutIsSilent, NeverLocksTwice, CountsOn, NewIdIsNext, NoIdComesAgain};
 ghost use Rattle.model.specs.Laws.{RoomIsQuota, StaysInQuota, PageIsLeast, LocksRise, LocksAreThose, LocksIgnoreOrder, WalksAreWhole, ViewsForetell, ViewsServeOneDigest, ViewsShowWhatIsSeen, OthersLeaveViews};
-ghost use Rattle.model.specs.Laws.{ReportsAreTrue, LeavesOneChange, MomentIsText};
+ghost use Rattle.model.specs.Laws.{ReportsAreTrue, LeavesOneChange, MomentIsText, MomentHasText};
 
 /// A list of bytes has at most one first message and one rest after it. The body is as long as the head
 /// says, or cut off, and then nothing is after it.
@@ -104,7 +104,8 @@ pub fn stop_law()
     ensures leaves { LeavesOneChange }
 {}
 
-/// What is the text of a moment equals the text that is computed.
+/// Each moment in range has one text, and it is the one that is computed.
 pub fn moment_law()
-    ensures { MomentIsText }
+    ensures is { MomentIsText }
+    ensures has { MomentHasText }
 {}
