@@ -368,19 +368,23 @@ error_body code text name size =
 abbrev pub has_error : Answer → List ℕ → Type 0
 has_error given body = status_and_body given ≡ (200, body)
 
--- the rules of objects of a batch, each with an object that it refuses
+-- a name or a size that is not valid is B2, and such a size is shown as 0
+abbrev pub ObjectsAreInvalid : Type 0
+ObjectsAreInvalid =
+    let text = codes "B2: the object name or size is not valid" in
+    has_error (answer nothing studio ann (one_object (codes "download") (codes "xyz") (codes "5")))
+    (error_body (codes "422") text (codes "xyz") (codes "5"))
+    × has_error (answer nothing studio ann (one_object (codes "upload") hello (codes "-1")))
+    (error_body (codes "422") text hello (codes "0"))
+
+-- the other rules of objects of a batch, each with an object that it refuses
 abbrev pub ObjectsAreRefused : Type 0
 ObjectsAreRefused =
-    let download = one_object (codes "download") in let upload = one_object (codes "upload") in
-    let bad = codes "B2: the object name or size is not valid" in let world = with_one hello (codes "hello") in
-    has_error (answer nothing studio ann (download hello (codes "5")))
+    has_error (answer nothing studio ann (one_object (codes "download") hello (codes "5")))
     (error_body (codes "404") (codes "B1: the object is not stored") hello (codes "5"))
-    × has_error (answer nothing studio ann (download (codes "xyz") (codes "5")))
-    (error_body (codes "422") bad (codes "xyz") (codes "5"))
-    × has_error (answer nothing studio ann (upload hello (codes "-1"))) (error_body (codes "422") bad hello (codes "0"))
-    × has_error (answer world studio ann (download hello (codes "6")))
+    × has_error (answer (with_one hello (codes "hello")) studio ann (one_object (codes "download") hello (codes "6")))
     (error_body (codes "422") (codes "B4: the stored size differs") hello (codes "6"))
-    × has_error (answer nothing small_studio ann (upload hello (codes "6")))
+    × has_error (answer nothing small_studio ann (one_object (codes "upload") hello (codes "6")))
     (error_body (codes "507") (codes "B5: the quota does not hold the object") hello (codes "6"))
 
 -- an upload of hello with another hash
@@ -399,7 +403,8 @@ HashIsRefused =
 abbrev pub many_objects : List ℕ
 many_objects =
     codes "{\"operation\":\"upload\",\"objects\":["
-    ++ flat_map (λ text. text) (replicate 100 (codes "{\"oid\":\"\",\"size\":0},")) ++ codes "{\"oid\":\"\",\"size\":0}]}"
+    ++ flat_map (λ text. text) (replicate 100 (codes "{\"oid\":\"\",\"size\":0},"))
+    ++ codes "{\"oid\":\"\",\"size\":0}]}"
 
 -- the rule refuses the batch
 abbrev pub batch_refused : List ℕ → Rule → Type 0

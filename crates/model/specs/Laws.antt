@@ -117,7 +117,7 @@ NewIdIsNext =
     → IsWorld old → IsExchange old e new → e.given ≡ Some (Ok (makes_lock l))
     → (l.id ≡ old.made l.repo + 1) × (new.made l.repo ≡ l.id)
 
--- an event that reports no change leaves the world as it was: a denial, a refusal by the store, a message without an answer
+-- an event that reports no change leaves the world: a denial, a refusal by the store, a message without an answer
 abbrev pub OnlyReportedChanges : Type 0
 OnlyReportedChanges =
     (old : World) (event : Event) (new : World) → IsStep old event new → is_changed (ending_of old event) ≡ false
