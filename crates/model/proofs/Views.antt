@@ -42,7 +42,7 @@ others Differ p x apart e [] all = tt
 others Differ p x apart e (y ∷ ys) all = (fails p x y (apart y all.0) e (p y) refl, others Differ p x apart e ys all.1)
 
 -- where no two agree in what a test asks, one alone passes it
-only_of : {A : Type 0} (Differ : A → A → Type 0) (p : A → Bool) (xs : List A) → ((x y : A) → Differ x y → p x ≡ true → p y ≡ true → ⊥) → AllPairs Differ xs → IsOnly p xs
+pub only_of : {A : Type 0} (Differ : A → A → Type 0) (p : A → Bool) (xs : List A) → ((x y : A) → Differ x y → p x ≡ true → p y ≡ true → ⊥) → AllPairs Differ xs → IsOnly p xs
 only_of Differ p [] apart all = tt
 only_of Differ p (x ∷ xs) apart all = (
   λ e. others Differ p x (apart x) e xs (recursion_from_All (Differ x) xs (λ j d less. all 0 (suc j) d (omega arith) (omega (arith, less)))),
@@ -51,7 +51,7 @@ only_of Differ p (x ∷ xs) apart all = (
 
 -- ---- the caller
 
-abbrev caller_as : List ℕ → Token → Caller
+abbrev pub caller_as : List ℕ → Token → Caller
 caller_as text i = record { token = text; user = i.user; repo = i.repo; operation = i.operation; expires = i.expires }
 
 -- what the world knows of a caller

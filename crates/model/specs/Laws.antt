@@ -18,8 +18,8 @@ use Rattle.model.specs.Verdict.{verdict, early_verdict, target_verdict, early_ch
 use Rattle.model.specs.Steps.{Message, message, IsMessage, Event, exchanged, Exchange, IsExchange, IsStep, Run}
 use Rattle.model.specs.Stream.{HasNoHead, NeverIsHead, BeginsWith, IsUnfinished, head_limit}
 use Rattle.model.specs.Moments.{moment_text}
-use Rattle.model.specs.Replies.{reply_of}
-use Rattle.model.specs.Views.{view_of, sees_objects, CallerRequest, to_desk, foresee}
+use Rattle.model.specs.Replies.{Reply, reply_of}
+use Rattle.model.specs.Views.{View, view_of, sees_objects, CallerRequest, to_desk, foresee}
 use Rattle.model.specs.Bounds.{SameWorld, IsWithin, failed, is_changed, ending_of, intended_world, next_world, bound_of_run}
 
 -- ---- streams
@@ -247,6 +247,20 @@ ViewsForetell =
     → IsWorld world → caller_by world setting.now asked.bearers ≡ Ok caller
     → foresee (view_of world setting.policy caller.user caller.repo) setting.now asked
     ≡ Ok (reply_of (desk_verdict world setting (to_desk caller.repo asked) asked.body))
+
+-- a caller of the world, of this user and this repository
+pub record IsCallerOf (world : World) (now : ℕ) (bearers : List (List ℕ)) (view : View) : Type 0 where
+  pub caller : Caller
+  pub is : caller_by world now bearers ≡ Ok caller
+  pub user : caller.user ≡ view.user
+  pub repo : caller.repo ≡ view.repo
+
+-- a reply is foreseen only if the token that is presented is a good one of the view's user and repository
+abbrev pub OnlyCallersAreForeseen : Type 0
+OnlyCallersAreForeseen =
+    (world : World) (policy : Policy) (user repo : List ℕ) (now : ℕ) (asked : CallerRequest) (r : Reply)
+    → IsWorld world → foresee (view_of world policy user repo) now asked ≡ Ok r
+    → IsCallerOf world now asked.bearers (view_of world policy user repo)
 
 -- what the user does not see is not in the view
 pub record IsSeen (policy : Policy) (user repo : List ℕ) (state : RepoState) : Type 0 where

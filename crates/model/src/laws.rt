@@ -3,7 +3,7 @@
 ghost use Rattle.model.specs.Laws.{HasOneFirst, BeginsWithMessage, CutIsLast, ChoosesOnlyThere, HeadDecides, TargetDecides};
 ghost use Rattle.model.specs.Laws.{StepsKeepWorlds, RunsKeepWorlds, RunsMakeWorlds, ServesWhatIsKept, ServedHasItsName, ServedWasPut};
 ghost use Rattle.model.specs.Laws.{DenialsChangeNothing, SilenceChangesNothing, OnlyReportedChanges, OnlyCutIsSilent, NeverLocksTwice, CountsOn, NewIdIsNext, NoIdComesAgain};
-ghost use Rattle.model.specs.Laws.{RoomIsQuota, StaysInQuota, PageIsLeast, LocksRise, LocksAreThose, LocksIgnoreOrder, WalksAreWhole, ViewsForetell, ViewsServeOneDigest, ViewsShowWhatIsSeen, OthersLeaveViews};
+ghost use Rattle.model.specs.Laws.{RoomIsQuota, StaysInQuota, PageIsLeast, LocksRise, LocksAreThose, LocksIgnoreOrder, WalksAreWhole, ViewsForetell, OnlyCallersAreForeseen, ViewsServeOneDigest, ViewsShowWhatIsSeen, OthersLeaveViews};
 ghost use Rattle.model.specs.Laws.{ReportsAreTrue, LeavesOneChange, MomentIsText, MomentHasText};
 
 /// A list of bytes has at most one first message and one rest after it. The body is as long as the head
@@ -87,11 +87,12 @@ pub fn walk_law()
     ensures { WalksAreWhole }
 {}
 
-/// The reply to a user is the one that the user's view foretells, in every world with that view, and the
-/// contents that such worlds serve have one SHA-256. A view shows only what the user sees, and an exchange in
+/// The reply to a user is the one that the user's view foretells, in every world with that view, and no reply is
+/// foretold to anyone else. The contents that such worlds serve have one SHA-256. A view shows only what the user sees, and an exchange in
 /// another repository leaves it.
 pub fn view_law()
     ensures foretell { ViewsForetell }
+    ensures callers { OnlyCallersAreForeseen }
     ensures digest { ViewsServeOneDigest }
     ensures seen { ViewsShowWhatIsSeen }
     ensures apart { OthersLeaveViews }
