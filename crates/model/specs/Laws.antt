@@ -1,5 +1,5 @@
 -- Laws of the definitions.
-use Rattle.std.specs.Prelude.{◌≡◌, ◌<◌, ◌≤◌, ◌+◌, ℕ, true, false, List, [], ◌∷◌, ◌++◌, length, All, AllPairs, Contains, Some, None, Ok, Err, bytes_eq, ◌⊎◌, ◌↔◌, option_map, ⊤}
+use Rattle.std.specs.Prelude.{◌≡◌, ◌<◌, ◌≤◌, ◌+◌, ℕ, true, false, List, [], ◌∷◌, ◌++◌, length, All, AllPairs, Contains, Some, None, Ok, Err, bytes_eq, ◌⊎◌, ◌↔◌, option_map, ⊤, Bool}
 use Rattle.httparse.specs.Grammar.{RequestHead}
 use Rattle.sha2.specs.Sha256.{sha256}
 use Rattle.names.specs.Texts.{last_moment}
@@ -36,10 +36,16 @@ HasOneFirst =
     (bytes : List ℕ) (a b : Message) (rest more : List ℕ) → BeginsWith bytes a rest → BeginsWith bytes b more
     → (a ≡ b) × (rest ≡ more)
 
--- bytes that have a first message are less than a head only if the choice is free; a whole message never is
+-- bytes that have a first message are less than a head only if the choice is free
 abbrev pub ChoosesOnlyThere : Type 0
 ChoosesOnlyThere =
     (bytes : List ℕ) (a : Message) (rest : List ℕ) → BeginsWith bytes a rest → IsUnfinished bytes → IsFreeChoice bytes
+
+-- bytes that begin with a message are never unfinished, cut off or not
+abbrev pub MessageIsFinished : Type 0
+MessageIsFinished =
+    (bytes : List ℕ) (head : RequestHead) (body : List ℕ) (whole : Bool) (rest : List ℕ)
+    → BeginsWith bytes (message head body whole) rest → ¬ (IsUnfinished bytes)
 
 -- the body of the first message is as long as its head says, or cut off
 abbrev pub BeginsWithMessage : Type 0

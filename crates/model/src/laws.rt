@@ -1,6 +1,6 @@
 //! Laws of the definitions. Each function does nothing, and its contract is the law.
 
-ghost use Rattle.model.specs.Laws.{HasOneFirst, BeginsWithMessage, CutIsLast, ChoosesOnlyThere, HeadDecides, TargetDecides};
+ghost use Rattle.model.specs.Laws.{HasOneFirst, BeginsWithMessage, CutIsLast, ChoosesOnlyThere, MessageIsFinished, HeadDecides, TargetDecides};
 ghost use Rattle.model.specs.Laws.{StepsKeepWorlds, RunsKeepWorlds, RunsMakeWorlds, ServesWhatIsKept, ServedHasItsName, ServedWasPut};
 ghost use Rattle.model.specs.Laws.{DenialsChangeNothing, SilenceChangesNothing, OnlyReportedChanges, OnlyCutIsSilent, NeverLocksTwice, CountsOn, NewIdIsNext, NoIdComesAgain};
 ghost use Rattle.model.specs.Laws.{RoomIsQuota, StaysInQuota, PageIsLeast, LocksRise, LocksAreThose, LocksIgnoreOrder, WalksAreWhole, ViewsForetell, OnlyCallersAreForeseen, ViewsServeOneDigest, ViewsShowWhatIsSeen, OthersLeaveViews};
@@ -15,9 +15,10 @@ pub fn message_law()
 {}
 
 /// At the end of a stream, H1 and no reply are both allowed only if less than a head is there and nothing
-/// that follows could complete it.
+/// that follows could complete it. Bytes that begin with a message are more than that.
 pub fn choice_law()
-    ensures { ChoosesOnlyThere }
+    ensures there { ChoosesOnlyThere }
+    ensures finished { MessageIsFinished }
 {}
 
 /// What denies a message before its body is read denies it with any body, for every form of request.
