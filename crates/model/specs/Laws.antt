@@ -160,6 +160,23 @@ pub record IsPutOf (o : Object) (e : Exchange) : Type 0 where
   pub name : target.parameter ≡ o.name
   pub given : e.given ≡ Some (Ok (stores o))
 
+-- the exchange is a download of this object: of its name, in its repository
+pub record IsGetOf (o : Object) (e : Exchange) : Type 0 where
+  pub head : RequestHead
+  pub body : List ℕ
+  pub target : Target
+  pub asked : e.asked ≡ message head body true
+  pub verdict : head_verdict head ≡ Ok target
+  pub form : target.form ≡ form.Get
+  pub repo : target.repo ≡ o.repo
+  pub name : target.parameter ≡ o.name
+
+-- a download is answered with the object that it asks for
+abbrev pub ServesWhatIsAsked : Type 0
+ServesWhatIsAsked =
+    (old : World) (e : Exchange) (o : Object) (new : World) → IsExchange old e new
+    → e.given ≡ Some (Ok (serves o)) → IsGetOf o e
+
 -- a download is answered with an object that is stored
 abbrev pub ServesWhatIsKept : Type 0
 ServesWhatIsKept =

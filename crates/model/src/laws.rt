@@ -1,7 +1,7 @@
 //! Laws of the definitions. Each function does nothing, and its contract is the law.
 
 ghost use Rattle.model.specs.Laws.{HasOneFirst, BeginsWithMessage, CutIsLast, ChoosesOnlyThere, MessageIsFinished, HeadDecides, TargetDecides};
-ghost use Rattle.model.specs.Laws.{StepsKeepWorlds, RunsKeepWorlds, RunsMakeWorlds, ServesWhatIsKept, ServedHasItsName, ServedWasPut};
+ghost use Rattle.model.specs.Laws.{StepsKeepWorlds, RunsKeepWorlds, RunsMakeWorlds, ServesWhatIsAsked, ServesWhatIsKept, ServedHasItsName, ServedWasPut};
 ghost use Rattle.model.specs.Laws.{DenialsChangeNothing, SilenceChangesNothing, OnlyReportedChanges, OnlyCutIsSilent, NeverLocksTwice, CountsOn, NewIdIsNext, NoIdComesAgain};
 ghost use Rattle.model.specs.Laws.{RoomIsQuota, StaysInQuota, PageIsLeast, LocksRise, LocksAreThose, LocksIgnoreOrder, WalksAreWhole, ViewsForetell, OnlyCallersAreForeseen, ViewsServeOneDigest, ViewsShowWhatIsSeen, OthersLeaveViews};
 ghost use Rattle.model.specs.Laws.{ReportsAreTrue, LeavesOneChange, MomentIsText, MomentHasText};
@@ -33,12 +33,13 @@ pub fn step_law()
     ensures { StepsKeepWorlds }
 {}
 
-/// A run keeps the laws of worlds, and one from the empty world has them. What a download is answered with
-/// is stored and has its name, and in such a run just these bytes were uploaded before, under this name in
-/// this repository.
+/// A run keeps the laws of worlds, and one from the empty world has them. A download is answered with the
+/// object that it asks for, which is stored and has its name, and in such a run just these bytes were uploaded
+/// before, under this name in this repository.
 pub fn run_law()
     ensures keeps { RunsKeepWorlds }
     ensures makes { RunsMakeWorlds }
+    ensures asked { ServesWhatIsAsked }
     ensures kept { ServesWhatIsKept }
     ensures named { ServedHasItsName }
     ensures put { ServedWasPut }
