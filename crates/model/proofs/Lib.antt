@@ -22,3 +22,4 @@ pub mod Streamed
 pub mod Quota
 pub mod Digests
 pub mod Ordered
+pub mod Foreseen

@@ -1,9 +1,9 @@
 -- The locks of a repository do not depend on the order in which the world lists them.
-use Rattle.std.proofs.Common.{◌≡◌, ℕ, ◌<◌, inl, inr, ◌⊎◌, ◌↔◌, Bool, true, false, nat_lt, List, [], ◌∷◌, filter, refl, sym, ap, ◌∙◌, arith, bytes_eq, cond}
+use Rattle.std.proofs.Common.{◌≡◌, ℕ, inl, inr, ◌⊎◌, Bool, true, nat_lt, List, [], ◌∷◌, filter, refl, sym, ap, ◌∙◌, arith, bytes_eq}
 use Rattle.std.specs.List.{AllByRecursion}
 use Rattle.std.proofs.lemmas.Bool.{cond_both}
 use Rattle.std.proofs.lemmas.Slice.Eq.{bytes_eq-Decides}
-use Rattle.model.specs.World.{World, Lock, IsWorld}
+use Rattle.model.specs.World.{World, Lock}
 use Rattle.model.specs.Orders.{insert_by, sort_by}
 use Rattle.model.specs.RepoState.{locks_of}
 use Rattle.model.specs.Pages.{IsBelow}

@@ -1,7 +1,8 @@
 -- Laws of the definitions.
-use Rattle.std.specs.Prelude.{◌≡◌, ◌<◌, ◌≤◌, ◌+◌, ℕ, true, false, List, [], ◌∷◌, ◌++◌, length, All, AllPairs, Contains, Some, None, Ok, Err, bytes_eq, ◌⊎◌, ◌↔◌, option_map, ⊤}
+use Rattle.std.specs.Prelude.{◌≡◌, ◌<◌, ◌≤◌, ◌+◌, ℕ, true, false, List, [], ◌∷◌, ◌++◌, length, All, AllPairs, Contains, Some, None, Ok, Err, bytes_eq, ◌⊎◌, ◌↔◌, option_map, ⊤, Bool}
 use Rattle.httparse.specs.Grammar.{RequestHead}
 use Rattle.sha2.specs.Sha256.{sha256}
+use Rattle.names.specs.Texts.{last_moment}
 use Rattle.names.specs.Moments.{IsMomentText}
 use Rattle.model.specs.declared.Form.TheVariants as form
 use Rattle.model.specs.Reading.{or_default}
@@ -17,8 +18,8 @@ use Rattle.model.specs.Verdict.{verdict, early_verdict, target_verdict, early_ch
 use Rattle.model.specs.Steps.{Message, message, IsMessage, Event, exchanged, Exchange, IsExchange, IsStep, Run}
 use Rattle.model.specs.Stream.{HasNoHead, NeverIsHead, BeginsWith, IsUnfinished, head_limit}
 use Rattle.model.specs.Moments.{moment_text}
-use Rattle.model.specs.Replies.{reply_of}
-use Rattle.model.specs.Views.{view_of, sees_objects, CallerRequest, to_desk, foresee}
+use Rattle.model.specs.Replies.{Reply, reply_of}
+use Rattle.model.specs.Views.{View, view_of, sees_objects, CallerRequest, to_desk, foresee}
 use Rattle.model.specs.Bounds.{SameWorld, IsWithin, failed, is_changed, ending_of, intended_world, next_world, bound_of_run}
 
 -- ---- streams
@@ -35,10 +36,16 @@ HasOneFirst =
     (bytes : List ℕ) (a b : Message) (rest more : List ℕ) → BeginsWith bytes a rest → BeginsWith bytes b more
     → (a ≡ b) × (rest ≡ more)
 
--- bytes that have a first message are less than a head only if the choice is free; a whole message never is
+-- bytes that have a first message are less than a head only if the choice is free
 abbrev pub ChoosesOnlyThere : Type 0
 ChoosesOnlyThere =
     (bytes : List ℕ) (a : Message) (rest : List ℕ) → BeginsWith bytes a rest → IsUnfinished bytes → IsFreeChoice bytes
+
+-- bytes that begin with a message are never unfinished, cut off or not
+abbrev pub MessageIsFinished : Type 0
+MessageIsFinished =
+    (bytes : List ℕ) (head : RequestHead) (body : List ℕ) (whole : Bool) (rest : List ℕ)
+    → BeginsWith bytes (message head body whole) rest → ¬ (IsUnfinished bytes)
 
 -- the body of the first message is as long as its head says, or cut off
 abbrev pub BeginsWithMessage : Type 0
@@ -116,7 +123,7 @@ NewIdIsNext =
     → IsWorld old → IsExchange old e new → e.given ≡ Some (Ok (makes_lock l))
     → (l.id ≡ old.made l.repo + 1) × (new.made l.repo ≡ l.id)
 
--- an event that reports no change leaves the world as it was: a denial, a refusal by the store, a message without an answer
+-- an event that reports no change leaves the world: a denial, a refusal by the store, a message without an answer
 abbrev pub OnlyReportedChanges : Type 0
 OnlyReportedChanges =
     (old : World) (event : Event) (new : World) → IsStep old event new → is_changed (ending_of old event) ≡ false
@@ -152,6 +159,23 @@ pub record IsPutOf (o : Object) (e : Exchange) : Type 0 where
   pub repo : target.repo ≡ o.repo
   pub name : target.parameter ≡ o.name
   pub given : e.given ≡ Some (Ok (stores o))
+
+-- the exchange is a download of this object: of its name, in its repository
+pub record IsGetOf (o : Object) (e : Exchange) : Type 0 where
+  pub head : RequestHead
+  pub body : List ℕ
+  pub target : Target
+  pub asked : e.asked ≡ message head body true
+  pub verdict : head_verdict head ≡ Ok target
+  pub form : target.form ≡ form.Get
+  pub repo : target.repo ≡ o.repo
+  pub name : target.parameter ≡ o.name
+
+-- a download is answered with the object that it asks for
+abbrev pub ServesWhatIsAsked : Type 0
+ServesWhatIsAsked =
+    (old : World) (e : Exchange) (o : Object) (new : World) → IsExchange old e new
+    → e.given ≡ Some (Ok (serves o)) → IsGetOf o e
 
 -- a download is answered with an object that is stored
 abbrev pub ServesWhatIsKept : Type 0
@@ -247,6 +271,20 @@ ViewsForetell =
     → foresee (view_of world setting.policy caller.user caller.repo) setting.now asked
     ≡ Ok (reply_of (desk_verdict world setting (to_desk caller.repo asked) asked.body))
 
+-- a caller of the world, of this user and this repository
+pub record IsCallerOf (world : World) (now : ℕ) (bearers : List (List ℕ)) (view : View) : Type 0 where
+  pub caller : Caller
+  pub is : caller_by world now bearers ≡ Ok caller
+  pub user : caller.user ≡ view.user
+  pub repo : caller.repo ≡ view.repo
+
+-- a reply is foreseen only if the token that is presented is a good one of the view's user and repository
+abbrev pub OnlyCallersAreForeseen : Type 0
+OnlyCallersAreForeseen =
+    (world : World) (policy : Policy) (user repo : List ℕ) (now : ℕ) (asked : CallerRequest) (r : Reply)
+    → IsWorld world → foresee (view_of world policy user repo) now asked ≡ Ok r
+    → IsCallerOf world now asked.bearers (view_of world policy user repo)
+
 -- what the user does not see is not in the view
 pub record IsSeen (policy : Policy) (user repo : List ℕ) (state : RepoState) : Type 0 where
   pub locks : All (λ l. sees policy user l ≡ true) state.locks
@@ -297,6 +335,10 @@ OthersLeaveViews =
 -- what is a moment's text is the text that is computed
 abbrev pub MomentIsText : Type 0
 MomentIsText = (moment : ℕ) (text : List ℕ) → IsMomentText moment text → text ≡ moment_text moment
+
+-- the text that is computed of a moment in range is its text
+abbrev pub MomentHasText : Type 0
+MomentHasText = (moment : ℕ) → moment ≤ last_moment → IsMomentText moment (moment_text moment)
 
 -- ---- stops
 

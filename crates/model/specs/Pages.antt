@@ -1,5 +1,5 @@
 -- Pages of locks, and walks over them.
-use Rattle.std.specs.Prelude.{◌≡◌, ℕ, ◌<◌, ◌≤◌, ◌⊎◌, nat_le, min, max, List, [], ◌∷◌, ◌++◌, length, take, drop, filter, flat_map, option_map, Option, Some, None, Result, Ok, All, AllPairs, Contains, MatchOption, ℤ, pos, negsuc}
+use Rattle.std.specs.Prelude.{◌≡◌, ℕ, ◌<◌, ◌≤◌, ◌⊎◌, nat_le, min, max, List, [], ◌∷◌, length, take, drop, filter, flat_map, option_map, Option, Some, None, Result, Ok, All, AllPairs, Contains, MatchOption, ℤ, pos, negsuc}
 use Rattle.names.specs.Texts.{lock_id_in}
 use Rattle.names.specs.declared.rules.Rule.{Rule}
 use Rattle.names.specs.declared.rules.Rule.TheVariants.{L4}
