@@ -1,136 +1,227 @@
 -- A message is answered, and its reply is sent.
-use Rattle.std.proofs.Common.{◌≡◌, ◌∙◌, ◌≤◌, ℕ, inl, inr, Bool, true, false, ◌||◌, List, [], ◌++◌, length, drop, codes, Option, Result, Ok, Err, refl, sym, ap, ap₂, subst}
+use Rattle.std.proofs.Common.{◌≡◌, ◌∙◌, ◌≤◌, ℕ, Bool, true, false, not, ◌&&◌, ◌||◌, List, [], ◌++◌, length, drop, codes, Option, Some, None, is_some, Ok, Err, refl, sym, ap, ap₂, subst}
 use Rattle.std.specs.Result.{IfErr}
 use Rattle.std.specs.Io.KnownBytes.{Appends}
 use Rattle.sqlite_trees.specs.declared.store.Store.{Ghosts}
 use Rattle.httparse.specs.Grammar.{RequestHead}
 use Rattle.names.specs.Texts.{last_moment}
-use Rattle.model.specs.Reading.{◌>>=◌}
 use Rattle.model.specs.World.{World}
-use Rattle.model.specs.Policy.{Policy, IsPolicy}
-use Rattle.model.specs.Heads.{values, query_of}
+use Rattle.model.specs.Policy.{IsPolicy}
+use Rattle.model.specs.Heads.{values, form_of_served, query_of, asks_close}
 use Rattle.model.specs.Forms.{request_of}
-use Rattle.model.specs.Replies.{IsReply, json, head_text, status_of}
-use Rattle.model.specs.Stream.{BeginsWith}
-use Rattle.model.specs.Steps.{Answer, Denial, Message, Exchange, IsExchange, Carries, by_rule, verdict, verdict_on, desk_verdict, message, store_refused, is_early_denial, is_store_refusal, is_method_refusal, is_last, closes, allow, after}
-use Rattle.model.proofs.Refusals.{IsLate, desk_fails}
-use Rattle.routes.specs.Routes.{route_seen}
+use Rattle.model.specs.Cases.{Setting, DeskRequest}
+use Rattle.model.specs.Answers.{Answer, by_rule, by_row, by_lock, is_rule, is_store_refusal, store_refusal}
+use Rattle.model.specs.Verdict.{verdict, desk_verdict, desk_request, early_verdict}
+use Rattle.model.specs.Steps.{Message, Exchange, by_verdict, by_refusal, denial_alone, message, is_early, is_of_head, is_h7, is_denial, is_x2, is_sure, denies_put, closes, closes_after, allow, after}
+use Rattle.model.specs.Replies as model
+use Rattle.model.specs.Replies.{reply_of, content_of, head_text, head_lines, type_line, body_size, json, reply_text}
+use Rattle.model.specs.Sessions.{text_of}
+use Rattle.model.proofs.Refusals.{IsLate, desk_fails, request_fails, verdict_at}
+use Rattle.model.proofs.Firsts.{begins_with_message}
+use Rattle.wire.specs.Replies.{head_of}
 use Rattle.wire.specs.Writes.{IsBeginning}
+use Rattle.wire.specs.declared.reply.ReplyHead as wire
+use Rattle.wire.specs.declared.reply.Content.TheVariants.{Json}
 use Rattle.tables.specs.declared.Store.{Store}
 use Rattle.worlds.specs.Standing.{Holds}
-use Rattle.tokens.specs.Bearers.{the_one}
 use Rattle.desk.specs.Done.{IsDone}
 use Rattle.desk.specs.Told.{IsReplyOf, body_text}
 use Rattle.desk.specs.declared.replies.Reply.{Reply}
-use Rattle.service.specs.Judging.{Asks}
-use Rattle.service.specs.Messages.{IsRefused, IsWhole}
-use Rattle.service.specs.Sending.{reply_text}
-use Rattle.service.specs.Turns.{IsAnswered, IsSent, IsTurn, Takes}
+use Rattle.service.specs.Judging.{Asks, target_seen}
+use Rattle.service.specs.Messages.{IsRefused, IsWhole, IsCutOff, whole_message}
+use Rattle.service.specs.Sending.{sent_text}
+use Rattle.service.specs.Turns.{IsAnswered, IsSent, IsTurn, Takes, exchange}
 use Rattle.service.specs.declared.judging.Target as judging
 use Rattle.service.specs.declared.judging.Denied as refusing
 use Rattle.service.specs.declared.message.Message as whole
 use Rattle.service.specs.declared.turn.Turn.{Turn}
-use Rattle.service.specs.declared.turn.Turn.TheVariants.{Unfinished, Answered, Closed, WriteFailed}
+use Rattle.service.specs.declared.turn.Turn.TheVariants.{Unfinished, CutOff, Answered, Closed, WriteFailed}
 
 -- ---- the verdict on a head that is not refused
 
-pub verdict_is : (world : World) (policy : Policy) (now : ℕ) (h : RequestHead) (t : judging.Target) (body : List ℕ) → Asks h t
-    → verdict world policy now h body ≡ desk_verdict world policy now (values (codes "authorization") h) (route_seen t.route).repo (request_of t.form [] t.query.now body)
-unfolding verdict
-verdict_is world policy now h t body is = rw (is.target, is.query) refl
+-- what the head and the body ask of the desk
+abbrev pub request_made : RequestHead → judging.Target → List ℕ → DeskRequest
+request_made h t body = desk_request h (target_seen t) body
+
+pub verdict_is : (world : World) (setting : Setting) (h : RequestHead) (t : judging.Target) (body : List ℕ) → Asks h t
+    → verdict world setting h body ≡ desk_verdict world setting (request_made h t body) body
+verdict_is world setting h t body is = verdict_at world setting h body (target_seen t) is.target
+
+-- what is handed to the desk is what the head and the body ask of it
+pub made_as : (h : RequestHead) (t : judging.Target) (bearers : List (List ℕ)) (repo body : List ℕ) → Asks h t → values (codes "authorization") h ≡ bearers
+    → repo ≡ (target_seen t).repo → length body ≡ t.size
+    → ◌≡◌ {A = DeskRequest} (record { bearers = bearers; repo = repo; left = length body; request = request_of (form_of_served t.form) [] t.query.now body }) (request_made h t body)
+made_as h t bearers repo body is bearer same size = rw (← bearer, same, size ∙ is.size, is.query) refl
 
 -- no rule of the head, and not the store
 pub record IsLateAnswer (given : Answer) : Type 0 where
-  pub early : is_early_denial given ≡ false
-  pub store : is_store_refusal given ≡ false
-  pub method : is_method_refusal given ≡ false
+  pub early : is_rule is_early given ≡ false
+  pub of_head : is_rule is_of_head given ≡ false
+  pub method : is_rule is_h7 given ≡ false
 
 late_answer : (given : Answer) → IfErr given IsLate → IsLateAnswer given
-late_answer (Ok granted) late = record { early = refl; store = refl; method = refl }
-late_answer (Err denial) late = record { early = late.early; store = late.store; method = late.method }
+late_answer (Ok granted) late = record { early = refl; of_head = refl; method = refl }
+late_answer (Err denial) late = record { early = late.early; of_head = late.of_head; method = late.method }
 
-pub late_verdict : (world : World) (policy : Policy) (now : ℕ) (h : RequestHead) (t : judging.Target) (body : List ℕ) → Asks h t → IsLateAnswer (verdict world policy now h body)
-late_verdict world policy now h t body is =
-    subst IsLateAnswer (sym (verdict_is world policy now h t body is))
-    (late_answer _ (desk_fails world policy now (values (codes "authorization") h) (route_seen t.route).repo t.form [] t.query.now body))
+pub late_verdict : (world : World) (setting : Setting) (h : RequestHead) (t : judging.Target) (body : List ℕ) → Asks h t → IsLateAnswer (verdict world setting h body)
+late_verdict world setting h t body is =
+    subst IsLateAnswer (sym (verdict_is world setting h t body is))
+    (late_answer _ (desk_fails world setting (request_made h t body) body (request_fails (form_of_served t.form) [] (query_of h.target) body)))
+
+-- a late answer is not a sure one
+not_sure : (given : Answer) → is_rule is_early given ≡ false → is_sure (Some given) ≡ false
+not_sure (Ok grant) early = refl
+not_sure (Err (by_rule r)) early = early
+not_sure (Err (by_row n right status)) early = refl
+not_sure (Err (by_lock l)) early = refl
 
 -- ---- a message that is answered
 
-module _ {S : Type 0} (g : Ghosts S) (world : World) (new : Store S) (reply : Reply) where
-  pub answered_by : (given : Answer) → IsLateAnswer given → IsDone g new world given reply → IsAnswered g world given new reply
-  answered_by given late done = record {
-    given = given;
-    kept = after world given;
+module _ {S : Type 0} (g : Ghosts S) (world : World) (setting : Setting) (head : RequestHead) (body : List ℕ) (new : Store S) (reply : Reply) where
+  pub answered_by : IsLateAnswer (verdict world setting head body) → IsDone g new world (verdict world setting head body) reply
+      → IsAnswered g world setting (whole_message head body) new reply
+  answered_by late done = record {
+    given = verdict world setting head body;
+    kept = after world (Some (verdict world setting head body));
     tells = done.tells;
-    carries = inl (refl, refl);
+    carries = by_verdict refl refl;
     holds = done.holds;
-    no_method = late.method;
+    of_head = late.of_head;
+    method = late.method;
   }
 
-  pub answered_none : (given : Answer) → IsLateAnswer given → IsReplyOf reply store_refused → Holds g new world → IsAnswered g world given new reply
-  answered_none given late tells holds = record {
-    given = store_refused;
+  pub answered_none : IsLateAnswer (verdict world setting head body) → IsReplyOf reply store_refusal → Holds g new world
+      → IsAnswered g world setting (whole_message head body) new reply
+  answered_none late tells holds = record {
+    given = store_refusal;
     kept = world;
     tells = tells;
-    carries = inr (refl, late.early, refl);
+    carries = by_refusal refl (not_sure (verdict world setting head body) late.early) refl;
     holds = holds;
-    no_method = refl;
+    of_head = refl;
+    method = refl;
   }
 
 -- ---- the text of a reply
 
-reply_is : (reply : Reply) (given : Answer) (methods allowed : List ℕ) (close shut : Bool) → IsReplyOf reply given → methods ≡ allowed → close ≡ shut → IsReply given allowed shut (reply_text reply methods close)
-reply_is reply given methods allowed close shut tells named closed = (
-  body_text reply.body,
-  tells.body,
-  ap₂ (λ status (m : List ℕ). head_text status json (length (body_text reply.body)) m close ++ body_text reply.body) tells.status named
-      ∙ ap (λ c. head_text (status_of given) json (length (body_text reply.body)) allowed c ++ body_text reply.body) closed,
-)
+pub text_is : (reply : Reply) (given : Answer) (allow : List ℕ) (close : Bool) → IsReplyOf reply given → sent_text reply allow close ≡ reply_text given allow close
+unfolding head_text
+text_is reply given allow close tells =
+    ap₂ (λ (status : ℕ) (body : model.Body).
+    head_lines (record { status = status; type = type_line body; size = body_size body; allow = allow; close = close }) ++ model.body_text body (content_of given))
+    tells.status (sym tells.body)
+
+-- what is written is the text of the head of such a reply, and its body
+pub sent_is : (h : wire.ReplyHead) (reply : Reply) (body : List ℕ) → h.content ≡ Json → h.status ≡ reply.status → h.size ≡ length body → body ≡ body_text reply.body
+    → (head_of h ++ body) ≡ sent_text reply h.allow.now h.close
+unfolding head_text
+sent_is h reply body kind status size same = rw (kind, status, size, same) refl
+
+reply_is : (reply : Reply) (given : Answer) (methods allowed : List ℕ) (close shut : Bool) → IsReplyOf reply given → methods ≡ allowed → close ≡ shut
+    → sent_text reply methods close ≡ reply_text given allowed shut
+reply_is reply given methods allowed close shut tells named closed =
+    ap₂ (λ (m : List ℕ) (c : Bool). sent_text reply m c) named closed ∙ text_is reply given allowed shut tells
 
 -- ---- a turn, and what was sent
 
-module _ {S : Type 0} (g : Ghosts S) (policy : Policy) (now : ℕ) (bytes : List ℕ) (world : World) (new : Store S) where
+module _ {S : Type 0} (g : Ghosts S) (setting : Setting) (bytes : List ℕ) (world : World) (new : Store S) where
   pub sent : (was is : Option (List ℕ)) (e : Exchange) (next : List ℕ) (kept : World) (text : List ℕ) (close : Bool) (len : ℕ) (turn : Turn)
-      → IsTurn g policy now bytes world new e next kept text → closes e ≡ close → (close ≡ false → next ≡ drop len bytes) → IsSent was is text close len turn → Takes g policy now bytes world new was is turn
-  sent was is e next kept text close len Unfinished turn shuts goes s = absurd s
-  sent was is e next kept text close len (Answered n) turn shuts goes s =
-      (e, kept, text, subst (λ (rest : List ℕ). IsTurn g policy now bytes world new e rest kept text) (goes s.0 ∙ ap (λ m. drop m bytes) (sym s.1)) turn, shuts ∙ s.0, s.2)
-  sent was is e next kept text close len Closed turn shuts goes s = (e, next, kept, text, turn, shuts ∙ s.0, s.1)
-  sent was is e next kept text close len WriteFailed turn shuts goes s = (e, next, kept, text, turn, s)
-
-  exchange : Message → Answer → Exchange
-  exchange asked given = record { policy = policy; now = now; asked = asked; given = given }
+      → IsTurn g setting bytes world new e next kept → text ≡ text_of e → is_some e.given ≡ true → closes e ≡ close
+      → (close ≡ false → next ≡ drop len bytes) → IsSent was is text close len turn → Takes g setting bytes world new was is turn
+  sent was is e next kept text close len Unfinished turn reads some shuts goes s = absurd s
+  sent was is e next kept text close len CutOff turn reads some shuts goes s = absurd s
+  sent was is e next kept text close len (Answered n) turn reads some shuts goes s = (
+    e,
+    kept,
+    subst (λ (rest : List ℕ). IsTurn g setting bytes world new e rest kept) (goes s.0 ∙ ap (λ m. drop m bytes) (sym s.1)) turn,
+    some,
+    shuts ∙ s.0,
+    subst (λ (t : List ℕ). Appends was is t) reads s.2,
+  )
+  sent was is e next kept text close len Closed turn reads some shuts goes s =
+      (e, next, kept, turn, some, shuts ∙ s.0, subst (λ (t : List ℕ). Appends was is t) reads s.1)
+  sent was is e next kept text close len WriteFailed turn reads some shuts goes s =
+      (e, next, kept, turn, (s.0, subst (λ (t : List ℕ). IsBeginning was is t s.0) reads s.1))
 
   -- a head that is refused
-  pub refused_turn : (asked : Message) (d : refusing.Denied) (reply : Reply) → IsPolicy policy → now ≤ last_moment → IsRefused bytes asked d → IsReplyOf reply (Err (by_rule d.rule)) → Holds g new world
-      → IsTurn g policy now bytes world new (record { policy = policy; now = now; asked = asked; given = Err (by_rule d.rule) }) [] world (reply_text reply d.allow.now true)
-  refused_turn asked d reply in_range at is tells holds = record {
+  pub refused_turn : (asked : Message) (d : refusing.Denied) → IsPolicy setting.policy → setting.now ≤ last_moment → (is : IsRefused bytes asked d) → Holds g new world
+      → IsTurn g setting bytes world new (exchange setting asked (Some (Err (by_rule d.rule)))) is.next world
+  refused_turn asked d in_range at is holds = record {
     begins = is.begins;
-    under = (refl, refl);
-    step = record { policy = in_range; now = at; carries = inl (sym (is.verdict world policy now), sym (ap (after world) (is.verdict world policy now))) };
-    reply = reply_is reply (Err (by_rule d.rule)) d.allow.now _ true _ tells is.methods (sym (ap (λ b. b || is_store_refusal (Err (by_rule d.rule))) is.last));
+    under = refl;
+    step = record {
+      policy = in_range;
+      now = at;
+      asked = begins_with_message bytes asked is.next is.begins;
+      carries = by_verdict (sym (is.verdict world setting)) (sym (ap (after world) (is.verdict world setting)));
+    };
     holds = holds;
   }
 
-  no_methods : (h : RequestHead) (body : List ℕ) (given : Answer) → is_method_refusal given ≡ false → ◌≡◌ {A = List ℕ} [] (allow (message h body) given)
-  no_methods h body given other = rw other refl
-
   -- a message that is answered
-  pub whole_turn : (h : RequestHead) (m : whole.Message) (reply : Reply) (close : Bool) → IsPolicy policy → now ≤ last_moment → IsWhole bytes h m → close ≡ (m.is_last || reply.is_store_refusal)
-      → (a : IsAnswered g world (verdict world policy now h m.body.now) new reply)
-      → IsTurn g policy now bytes world new (record { policy = policy; now = now; asked = message h m.body.now; given = a.given }) (drop m.len bytes) a.kept (reply_text reply [] close)
-  whole_turn h m reply close in_range at is shut a = record {
+  pub whole_turn : (h : RequestHead) (m : whole.Message) (reply : Reply) → IsPolicy setting.policy → setting.now ≤ last_moment → IsWhole bytes h m
+      → (a : IsAnswered g world setting (whole_message h m.body.now) new reply)
+      → IsTurn g setting bytes world new (exchange setting (whole_message h m.body.now) (Some a.given)) (drop m.len bytes) a.kept
+  whole_turn h m reply in_range at is a = record {
     begins = is.begins;
-    under = (refl, refl);
-    step = record { policy = in_range; now = at; carries = a.carries };
-    reply = reply_is reply a.given [] _ close _ a.tells (no_methods h m.body.now a.given a.no_method) (shut ∙ ap₂ (λ b c. b || c) (sym is.last) a.tells.refusal);
+    under = refl;
+    step = record {
+      policy = in_range;
+      now = at;
+      asked = begins_with_message bytes (whole_message h m.body.now) (drop m.len bytes) is.begins;
+      carries = a.carries;
+    };
     holds = a.holds;
   }
 
-pub refused_closes : (policy : Policy) (now : ℕ) (bytes : List ℕ) (asked : Message) (d : refusing.Denied) → IsRefused bytes asked d
-    → closes (record { policy = policy; now = now; asked = asked; given = Err (by_rule d.rule) }) ≡ true
-refused_closes policy now bytes asked d is = ap (λ b. b || is_store_refusal (Err (by_rule d.rule))) is.last
+  -- a message that is cut off
+  pub cut_turn : (was is : Option (List ℕ)) (h : RequestHead) → IsPolicy setting.policy → setting.now ≤ last_moment → IsCutOff bytes h → Holds g new world → is ≡ was
+      → Takes g setting bytes world new was is CutOff
+  cut_turn was is h in_range at cut holds same =
+      let asked : Message = message h cut.body false in
+      let none : ◌≡◌ {A = Option Answer} (denial_alone (early_verdict world setting h)) None = ap denial_alone (cut.passes world setting) in (
+        exchange setting asked None,
+        world,
+        record {
+          begins = cut.begins;
+          under = refl;
+          step = record {
+            policy = in_range;
+            now = at;
+            asked = begins_with_message bytes asked [] cut.begins;
+            carries = by_verdict (sym none) (sym (ap (after world) none));
+          };
+          holds = holds;
+        },
+        refl,
+        same,
+      )
 
-pub whole_closes : (policy : Policy) (now : ℕ) (bytes : List ℕ) (h : RequestHead) (m : whole.Message) (given : Answer) (reply : Reply) → IsWhole bytes h m → IsReplyOf reply given
-    → closes (record { policy = policy; now = now; asked = message h m.body.now; given = given }) ≡ (m.is_last || reply.is_store_refusal)
-whole_closes policy now bytes h m given reply is tells = ap₂ (λ b c. b || c) is.last (sym tells.refusal)
+-- ---- whether the connection closes, and what is sent
+
+shut_by : (asks rule store put : Bool) → rule ≡ false → put ≡ false → (asks || rule || store || put) ≡ (asks || store)
+shut_by true rule store put a b = refl
+shut_by false rule true put a b = rw a refl
+shut_by false rule false put a b = rw (a, b) refl
+
+pub whole_closes : (bytes : List ℕ) (h : RequestHead) (m : whole.Message) (given : Answer) (reply : Reply) → IsWhole bytes h m → IsReplyOf reply given → is_rule is_of_head given ≡ false
+    → closes_after (whole_message h m.body.now) given ≡ (m.is_last || reply.is_store_refusal)
+whole_closes bytes h m given reply is tells late =
+    let no_put : denies_put h given ≡ false = ap (λ (v : Bool). v && is_denial given && not (is_rule is_x2 given)) is.asks.no_put in
+    shut_by (asks_close h) (is_rule is_of_head given) (is_store_refusal given) (denies_put h given) late no_put
+    ∙ ap₂ (λ a b. a || b) is.last (sym tells.refusal)
+
+pub refused_text : (asked : Message) (d : refusing.Denied) (bytes : List ℕ) (reply : Reply) → IsRefused bytes asked d → IsReplyOf reply (Err (by_rule d.rule))
+    → sent_text reply d.allow.now true ≡ reply_text (Err (by_rule d.rule)) (allow asked (Err (by_rule d.rule))) (closes_after asked (Err (by_rule d.rule)))
+refused_text asked d bytes reply is tells =
+    reply_is reply (Err (by_rule d.rule)) d.allow.now (allow asked (Err (by_rule d.rule))) true (closes_after asked (Err (by_rule d.rule))) tells is.methods (sym is.closes)
+
+no_methods : (h : RequestHead) (body : List ℕ) (given : Answer) → is_rule is_h7 given ≡ false → ◌≡◌ {A = List ℕ} [] (allow (whole_message h body) given)
+no_methods h body given other = rw other refl
+
+pub whole_text : (h : RequestHead) (m : whole.Message) (bytes : List ℕ) (given : Answer) (reply : Reply) (close : Bool) → IsWhole bytes h m → IsReplyOf reply given
+    → is_rule is_of_head given ≡ false → is_rule is_h7 given ≡ false → close ≡ (m.is_last || reply.is_store_refusal)
+    → sent_text reply [] close ≡ reply_text given (allow (whole_message h m.body.now) given) (closes_after (whole_message h m.body.now) given)
+whole_text h m bytes given reply close is tells late other shut =
+    reply_is reply given [] (allow (whole_message h m.body.now) given) close (closes_after (whole_message h m.body.now) given) tells
+    (no_methods h m.body.now given other) (shut ∙ sym (whole_closes bytes h m given reply is tells late))

@@ -1,42 +1,55 @@
 -- What is judged of a head, check by check.
-use Rattle.std.proofs.Common.{◌≡◌, ℕ, Bool, true, false, not, ◌||◌, List, [], Some, None, Result, Ok, Err, codes, refl, subst, ◌≤◌, length, lit≤}
+use Rattle.std.proofs.Common.{◌≡◌, ℕ, Bool, true, false, not, ◌||◌, List, [], Some, None, Result, Ok, Err, codes, refl, ap, subst, ◌≤◌, length, lit≤, bytes_eq, cond}
 use Rattle.std.specs.Bool.{⊤}
 use Rattle.std.specs.Result.{IfErr}
 use Rattle.std.specs.Str.{IsUtf8, is_utf8}
 use Rattle.std.proofs.lemmas.Str.{IsUtf8-from_is_utf8}
+use Rattle.std.proofs.lemmas.Slice.Eq.{bytes_eq-Decides}
 use Rattle.httparse.specs.Grammar.{RequestHead}
 use Rattle.names.specs.declared.rules.Rule.{Rule}
 use Rattle.names.specs.declared.rules.Rule.TheVariants.{H6, H7, H8}
 use Rattle.model.specs.declared.Form.{Form}
+use Rattle.model.specs.declared.Form.TheVariants as form
 use Rattle.model.specs.Reading.{◌>>=◌, check}
-use Rattle.model.specs.Heads.{Route, judged, framed, route_at, form_of, accepts, values, methods_of}
-use Rattle.model.specs.Steps.{by_rule, is_method_refusal}
+use Rattle.model.specs.Heads.{Route, head_verdict, head_verdict_in, check_framing, route_at, form_of, is_method, accepts, values, methods_of}
+use Rattle.model.specs.Steps.{is_h7}
+use Rattle.routes.specs.declared.table.Resource.{Resource}
+use Rattle.routes.specs.declared.table.Resource.TheVariants.{Locks}
+use Rattle.routes.specs.Table.{row_of}
 use Rattle.service.specs.Judging.{IsDenied}
 use Rattle.service.specs.declared.judging.Denied.{Denied}
 
 -- ---- the checks in their order
 
-pub not_framed : (h : RequestHead) (r : Rule) → framed h ≡ Err r → judged h ≡ Err r
-unfolding judged
+pub not_framed : (h : RequestHead) (r : Rule) → check_framing h ≡ Err r → head_verdict h ≡ Err r
+unfolding head_verdict_in
 not_framed h r is = rw is refl
 
-pub not_routed : (h : RequestHead) → framed h ≡ Ok tt → route_at h.target ≡ Err H6 → judged h ≡ Err H6
-unfolding judged
+pub not_routed : (h : RequestHead) → check_framing h ≡ Ok tt → route_at h.target ≡ Err H6 → head_verdict h ≡ Err H6
+unfolding head_verdict_in
 not_routed h whole nowhere = rw (whole, nowhere) refl
 
-pub not_served : (h : RequestHead) (route : Route) → framed h ≡ Ok tt → route_at h.target ≡ Ok route → form_of h.method route.row.requests ≡ None → judged h ≡ Err H7
-unfolding judged
+pub not_served : (h : RequestHead) (route : Route) → check_framing h ≡ Ok tt → route_at h.target ≡ Ok route → form_of h.method route.row.requests ≡ None → head_verdict h ≡ Err H7
+unfolding head_verdict_in
 not_served h route whole there other = rw (whole, there, other) refl
 
-pub not_accepted : (h : RequestHead) (route : Route) (form : Form) → framed h ≡ Ok tt → route_at h.target ≡ Ok route → form_of h.method route.row.requests ≡ Some form
-    → (not route.row.is_json || accepts (values (codes "accept") h)) ≡ false → judged h ≡ Err H8
-unfolding judged
+pub not_accepted : (h : RequestHead) (route : Route) (form : Form) → check_framing h ≡ Ok tt → route_at h.target ≡ Ok route → form_of h.method route.row.requests ≡ Some form
+    → (not route.row.is_json || accepts (values (codes "accept") h)) ≡ false → head_verdict h ≡ Err H8
+unfolding head_verdict_in
 not_accepted h route form whole there served other = rw (whole, there, served, other) refl
 
-pub asked : (h : RequestHead) (route : Route) (form : Form) → framed h ≡ Ok tt → route_at h.target ≡ Ok route → form_of h.method route.row.requests ≡ Some form
-    → (not route.row.is_json || accepts (values (codes "accept") h)) ≡ true → judged h ≡ Ok (record { repo = route.repo; parameter = route.parameter; form = form })
-unfolding judged
+pub asked : (h : RequestHead) (route : Route) (form : Form) → check_framing h ≡ Ok tt → route_at h.target ≡ Ok route → form_of h.method route.row.requests ≡ Some form
+    → (not route.row.is_json || accepts (values (codes "accept") h)) ≡ true → head_verdict h ≡ Ok (record { repo = route.repo; parameter = route.parameter; form = form })
+unfolding head_verdict_in
 asked h route form whole there served wanted = rw (whole, there, served, wanted) refl
+
+-- none of the routes has PUT
+pub no_put : (h : RequestHead) (r : Resource) (f : Form) → form_of h.method (row_of r).requests ≡ Some f → is_method (codes "PUT") h ≡ false
+no_put h Locks f served = at (bytes_eq h.method (codes "POST")) refl served
+  where
+    at : (v : Bool) → bytes_eq h.method (codes "POST") ≡ v → cond v (Some form.Lock) None ≡ Some f → is_method (codes "PUT") h ≡ false
+    at true is e = ap (λ (m : List ℕ). bytes_eq m (codes "PUT")) ((bytes_eq-Decides h.method (codes "POST")).0 is)
+    at false is e = absurd (cc)
 
 -- ---- targets
 
@@ -51,7 +64,7 @@ no_text target other = rw (at (is_utf8 target) refl) refl
 -- ---- which rules name no methods
 
 abbrev IsOther : Rule → Type 0
-IsOther r = is_method_refusal (Err (by_rule r)) ≡ false
+IsOther r = is_h7 r ≡ false
 
 -- a check before others
 check_then : {B : Type 0} (test : Bool) (e : Rule) (f : ⊤ → Result B Rule) → IsOther e → IfErr (f tt) IsOther → IfErr (check test e >>= f) IsOther
@@ -62,17 +75,17 @@ check_last : (test : Bool) (e : Rule) → IsOther e → IfErr (check test e) IsO
 check_last true e is = tt
 check_last false e is = is
 
-framed_fails : (h : RequestHead) → IfErr (framed h) IsOther
-framed_fails h = search (check_then, check_last) depth 8
+framing_fails : (h : RequestHead) → IfErr (check_framing h) IsOther
+framing_fails h = search (check_then, check_last) depth 8
 
 -- what says how long the body is refuses for no method
-pub framing_rule : (h : RequestHead) (r : Rule) → framed h ≡ Err r → IsOther r
-framing_rule h r is = subst (λ (f : Result ⊤ Rule). IfErr f IsOther) is (framed_fails h)
+pub framing_rule : (h : RequestHead) (r : Rule) → check_framing h ≡ Err r → IsOther r
+framing_rule h r is = subst (λ (f : Result ⊤ Rule). IfErr f IsOther) is (framing_fails h)
 
 -- ---- denials
 
 -- a refusal that names no methods
-pub refused : (h : RequestHead) (d : Denied) (r : Rule) → d.rule ≡ r → d.allow.now ≡ [] → judged h ≡ Err r → IsOther r → IsDenied h d
+pub refused : (h : RequestHead) (d : Denied) (r : Rule) → d.rule ≡ r → d.allow.now ≡ [] → head_verdict h ≡ Err r → IsOther r → IsDenied h d
 refused h d r same none is other = record {
   rule = rw same is;
   methods = rw (same, other) none;
@@ -80,7 +93,7 @@ refused h d r same none is other = record {
 }
 
 -- a refusal that names those of the route
-pub unserved : (h : RequestHead) (d : Denied) (route : Route) → d.rule ≡ H7 → route_at h.target ≡ Ok route → d.allow.now ≡ methods_of (Ok route) → length d.allow.now ≤ 128 → judged h ≡ Err H7 → IsDenied h d
+pub unserved : (h : RequestHead) (d : Denied) (route : Route) → d.rule ≡ H7 → route_at h.target ≡ Ok route → d.allow.now ≡ methods_of (Ok route) → length d.allow.now ≤ 128 → head_verdict h ≡ Err H7 → IsDenied h d
 unserved h d route same there methods short is = record {
   rule = rw same is;
   methods = rw (same, there) methods;

@@ -1,51 +1,66 @@
 -- The message at the front of a stream.
-use Rattle.std.proofs.Common.{◌≡◌, ◌∙◌, ◌+◌, ◌-◌, ◌<◌, ◌≤◌, ℕ, suc, inl, inr, Bool, true, false, ◌&&◌, ◌||◌, not, nat_le, nat_lt, List, [], ◌∷◌, ◌++◌, length, take, drop, codes, Option, Some, None, Result, Ok, Err, refl, sym, ap, subst, arith, length-append, length-take, length-drop, drop-drop, IfOk, IsErr, IsOk, option_map, ap₂}
+use Rattle.std.proofs.Common.{◌≡◌, ◌∙◌, ◌+◌, ◌<◌, ◌≤◌, ℕ, suc, Bool, true, false, ◌||◌, nat_le, List, [], ◌∷◌, length, take, drop, codes, Some, Result, Ok, Err, refl, sym, ap, ap₂, arith, cond, length-append, length-take, length-drop, drop-drop, is_err, option_map, lit<}
 use Rattle.std.proofs.lemmas.Bool.{true≢false}
 use Rattle.std.proofs.lemmas.Bool.Decides.{nat_tests}
-use Rattle.std.specs.Bool.{⊤}
-use Rattle.std.specs.List.{list_all}
-use Rattle.std.proofs.lemmas.List.{take-append-drop}
+use Rattle.std.proofs.lemmas.List.{drop_all}
 use Rattle.std.proofs.lemmas.Result.{IfErr-at_err}
+use Rattle.std.specs.Bool.{⊤}
 use Rattle.httparse.specs.Grammar.{RequestHead, print_request, ReadsRequest}
 use Rattle.names.specs.declared.rules.Rule.{Rule}
 use Rattle.names.specs.declared.rules.Rule.TheVariants as rule
-use Rattle.names.specs.Texts.{largest_object}
+use Rattle.model.specs.declared.ServedForm.{ServedForm}
+use Rattle.model.specs.declared.ServedForm.TheVariants as served
 use Rattle.model.specs.Reading.{◌>>=◌, check}
-use Rattle.model.specs.Policy.{Policy}
+use Rattle.model.specs.Orders.{first}
 use Rattle.model.specs.World.{World}
-use Rattle.model.specs.Heads.{Target, judged, framed, values, first, at_most_one, asks_close, content_length, lengths, is_length, is_method, largest_form, route_at, form_of, accepts}
-use Rattle.model.specs.Stream.{BeginsWith, BeginsWithHead, IsUnfinished, head_limit}
-use Rattle.model.specs.Steps.{Answer, Denial, by_rule, message, verdict, is_last, is_of_head}
-use Rattle.model.proofs.Refusals.{IsHeadRule, judged_fails}
+use Rattle.model.specs.Heads.{Target, head_verdict, form_of_served, check_framing, body_length, values, at_most, asks_close, content_length, is_measured, is_clear, is_small}
+use Rattle.model.specs.Cases.{Setting}
+use Rattle.model.specs.Verdict.{early_check}
+use Rattle.model.specs.Steps.{message, is_of_head}
+use Rattle.model.specs.Stream.{BeginsWithHead, with_message, message_with, IsUnfinished}
+use Rattle.model.proofs.Refusals.{IsHeadRule, head_fails, verdict_refused, early_at}
 use Rattle.model.proofs.Tests.{both_true}
 use Rattle.tokens.specs.Bearers.{the_one}
 use Rattle.service.proofs.Judged.{not_framed}
 use Rattle.service.specs.Judging.{Asks, IsDenied, target_seen}
-use Rattle.service.specs.Messages.{IsRefused, IsWhole}
+use Rattle.service.specs.Messages.{IsRefused, IsWhole, IsCutOff}
 use Rattle.service.specs.declared.judging.Denied as judging
+use Rattle.service.specs.declared.judging.Target as code
 use Rattle.service.specs.declared.message.Message as whole
-
-is_err : {A E : Type 0} (r : Result A E) (e : E) → r ≡ Err e → IsErr r
-is_err r e is = subst IsErr (sym is) refl
-
-is_ok : {A E : Type 0} (r : Result A E) (x : A) → r ≡ Ok x → IsOk r
-is_ok r x is = subst IsOk (sym is) refl
 
 -- ---- a head that is refused
 
-verdict_of_refused : (world : World) (policy : Policy) (now : ℕ) (h : RequestHead) (body : List ℕ) (r : Rule) → judged h ≡ Err r → verdict world policy now h body ≡ Err (by_rule r)
-unfolding verdict
-verdict_of_refused world policy now h body r is = rw is refl
+-- it has no body
+no_body : (h : RequestHead) (r : Rule) → head_verdict h ≡ Err r → body_length h ≡ 0
+no_body h r is = ap (λ (v : Result Target Rule). cond (is_err v) 0 (content_length h)) is
 
-pub head_refused : (bytes after : List ℕ) (h : RequestHead) (d : judging.Denied) → BeginsWithHead bytes h after → IsDenied h d → IsRefused bytes (message h []) d
-head_refused bytes after h d b is = record {
-  begins = (after, b, inl (is_err (judged h) d.rule is.rule, refl));
-  last = rw is.rule refl;
-  verdict = λ world policy now. verdict_of_refused world policy now h [] d.rule is.rule;
-  of_head = IfErr-at_err IsHeadRule is.rule (judged_fails h);
-  methods = is.methods;
-  short = is.short;
-}
+none_taken : (n : ℕ) (bytes : List ℕ) → n ≡ 0 → take n bytes ≡ []
+none_taken n bytes none = ap (λ k. take k bytes) none ∙ grind arith
+
+none_wanted : (n m : ℕ) → n ≡ 0 → nat_le n m ≡ true
+none_wanted n m none = grind (arith, nat_tests)
+
+refused_message : (h : RequestHead) (after : List ℕ) (r : Rule) → head_verdict h ≡ Err r → message h [] true ≡ message_with h after
+refused_message h after r is =
+    ap₂ (λ (body : List ℕ) (all : Bool). message h body all)
+    (sym (none_taken (body_length h) after (no_body h r is))) (sym (none_wanted (body_length h) (length after) (no_body h r is)))
+
+closes_there : (asks rule store put : Bool) → rule ≡ true → (asks || rule || store || put) ≡ true
+closes_there true rule store put is = refl
+closes_there false rule store put is = rw is refl
+
+pub head_refused : (bytes after : List ℕ) (h : RequestHead) (d : judging.Denied) → BeginsWithHead bytes h after → IsDenied h d → IsRefused bytes (message h [] true) d
+head_refused bytes after h d b is =
+    let of_head : is_of_head d.rule ≡ true = IfErr-at_err IsHeadRule is.rule (head_fails h) in
+    record {
+      next = drop (body_length h) after;
+      begins = with_message h after b (refused_message h after d.rule is.rule) refl;
+      closes = closes_there (asks_close h) (is_of_head d.rule) _ _ of_head;
+      verdict = λ world setting. ap Some (verdict_refused world setting h [] d.rule is.rule);
+      of_head = of_head;
+      methods = is.methods;
+      short = is.short;
+    }
 
 -- ---- what the fields of a head that is not refused say
 
@@ -53,26 +68,18 @@ check_passed : {B : Type 0} (test : Bool) (e : Rule) (f : ⊤ → Result B Rule)
 check_passed true e f x is = (refl, is)
 check_passed false e f x is = absurd (cc)
 
-one_authorization : (head : RequestHead) → framed head ≡ Ok tt → at_most_one (values (codes "authorization") head) ≡ true
+one_authorization : (head : RequestHead) → check_framing head ≡ Ok tt → at_most 1 (values (codes "authorization") head) ≡ true
 one_authorization head is =
-    let uncoded = nat_le (length (values (codes "transfer-encoding") head)) 0 in
-    let given = not (is_method (codes "POST") head || is_method (codes "PUT") head) || nat_lt 0 (length (lengths head)) in
-    let single = at_most_one (lengths head) && list_all is_length (lengths head) && at_most_one (values (codes "authorization") head) && at_most_one (values (codes "accept") head) in
-    let no_body = not (is_method (codes "GET") head && nat_lt 0 (content_length head)) in
-    let small = not (is_method (codes "POST") head && nat_lt largest_form (content_length head)) in
-    let object = not (is_method (codes "PUT") head && nat_lt largest_object (content_length head)) in
-    let fourth : ⊤ → Result ⊤ Rule = λ _. check no_body rule.H4 >>= λ _. check small rule.H5 >>= λ _. check object rule.H5 in
-    let third : ⊤ → Result ⊤ Rule = λ _. check single rule.H4 >>= fourth in
-    let second : ⊤ → Result ⊤ Rule = λ _. check given rule.H3 >>= third in
-    let a = check_passed uncoded rule.H2 second tt is in
-    let b = check_passed given rule.H3 third tt a.1 in
-    let c = check_passed single rule.H4 fourth tt b.1 in
-    (both_true _ _ (both_true _ _ c.0).0).1
+    let third : ⊤ → Result ⊤ Rule = λ _. check (is_clear head) rule.H4 >>= λ _. check (is_small head) rule.H5 in
+    let a = check_passed (at_most 0 (values (codes "transfer-encoding") head)) rule.H2 (λ _. check (is_measured head) rule.H3 >>= third) tt is in
+    let b = check_passed (is_measured head) rule.H3 third tt a.1 in
+    let c = check_passed (is_clear head) rule.H4 (λ _. check (is_small head) rule.H5) tt b.1 in
+    (both_true _ _ (both_true _ _ (both_true _ _ c.0).0).0).1
 
-framed_if_judged : (h : RequestHead) (t : Target) → judged h ≡ Ok t → framed h ≡ Ok tt
-framed_if_judged h t is = at (framed h) refl
+framed_if_judged : (h : RequestHead) (t : Target) → head_verdict h ≡ Ok t → check_framing h ≡ Ok tt
+framed_if_judged h t is = at (check_framing h) refl
   where
-    at : (v : Result ⊤ Rule) → framed h ≡ v → v ≡ Ok tt
+    at : (v : Result ⊤ Rule) → check_framing h ≡ v → v ≡ Ok tt
     at (Ok x) e = refl
     at (Err r) e = absurd (differ (sym is ∙ not_framed h r e))
       where
@@ -82,7 +89,7 @@ framed_if_judged h t is = at (framed h) refl
 two : (n : ℕ) → nat_le (suc (suc n)) 1 ≡ false
 two n = grind (arith, nat_tests)
 
-the_first : (vs : List (List ℕ)) → at_most_one vs ≡ true → vs ≡ the_one (first vs)
+the_first : (vs : List (List ℕ)) → at_most 1 vs ≡ true → vs ≡ the_one (first vs)
 the_first [] is = refl
 the_first (v ∷ []) is = refl
 the_first (v ∷ w ∷ vs) is = absurd (true≢false (sym is ∙ two (length vs)))
@@ -96,26 +103,59 @@ shorter bytes head rest r = omega (arith, simp length-append at (ap length r.1))
 some_len : (bytes : List ℕ) (len : ℕ) → length (drop len bytes) < length bytes → 0 < len
 some_len bytes len less = omega (arith, length-drop len bytes, less)
 
+-- the body has as many bytes as the target says
+body_is : (h : RequestHead) (t : code.Target) → Asks h t → body_length h ≡ t.size
+body_is h t is = ap (λ (v : Result Target Rule). cond (is_err v) 0 (content_length h)) is.target ∙ sym is.size
+
+le_true : (n m : ℕ) → n ≤ m → nat_le n m ≡ true
+le_true n m h = grind (arith, nat_tests)
+
+le_false : (n m : ℕ) → m < n → nat_le n m ≡ false
+le_false n m h = grind (arith, nat_tests)
+
 -- the bytes of a message that is there, with what is told of it
 pub is_whole : (bytes : List ℕ) (len : ℕ) (h : RequestHead) (m : whole.Message) → BeginsWithHead bytes h (drop len bytes) → len ≤ length bytes → Asks h m.target
     → m.body.now ≡ take m.target.size (drop len bytes) → m.target.size ≤ length (drop len bytes) → m.len ≡ len + length m.body.now
     → option_map (λ v. v.now) m.authorization ≡ first (values (codes "authorization") h) → m.is_last ≡ asks_close h → IsWhole bytes h m
 is_whole bytes len h m b within is body fits total bearer last =
     let after = drop len bytes in
+    let wanted : body_length h ≡ m.target.size = body_is h m.target is in
     let size : length m.body.now ≡ m.target.size = omega (arith, ap length body, length-take m.target.size after, fits) in
     let rest : drop m.len bytes ≡ drop m.target.size after = ap (λ n. drop n bytes) (total ∙ ap (λ n. len + n) size) ∙ sym (drop-drop m.target.size len bytes) in
-    let split : after ≡ m.body.now ++ drop m.len bytes = sym (take-append-drop m.target.size after) ∙ ap₂ (λ a c. a ++ c) (sym body) (sym rest) in
+    let all : nat_le (body_length h) (length after) ≡ true = ap (λ n. nat_le n (length after)) wanted ∙ le_true m.target.size (length after) fits in
+    let asked : message h m.body.now true ≡ message_with h after =
+    ap₂ (λ (l : List ℕ) (v : Bool). message h l v) (body ∙ ap (λ n. take n after) (sym wanted)) (sym all) in
     record {
-      begins = (after, b, inr (is_ok (judged h) (target_seen m.target) is.target, split, size ∙ is.size));
+      begins = with_message h after b asked (rest ∙ ap (λ n. drop n after) (sym wanted));
       asks = is;
       bearers = the_first (values (codes "authorization") h) (one_authorization h (framed_if_judged h (target_seen m.target) is.target)) ∙ ap the_one (sym bearer);
-      last = last_is;
+      size = size;
+      last = sym last;
       some = omega (arith, total, some_len bytes len (shorter bytes h after b.reads.reads));
       within = omega (arith, total, size, fits, length-drop len bytes, within);
     }
-  where
-    last_is : is_last (message h m.body.now) ≡ m.is_last
-    last_is = rw (is.target, last) refl
+
+-- ---- a message that is cut off
+
+-- a head that asks for no upload is denied by its own rules alone, before its body
+passes_early : (world : World) (setting : Setting) (h : RequestHead) (t : Target) (form : ServedForm) → early_check world setting h t (form_of_served form) ≡ Ok tt
+passes_early world setting h t served.Lock = refl
+
+-- the bytes of a head that is there, and less than its body
+pub is_cut_off : (bytes after : List ℕ) (h : RequestHead) (t : code.Target) → BeginsWithHead bytes h after → Asks h t → length after < t.size → IsCutOff bytes h
+is_cut_off bytes after h t b is less =
+    let wanted : body_length h ≡ t.size = body_is h t is in
+    let all : nat_le (body_length h) (length after) ≡ false = ap (λ n. nat_le n (length after)) wanted ∙ le_false t.size (length after) less in
+    record {
+      body = take (body_length h) after;
+      begins = with_message h after b (ap (λ (v : Bool). message h (take (body_length h) after) v) (sym all))
+          (sym (drop_all (body_length h) after (omega (arith, wanted, less))));
+      passes = λ world setting. early_at world setting h (target_seen t) is.target ∙ passes_early world setting h (target_seen t) t.form;
+    }
+
+-- no bytes are left after it, so less than a head is
+pub none_unfinished : IsUnfinished []
+none_unfinished = record { none = λ head rest reads. absurd (omega (arith, shorter [] head rest reads.reads)); short = lit< tt }
 
 pub fits_front : (bytes : List ℕ) (len n : ℕ) → len ≤ length (take n bytes) → len ≤ length bytes
 fits_front bytes len n h = omega (arith, length-take n bytes)

@@ -1,132 +1,180 @@
 -- A connection, message after message.
-use Rattle.std.proofs.Common.{◌≡◌, ◌∙◌, ◌+◌, ◌≤◌, ◌<◌, ℕ, inl, inr, Bool, true, false, List, [], ◌∷◌, ◌++◌, length, drop, map, Option, Some, None, refl, sym, ap, subst, append-nil, length-append, arith}
+use Rattle.std.proofs.Common.{◌≡◌, ◌∙◌, ◌+◌, ◌<◌, ℕ, suc, Bool, true, false, List, [], ◌∷◌, ◌++◌, length, take, drop, get_or, map, Option, Some, None, is_some, refl, sym, ap, subst, append-nil, add-zero}
+use Rattle.std.proofs.Math.Seq.{drop-cons}
+use Rattle.std.proofs.lemmas.List.{take-append-drop}
 use Rattle.std.specs.Io.KnownBytes.{Appends}
 use Rattle.sqlite_trees.specs.declared.store.Store.{Ghosts}
-use Rattle.model.specs.Policy.{Policy}
 use Rattle.model.specs.World.{World}
-use Rattle.model.specs.Steps.{Exchange, Event, exchanged, Run}
-use Rattle.model.specs.Progress.{IsProgress}
-use Rattle.model.specs.Sessions.{IsUnread}
-use Rattle.model.proofs.Progress.{run_append, begun, goes_on, ends_unfinished, ends_closed, breaks_off}
-use Rattle.wire.proofs.Wholes.{appends_both, begins_back}
+use Rattle.model.specs.Cases.{Setting}
+use Rattle.model.specs.Steps.{Exchange, Event, exchanged, Run, closes_if}
+use Rattle.model.specs.Progress.{IsProgress, with_exchange}
+use Rattle.model.specs.Sessions as model
+use Rattle.model.specs.Sessions.{Session, IsSession, IsPartOf, text_of, text_if, reply_count}
+use Rattle.model.proofs.Progress.{run_append, begun, IsNextExchange, goes_on, ends_unfinished, ends_closed, breaks_off}
+use Rattle.wire.proofs.Wholes.{appends_both}
 use Rattle.tables.specs.declared.Store.{Store}
 use Rattle.worlds.specs.Standing.{Holds}
-use Rattle.service.specs.Turns.{Takes}
-use Rattle.service.specs.Served.{IsServing, IsServed, IsWritten, IsRefusal, IsUnserved, IsEndedBy, EndsAs, end_by}
+use Rattle.service.specs.Turns.{IsTurn, Takes}
+use Rattle.service.specs.Served.{IsServing, IsServed, IsRefusal, IsUnserved, IsEndedBy, end_seen, end_by}
 use Rattle.service.specs.declared.session.End.{End}
 use Rattle.service.specs.declared.session.Served.{Served}
 use Rattle.service.specs.declared.session.End.TheVariants as end
-use Rattle.service.specs.declared.turn.Turn.TheVariants.{Unfinished, Answered, Closed, WriteFailed}
+use Rattle.service.specs.declared.turn.Turn.TheVariants.{Unfinished, CutOff, Answered, Closed, WriteFailed}
+use Rattle.service.proofs.Messages.{none_unfinished}
 
 appends_none : (was : Option (List ℕ)) → Appends was was []
 appends_none None = tt
 appends_none (Some xs) = sym (append-nil xs)
 
-one_more : (exchanges : List Exchange) (e : Exchange) (n : ℕ) → n ≡ length exchanges → n + 1 ≡ length (exchanges ++ e ∷ [])
-one_more exchanges e n is = omega (arith, is, length-append exchanges (e ∷ []))
+-- a beginning of a text that is not all of it
+pub is_part : (text : List ℕ) (n : ℕ) → n < length text → IsPartOf (take n text) text
+is_part text n less = record {
+  byte = get_or text n 0;
+  rest = drop (suc n) text;
+  is = sym (take-append-drop n text) ∙ ap (λ (l : List ℕ). take n text ++ l) (drop-cons text n 0 less);
+}
 
-module _ {S : Type 0} (g : Ghosts S) (policy : Policy) (now : ℕ) (bytes : List ℕ) (world : World) (was : Option (List ℕ)) where
-  pub begins : (store : Store S) → Holds g store world → IsServing g policy now bytes bytes world store was was 0
+-- one exchange with an answer is one reply
+one_reply : (e : Exchange) → is_some e.given ≡ true → reply_count (e ∷ []) ≡ 1
+one_reply e some = rw some refl
+
+-- and one without is none, of no text
+no_reply : (e : Exchange) → e.given ≡ None → reply_count (e ∷ []) ≡ 0
+no_reply e none = rw none refl
+
+no_text : (e : Exchange) → e.given ≡ None → text_of e ≡ []
+no_text e none = ap (text_if e.asked) none
+
+module _ {S : Type 0} (g : Ghosts S) (setting : Setting) (bytes : List ℕ) (world : World) (was : Option (List ℕ)) where
+  pub begins : (store : Store S) → Holds g store world → IsServing g setting bytes bytes world store was was 0
   begins store holds = record {
     exchanges = [];
-    text = [];
+    written = [];
     kept = world;
-    progress = begun policy now bytes world;
+    progress = begun setting bytes world;
+    taken = appends_none was;
     holds = holds;
-    written = record { taken = appends_none was; count = refl };
   }
 
-  module _ (rest : List ℕ) (mid new : Store S) (is more : Option (List ℕ)) (answered : ℕ) where
+  -- the session so far
+  abbrev so_far : List Exchange → List ℕ → ℕ → Session
+  so_far exchanges written answered =
+      record { setting = setting; bytes = bytes; exchanges = exchanges; written = written; answered = answered }
+
+  module _ (rest : List ℕ) (mid new : Store S) (is more : Option (List ℕ)) (answered : ℕ) (s : IsServing g setting bytes rest world mid was is answered) where
+    next_exchange : (next : List ℕ) (e : Exchange) (kept : World) → IsTurn g setting rest s.kept new e next kept
+        → IsNextExchange (so_far s.exchanges s.written answered) rest next e s.kept kept
+    next_exchange next e kept turn = record { begins = turn.begins; under = turn.under; step = turn.step }
+
+    leads_on : (exchanges : List Exchange) (kept : World) → Run world (map exchanged exchanges) kept
+        → (start : World) (before : List Event) → Run start before world → Run start (before ++ map exchanged exchanges) kept
+    leads_on exchanges kept run start before ran = run_append start world kept before (map exchanged exchanges) ran run
+
     -- one message more
-    pub answers : (n : ℕ) → (s : IsServing g policy now bytes rest world mid was is answered) → Takes g policy now rest s.kept new is more (Answered n)
-        → IsServing g policy now bytes (drop n rest) world new was more (answered + 1)
-    answers n s (e, kept, text, turn, stays, sent) = record {
+    pub answers : (n : ℕ) → Takes g setting rest s.kept new is more (Answered n) → IsServing g setting bytes (drop n rest) world new was more (answered + 1)
+    answers n (e, kept, turn, some, stays, sent) = record {
       exchanges = s.exchanges ++ e ∷ [];
-      text = s.text ++ text;
+      written = s.written ++ text_of e;
       kept = kept;
-      progress = goes_on policy now bytes rest (drop n rest) world s.kept kept s.exchanges s.text text e s.progress turn.begins stays turn.under turn.step turn.reply;
+      progress = subst (λ (k : ℕ). IsProgress (so_far (s.exchanges ++ e ∷ []) (s.written ++ text_of e) (answered + k)) (drop n rest) world kept) (one_reply e some)
+          (goes_on (so_far s.exchanges s.written answered) rest (drop n rest) world s.kept kept e s.progress (next_exchange (drop n rest) e kept turn) stays);
+      taken = appends_both was is more s.written (text_of e) s.taken sent;
       holds = turn.holds;
-      written = record { taken = appends_both was is more s.text text s.written.taken sent; count = one_more s.exchanges e answered s.written.count };
     }
 
     -- the bytes end
-    pub ends : (s : IsServing g policy now bytes rest world mid was is answered) → Takes g policy now rest s.kept new is more Unfinished
-        → IsServed g policy now bytes world new was more (record { answered = answered; end = end.InputEnded })
-    ends s (less, holds, same) = record {
+    pub ends : Takes g setting rest s.kept new is more Unfinished → IsServed g setting bytes world new was more (record { answered = answered; end = end.InputEnded })
+    ends (less, holds, same) = record {
       exchanges = s.exchanges;
-      text = s.text;
+      written = s.written;
       kept = s.kept;
-      ends = (
-        ends_unfinished policy now bytes rest world s.kept s.exchanges s.text s.progress less,
-        record { taken = subst (λ (o : Option (List ℕ)). Appends was o s.text) (sym same) s.written.taken; count = s.written.count },
-      );
+      session = ends_unfinished (so_far s.exchanges s.written answered) rest world s.kept s.progress less;
+      taken = subst (λ (o : Option (List ℕ)). Appends was o s.written) (sym same) s.taken;
       holds = holds;
-      leads = λ start before run. run_append start world s.kept before (map exchanged s.exchanges) run s.progress.run;
+      leads = leads_on s.exchanges s.kept s.progress.run;
     }
 
-    -- the connection is closed
-    pub shuts : (s : IsServing g policy now bytes rest world mid was is answered) → Takes g policy now rest s.kept new is more Closed
-        → IsServed g policy now bytes world new was more (record { answered = answered + 1; end = end.Closed })
-    shuts s (e, next, kept, text, turn, shut, sent) =
-        let session = ends_closed policy now bytes rest next world s.kept kept s.exchanges s.text text e s.progress turn.begins shut turn.under turn.step turn.reply in record {
+    -- the bytes end within a message, which has no answer
+    pub cuts_off : Takes g setting rest s.kept new is more CutOff → IsServed g setting bytes world new was more (record { answered = answered; end = end.InputEnded })
+    cuts_off (e, kept, turn, none, same) =
+        let stays = ap (closes_if e.asked) none in
+        let progress = goes_on (so_far s.exchanges s.written answered) rest [] world s.kept kept e s.progress (next_exchange [] e kept turn) stays in
+        let counted : answered + reply_count (e ∷ []) ≡ answered = ap (λ k. answered + k) (no_reply e none) ∙ add-zero answered in
+        let said : s.written ++ text_of e ≡ s.written = ap (λ (t : List ℕ). s.written ++ t) (no_text e none) ∙ append-nil s.written in
+        let session = ends_unfinished (with_exchange e (so_far s.exchanges s.written answered)) [] world kept progress none_unfinished in
+        record {
           exchanges = s.exchanges ++ e ∷ [];
-          text = s.text ++ text;
+          written = s.written;
           kept = kept;
-          ends = (session, record { taken = appends_both was is more s.text text s.written.taken sent; count = one_more s.exchanges e answered s.written.count });
+          session = subst (λ (k : ℕ). IsSession (so_far (s.exchanges ++ e ∷ []) s.written k) model.InputEnded world kept) counted
+              (subst (λ (t : List ℕ). IsSession (so_far (s.exchanges ++ e ∷ []) t (answered + reply_count (e ∷ []))) model.InputEnded world kept) said session);
+          taken = subst (λ (o : Option (List ℕ)). Appends was o s.written) (sym same) s.taken;
           holds = turn.holds;
-          leads = λ start before run. run_append start world kept before (map exchanged (s.exchanges ++ e ∷ [])) run session.run;
+          leads = leads_on (s.exchanges ++ e ∷ []) kept session.run;
+        }
+
+    -- the connection is closed
+    pub shuts : Takes g setting rest s.kept new is more Closed → IsServed g setting bytes world new was more (record { answered = answered + 1; end = end.Closed })
+    shuts (e, next, kept, turn, some, shut, sent) =
+        let session = ends_closed (so_far s.exchanges s.written answered) rest next world s.kept kept e s.progress (next_exchange next e kept turn) shut in
+        record {
+          exchanges = s.exchanges ++ e ∷ [];
+          written = s.written ++ text_of e;
+          kept = kept;
+          session = subst (λ (k : ℕ). IsSession (so_far (s.exchanges ++ e ∷ []) (s.written ++ text_of e) (answered + k)) model.Closed world kept) (one_reply e some) session;
+          taken = appends_both was is more s.written (text_of e) s.taken sent;
+          holds = turn.holds;
+          leads = leads_on (s.exchanges ++ e ∷ []) kept session.run;
         }
 
     -- a write fails
-    pub breaks : (s : IsServing g policy now bytes rest world mid was is answered) → Takes g policy now rest s.kept new is more WriteFailed
-        → IsServed g policy now bytes world new was more (record { answered = answered; end = end.WriteFailed })
-    breaks s (e, next, kept, text, turn, sent) =
-        let session = breaks_off policy now bytes rest next world s.kept kept s.exchanges s.text text e s.progress turn.begins turn.under turn.step turn.reply in record {
+    pub breaks : Takes g setting rest s.kept new is more WriteFailed → IsServed g setting bytes world new was more (record { answered = answered; end = end.WriteFailed })
+    breaks (e, next, kept, turn, (n, began)) =
+        let part = take n (text_of e) in
+        let session = breaks_off (so_far s.exchanges s.written answered) rest next world s.kept kept e part s.progress (next_exchange next e kept turn) (is_part (text_of e) n began.less) in
+        record {
           exchanges = s.exchanges ++ e ∷ [];
-          text = s.text ++ text;
+          written = s.written ++ part;
           kept = kept;
-          ends = (
-            session,
-            record {
-              size = length s.text + sent.0;
-              taken = begins_back was is more s.text text sent.0 (length s.text) refl s.written.taken sent.1;
-              count = one_more s.exchanges e answered s.written.count;
-            },
-          );
+          session = session;
+          taken = appends_both was is more s.written part s.taken began.taken;
           holds = turn.holds;
-          leads = λ start before run. run_append start world kept before (map exchanged (s.exchanges ++ e ∷ [])) run session.run;
+          leads = leads_on (s.exchanges ++ e ∷ []) kept session.run;
         }
 
 -- there was no memory to read with
-pub unserved : {S : Type 0} (g : Ghosts S) (world : World) (new : Store S) (was is : Option (List ℕ)) (served : Served) → IsRefusal was is served → Holds g new world → IsUnserved g world new was is served
-unserved g world new was is served r holds = record {
-  text = r.text;
-  unread = record { nothing_done = refl; same = refl; told = r.reply; shut = refl };
-  tells = r.tells;
+pub unserved : {S : Type 0} (g : Ghosts S) (setting : Setting) (world : World) (new : Store S) (was is : Option (List ℕ)) (served : Served) → IsRefusal was is served → Holds g new world
+    → IsUnserved g setting world new was is served
+unserved g setting world new was is served r holds = record {
+  written = r.written;
+  session = record { bytes = refl; exchanges = refl; same = refl; writes = r.writes setting };
+  taken = r.taken;
   holds = holds;
 }
 
 -- ---- a read that failed behind the bytes
 
-module _ {S : Type 0} (g : Ghosts S) (policy : Policy) (now : ℕ) (bytes : List ℕ) (world : World) (new : Store S) (was is : Option (List ℕ)) where
-  ends_by : (exchanges : List Exchange) (text : List ℕ) (kept : World) (answered : ℕ) (failed : Bool) (e : End)
-      → EndsAs policy now bytes world exchanges text kept was is answered e → EndsAs policy now bytes world exchanges text kept was is answered (end_by failed e)
-  ends_by exchanges text kept answered true end.InputEnded ended = ended
-  ends_by exchanges text kept answered true end.Closed ended = ended
-  ends_by exchanges text kept answered true end.ReadFailed ended = ended
-  ends_by exchanges text kept answered true end.WriteFailed ended = ended
-  ends_by exchanges text kept answered false end.InputEnded ended = ended
-  ends_by exchanges text kept answered false end.Closed ended = ended
-  ends_by exchanges text kept answered false end.ReadFailed ended = ended
-  ends_by exchanges text kept answered false end.WriteFailed ended = ended
+ends_by : (s : Session) (old new : World) (failed : Bool) (e : End) → IsSession s (end_seen e) old new → IsSession s (end_seen (end_by failed e)) old new
+ends_by s old new true end.InputEnded ended = record { ends = ended.ends; under = ended.under; run = ended.run }
+ends_by s old new true end.Closed ended = ended
+ends_by s old new true end.ReadFailed ended = ended
+ends_by s old new true end.WriteFailed ended = ended
+ends_by s old new false end.InputEnded ended = ended
+ends_by s old new false end.Closed ended = ended
+ends_by s old new false end.ReadFailed ended = ended
+ends_by s old new false end.WriteFailed ended = ended
 
-  pub served_by : (served : Served) (failed : Bool) (told : Served) → IsEndedBy served failed told → IsServed g policy now bytes world new was is served → IsServed g policy now bytes world new was is told
-  served_by served failed told by s = record {
-    exchanges = s.exchanges;
-    text = s.text;
-    kept = s.kept;
-    ends = subst (λ (n : ℕ). EndsAs policy now bytes world s.exchanges s.text s.kept was is n told.end) (sym by.0)
-        (subst (λ (e : End). EndsAs policy now bytes world s.exchanges s.text s.kept was is served.answered e) (sym by.1) (ends_by s.exchanges s.text s.kept served.answered failed served.end s.ends));
-    holds = s.holds;
-    leads = s.leads;
-  }
+module _ {S : Type 0} (g : Ghosts S) (setting : Setting) (bytes : List ℕ) (world : World) (new : Store S) (was is : Option (List ℕ)) where
+  pub served_by : (served : Served) (failed : Bool) (told : Served) → IsEndedBy served failed told → IsServed g setting bytes world new was is served → IsServed g setting bytes world new was is told
+  served_by served failed told by s =
+      let with_count : ℕ → Session = λ n. record { setting = setting; bytes = bytes; exchanges = s.exchanges; written = s.written; answered = n } in
+      record {
+        exchanges = s.exchanges;
+        written = s.written;
+        kept = s.kept;
+        session = subst (λ (n : ℕ). IsSession (with_count n) (end_seen told.end) world s.kept) (sym by.0)
+            (subst (λ (e : End). IsSession (with_count served.answered) (end_seen e) world s.kept) (sym by.1) (ends_by (with_count served.answered) world s.kept failed served.end s.session));
+        taken = s.taken;
+        holds = s.holds;
+        leads = s.leads;
+      }

@@ -1,27 +1,29 @@
 -- What a head asks for, or the refusal of it, as the service tells it.
-use Rattle.std.specs.Prelude.{◌≡◌, ◌≤◌, length, [], Result, Ok, Err}
+use Rattle.std.specs.Prelude.{◌≡◌, ◌≤◌, true, false, length, [], codes, Result, Ok, Err}
 use Rattle.httparse.specs.Grammar.{RequestHead}
 use Rattle.model.specs.Heads as model
-use Rattle.model.specs.Heads.{judged, query_of, content_length}
-use Rattle.model.specs.Steps.{message, by_rule, allow}
+use Rattle.model.specs.Heads.{head_verdict, form_of_served, is_method, query_of, content_length}
+use Rattle.model.specs.Answers.{by_rule}
+use Rattle.model.specs.Steps.{message, allow}
 use Rattle.routes.specs.Routes.{route_seen}
 use Rattle.service.specs.declared.judging.Target.{Target}
 use Rattle.service.specs.declared.judging.Denied.{Denied}
 
 -- the definitions' target: none of the routes has a parameter
 abbrev pub target_seen : Target → model.Target
-target_seen t = record { repo = (route_seen t.route).repo; parameter = []; form = t.form }
+target_seen t = record { repo = (route_seen t.route).repo; parameter = []; form = form_of_served t.form }
 
--- the head asks for this target, with this query and so many bytes of body
+-- the head asks for this target, with this query and so many bytes of body; it uploads nothing
 pub record Asks (h : RequestHead) (t : Target) : Type 0 where
-  pub target : judged h ≡ Ok (target_seen t)
+  pub target : head_verdict h ≡ Ok (target_seen t)
   pub query : t.query.now ≡ query_of h.target
   pub size : t.size ≡ content_length h
+  pub no_put : is_method (codes "PUT") h ≡ false
 
 -- the head is refused by this rule, and these are the methods that the reply names
 pub record IsDenied (h : RequestHead) (d : Denied) : Type 0 where
-  pub rule : judged h ≡ Err d.rule
-  pub methods : d.allow.now ≡ allow (message h []) (Err (by_rule d.rule))
+  pub rule : head_verdict h ≡ Err d.rule
+  pub methods : d.allow.now ≡ allow (message h [] true) (Err (by_rule d.rule))
   pub short : length d.allow.now ≤ 128
 
 -- what is told of the head is so

@@ -1,39 +1,54 @@
 -- The message at the front of a stream, as the service tells it.
-use Rattle.std.specs.Prelude.{◌≡◌, ◌<◌, ◌≤◌, ℕ, true, List, [], length, drop, codes, option_map, Err}
+use Rattle.std.specs.Prelude.{◌≡◌, ◌<◌, ◌≤◌, true, false, List, ℕ, [], length, drop, codes, option_map, Some, Ok, Err}
 use Rattle.httparse.specs.Grammar.{RequestHead}
-use Rattle.model.specs.Policy.{Policy}
 use Rattle.model.specs.World.{World}
 use Rattle.model.specs.Heads.{values, asks_close}
-use Rattle.model.specs.Stream.{BeginsWith, IsUnfinished}
+use Rattle.model.specs.Cases.{Setting}
+use Rattle.model.specs.Answers.{by_rule}
+use Rattle.model.specs.Verdict.{early_verdict}
 use Rattle.model.specs.Steps as model
-use Rattle.model.specs.Steps.{by_rule, verdict_on, is_last, is_of_head, allow}
+use Rattle.model.specs.Steps.{verdict_on, is_of_head, closes_after, allow}
+use Rattle.model.specs.Stream.{BeginsWith, IsUnfinished}
 use Rattle.tokens.specs.Bearers.{the_one}
 use Rattle.service.specs.Judging.{Asks}
 use Rattle.service.specs.declared.judging.Denied.{Denied}
 use Rattle.service.specs.declared.message.Message.{Message}
 use Rattle.service.specs.declared.message.Next.{Next}
-use Rattle.service.specs.declared.message.Next.TheVariants.{Unfinished, Refused, Whole}
+use Rattle.service.specs.declared.message.Next.TheVariants.{Unfinished, CutOff, Refused, Whole}
 
 -- a message that the head's rule refuses, whatever the server keeps
 pub record IsRefused (bytes : List ℕ) (asked : model.Message) (d : Denied) : Type 0 where
-  pub begins : BeginsWith bytes asked []
-  pub last : is_last asked ≡ true
-  pub verdict : (world : World) (policy : Policy) (now : ℕ) → verdict_on world policy now asked ≡ Err (by_rule d.rule)
+  pub next : List ℕ
+  pub begins : BeginsWith bytes asked next
+  pub closes : closes_after asked (Err (by_rule d.rule)) ≡ true
+  pub verdict : (world : World) (setting : Setting) → verdict_on world setting asked ≡ Some (Err (by_rule d.rule))
   pub of_head : is_of_head d.rule ≡ true
   pub methods : d.allow.now ≡ allow asked (Err (by_rule d.rule))
   pub short : length d.allow.now ≤ 128
 
+-- a head and its whole body
+abbrev pub whole_message : RequestHead → List ℕ → model.Message
+whole_message head body = model.message head body true
+
 -- a head that is not refused, its body, and what is told of both
 pub record IsWhole (bytes : List ℕ) (head : RequestHead) (m : Message) : Type 0 where
-  pub begins : BeginsWith bytes (model.message head m.body.now) (drop m.len bytes)
+  pub begins : BeginsWith bytes (whole_message head m.body.now) (drop m.len bytes)
   pub asks : Asks head m.target
   pub bearers : values (codes "authorization") head ≡ the_one (option_map (λ v. v.now) m.authorization)
-  pub last : is_last (model.message head m.body.now) ≡ m.is_last
+  pub size : length m.body.now ≡ m.target.size
+  pub last : asks_close head ≡ m.is_last
   pub some : 0 < m.len
   pub within : m.len ≤ length bytes
+
+-- a head that is not refused, and less than its body; nothing denies it before its body
+pub record IsCutOff (bytes : List ℕ) (head : RequestHead) : Type 0 where
+  pub body : List ℕ
+  pub begins : BeginsWith bytes (model.message head body false) []
+  pub passes : (world : World) (setting : Setting) → early_verdict world setting head ≡ Ok tt
 
 -- this is what the bytes begin with
 abbrev pub IsNext : List ℕ → Next → Type 0
 IsNext bytes Unfinished = IsUnfinished bytes
+IsNext bytes CutOff = (head : RequestHead) × IsCutOff bytes head
 IsNext bytes (Refused d) = (asked : model.Message) × IsRefused bytes asked d
 IsNext bytes (Whole m) = (head : RequestHead) × IsWhole bytes head m

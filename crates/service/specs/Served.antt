@@ -1,78 +1,73 @@
 -- What a connection is served, from one world to another.
-use Rattle.std.specs.Prelude.{◌≡◌, ◌+◌, ◌⊎◌, ℕ, Bool, true, List, [], ◌++◌, length, map, Option}
+use Rattle.std.specs.Prelude.{◌≡◌, ◌⊎◌, ℕ, Bool, true, List, [], ◌++◌, map, Option}
 use Rattle.std.specs.Io.KnownBytes.{Appends, Consumes}
 use Rattle.sqlite_trees.specs.declared.store.Store.{Ghosts}
 use Rattle.names.specs.Streams.{HasGrown}
-use Rattle.model.specs.Policy.{Policy}
 use Rattle.model.specs.World.{World}
-use Rattle.model.specs.Steps.{Exchange, Event, exchanged, Run, store_refused}
-use Rattle.model.specs.Stream.{input_ended, closed}
-use Rattle.model.specs.Sessions.{IsSession, IsBrokenOff, IsUnread}
-use Rattle.model.specs.Replies.{IsReply}
+use Rattle.model.specs.Cases.{Setting}
+use Rattle.model.specs.Steps.{Exchange, Event, exchanged, Run}
+use Rattle.model.specs.Sessions as model
+use Rattle.model.specs.Sessions.{IsSession, IsUnread, WritesRefusal}
 use Rattle.model.specs.Progress.{IsProgress}
-use Rattle.wire.specs.Writes.{IsBeginning}
 use Rattle.tables.specs.declared.Store.{Store}
 use Rattle.worlds.specs.Standing.{Holds}
 use Rattle.service.specs.declared.session.End.{End}
 use Rattle.service.specs.declared.session.End.TheVariants.{InputEnded, Closed, ReadFailed, WriteFailed}
 use Rattle.service.specs.declared.session.Served.{Served}
 
--- the whole text was written, and each reply counted
-pub record IsWritten (was is : Option (List ℕ)) (text : List ℕ) (exchanges : List Exchange) (answered : ℕ) : Type 0 where
-  pub taken : Appends was is text
-  pub count : answered ≡ length exchanges
+-- why the connection ended, as the definitions see it
+abbrev pub end_seen : End → model.End
+end_seen InputEnded = model.InputEnded
+end_seen Closed = model.Closed
+end_seen ReadFailed = model.ReadFailed
+end_seen WriteFailed = model.WriteFailed
 
--- a beginning of the text was written, that ends within the last reply, and each reply before it counted
-pub record IsPartlyWritten (was is : Option (List ℕ)) (text : List ℕ) (exchanges : List Exchange) (answered : ℕ) : Type 0 where
-  pub size : ℕ
-  pub taken : IsBeginning was is text size
-  pub count : answered + 1 ≡ length exchanges
-
--- the exchanges answer the stream as the end says
-abbrev pub EndsAs :
-    Policy → ℕ → List ℕ → World → List Exchange → List ℕ → World → Option (List ℕ) → Option (List ℕ) → ℕ → End → Type 0
-EndsAs policy now bytes world exchanges text kept was is answered InputEnded = IsSession policy now bytes world exchanges text kept input_ended × IsWritten was is text exchanges answered
-EndsAs policy now bytes world exchanges text kept was is answered ReadFailed = IsSession policy now bytes world exchanges text kept input_ended × IsWritten was is text exchanges answered
-EndsAs policy now bytes world exchanges text kept was is answered Closed = IsSession policy now bytes world exchanges text kept closed × IsWritten was is text exchanges answered
-EndsAs policy now bytes world exchanges text kept was is answered WriteFailed = IsBrokenOff policy now bytes world exchanges text kept × IsPartlyWritten was is text exchanges answered
-
--- the exchanges of the connection, their text, and the world after them; whatever run led to the world before leads on
+-- the exchanges of the connection, what it was written, and the world after them; whatever run led to the world before
+-- leads on
 pub record IsServed
-    {S : Type 0} (g : Ghosts S) (policy : Policy) (now : ℕ) (bytes : List ℕ) (world : World)
+    {S : Type 0} (g : Ghosts S) (setting : Setting) (bytes : List ℕ) (world : World)
     (new : Store S) (was is : Option (List ℕ)) (served : Served) : Type 0 where
   pub exchanges : List Exchange
-  pub text : List ℕ
+  pub written : List ℕ
   pub kept : World
-  pub ends : EndsAs policy now bytes world exchanges text kept was is served.answered served.end
+  pub session : IsSession
+      (record { setting = setting; bytes = bytes; exchanges = exchanges; written = written; answered = served.answered })
+      (end_seen served.end) world kept
+  pub taken : Appends was is written
   pub holds : Holds g new kept
   pub leads : (start : World) (before : List Event) → Run start before world → Run start (before ++ map exchanged exchanges) kept
 
 -- ---- where there was no memory to read with
 
--- the refusal by the store alone was written, or a beginning of it
-abbrev pub TellsRefusal : Option (List ℕ) → Option (List ℕ) → List ℕ → ℕ → End → Type 0
-TellsRefusal was is text answered Closed = Appends was is text × (answered ≡ 1)
-TellsRefusal was is text answered WriteFailed = ((size : ℕ) × IsBeginning was is text size) × (answered ≡ 0)
-TellsRefusal was is text answered _ = ⊥
+-- a session that read nothing
+abbrev pub unread : Setting → List ℕ → ℕ → model.Session
+unread setting written answered =
+    record { setting = setting; bytes = []; exchanges = []; written = written; answered = answered }
 
+-- the refusal by the store alone was written, or a beginning of it
 pub record IsRefusal (was is : Option (List ℕ)) (served : Served) : Type 0 where
-  pub text : List ℕ
-  pub reply : IsReply store_refused [] true text
-  pub tells : TellsRefusal was is text served.answered served.end
+  pub written : List ℕ
+  pub writes : (setting : Setting) → WritesRefusal (unread setting written served.answered) (end_seen served.end)
+  pub taken : Appends was is written
 
 -- and nothing was done
-pub record IsUnserved {S : Type 0} (g : Ghosts S) (world : World) (new : Store S) (was is : Option (List ℕ)) (served : Served) : Type 0 where
-  pub text : List ℕ
-  pub unread : IsUnread world [] text world closed
-  pub tells : TellsRefusal was is text served.answered served.end
+pub record IsUnserved
+    {S : Type 0} (g : Ghosts S) (setting : Setting) (world : World) (new : Store S)
+    (was is : Option (List ℕ)) (served : Served) : Type 0 where
+  pub written : List ℕ
+  pub session : IsUnread (unread setting written served.answered) (end_seen served.end) world world
+  pub taken : Appends was is written
   pub holds : Holds g new world
 
 -- ---- the session theorem
 
 -- the connection was served what the source handed out; or there was no memory to read it with, and nothing was done
-abbrev pub Serves : {S : Type 0} (g : Ghosts S) → Policy → ℕ → World → Store S → Option (List ℕ) → Option (List ℕ) → Option (List ℕ) → Option (List ℕ) → Served → Type 0
-Serves g policy now world new left rest was is served =
-    ((bytes : List ℕ) × Consumes left rest bytes × IsServed g policy now bytes world new was is served) ⊎ IsUnserved g world new was is served
+abbrev pub Serves :
+    {S : Type 0} (g : Ghosts S) → Setting → World → Store S → Option (List ℕ) → Option (List ℕ)
+    → Option (List ℕ) → Option (List ℕ) → Served → Type 0
+Serves g setting world new left rest was is served =
+    ((bytes : List ℕ) × Consumes left rest bytes × IsServed g setting bytes world new was is served)
+    ⊎ IsUnserved g setting world new was is served
 
 -- a write failed in this call where that is told, and nowhere else
 abbrev pub IsCountedAs : ℕ → ℕ → End → Type 0
@@ -92,11 +87,12 @@ IsEndedBy was has_failed is = (is.answered ≡ was.answered) × (is.end ≡ end_
 
 -- what was answered up to the rest of the bytes, from one world
 pub record IsServing
-    {S : Type 0} (g : Ghosts S) (policy : Policy) (now : ℕ) (bytes rest : List ℕ) (world : World)
+    {S : Type 0} (g : Ghosts S) (setting : Setting) (bytes rest : List ℕ) (world : World)
     (store : Store S) (was is : Option (List ℕ)) (answered : ℕ) : Type 0 where
   pub exchanges : List Exchange
-  pub text : List ℕ
+  pub written : List ℕ
   pub kept : World
-  pub progress : IsProgress policy now bytes rest world exchanges text kept
+  pub progress : IsProgress
+      (record { setting = setting; bytes = bytes; exchanges = exchanges; written = written; answered = answered }) rest world kept
+  pub taken : Appends was is written
   pub holds : Holds g store kept
-  pub written : IsWritten was is text exchanges answered

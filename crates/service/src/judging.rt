@@ -3,13 +3,13 @@
 ghost use Rattle.std.specs.Prelude.{◌≡◌, ◌≤◌, ◌||◌, [], not, codes, length, map, MatchOption, Ok, Err};
 ghost use Rattle.httparse.specs.Grammar.{RequestHead};
 ghost use Rattle.names.specs.declared.rules.Rule.TheVariants.{H6, H7};
-ghost use Rattle.model.specs.Heads.{route_at, query_of, listed, accepts, values};
+ghost use Rattle.model.specs.Heads.{route_at, query_of, comma_list, accepts, values};
 ghost use Rattle.routes.specs.Routes.{route_seen};
 ghost use Rattle.routes.specs.Table.{row_of};
 ghost use Rattle.wire.specs.Fields.{Shows};
 ghost use Rattle.service.specs.Judging.{IsJudged};
 
-use model::Form;
+use model::ServedForm;
 use names::Rule;
 use routes::{Resource, Route, Routes, query_of};
 use wire::Head;
@@ -20,7 +20,7 @@ pub struct Target<'t> {
     /// The repository, and what of it.
     pub route: Route<'t>,
     /// What the method asks for there.
-    pub form: Form,
+    pub form: ServedForm,
     /// What stands behind the target's first question mark.
     pub query: &'t str,
     /// How many bytes of body follow the head.
@@ -102,7 +102,7 @@ fn refused_by(rule: Rule) -> Denied
 /// Refused since the resource serves other methods.
 fn not_served(resource: Resource) -> Denied
     ensures rule { result.rule ≡ H7 }
-    ensures allow { result.allow.now ≡ listed (map (λ r. r.0) (row_of resource).requests) }
+    ensures allow { result.allow.now ≡ comma_list (map (λ r. r.0) (row_of resource).requests) }
     ensures short { length result.allow.now ≤ 128 }
 {
     Denied {

@@ -30,8 +30,10 @@ pub(crate) struct Message<'m> {
 /// What a stream goes on with.
 #[derive(Clone, Copy, Debug)]
 pub(crate) enum Next<'m> {
-    /// Less than a message.
+    /// Less than a head.
     Unfinished,
+    /// A head that is not refused, and less than its body.
+    CutOff,
     /// A head that is none, or one that is refused: nothing behind it is looked at.
     Refused(Denied),
     /// A message.
@@ -70,7 +72,7 @@ fn message_of<'m>(routes: &Routes, bytes: &'m [u8], head: &Head<'m>, len: usize)
         Err(denied) => return Next::Refused(denied),
     };
     let Some(body) = body_at(bytes, len, target.size) else {
-        return Next::Unfinished;
+        return Next::CutOff;
     };
     Next::Whole(Message {
         target,

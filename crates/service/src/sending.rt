@@ -5,7 +5,7 @@ ghost use Rattle.std.specs.Io.KnownBytes.{Appends};
 ghost use Rattle.names.specs.Streams.{HasGrown};
 ghost use Rattle.wire.specs.Writes.{IsBeginning};
 ghost use Rattle.desk.specs.Told.{body_text};
-ghost use Rattle.service.specs.Sending.{reply_text};
+ghost use Rattle.service.specs.Sending.{sent_text};
 
 use desk::{Body, Reply};
 use names::Sink;
@@ -33,9 +33,9 @@ pub(crate) fn send<K: Sink>(
     close: bool,
 ) -> Result<(), WriteFault>
     requires { length allow.now ≤ ALLOW_LIMIT }
-    ensures ok { OnOk result (Appends (K.taken sink.old) (K.taken sink.new) (reply_text reply.now allow.now close)) }
+    ensures ok { OnOk result (Appends (K.taken sink.old) (K.taken sink.new) (sent_text reply.now allow.now close)) }
     ensures good { OnOk result (K.failed sink.new ≡ K.failed sink.old) }
-    ensures part { IfErr result (λ e. IsBeginning (K.taken sink.old) (K.taken sink.new) (reply_text reply.now allow.now close) e.written) }
+    ensures part { IfErr result (λ e. IsBeginning (K.taken sink.old) (K.taken sink.new) (sent_text reply.now allow.now close) e.written) }
     ensures fault { IfErr result (λ _. HasGrown (K.failed sink.old) (K.failed sink.new)) }
 {
     let body = body_of(&reply.body).as_bytes();

@@ -4,9 +4,9 @@ ghost use Rattle.std.specs.Prelude.{◌≡◌, ◌≢◌, ◌≤◌, IfOk, lengt
 ghost use Rattle.std.specs.Io.KnownBytes.{IsAtEnd};
 ghost use Rattle.names.specs.Streams.{HasGrown};
 ghost use Rattle.model.specs.World.{World};
-ghost use Rattle.policy.specs.Values.{policy_view};
 ghost use Rattle.tables.specs.Shown.{IsHonest};
 ghost use Rattle.worlds.specs.Standing.{Holds};
+ghost use Rattle.desk.specs.Asking.{setting_of};
 ghost use Rattle.service.specs.Served.{IsServed, IsRefusal, IsCountedAs, IsEndedBy, Serves};
 
 use crate::input::read_all;
@@ -69,13 +69,13 @@ fn answer_all<S: Alter, K: Sink>(
     ensures counted { IsCountedAs (K.failed sink.old) (K.failed sink.new) result.end }
     ensures known { result.end ≢ End.ReadFailed }
     ensures served { IsHonest S.Store store.new → (world : World) → Holds S.Store store.old world
-        → IsServed S.Store (policy_view setting.entry.now.policy.now) setting.entry.now.now bytes.now world store.new (K.taken sink.old) (K.taken sink.new) result }
+        → IsServed S.Store (setting_of setting.entry.now.policy.now setting.entry.now.now) bytes.now world store.new (K.taken sink.old) (K.taken sink.new) result }
 {
     let mut rest = bytes;
     let mut answered = 0;
     'messages: loop {
         match take_turn(alloc, store, setting, rest, fields, sink) {
-            Turn::Unfinished => {
+            Turn::Unfinished | Turn::CutOff => {
                 return Served {
                     answered,
                     end: End::InputEnded,
@@ -140,7 +140,7 @@ pub fn serve<S: Alter, R: Source, K: Sink>(
 ) -> Served
     ensures honest { IsHonest S.Store store.new → IsHonest S.Store store.old }
     ensures session { IsHonest S.Store store.new → (world : World) → Holds S.Store store.old world
-        → Serves S.Store (policy_view policy.entry.now) now world store.new (R.left source.old) (R.left source.new) (K.taken sink.old) (K.taken sink.new) result }
+        → Serves S.Store (setting_of policy.entry.now now) world store.new (R.left source.old) (R.left source.new) (K.taken sink.old) (K.taken sink.new) result }
     ensures input_ended { result.end ≡ End.InputEnded → IsAtEnd (R.left source.new) }
     ensures read_failed { result.end ≡ End.ReadFailed → HasGrown (R.failed source.old) (R.failed source.new) }
     ensures counted { IsCountedAs (K.failed sink.old) (K.failed sink.new) result.end }

@@ -5,13 +5,13 @@ ghost use Rattle.httparse.specs.Grammar.{RequestHead};
 ghost use Rattle.names.specs.Texts.{last_moment};
 ghost use Rattle.model.specs.World.{World};
 ghost use Rattle.model.specs.Heads.{values};
-ghost use Rattle.model.specs.Steps.{verdict};
-ghost use Rattle.policy.specs.Values.{policy_view};
 ghost use Rattle.tables.specs.Shown.{IsHonest};
 ghost use Rattle.worlds.specs.Standing.{Holds};
 ghost use Rattle.tokens.specs.Bearers.{the_one};
+ghost use Rattle.desk.specs.Asking.{setting_of};
 ghost use Rattle.service.specs.Judging.{Asks};
-ghost use Rattle.service.specs.Sending.{reply_text};
+ghost use Rattle.service.specs.Messages.{whole_message};
+ghost use Rattle.service.specs.Sending.{sent_text};
 ghost use Rattle.service.specs.Turns.{IsAnswered, IsSent, IsCounted, IsWithin, Takes};
 
 use crate::message::{Message, Next, next_message};
@@ -37,8 +37,10 @@ pub(crate) struct Setting<'a> {
 /// What became of the next message.
 #[derive(Clone, Copy, Debug, PartialEq, Eq)]
 pub(crate) enum Turn {
-    /// There is less than a message.
+    /// There is less than a head.
     Unfinished,
+    /// There is a message whose body is cut off. It has no answer, and nothing follows it.
+    CutOff,
     /// It was answered. What follows it begins behind so many bytes.
     Answered(usize),
     /// It was answered, and the connection is closed behind the reply.
@@ -58,7 +60,8 @@ fn answer_message<S: Alter>(
     ensures honest { IsHonest S.Store store.new → IsHonest S.Store store.old }
     ensures answered { IsHonest S.Store store.new → (world : World) → Holds S.Store store.old world → (head : RequestHead) → Asks head message.entry.now.target
         → values (codes "authorization") head ≡ the_one (option_map (λ v. v.now) message.entry.now.authorization)
-        → IsAnswered S.Store world (verdict world (policy_view setting.entry.now.policy.now) setting.entry.now.now head message.entry.now.body.now) store.new result }
+        → length message.entry.now.body.now ≡ message.entry.now.target.size
+        → IsAnswered S.Store world (setting_of setting.entry.now.policy.now setting.entry.now.now) (whole_message head message.entry.now.body.now) store.new result }
 {
     let Ok(repo) = message.target.route.repo_text(alloc) else {
         return Reply::store_refused();
@@ -87,7 +90,7 @@ fn closes(message: &Message<'_>, reply: &Reply) -> bool
 /// Writes the reply to a message of so many bytes.
 fn deliver<K: Sink>(sink: &mut K, reply: &Reply, allow: &str, close: bool, len: usize) -> Turn
     requires { length allow.now ≤ ALLOW_LIMIT }
-    ensures sent { IsSent (K.taken sink.old) (K.taken sink.new) (reply_text reply.now allow.now close) close len result }
+    ensures sent { IsSent (K.taken sink.old) (K.taken sink.new) (sent_text reply.now allow.now close) close len result }
     ensures counted { IsCounted (K.failed sink.old) (K.failed sink.new) result }
 {
     match send(sink, reply, allow, close) {
@@ -117,10 +120,11 @@ pub(crate) fn take_turn<S: Alter, K: Sink>(
     ensures within { IsWithin bytes.now result }
     ensures counted { IsCounted (K.failed sink.old) (K.failed sink.new) result }
     ensures turn { IsHonest S.Store store.new → (world : World) → Holds S.Store store.old world
-        → Takes S.Store (policy_view setting.entry.now.policy.now) setting.entry.now.now bytes.now world store.new (K.taken sink.old) (K.taken sink.new) result }
+        → Takes S.Store (setting_of setting.entry.now.policy.now setting.entry.now.now) bytes.now world store.new (K.taken sink.old) (K.taken sink.new) result }
 {
     match next_message(setting.routes, bytes, fields) {
         Next::Unfinished => Turn::Unfinished,
+        Next::CutOff => Turn::CutOff,
         Next::Refused(denied) => {
             deliver(
                 sink,

@@ -1,7 +1,8 @@
 use Rattle.std.proofs.Common.{refl, sym}
 use Rattle.names.specs.declared.rules.Rule.TheVariants.{H6, H8}
+use Rattle.model.specs.Heads.{form_of_served}
 use Rattle.routes.specs.Routes.{route_seen}
-use Rattle.service.proofs.Judged.{not_framed, not_routed, not_served, not_accepted, asked, framing_rule, refused, unserved}
+use Rattle.service.proofs.Judged.{not_framed, not_routed, not_served, not_accepted, asked, framing_rule, refused, unserved, no_put}
 use Rattle.service.proofs.judging.judge.Goals as goal
 
 pub returns-in-Err : goal.returns-in-Err
@@ -26,13 +27,14 @@ returns-then-not-accepts c h shows =
     let told = c.refused_by-then-not-accepts in
     let served = rw (c.method.ensures h shows) at (sym c.in-Some-form_of.ensures) in
     refused h told.result H8 told.ensures.rule told.ensures.allow
-    (not_accepted h (route_seen c.in-Some.route) c.in-Some-form_of.form (c.in-Ok.ensures h shows).0 (c.in-Some.ensures h shows).0 served (sym (c.if-not-accepts.ensures h shows))) refl
+    (not_accepted h (route_seen c.in-Some.route) (form_of_served c.in-Some-form_of.form) (c.in-Ok.ensures h shows).0 (c.in-Some.ensures h shows).0 served (sym (c.if-not-accepts.ensures h shows))) refl
 
 pub returns : goal.returns
 returns c h shows =
     let served = rw (c.method.ensures h shows) at (sym c.in-Some-form_of.ensures) in
     record {
-      target = asked h (route_seen c.in-Some.route) c.in-Some-form_of.form (c.in-Ok.ensures h shows).0 (c.in-Some.ensures h shows).0 served (sym (c.if-not-accepts.ensures h shows));
+      target = asked h (route_seen c.in-Some.route) (form_of_served c.in-Some-form_of.form) (c.in-Ok.ensures h shows).0 (c.in-Some.ensures h shows).0 served (sym (c.if-not-accepts.ensures h shows));
       query = (c.in-Some.ensures h shows).1;
       size = (c.in-Ok.ensures h shows).1;
+      no_put = no_put h c.in-Some.route.resource (form_of_served c.in-Some-form_of.form) served;
     }

@@ -1,6 +1,6 @@
 use Rattle.std.proofs.Common.{◌≡◌, ◌+◌, ◌≤◌, length}
 use Rattle.model.specs.World.{World}
-use Rattle.policy.specs.Values.{policy_view}
+use Rattle.desk.specs.Asking.{setting_of}
 use Rattle.tables.specs.Shown.{IsHonest}
 use Rattle.worlds.specs.Standing.{Holds}
 use Rattle.service.specs.Served.{IsServing}
@@ -13,7 +13,7 @@ invariant-messages g l = record {
   good : g.K.Sink.failed l.sink ≡ g.K.Sink.failed l.fn.sink;
   was_honest : IsHonest g.S.Store l.store → IsHonest g.S.Store l.fn.store;
   serving : IsHonest g.S.Store l.store → (world : World) → Holds g.S.Store l.fn.store world
-      → IsServing g.S.Store (policy_view l.setting.policy.now) l.setting.now l.bytes l.rest world l.store (g.K.Sink.taken l.fn.sink) (g.K.Sink.taken l.sink) l.answered;
+      → IsServing g.S.Store (setting_of l.setting.policy.now l.setting.now) l.bytes l.rest world l.store (g.K.Sink.taken l.fn.sink) (g.K.Sink.taken l.sink) l.answered;
 }
 
 abbrev pub decreases-messages : goal.decreases-messages

@@ -1,27 +1,30 @@
-use Rattle.std.proofs.Common.{◌∙◌, [], ap₂, subst, sym, codes, List, ℕ}
-use Rattle.model.specs.Heads.{values}
-use Rattle.model.specs.Forms.{request_of}
-use Rattle.model.specs.Steps.{Answer, verdict, desk_verdict}
-use Rattle.policy.specs.Values.{policy_view}
+use Rattle.std.proofs.Common.{◌∙◌, ap, subst, sym}
+use Rattle.model.specs.Answers.{Answer}
+use Rattle.model.specs.Cases.{DeskRequest}
+use Rattle.model.specs.Verdict.{desk_verdict}
+use Rattle.desk.specs.Asking.{setting_of}
 use Rattle.desk.specs.Done.{IsDone}
-use Rattle.service.proofs.Answered.{verdict_is, late_verdict, answered_by, answered_none}
+use Rattle.service.proofs.Answered.{verdict_is, made_as, late_verdict, answered_by, answered_none}
 use Rattle.service.proofs.turn.answer_message.Goals as goal
 
 pub returns-in_default-clause-answered : goal.returns-in_default-clause-answered
-returns-in_default-clause-answered g c honest world h head asks bearer =
-    let m = c.args.message.now in let policy = policy_view c.args.setting.now.policy.now in let now = c.args.setting.now.now in
-    answered_none g.S.Store world c.args.store.now c.store_refused.result _ (late_verdict world policy now head m.target m.body.now asks) c.store_refused.ensures h
+returns-in_default-clause-answered g c honest world h head asks bearer size =
+    let m = c.args.message.now in
+    let setting = setting_of c.args.setting.now.policy.now c.args.setting.now.now in
+    answered_none g.S.Store world setting head m.body.now c.args.store.now c.store_refused.result (late_verdict world setting head m.target m.body.now asks) c.store_refused.ensures h
 
 pub returns-in-Ok-answer-clause-answered : goal.returns-in-Ok-answer-clause-answered
-returns-in-Ok-answer-clause-answered g c honest world h head asks bearer =
-    let m = c.args.message.now in let policy = policy_view c.args.setting.now.policy.now in let now = c.args.setting.now.now in
-    let asked = request_of m.target.form [] m.target.query.now m.body.now in
-    let repo = sym (c.as_str.ensures.value ∙ c.in-Ok.ensures) in
-    let same = verdict_is world policy now head m.target m.body.now asks ∙ ap₂ (λ (vs : List (List ℕ)) (r : List ℕ). desk_verdict world policy now vs r asked) bearer repo in
-    answered_by g.S.Store world c.answer.new.store c.in-Ok-answer.reply _ (late_verdict world policy now head m.target m.body.now asks)
+returns-in-Ok-answer-clause-answered g c honest world h head asks bearer size =
+    let m = c.args.message.now in
+    let setting = setting_of c.args.setting.now.policy.now c.args.setting.now.now in
+    let made = made_as head m.target _ c.as_str.result.now m.body.now asks bearer (c.as_str.ensures.value ∙ c.in-Ok.ensures) size in
+    let same = verdict_is world setting head m.target m.body.now asks ∙ ap (λ (r : DeskRequest). desk_verdict world setting r m.body.now) (sym made) in
+    answered_by g.S.Store world setting head m.body.now c.answer.new.store c.in-Ok-answer.reply (late_verdict world setting head m.target m.body.now asks)
     (subst (λ (v : Answer). IsDone g.S.Store c.answer.new.store world v c.in-Ok-answer.reply) (sym same) (c.in-Ok-answer.ensures.told honest world h))
 
 pub returns-clause-answered : goal.returns-clause-answered
-returns-clause-answered g c honest world h head asks bearer =
-    let m = c.args.message.now in let policy = policy_view c.args.setting.now.policy.now in let now = c.args.setting.now.now in
-    answered_none g.S.Store world c.answer.new.store c.store_refused-in-Err.result _ (late_verdict world policy now head m.target m.body.now asks) c.store_refused-in-Err.ensures (c.in-Err.ensures.refused honest world h)
+returns-clause-answered g c honest world h head asks bearer size =
+    let m = c.args.message.now in
+    let setting = setting_of c.args.setting.now.policy.now c.args.setting.now.now in
+    answered_none g.S.Store world setting head m.body.now c.answer.new.store c.store_refused-in-Err.result (late_verdict world setting head m.target m.body.now asks) c.store_refused-in-Err.ensures
+    (c.in-Err.ensures.refused honest world h)
