@@ -1,13 +1,9 @@
 //! What the desk answers to a request, before a connection adds its lines.
 
-use crate::harness::Server;
+use crate::harness::{NOW, Server, Tester, sure};
 use desk::{Asked, Body, Reply, answer};
 use model::Form;
 use names::Moment;
-use std::alloc::Global;
-use std::rt::HostRuntime;
-use std::test::Fail;
-use tables::StoreFault;
 
 /// Ann's upload token, her download token, and hers for a repository that the policy does not have.
 const ANN: &[u8] = b"Bearer aaaaaaaaaaaaaaaaaaaaaaaaaaaaaaaaaaaaaaaaaaaaaaaaaaaaaaaaaaaaaaaa";
@@ -18,9 +14,17 @@ const STRANGER: &[u8] = b"Bearer ddddddddddddddddddddddddddddddddddddddddddddddd
 
 const HERO: &[u8] = b"{\"path\":\"art/hero.psd\"}";
 
-/// The bearer, the repository and the body of requests to one server, each with the status and the
-/// body of its reply.
-const ANSWERS: &[(&[u8], &str, &[u8], u16, &str)] = &[
+/// The bearer, the repository and the body of a request; the status and the body of its reply.
+type Case = (
+    &'static [u8],
+    &'static str,
+    &'static [u8],
+    u16,
+    &'static str,
+);
+
+/// Requests to one server.
+const ANSWERS: &[Case] = &[
     (
         b"Bearer a",
         "studio/film",
@@ -72,14 +76,9 @@ const ANSWERS: &[(&[u8], &str, &[u8], u16, &str)] = &[
     ),
 ];
 
-/// The reply to a request for a lock.
-fn answered(
-    alloc: Global,
-    server: &mut Server,
-    bearer: &[u8],
-    repo: &str,
-    body: &[u8],
-) -> Result<Reply, StoreFault> {
+/// That the server answers a request for a lock so.
+fn expect_answer(rt: &impl Tester, server: &mut Server, case: &Case) {
+    let &(bearer, repo, body, status, want) = case;
     let asked = Asked {
         authorization: Some(bearer),
         repo,
@@ -88,8 +87,12 @@ fn answered(
         query: "",
         body,
     };
-    let now = Moment::read(1_463_500_146).ok_or(StoreFault::Refused)?;
-    answer(alloc, &mut server.store, &server.policy, now, &asked)
+    let now = sure(rt, Moment::read(NOW).ok_or(()));
+    let reply = answer(rt.alloc(), &mut server.store, &server.policy, now, &asked);
+    let reply = sure(rt, reply);
+    assert!(rt; reply.status.as_u16() == status, "{want}");
+    assert_eq!(rt; text_of(&reply), want);
+    assert!(rt; !reply.is_store_refusal, "{want}");
 }
 
 fn text_of(reply: &Reply) -> &str {
@@ -100,13 +103,9 @@ fn text_of(reply: &Reply) -> &str {
 }
 
 #[test]
-fn requests_are_answered_by_the_first_rule_or_done(rt: HostRuntime) -> Result<(), Fail> {
+fn requests_are_answered_by_the_first_rule_or_done(rt: HostRuntime) {
     let mut server = Server::new(&rt);
-    for &(bearer, repo, body, status, want) in ANSWERS {
-        let reply = answered(rt.alloc(), &mut server, bearer, repo, body)?;
-        assert_eq!(rt; reply.status.as_u16(), status, "{want}");
-        assert_eq!(rt; text_of(&reply), want);
-        assert!(rt; !reply.is_store_refusal, "{want}");
+    for case in ANSWERS {
+        expect_answer(&rt, &mut server, case);
     }
-    Ok(())
 }

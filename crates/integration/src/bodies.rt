@@ -136,34 +136,24 @@ const READ_ONLY: &[(&str, &str)] = &[
     (r#"{"path":"/"}"#, "J2"),
 ];
 
-const BODIES: &[Bodies] = &[
-    Bodies {
-        bearer: ANN,
-        body: "@",
-        cases: SHAPES,
-    },
-    Bodies {
-        bearer: ANN,
-        body: r#"{"path":"art/hero.psd","ref":@}"#,
-        cases: REFS,
-    },
-    Bodies {
-        bearer: ANN,
-        body: r#"{"path":"@"}"#,
-        cases: PATHS,
-    },
-    Bodies {
-        bearer: READER,
-        body: "@",
-        cases: READ_ONLY,
-    },
-];
+#[test]
+fn shapes_are_judged(rt: HostRuntime) {
+    expect_bodies(&rt, ANN, "@", SHAPES);
+}
 
 #[test]
-fn bodies_are_judged(rt: HostRuntime) {
-    for bodies in BODIES {
-        expect_bodies(&rt, bodies);
-    }
+fn refs_are_judged(rt: HostRuntime) {
+    expect_bodies(&rt, ANN, r#"{"path":"art/hero.psd","ref":@}"#, REFS);
+}
+
+#[test]
+fn paths_are_judged(rt: HostRuntime) {
+    expect_bodies(&rt, ANN, r#"{"path":"@"}"#, PATHS);
+}
+
+#[test]
+fn bodies_are_judged_before_an_upload_token_is_asked(rt: HostRuntime) {
+    expect_bodies(&rt, READER, "@", READ_ONLY);
 }
 
 /// Long bodies by their parts, each so many times, and how they are answered.

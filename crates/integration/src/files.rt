@@ -1,39 +1,83 @@
-//! Databases that the tests make, in memory and in files.
+//! Stores in memory and over files, and what becomes of a file step by step.
 //!
-//! The helpers have no clause, so that a test's proof does not carry those of each call.
+//! The helpers have no clause, so that a test's proof does not carry those of each call. A function
+//! that owns a store over a file takes long to prove: here one does for each kind of file.
 
-use sqlite::{Connection, Error, File, FileStore, MemStore};
+use crate::databases::{fill, found, last_locks};
+use crate::harness::{Tester, sure, tell_over};
+use sqlite::{Connection, Error, File, FileFrom, FileStore, MemStore, Wary};
 use std::alloc::Global;
 use std::fs;
 use std::rt::HostRuntime;
-use std::test::Fail;
-use tables::{Alter, Store, StoreFault};
-
-/// A store over a file.
-pub(crate) type OverFile = Store<FileStore<File>>;
+use tables::{Alter, Storage, Store, StoreFault};
 
 /// A new store in memory, with its tables.
-pub(crate) fn in_memory(alloc: Global) -> Result<Store<MemStore>, StoreFault> {
-    let mut store = Store::open_memory(alloc)?;
-    store.create_or_check(alloc)?;
-    Ok(store)
+pub(crate) fn in_memory(rt: &impl Tester) -> Store<MemStore> {
+    let mut store = sure(rt, Store::open_memory(rt.alloc()));
+    sure(rt, store.create_or_check(rt.alloc()));
+    store
 }
 
-/// Opens the file.
-pub(crate) fn open(rt: &HostRuntime, path: &str) -> Result<OverFile, StoreFault> {
-    Store::open(rt, path)
+/// What is done with a file, and what has to come of it.
+pub(crate) enum Step {
+    /// It is written as this text.
+    Write(&'static str),
+    /// Another program runs these statements on it.
+    Run(&'static str),
+    /// A store is opened over it, and makes or checks its tables.
+    Check(Result<(), StoreFault>),
+    /// The same for a file of another schema, which is left as it is.
+    Leave,
+    /// A lock and a token are added.
+    Fill,
+    /// They are found, with the number of locks that were made.
+    Find(u32, u32, i64),
+    /// The ids of the locks on two paths and on the first again.
+    Lock(u32, u32, u32),
+    /// A server over it is sent the first, and writes the second.
+    Serve(&'static str, &'static str),
 }
 
-/// Removes what a test left, with its log.
-pub(crate) fn clear(rt: &HostRuntime, path: &str) -> Result<(), Fail> {
-    let log = format!(in rt.alloc(); "{path}-wal")?;
-    let _ = fs::remove_file(rt, path);
-    let _ = fs::remove_file(rt, log.as_str());
+/// Takes a step over a store that was opened.
+fn work<S: Storage>(rt: &impl Tester, store: &mut Store<S>, step: &Step) -> Result<(), StoreFault> {
+    match step {
+        Step::Lock(first, second, again) => {
+            assert!(rt; last_locks(rt, store) == (*first, *second, *again));
+            return Ok(());
+        }
+        Step::Serve(text, want) => {
+            let told = tell_over(rt, store, text);
+            assert_eq!(rt; told.text.as_str(), *want);
+            return Ok(());
+        }
+        _ => {}
+    }
+    store.create_or_check(rt.alloc())?;
+    match step {
+        Step::Fill => fill(rt, store),
+        Step::Find(id, made, expiry) => {
+            assert!(rt; found(rt, store) == (*id, *made, *expiry));
+        }
+        _ => {}
+    }
     Ok(())
 }
 
-fn connect(rt: &HostRuntime, path: &str) -> Result<Connection<FileStore<File>>, Error> {
-    Connection::open(rt, path)
+/// Takes a step over the file.
+fn open(rt: &impl Tester, host: &HostRuntime, path: &str, step: &Step) -> Result<(), StoreFault> {
+    let mut store: Store<FileStore<File>> = Store::open(host, path)?;
+    work(rt, &mut store, step)
+}
+
+/// Takes a step over the file, opened in the other way.
+fn open_again(
+    rt: &impl Tester,
+    host: &HostRuntime,
+    path: &str,
+    step: &Step,
+) -> Result<(), StoreFault> {
+    let mut store: Store<FileStore<FileFrom<Wary>>> = Store::open_from(host, path, Wary)?;
+    work(rt, &mut store, step)
 }
 
 /// Runs the statements.
@@ -42,7 +86,46 @@ pub(crate) fn run<S: Alter>(conn: &mut Connection<S>, sql: &str) -> Result<(), E
 }
 
 /// Runs the statements on the file, as another program might.
-pub(crate) fn change(rt: &HostRuntime, path: &str, sql: &str) -> Result<(), Error> {
-    let mut conn = connect(rt, path)?;
+fn change(host: &HostRuntime, path: &str, sql: &str) -> Result<(), Error> {
+    let mut conn: Connection<FileStore<File>> = Connection::open(host, path)?;
     run(&mut conn, sql)
+}
+
+/// That the file is refused for its schema, and left as it is.
+fn expect_left(rt: &impl Tester, host: &HostRuntime, path: &str) {
+    let before = sure(rt, fs::read(host, path));
+    let refused = open(rt, host, path, &Step::Leave);
+    assert!(rt; refused == Err(StoreFault::UnknownSchema), "{path}");
+    let after = sure(rt, fs::read(host, path));
+    assert!(rt; before.as_slice() == after.as_slice(), "{path}");
+}
+
+/// Takes the step.
+fn take(rt: &impl Tester, host: &HostRuntime, path: &str, step: &Step) {
+    match step {
+        Step::Write(text) => sure(rt, fs::write(host, path, *text)),
+        Step::Run(sql) => sure(rt, change(host, path, sql)),
+        Step::Leave => expect_left(rt, host, path),
+        Step::Check(want) => {
+            assert!(rt; open(rt, host, path, step) == *want, "{path}");
+        }
+        Step::Find(..) => sure(rt, open_again(rt, host, path, step)),
+        _ => sure(rt, open(rt, host, path, step)),
+    }
+}
+
+/// Removes what a test left, with its log.
+fn clear(rt: &impl Tester, host: &HostRuntime, path: &str) {
+    let log = sure(rt, format!(in rt.alloc(); "{path}-wal"));
+    let _ = fs::remove_file(host, path);
+    let _ = fs::remove_file(host, log.as_str());
+}
+
+/// Takes the steps, one after the other, from no file.
+pub(crate) fn take_steps(rt: &impl Tester, host: &HostRuntime, path: &str, steps: &[Step]) {
+    clear(rt, host, path);
+    for step in steps {
+        take(rt, host, path, step);
+    }
+    clear(rt, host, path);
 }

@@ -7,7 +7,7 @@ use sha2::{Digest, Sha256};
 use sqlite::MemStore;
 use std::alloc::{Alloc, Global};
 use std::process::Abort;
-use tables::{Alter, NewToken, Operation, Store};
+use tables::{Alter, NewToken, Operation, Storage, Store};
 
 /// The moment of a connection, where nothing else is said.
 pub(crate) const NOW: u64 = 1_463_500_146;
@@ -170,6 +170,14 @@ pub(crate) fn told_by<S: Alter>(
     let text = sure(rt, str::from_utf8(sink.taken()));
     let text = sure(rt, text.to_owned(alloc));
     Told { text, served }
+}
+
+/// What a client is told by a server over this store, which gets the tokens.
+pub(crate) fn tell_over<S: Storage>(rt: &impl Tester, store: &mut Store<S>, text: &str) -> Told {
+    sure(rt, store.create_or_check(rt.alloc()));
+    keep_tokens(rt, store);
+    let policy = policy_of(rt, ROW);
+    told_by(rt, store, &policy, NOW, text.as_bytes(), usize::MAX)
 }
 
 /// A server with the tokens.
@@ -349,8 +357,11 @@ pub(crate) const MOSTS: &[usize] = &[1, 7, usize::MAX];
 /// That this was told, and that the connection ended so.
 pub(crate) fn expect_told(rt: &impl Tester, bytes: &[u8], told: &Told, text: &str, served: Served) {
     let shown = str::from_utf8(bytes).unwrap_or("bytes that are no text");
-    assert_eq!(rt; told.text.as_str(), text, "of {shown}");
-    assert_eq!(rt; told.served, served, "of {shown}");
+    assert_eq!(rt;
+        (told.text.as_str(), told.served),
+        (text, served),
+        "of {shown}"
+    );
 }
 
 /// That a new server tells this and ends so, however many bytes a read gives, and then has made so
@@ -404,19 +415,17 @@ pub(crate) fn expect_heads(rt: &impl Tester, heads: &Heads) {
     }
 }
 
-/// Bodies that differ in one place, which is `@`, and ask for a lock.
-pub(crate) struct Bodies {
-    pub bearer: &'static str,
-    pub body: &'static str,
-    /// What stands in the place, and the code of the rule that refuses the message, or `201`.
-    pub cases: &'static [(&'static str, &'static str)],
-}
-
-/// That the messages with these bodies are answered so.
-pub(crate) fn expect_bodies(rt: &impl Tester, bodies: &Bodies) {
-    for (value, want) in bodies.cases {
-        let body = filled(rt, bodies.body, value);
-        let text = asking(rt, bodies.bearer, body.as_str());
+/// That messages whose bodies ask for a lock and differ in one place, which is `@`, are answered so:
+/// each case has what stands there, and the code of the rule that refuses the message, or `201`.
+pub(crate) fn expect_bodies(
+    rt: &impl Tester,
+    bearer: &str,
+    body: &str,
+    cases: &[(&'static str, &'static str)],
+) {
+    for (value, want) in cases {
+        let body = filled(rt, body, value);
+        let text = asking(rt, bearer, body.as_str());
         expect(rt, text.as_bytes(), want);
     }
 }

@@ -1,209 +1,231 @@
 //! Tokens: issued, borne, listed and removed.
 
 use crate::files::in_memory;
+use crate::harness::{Tester, sure};
 use names::{Moment, RepoName, Rule, UserName};
 use sha2::{Digest, Sha256};
 use sqlite::MemStore;
-use std::alloc::Global;
-use std::rt::HostRuntime;
-use std::test::Fail;
 use tables::{Operation, Store};
 use tokens::{TokenFault, TokenRequest, caller, issue, of, offer, prune};
 
 /// 64 times the letter c: 32 bytes 0xcc in hexadecimal digits.
 const TEXT: &str = "cccccccccccccccccccccccccccccccccccccccccccccccccccccccccccccccc";
 
+/// 64 times the letter d.
+const OTHER: &str = "dddddddddddddddddddddddddddddddddddddddddddddddddddddddddddddddd";
+
+const ISSUED: &str = "K1: token already issued";
+
+const TOO_LATE: &str = "K2: expiry out of range";
+
+/// What is done with tokens.
+enum Act {
+    Issue,
+    Offer,
+    Prune,
+}
+
+/// A step: what is done, the byte of the token's text, the second, the seconds that it lives, and
+/// what comes of it.
+type Step = (Act, u8, u64, u64, &'static str);
+
+fn moment_of(rt: &impl Tester, second: u64) -> Moment {
+    sure(rt, Moment::read(second).ok_or(()))
+}
+
 /// A download token of ann for studio/film, of 32 such bytes.
-fn asked(random: &[u8; 32], second: u64, seconds: u64) -> Option<TokenRequest<'_>> {
-    Some(TokenRequest {
-        user: UserName::read("ann")?,
-        repo: RepoName::read("studio/film")?,
+fn asked<'r>(
+    rt: &impl Tester,
+    random: &'r [u8; 32],
+    second: u64,
+    seconds: u64,
+) -> TokenRequest<'r> {
+    TokenRequest {
+        user: sure(rt, UserName::read("ann").ok_or(())),
+        repo: sure(rt, RepoName::read("studio/film").ok_or(())),
         operation: Operation::Download,
-        now: Moment::read(second)?,
+        now: moment_of(rt, second),
         seconds,
         random,
-    })
+    }
 }
 
 /// The text of a token, or why there is none.
-fn as_text(alloc: Global, answer: Result<String, TokenFault>) -> Result<String, Fail> {
+fn as_text(rt: &impl Tester, answer: Result<String, TokenFault>) -> String {
     match answer {
-        Ok(text) => Ok(text),
-        Err(fault) => Ok(fault.to_string(alloc)?),
+        Ok(text) => text,
+        Err(fault) => sure(rt, fault.to_string(rt.alloc())),
     }
 }
 
-/// What comes of issuing a token.
-fn told(
-    alloc: Global,
-    store: &mut Store<MemStore>,
-    byte: u8,
-    second: u64,
-    seconds: u64,
-) -> Result<String, Fail> {
-    match asked(&[byte; 32], second, seconds) {
-        Some(asked) => as_text(alloc, issue(alloc, store, &asked)),
-        None => Ok(String::new(alloc)),
+/// What comes of a step.
+fn told(rt: &impl Tester, store: &mut Store<MemStore>, step: &Step) -> String {
+    let (act, byte, second, seconds, _) = step;
+    let random = [*byte; 32];
+    let asked = asked(rt, &random, *second, *seconds);
+    match act {
+        Act::Issue => as_text(rt, issue(rt.alloc(), store, &asked)),
+        Act::Offer => as_text(rt, offer(rt.alloc(), store, &asked)),
+        Act::Prune => {
+            let count = sure(rt, prune(store, asked.now));
+            sure(rt, count.to_string(rt.alloc()))
+        }
     }
 }
 
-/// What comes of offering one.
-fn offered(
-    alloc: Global,
-    store: &mut Store<MemStore>,
-    byte: u8,
-    second: u64,
-    seconds: u64,
-) -> Result<String, Fail> {
-    match asked(&[byte; 32], second, seconds) {
-        Some(asked) => as_text(alloc, offer(alloc, store, &asked)),
-        None => Ok(String::new(alloc)),
+/// That the steps come to this, one after the other, over one store.
+fn expect_steps(rt: &impl Tester, steps: &[Step]) {
+    let mut store = in_memory(rt);
+    for step in steps {
+        assert_eq!(rt; told(rt, &mut store, step).as_str(), step.4);
     }
+}
+
+const ONCE: &[Step] = &[
+    (Act::Issue, 0xcc, 40, 60, TEXT),
+    (Act::Issue, 0xcc, 40, 60, ISSUED),
+    (Act::Issue, 0xcc, 41, 60, ISSUED),
+    (Act::Issue, 0xcc, 253402300799, 1, ISSUED),
+];
+
+#[test]
+fn a_token_is_issued_once(rt: HostRuntime) {
+    expect_steps(&rt, ONCE);
+}
+
+const OFFERED: &[Step] = &[
+    (Act::Offer, 0xcc, 40, 60, TEXT),
+    (Act::Offer, 0xcc, 40, 60, TEXT),
+    (Act::Offer, 0xcc, 253402300799, 60, TOO_LATE),
+    (Act::Issue, 0xcc, 40, 60, TEXT),
+    (Act::Offer, 0xcc, 40, 60, ISSUED),
+    (Act::Offer, 0xcc, 253402300799, 60, ISSUED),
+    (Act::Offer, 0xdd, 40, 60, OTHER),
+];
+
+#[test]
+fn a_token_that_is_offered_is_not_kept(rt: HostRuntime) {
+    expect_steps(&rt, OFFERED);
+}
+
+const LATE: &[Step] = &[
+    (Act::Issue, 0xcc, 253402300799, 1, TOO_LATE),
+    (Act::Issue, 0xcc, 0, 253402300800, TOO_LATE),
+    (Act::Issue, 0xcc, 1, u64::MAX, TOO_LATE),
+    (Act::Issue, 0xcc, 253402300798, 1, TEXT),
+];
+
+#[test]
+fn no_token_expires_past_the_last_moment(rt: HostRuntime) {
+    expect_steps(&rt, LATE);
+}
+
+/// How many tokens are removed at a second, and that a token can be issued again then.
+const REMOVED: &[Step] = &[
+    (Act::Issue, 0xcc, 40, 60, TEXT),
+    (Act::Issue, 0xdd, 40, 61, OTHER),
+    (Act::Prune, 0, 99, 0, "0"),
+    (Act::Prune, 0, 100, 0, "1"),
+    (Act::Prune, 0, 100, 0, "0"),
+    (Act::Prune, 0, 101, 0, "1"),
+    (Act::Issue, 0xcc, 40, 60, TEXT),
+];
+
+#[test]
+fn a_token_is_removed_at_its_expiry(rt: HostRuntime) {
+    expect_steps(&rt, REMOVED);
+}
+
+/// A store that keeps the token of [`TEXT`], and that of another byte.
+fn with_tokens(rt: &impl Tester) -> Store<MemStore> {
+    let mut store = in_memory(rt);
+    told(rt, &mut store, &(Act::Issue, 0xcc, 40, 60, TEXT));
+    told(rt, &mut store, &(Act::Issue, 0xdd, 40, 60, OTHER));
+    store
 }
 
 #[test]
-fn a_token_is_issued_once(rt: HostRuntime) -> Result<(), Fail> {
-    let alloc = rt.alloc();
-    let mut store = in_memory(alloc)?;
-    assert!(rt; told(alloc, &mut store, 0xcc, 40, 60)?.as_str() == TEXT);
-    for (second, seconds) in [(40, 60), (41, 60), (253402300799, 1)] {
-        let again = told(alloc, &mut store, 0xcc, second, seconds)?;
-        assert!(rt; again.as_str() == "K1: token already issued");
-    }
-    Ok(())
-}
-
-#[test]
-fn a_token_that_is_offered_is_not_kept(rt: HostRuntime) -> Result<(), Fail> {
-    let alloc = rt.alloc();
-    let mut store = in_memory(alloc)?;
-    for (second, want) in [
-        (40, TEXT),
-        (40, TEXT),
-        (253402300799, "K2: expiry out of range"),
-    ] {
-        assert!(rt; offered(alloc, &mut store, 0xcc, second, 60)?.as_str() == want);
-    }
-    assert!(rt; told(alloc, &mut store, 0xcc, 40, 60)?.as_str() == TEXT);
-    for second in [40, 253402300799] {
-        let again = offered(alloc, &mut store, 0xcc, second, 60)?;
-        assert!(rt; again.as_str() == "K1: token already issued");
-    }
-    assert!(rt; !offered(alloc, &mut store, 0xdd, 40, 60)?.is_empty());
-    Ok(())
-}
-
-#[test]
-fn the_digest_of_a_token_is_kept(rt: HostRuntime) -> Result<(), Fail> {
-    let alloc = rt.alloc();
-    let mut store = in_memory(alloc)?;
-    told(alloc, &mut store, 0xcc, 40, 60)?;
-    let Some(kept) = store.token(&Sha256::digest(TEXT.as_bytes()))? else {
-        assert!(rt; false, "no token has the digest of the text");
-        return Ok(());
-    };
+fn the_digest_of_a_token_is_kept(rt: HostRuntime) {
+    let mut store = with_tokens(&rt);
+    let kept = sure(&rt, store.token(&Sha256::digest(TEXT.as_bytes())));
+    let kept = sure(&rt, kept.ok_or(()));
     assert!(rt; kept.user.as_str() == "ann" && kept.repo.as_str() == "studio/film");
     assert!(rt; kept.operation == Operation::Download && kept.expires == 100);
-    Ok(())
-}
-
-#[test]
-fn no_token_expires_past_the_last_moment(rt: HostRuntime) -> Result<(), Fail> {
-    let alloc = rt.alloc();
-    let mut store = in_memory(alloc)?;
-    for (second, seconds) in [(253402300799, 1), (0, 253402300800), (1, u64::MAX)] {
-        let late = told(alloc, &mut store, 0xcc, second, seconds)?;
-        assert!(rt; late.as_str() == "K2: expiry out of range");
-    }
-    assert!(rt; told(alloc, &mut store, 0xcc, 253402300798, 1)?.as_str() == TEXT);
-    Ok(())
-}
-
-#[test]
-fn a_token_is_removed_at_its_expiry(rt: HostRuntime) -> Result<(), Fail> {
-    let alloc = rt.alloc();
-    let mut store = in_memory(alloc)?;
-    told(alloc, &mut store, 0xcc, 40, 60)?;
-    told(alloc, &mut store, 0xdd, 40, 61)?;
-    for (second, want) in [(99, 0), (100, 1), (100, 0), (101, 1)] {
-        let Some(now) = Moment::read(second) else {
-            return Ok(());
-        };
-        assert_eq!(rt; prune(&mut store, now)?, want);
-    }
-    assert!(rt; told(alloc, &mut store, 0xcc, 40, 60)?.as_str() == TEXT);
-    Ok(())
 }
 
 /// Whether a download token of ann's for studio/film is borne, or the rule that refuses.
 fn borne(
+    rt: &impl Tester,
     store: &mut Store<MemStore>,
     authorization: Option<&[u8]>,
     second: u64,
-) -> Result<Result<bool, Rule>, Fail> {
-    let now = Moment::read(second).ok_or("no moment")?;
-    Ok(match caller(store, authorization, now)? {
+) -> Result<bool, Rule> {
+    match sure(rt, caller(store, authorization, moment_of(rt, second))) {
         Ok(caller) => Ok(
             caller.user.as_str() == "ann"
                 && caller.repo.as_str() == "studio/film"
                 && caller.operation == Operation::Download,
         ),
         Err(rule) => Err(rule),
-    })
+    }
 }
 
+/// What is borne at a second, in two parts, and whether that is good.
+const BORNE: &[(&str, &str, u64, Result<bool, Rule>)] = &[
+    ("Bearer ", TEXT, 40, Ok(true)),
+    ("bEARER ", TEXT, 99, Ok(true)),
+    ("Bearer ", TEXT, 100, Err(Rule::A3)),
+    ("Bearer ", "abc", 40, Err(Rule::A2)),
+    ("Bearer  ", TEXT, 40, Err(Rule::A1)),
+    ("Bearer ", "abc d", 40, Err(Rule::A1)),
+    ("Bearer ", "", 40, Err(Rule::A1)),
+    ("Basic ", "YW5uOg==", 40, Err(Rule::A1)),
+    ("", "", 40, Err(Rule::A1)),
+];
+
 #[test]
-fn a_token_names_its_caller(rt: HostRuntime) -> Result<(), Fail> {
-    let mut store = in_memory(rt.alloc())?;
-    told(rt.alloc(), &mut store, 0xcc, 40, 60)?;
-    for (scheme, text, second, want) in [
-        ("Bearer ", TEXT, 40, Ok(true)),
-        ("bEARER ", TEXT, 99, Ok(true)),
-        ("Bearer ", TEXT, 100, Err(Rule::A3)),
-        ("Bearer ", "abc", 40, Err(Rule::A2)),
-        ("Bearer  ", TEXT, 40, Err(Rule::A1)),
-        ("Bearer ", "abc d", 40, Err(Rule::A1)),
-        ("Bearer ", "", 40, Err(Rule::A1)),
-        ("Basic ", "YW5uOg==", 40, Err(Rule::A1)),
-        ("", "", 40, Err(Rule::A1)),
-    ] {
-        let value = [scheme, text].concat(rt.alloc())?;
-        assert_eq!(rt; borne(&mut store, Some(value.as_bytes()), second)?, want);
+fn a_token_names_its_caller(rt: HostRuntime) {
+    let mut store = with_tokens(&rt);
+    for (scheme, text, second, want) in BORNE {
+        let value = sure(&rt, [*scheme, *text].concat(rt.alloc()));
+        let told = borne(&rt, &mut store, Some(value.as_bytes()), *second);
+        assert!(rt; told == *want, "{value}");
     }
-    assert_eq!(rt; borne(&mut store, None, 40)?, Err(Rule::A1));
-    Ok(())
+    assert!(rt; borne(&rt, &mut store, None, 40) == Err(Rule::A1));
 }
 
 /// How many tokens the user has for the repository, and whether the first is that of the text.
 fn count_of(
-    alloc: Global,
+    rt: &impl Tester,
     store: &mut Store<MemStore>,
     user: &str,
     repo: &str,
-) -> Result<(usize, bool), Fail> {
-    let user = UserName::read(user).ok_or("no user")?;
-    let repo = RepoName::read(repo).ok_or("no repository")?;
-    let tokens = of(alloc, store, user, repo)?;
+) -> (usize, bool) {
+    let user = sure(rt, UserName::read(user).ok_or(()));
+    let repo = sure(rt, RepoName::read(repo).ok_or(()));
+    let tokens = sure(rt, of(rt.alloc(), store, user, repo));
     let is_that = tokens.first().is_some_and(|token| {
         token.digest.as_slice() == Sha256::digest(TEXT.as_bytes()).as_slice()
             && token.operation == Operation::Download
             && token.expires == 100
     });
-    Ok((tokens.len(), is_that))
+    (tokens.len(), is_that)
 }
 
+/// Users and repositories, how many tokens they have, and whether the first is that of the text.
+const COUNTS: &[(&str, &str, (usize, bool))] = &[
+    ("ann", "studio/film", (2, true)),
+    ("bob", "studio/film", (0, false)),
+    ("ann", "studio/game", (0, false)),
+];
+
 #[test]
-fn a_user_has_the_tokens_that_were_issued(rt: HostRuntime) -> Result<(), Fail> {
-    let mut store = in_memory(rt.alloc())?;
-    for byte in [0xcc, 0xdd] {
-        told(rt.alloc(), &mut store, byte, 40, 60)?;
+fn a_user_has_the_tokens_that_were_issued(rt: HostRuntime) {
+    let mut store = with_tokens(&rt);
+    for (user, repo, want) in COUNTS {
+        assert!(rt;
+            count_of(&rt, &mut store, user, repo) == *want,
+            "{user} {repo}"
+        );
     }
-    for (user, repo, want) in [
-        ("ann", "studio/film", (2, true)),
-        ("bob", "studio/film", (0, false)),
-        ("ann", "studio/game", (0, false)),
-    ] {
-        assert_eq!(rt; count_of(rt.alloc(), &mut store, user, repo)?, want);
-    }
-    Ok(())
 }

@@ -11,19 +11,25 @@ const ON_DEV: &str =
 const CREATED_ON_DEV: &str =
     "HTTP/1.1 201 Created\r\nContent-Type: application/vnd.git-lfs+json\r\nContent-Length: 99\r\n\r\n{\"lock\":{\"id\":\"2\",\"locked_at\":\"2016-05-17T15:49:06Z\",\"owner\":{\"name\":\"ann\"},\"path\":\"art/hero.psd\"}}";
 
+/// The worked texts, and their sizes.
+const SIZES: &[(&str, usize)] = &[(MESSAGE, 180), (CREATED, 187), (HELD, 232)];
+
 #[test]
 fn the_worked_texts_have_their_sizes(rt: HostRuntime) {
-    assert_eq!(rt; MESSAGE.len(), 180);
-    assert_eq!(rt; CREATED.len(), 187);
-    assert_eq!(rt; HELD.len(), 232);
-    // The tools of the other tests make the same texts.
+    for (text, size) in SIZES {
+        assert!(rt; text.len() == *size);
+    }
+}
+
+#[test]
+fn the_tools_of_the_other_tests_make_the_worked_texts(rt: HostRuntime) {
     let built = message(&rt, LOCKS, &[ANN, LENGTH], HERO);
-    assert_eq!(rt; built.as_str(), MESSAGE);
-    assert_eq!(rt; asking(&rt, ANN, HERO).as_str(), MESSAGE);
-    let first = created(&rt, 1, "ann", "art/hero.psd");
-    assert_eq!(rt; first.as_str(), CREATED);
-    let second = created(&rt, 2, "ann", "art/hero.psd");
-    assert_eq!(rt; second.as_str(), CREATED_ON_DEV);
+    assert!(rt; built.as_str() == MESSAGE);
+    assert!(rt; asking(&rt, ANN, HERO).as_str() == MESSAGE);
+    for (id, want) in &[(1, CREATED), (2, CREATED_ON_DEV)] {
+        let built = created(&rt, *id, "ann", "art/hero.psd");
+        assert!(rt; built.as_str() == *want);
+    }
 }
 
 /// A path is locked once on each branch.
