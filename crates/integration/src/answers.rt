@@ -2,7 +2,7 @@
 
 use crate::harness::{NOW, Server, Tester, sure};
 use desk::{Asked, Body, Reply, answer};
-use model::Form;
+use model::ServedForm;
 use names::Moment;
 
 /// Ann's upload token, her download token, and hers for a repository that the policy does not have.
@@ -82,7 +82,7 @@ fn expect_answer(rt: &impl Tester, server: &mut Server, case: &Case) {
     let asked = Asked {
         authorization: Some(bearer),
         repo,
-        form: Form::Lock,
+        form: ServedForm::Lock,
         parameter: "",
         query: "",
         body,

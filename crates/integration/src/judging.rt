@@ -2,7 +2,7 @@
 
 use crate::harness::{Tester, sure};
 use httparse::spans::EMPTY_HEADER_SPAN;
-use model::Form;
+use model::ServedForm;
 use names::Rule;
 use routes::Routes;
 use service::judge;
@@ -24,7 +24,7 @@ fn expect_judged(rt: &impl Tester, routes: &Routes, text: &[u8], want: &Judged) 
         want,
     ) {
         (Ok(target), Ok((owner, name, query, size))) => {
-            target.form == Form::Lock
+            target.form == ServedForm::Lock
                 && target.route.owner == *owner
                 && target.route.name == *name
                 && target.query == *query
