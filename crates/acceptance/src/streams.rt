@@ -1,10 +1,9 @@
 //! Streams that fail, and words that could not be had.
 
-use crate::program::{prepare, remove, status_over};
+use crate::program::{Tester, prepare, remove, status_over};
 use crate::transcript::{POLICY, play};
 use std::io::{self, ErrorKind, Read};
 use std::rt::HostRuntime;
-use std::test::Fail;
 
 /// Hands out its bytes, and then fails.
 #[derive(Drop)]
@@ -42,28 +41,47 @@ const LOCKED: &str = "HTTP/1.1 201 Created\r\n\
     {\"lock\":{\"id\":\"1\",\"locked_at\":\"2016-05-17T15:49:06Z\",\"owner\":{\"name\":\"ann\"},\"path\":\"art/hero.psd\"}}";
 
 #[test]
-fn a_read_that_fails_is_told_behind_the_replies(rt: HostRuntime) -> Result<(), Fail> {
-    prepare(&rt, "read", POLICY)?;
-    assert_eq!(rt; play(&rt, "read", "+ a ann studio/film")?.as_str(), "");
+fn a_read_that_fails_is_told_behind_the_replies(rt: HostRuntime) {
+    prepare(&rt, &rt, "read", POLICY);
+    play(&rt, &rt, "read", "+ a ann studio/film");
     let mut input = Broken(LOCK_HERO.as_bytes());
     let mut output = Vec::new(rt.alloc());
     let mut errors = Vec::new(rt.alloc());
-    let status = status_over(&rt, "read", SESSION, &mut input, &mut output, &mut errors)?;
+    let status = status_over(
+        &rt,
+        &rt,
+        "read",
+        SESSION,
+        &mut input,
+        &mut output,
+        &mut errors,
+    );
     assert!(rt; status == 1 && output.as_slice() == LOCKED.as_bytes());
     assert!(rt; errors.as_slice() == "custody: session ReadFailed\n".as_bytes());
     remove(&rt, "read");
-    Ok(())
 }
 
-/// What a command ends with whose output takes no more than 10 bytes.
-fn is_cut(rt: &HostRuntime, line: &str, input: &str, errors: &str) -> Result<bool, Fail> {
+/// That a command whose output takes no more than 10 bytes ends with this on the error stream.
+fn expect_cut(rt: &impl Tester, host: &HostRuntime, line: &str, input: &str, want: &str) {
     let mut rest = input.as_bytes();
     let mut room = [0u8; 10];
     let mut output = room.as_mut_slice();
-    let mut told = Vec::new(rt.alloc());
-    let status = status_over(rt, "write", line, &mut rest, &mut output, &mut told)?;
-    Ok(status == 1 && told.as_slice() == errors.as_bytes())
+    let mut errors = Vec::new(rt.alloc());
+    let status = status_over(rt, host, "write", line, &mut rest, &mut output, &mut errors);
+    assert!(rt;
+        status == 1 && errors.as_slice() == want.as_bytes(),
+        "{line}"
+    );
 }
+
+/// Commands, their inputs, and what each ends with.
+const CUT: &[(&str, &str, &str)] = &[
+    ("--help", "", "custody: input or output\n"),
+    (AUTHENTICATE, "", "custody: input or output\n"),
+    (LATE, "", "custody: K2: expiry out of range\n"),
+    (SESSION, LOCK_HERO, "custody: session WriteFailed\n"),
+    (PRUNE, "", "custody: input or output\n"),
+];
 
 /// What was done all the same, and what was not.
 const LEFT: &str = r#"
@@ -79,37 +97,34 @@ $ session --db @/db --policy @/policy --now 1463500146
 "#;
 
 #[test]
-fn a_write_that_fails_is_told(rt: HostRuntime) -> Result<(), Fail> {
-    prepare(&rt, "write", POLICY)?;
-    assert_eq!(rt; play(&rt, "write", "+ a ann studio/film")?.as_str(), "");
-    for (line, input, errors) in [
-        ("--help", "", "custody: input or output\n"),
-        (AUTHENTICATE, "", "custody: input or output\n"),
-        (LATE, "", "custody: K2: expiry out of range\n"),
-        (SESSION, LOCK_HERO, "custody: session WriteFailed\n"),
-        (PRUNE, "", "custody: input or output\n"),
-    ] {
-        assert!(rt; is_cut(&rt, line, input, errors)?, "{line}");
+fn a_write_that_fails_is_told(rt: HostRuntime) {
+    prepare(&rt, &rt, "write", POLICY);
+    play(&rt, &rt, "write", "+ a ann studio/film");
+    for (line, input, want) in CUT {
+        expect_cut(&rt, &rt, line, input, want);
     }
-    assert_eq!(rt; play(&rt, "write", LEFT)?.as_str(), "");
+    play(&rt, &rt, "write", LEFT);
     remove(&rt, "write");
-    Ok(())
 }
 
+/// Why the words could not be had; the status and the line on the error stream.
+const REFUSED: &[(ErrorKind, u8, &str)] = &[
+    (
+        ErrorKind::InvalidData,
+        2,
+        "error: invalid UTF-8 was detected in one or more arguments\n",
+    ),
+    (ErrorKind::OutOfMemory, 1, "custody: no memory\n"),
+];
+
 #[test]
-fn words_that_could_not_be_had_are_told(rt: HostRuntime) -> Result<(), Fail> {
-    let cases = [
-        (
-            ErrorKind::InvalidData,
-            2,
-            "error: invalid UTF-8 was detected in one or more arguments\n",
-        ),
-        (ErrorKind::OutOfMemory, 1, "custody: no memory\n"),
-    ];
-    for (kind, status, line) in cases {
+fn words_that_could_not_be_had_are_told(rt: HostRuntime) {
+    for &(kind, status, line) in REFUSED {
         let mut errors = Vec::new(rt.alloc());
-        assert!(rt; cli::refuse_words(&io::Error::from(kind), &mut errors) == status);
-        assert!(rt; errors.as_slice() == line.as_bytes());
+        let ended = cli::refuse_words(&io::Error::from(kind), &mut errors);
+        assert!(rt;
+            ended == status && errors.as_slice() == line.as_bytes(),
+            "{line}"
+        );
     }
-    Ok(())
 }

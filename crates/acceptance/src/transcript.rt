@@ -20,11 +20,10 @@
 //! | `&` | more of it, which comes so many times, as `*` writes it and with `@` for its number |
 //! | `^` | how many bytes it has, which a comment fills up |
 
-use crate::program::{prepare, remove, run, write};
-use std::alloc::{AllocError, Global};
+use crate::program::{Tester, path_of, prepare, remove, run, sure, write};
+use std::alloc::Global;
 use std::fs;
 use std::rt::HostRuntime;
-use std::test::Fail;
 
 /// A policy in which ann and bob work on a film.
 pub(crate) const POLICY: &str = r#"
@@ -64,10 +63,10 @@ fn three(text: &str) -> (&str, &str, &str) {
     (first, second, third)
 }
 
-/// A line of a request or a reply, which may have no line end.
-fn push_line(text: &mut String, line: &str, end: &str) -> Result<(), AllocError> {
-    text.push_str(line)?;
-    text.push_str(end)
+/// Adds a text to another, with a line end or none.
+fn push(rt: &impl Tester, text: &mut String, line: &str, end: &str) {
+    sure(rt, text.push_str(line));
+    sure(rt, text.push_str(end));
 }
 
 /// The phrase of a status (docs/PROTOCOL.md, "Heads").
@@ -84,17 +83,20 @@ fn phrase(status: &str) -> &'static str {
 }
 
 /// The request for a lock by the token of a letter.
-fn request(alloc: Global, text: &str) -> Result<String, AllocError> {
+fn request(rt: &impl Tester, text: &str) -> String {
     let (letter, repo, body) = three(text);
-    let token = letter.repeat(alloc, 64)?;
+    let token = sure(rt, letter.repeat(rt.alloc(), 64));
     let length = body.len();
-    format!(in alloc;
-        "POST /{repo}.git/info/lfs/locks HTTP/1.1\r\nAuthorization: Bearer {token}\r\nContent-Length: {length}\r\n\r\n{body}"
+    sure(
+        rt,
+        format!(in rt.alloc();
+            "POST /{repo}.git/info/lfs/locks HTTP/1.1\r\nAuthorization: Bearer {token}\r\nContent-Length: {length}\r\n\r\n{body}"
+        ),
     )
 }
 
 /// The reply of a status and a body.
-fn reply(alloc: Global, text: &str) -> Result<String, AllocError> {
+fn reply(rt: &impl Tester, text: &str) -> String {
     let (status, body) = text.split_once(' ').unwrap_or((text, ""));
     let phrase = phrase(status);
     let length = body.len();
@@ -102,28 +104,34 @@ fn reply(alloc: Global, text: &str) -> Result<String, AllocError> {
         "401" => "LFS-Authenticate: Bearer realm=\"Git LFS\"\r\n",
         _ => "",
     };
-    format!(in alloc;
-        "HTTP/1.1 {status} {phrase}\r\nContent-Type: application/vnd.git-lfs+json\r\nContent-Length: {length}\r\n{asks}\r\n{body}"
+    sure(
+        rt,
+        format!(in rt.alloc();
+            "HTTP/1.1 {status} {phrase}\r\nContent-Type: application/vnd.git-lfs+json\r\nContent-Length: {length}\r\n{asks}\r\n{body}"
+        ),
     )
 }
 
 /// So many times the text, with `@` for the number of each.
-fn many(alloc: Global, text: &str) -> Result<String, Fail> {
+fn many(rt: &impl Tester, text: &str) -> String {
     let (count, piece) = text.split_once(' ').unwrap_or((text, ""));
-    let piece = piece.replace(alloc, "\\n", "\n")?;
-    let mut all = String::new(alloc);
-    for number in 0..count.parse::<u32>()? {
-        let number = format!(in alloc; "{number}")?;
-        all.push_str(piece.replace(alloc, '@', number.as_str())?.as_str())?;
+    let piece = sure(rt, piece.replace(rt.alloc(), "\\n", "\n"));
+    let mut all = String::new(rt.alloc());
+    for number in 0..sure(rt, count.parse::<u32>()) {
+        let number = sure(rt, number.to_string(rt.alloc()));
+        let piece = sure(rt, piece.replace(rt.alloc(), '@', number.as_str()));
+        sure(rt, all.push_str(piece.as_str()));
     }
-    Ok(all)
+    all
 }
 
 /// Writes the file that the text tells.
-fn write_bytes(rt: &HostRuntime, folder: &str, text: &str) -> Result<(), Fail> {
+fn write_bytes(rt: &impl Tester, host: &HostRuntime, folder: &str, text: &str) {
     let (name, count, byte) = three(text);
-    let bytes = vec![in rt.alloc(); byte.parse::<u8>()?; count.parse::<usize>()?]?;
-    Ok(write(rt, folder, name, bytes.as_slice())?)
+    let count = sure(rt, count.parse::<usize>());
+    let byte = sure(rt, byte.parse::<u8>());
+    let bytes = sure(rt, vec![in rt.alloc(); byte; count]);
+    write(rt, host, folder, name, bytes.as_slice());
 }
 
 impl Step {
@@ -140,123 +148,119 @@ impl Step {
     }
 
     /// The command that issues an upload token, and its line.
-    fn issue(&mut self, alloc: Global, text: &str) -> Result<(), AllocError> {
+    fn issue(&mut self, rt: &impl Tester, text: &str) {
         let (letter, user, repo) = three(text);
-        let token = letter.repeat(alloc, 64)?;
-        self.command = format!(in alloc;
-            "authenticate --db @/db --policy @/policy --user {user} --now 1463500000 --random @/{letter} {repo} upload"
-        )?;
-        self.output = format!(in alloc;
-            "{{\"expires_in\":3600,\"header\":{{\"Authorization\":\"Bearer {token}\"}},\"href\":\"https://lfs.example/{repo}.git/info/lfs\"}}\n"
-        )?;
-        Ok(())
+        let token = sure(rt, letter.repeat(rt.alloc(), 64));
+        self.command = sure(
+            rt,
+            format!(in rt.alloc();
+                "authenticate --db @/db --policy @/policy --user {user} --now 1463500000 --random @/{letter} {repo} upload"
+            ),
+        );
+        self.output = sure(
+            rt,
+            format!(in rt.alloc();
+                "{{\"expires_in\":3600,\"header\":{{\"Authorization\":\"Bearer {token}\"}},\"href\":\"https://lfs.example/{repo}.git/info/lfs\"}}\n"
+            ),
+        );
     }
 
-    /// The policy, which begins as the plain one.
-    fn begin_policy(&mut self) -> Result<(), AllocError> {
+    /// Changes the policy, which begins as the plain one.
+    fn change_policy(&mut self, rt: &impl Tester, mark: &str, text: &str) {
         if self.policy.is_empty() {
-            self.policy.push_str(POLICY)?;
+            sure(rt, self.policy.push_str(POLICY));
         }
-        Ok(())
+        match mark {
+            "*" => self.replace(rt, text),
+            "&" => push(rt, &mut self.policy, many(rt, text).as_str(), ""),
+            _ => self.pad(rt, text),
+        }
     }
 
     /// Writes another text into the policy.
-    fn replace(&mut self, alloc: Global, text: &str) -> Result<(), AllocError> {
+    fn replace(&mut self, rt: &impl Tester, text: &str) {
         let (old, new) = text.split_once(" => ").unwrap_or((text, ""));
-        let new = new.replace(alloc, "\\n", "\n")?;
-        self.begin_policy()?;
-        self.policy = self.policy.replace(alloc, old, new.as_str())?;
-        Ok(())
-    }
-
-    /// Writes more behind the policy.
-    fn extend(&mut self, alloc: Global, text: &str) -> Result<(), Fail> {
-        self.begin_policy()?;
-        Ok(self.policy.push_str(many(alloc, text)?.as_str())?)
+        let new = sure(rt, new.replace(rt.alloc(), "\\n", "\n"));
+        self.policy = sure(rt, self.policy.replace(rt.alloc(), old, new.as_str()));
     }
 
     /// Fills the policy up with a comment.
-    fn pad(&mut self, alloc: Global, text: &str) -> Result<(), Fail> {
-        self.begin_policy()?;
-        let left = text.parse::<usize>()?.saturating_sub(self.policy.len());
-        Ok(self.policy.push_str("#".repeat(alloc, left)?.as_str())?)
+    fn pad(&mut self, rt: &impl Tester, text: &str) {
+        let size = sure(rt, text.parse::<usize>());
+        let left = size.saturating_sub(self.policy.len());
+        let comment = sure(rt, "#".repeat(rt.alloc(), left));
+        sure(rt, self.policy.push_str(comment.as_str()));
     }
 
-    fn add(&mut self, alloc: Global, mark: &str, text: &str) -> Result<(), Fail> {
+    fn add(&mut self, rt: &impl Tester, mark: &str, text: &str) {
         match mark {
-            "$" => self.command.push_str(text)?,
-            "+" => self.issue(alloc, text)?,
-            "=" => self.status = text.parse::<u8>()?,
-            ">" => push_line(&mut self.input, text, "\r\n")?,
-            ">>" => push_line(&mut self.input, text, "")?,
-            "<" => push_line(&mut self.output, text, "\r\n")?,
-            "<<" => push_line(&mut self.output, text, "")?,
-            "|" => push_line(&mut self.output, text, "\n")?,
-            "!" => push_line(&mut self.errors, text, "\n")?,
-            "-" => self.missing.push_str(text)?,
-            "?" => push_line(&mut self.input, request(alloc, text)?.as_str(), "")?,
-            ":" => push_line(&mut self.output, reply(alloc, text)?.as_str(), "")?,
-            "*" => self.replace(alloc, text)?,
-            "&" => self.extend(alloc, text)?,
-            "^" => self.pad(alloc, text)?,
+            "$" => push(rt, &mut self.command, text, ""),
+            "+" => self.issue(rt, text),
+            "=" => self.status = sure(rt, text.parse::<u8>()),
+            ">" => push(rt, &mut self.input, text, "\r\n"),
+            ">>" => push(rt, &mut self.input, text, ""),
+            "<" => push(rt, &mut self.output, text, "\r\n"),
+            "<<" => push(rt, &mut self.output, text, ""),
+            "|" => push(rt, &mut self.output, text, "\n"),
+            "!" => push(rt, &mut self.errors, text, "\n"),
+            "-" => push(rt, &mut self.missing, text, ""),
+            "?" => push(rt, &mut self.input, request(rt, text).as_str(), ""),
+            ":" => push(rt, &mut self.output, reply(rt, text).as_str(), ""),
+            "*" | "&" | "^" => self.change_policy(rt, mark, text),
             "" | "#" | "%" => {}
-            _ => return Err(Fail::from("no such mark")),
+            _ => panic!(rt; "no such mark"),
         }
-        Ok(())
     }
 
     /// Whether the file that has to be missing is there.
-    fn leaves_file(&self, rt: &HostRuntime, folder: &str) -> Result<bool, AllocError> {
-        let path = format!(in rt.alloc(); "{folder}/{}", self.missing)?;
-        Ok(!self.missing.is_empty() && fs::metadata(rt, path.as_str()).is_ok())
+    fn leaves_file(&self, rt: &impl Tester, host: &HostRuntime, folder: &str) -> bool {
+        let path = path_of(rt, folder, self.missing.as_str());
+        !self.missing.is_empty() && fs::metadata(host, path.as_str()).is_ok()
     }
 
-    /// Runs the command, where there is one; what it did otherwise than it has to, or nothing.
-    fn run(&self, rt: &HostRuntime, folder: &str) -> Result<String, Fail> {
+    /// Runs the command, where there is one, which has to do what is told.
+    fn run(&self, rt: &impl Tester, host: &HostRuntime, folder: &str) {
         if self.command.is_empty() {
-            return Ok(String::new(rt.alloc()));
+            return;
         }
         if !self.policy.is_empty() {
-            write(rt, folder, "policy", self.policy.as_bytes())?;
+            write(rt, host, folder, "policy", self.policy.as_bytes());
         }
-        let ran = run(rt, folder, self.command.as_str(), self.input.as_str())?;
+        let ran = run(rt, host, folder, self.command.as_str(), self.input.as_str());
         let is_told = ran.is(self.status, self.output.as_str(), self.errors.as_str());
-        if is_told && !self.leaves_file(rt, folder)? {
-            return Ok(String::new(rt.alloc()));
+        if !is_told || self.leaves_file(rt, host, folder) {
+            let told = ran.told(rt);
+            panic!(rt; "{} {}\n{told}", self.command, self.errors);
         }
-        let told = ran.told(rt.alloc())?;
-        Ok(format!(in rt.alloc(); "{} {}\n{told}\n", self.command, self.errors)?)
     }
 }
 
-/// Plays the transcript over the files of a folder; which commands did otherwise, and how.
-pub(crate) fn play(rt: &HostRuntime, folder: &str, transcript: &str) -> Result<String, Fail> {
-    let mut otherwise = String::new(rt.alloc());
+/// Plays the transcript over the files of a folder.
+pub(crate) fn play(rt: &impl Tester, host: &HostRuntime, folder: &str, transcript: &str) {
     let mut step = Step::new(rt.alloc());
     for line in transcript.lines() {
         let (mark, text) = line.split_once(' ').unwrap_or((line, ""));
         if mark == "$" || mark == "+" || mark == "%" {
-            otherwise.push_str(step.run(rt, folder)?.as_str())?;
+            step.run(rt, host, folder);
             step = Step::new(rt.alloc());
         }
         if mark == "%" {
-            write_bytes(rt, folder, text)?;
+            write_bytes(rt, host, folder, text);
         }
-        step.add(rt.alloc(), mark, text)?;
+        step.add(rt, mark, text);
     }
-    otherwise.push_str(step.run(rt, folder)?.as_str())?;
-    Ok(otherwise)
+    step.run(rt, host, folder);
 }
 
 /// Plays the transcript in a folder of its own, with this policy.
 pub(crate) fn perform(
-    rt: &HostRuntime,
+    rt: &impl Tester,
+    host: &HostRuntime,
     folder: &str,
     policy: &str,
     transcript: &str,
-) -> Result<String, Fail> {
-    prepare(rt, folder, policy)?;
-    let otherwise = play(rt, folder, transcript)?;
-    remove(rt, folder);
-    Ok(otherwise)
+) {
+    prepare(rt, host, folder, policy);
+    play(rt, host, folder, transcript);
+    remove(host, folder);
 }
