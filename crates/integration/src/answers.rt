@@ -2,7 +2,7 @@
 
 use crate::harness::Server;
 use desk::{Asked, Body, Reply, answer};
-use model::Form;
+use model::ServedForm;
 use names::Moment;
 use std::alloc::Global;
 use std::rt::HostRuntime;
@@ -83,7 +83,7 @@ fn answered(
     let asked = Asked {
         authorization: Some(bearer),
         repo,
-        form: Form::Lock,
+        form: ServedForm::Lock,
         parameter: "",
         query: "",
         body,

@@ -1,7 +1,7 @@
 ghost use Rattle.std.specs.Prelude.{◌≤◌, IfOk, length, vec_len};
 
 use httparse::spans::{EMPTY_HEADER_SPAN, HeaderSpan, RequestSpans};
-use model::Form;
+use model::ServedForm;
 use names::Rule;
 use routes::Routes;
 use service::judge;
@@ -65,7 +65,7 @@ fn is_asked(
     let spans = spans_of(text, &mut fields)?;
     let target = judge(routes, &Head::new(front_of(text), &fields, spans));
     Ok(target.is_ok_and(|target| {
-        target.form == Form::Lock
+        target.form == ServedForm::Lock
             && (target.route.owner, target.route.name) == repo
             && target.query == query
             && target.size == size
