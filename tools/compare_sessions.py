@@ -1,14 +1,15 @@
 #!/usr/bin/env python3
 """Compares what `custody session` replies to random connections with a second reading of docs/PROTOCOL.md.
 
-The reading below is written from that document alone, and shares nothing with the program. Databases
-are used for some connections each, so that locks stand. It prints the first connection on which the
-two differ, and ends with status 1; else how many agreed.
+The reading is in protocol_reading.py. A database is used for several connections, so that later ones
+find what earlier ones left. It prints the first connection on which the two differ, and ends with
+status 1; else how many agreed. SERVED are the requests that the program serves; the others count as
+missing routes.
 
     compare_sessions.py PROGRAM [SECONDS [SEED]]
 """
+import hashlib
 import json
-import math
 import os
 import random
 import re
@@ -17,45 +18,10 @@ import sys
 import tempfile
 import time
 
-HEAD_LIMIT, FIELD_LIMIT = 16384, 64
-JSON_TYPE = "application/vnd.git-lfs+json"
-PHRASES = {
-    201: "Created",
-    400: "Bad Request",
-    401: "Unauthorized",
-    403: "Forbidden",
-    404: "Not Found",
-    405: "Method Not Allowed",
-    406: "Not Acceptable",
-    409: "Conflict",
-    411: "Length Required",
-    413: "Content Too Large",
-    422: "Unprocessable Content",
-    501: "Not Implemented",
-}
-RULES = {
-    "H1": (400, "bad request head"),
-    "H2": (501, "transfer codings are not served"),
-    "H3": (411, "a length is needed"),
-    "H4": (400, "a field or body is not allowed here"),
-    "H5": (413, "the body is too large"),
-    "H6": (404, "no such route"),
-    "H7": (405, "the method is not served here"),
-    "H8": (406, "the reply type is not accepted"),
-    "A1": (401, "a bearer token is needed"),
-    "A2": (401, "the token is unknown"),
-    "A3": (401, "the token has expired"),
-    "A4": (404, "no such repository"),
-    "R1": (404, "no such repository"),
-    "A5": (403, "the token does not cover this"),
-    "J1": (422, "the body has the wrong shape"),
-    "J2": (422, "a field is out of range"),
-}
-TOKEN = rb"[!#$%&'*+\-.^_`|~0-9A-Za-z]+"
-LINE = rb"(?P<method>" + TOKEN + rb") (?P<target>[^\x00-\x20\x7f]+) HTTP/1\.(?P<minor>[01])\r?\n"
-FIELD = rb"(" + TOKEN + rb"):([^\x00-\x08\x0a-\x1f\x7f]*)\r?\n"
-HEAD = re.compile(rb"(?:\r?\n)*" + LINE + rb"(?P<fields>(?:" + FIELD + rb")*)\r?\n")
+sys.dont_write_bytecode = True
+from protocol_reading import REQUESTS, Refused, Server, denial
 
+SERVED = {"Lock"}
 POLICY = """base = "https://lfs.example"
 token_seconds = 3600
 
@@ -84,6 +50,10 @@ ENTRIES = [
     ["*", "art/", "art/hero.psd", "art/x", "a", "secret/", "art"],
     ["lock", "lock", "pull", "push", "list", "force"],
 ]
+
+BASE = "https://lfs.example"
+REPOS = {"studio/film": {"ref": "refs/heads/main", "quota": 1000000}, "a/b": {"ref": "refs/x", "quota": 0}}
+CONTENTS = [b"", b"abc", b"hello", b"x" * 70000, b"y" * 400000]
 # Each token's letter: user, repository, operation, when it was issued.
 NOW = 1463500146
 TOKENS = {
@@ -94,244 +64,6 @@ TOKENS = {
     "e": ("bob", "a/b", "upload", NOW - 3600),
     "f": ("bob", "studio/film", "upload", NOW - 3599),
 }
-
-
-class Refused(Exception):
-    """A request is refused by a rule."""
-
-
-def matches(entries, text):
-    """Whether a list of a row holds the text."""
-    return any(it == "*" or it == text or it.endswith("/") and text.startswith(it) for it in entries)
-
-
-def decide(rows, user, repo, ref, path):
-    """Whether the rows allow a lock, and by which of them it is decided."""
-    for number, (effect, users, repos, refs, paths, rights) in enumerate(rows, 1):
-        held = zip((users, repos, refs, paths), (user, repo, ref, path))
-        if "lock" in rights and all(matches(entries, text) for entries, text in held):
-            return effect == "allow", number
-    return False, 0
-
-
-def strict_number(text):
-    """A number of a body; one that a float does not hold is none."""
-    if math.isinf(float(text)):
-        raise ValueError
-    return 0
-
-
-def no_constant(_):
-    raise ValueError
-
-
-def depth_of(text):
-    """How deep the body's arrays and objects are nested."""
-    deepest = depth = 0
-    for it in re.sub(r'"(?:[^"\\]|\\.)*"', "", text):
-        depth += (it in "[{") - (it in "]}")
-        deepest = max(deepest, depth)
-    return deepest
-
-
-def read_body(body):
-    """The object that a body is."""
-    try:
-        text = body.decode()
-        value = json.loads(text, parse_float=strict_number, parse_int=strict_number, parse_constant=no_constant)
-        json.dumps(value, ensure_ascii=False).encode()
-    except (ValueError, RecursionError):
-        raise Refused("J1") from None
-    if not isinstance(value, dict) or depth_of(text) > 127:
-        raise Refused("J1")
-    return value
-
-
-def is_ref(text):
-    body = text.encode()
-    good = re.fullmatch(rb"refs/[A-Za-z0-9/._-]*", body) and len(body) <= 255
-    return bool(good) and ".." not in text and "" not in text.split("/")
-
-
-def is_path(text):
-    body = text.encode()
-    clean = all(it >= 0x20 and it not in (0x7F, 0x5C) for it in body)
-    return 1 <= len(body) <= 1024 and clean and not {"", ".", ".."} & set(text.split("/"))
-
-
-def read_lock(body):
-    """The path and the ref, if any, that a Lock asks for."""
-    value = read_body(body)
-    path, ref = value.get("path"), value.get("ref")
-    if not isinstance(path, str):
-        raise Refused("J1")
-    if ref is not None:
-        if not isinstance(ref, dict) or not isinstance(ref.get("name"), str):
-            raise Refused("J1")
-        ref = ref["name"]
-        if not is_ref(ref):
-            raise Refused("J2")
-    if not is_path(path):
-        raise Refused("J2")
-    return path, ref
-
-
-def escaped(text):
-    """A text as JSON has it."""
-    short = {'"': '\\"', "\\": "\\\\", "\b": "\\b", "\t": "\\t", "\n": "\\n", "\f": "\\f", "\r": "\\r"}
-    return "".join(short.get(it) or (f"\\u{ord(it):04x}" if it < " " else it) for it in text)
-
-
-class Head:
-    """What a request head says."""
-
-    def __init__(self, found):
-        self.size = found.end()
-        self.method, self.target = found["method"], found["target"].decode()
-        pairs = re.findall(FIELD, found["fields"])
-        self.count = len(pairs)
-        self.fields = [(name.lower(), value.strip(b" \t")) for name, value in pairs]
-        words = [it.strip(b" \t").lower() for value in self.all(b"connection") for it in value.split(b",")]
-        self.closes = found["minor"] == b"0" or b"close" in words
-
-    def all(self, name):
-        return [value for it, value in self.fields if it == name]
-
-    def length(self):
-        """How many bytes of body follow, by the rules of framing."""
-        lengths = self.all(b"content-length")
-        if self.all(b"transfer-encoding"):
-            raise Refused("H2")
-        if self.method in (b"POST", b"PUT") and not lengths:
-            raise Refused("H3")
-        if any(len(self.all(it)) > 1 for it in (b"content-length", b"authorization", b"accept")):
-            raise Refused("H4")
-        if any(not re.fullmatch(rb"[0-9]{1,18}", it) for it in lengths):
-            raise Refused("H4")
-        length = int(lengths[0]) if lengths else 0
-        if self.method == b"GET" and length > 0:
-            raise Refused("H4")
-        if length > {b"POST": 1048576, b"PUT": 268435456}.get(self.method, 10**18):
-            raise Refused("H5")
-        return length
-
-    def repo(self):
-        """The repository's text in a target that has the route of locks."""
-        found = re.fullmatch(r"/([^/]+)/([^/]*)\.git/info/lfs/locks", self.target.partition("?")[0])
-        if not found:
-            raise Refused("H6")
-        return f"{found[1]}/{found[2]}"
-
-    def judge(self):
-        """The body's length and the repository's text, where no rule of the head refuses."""
-        length, repo = self.length(), self.repo()
-        if self.method != b"POST":
-            raise Refused("H7")
-        accepts = self.all(b"accept")
-        if accepts:
-            kinds = [it.split(b";")[0].strip(b" \t").lower() for it in accepts[0].split(b",")]
-            if not {JSON_TYPE.encode(), b"application/*", b"*/*"} & set(kinds):
-                raise Refused("H8")
-        return length, repo
-
-
-class Server:
-    """What the server keeps, and how it answers."""
-
-    def __init__(self, rows):
-        self.rows, self.locks, self.made = rows, {}, {}
-
-    def caller(self, head):
-        values = head.all(b"authorization")
-        found = values and re.fullmatch(rb"(?i:bearer) ([\x21-\x7e]+)", values[0])
-        if not found:
-            raise Refused("A1")
-        text = found[1].decode()
-        token = TOKENS.get(text[0]) if text == text[0] * 64 else None
-        if not token:
-            raise Refused("A2")
-        if NOW >= token[3] + 3600:
-            raise Refused("A3")
-        return token
-
-    def lock(self, head, repo, body):
-        """The status and the body of the reply to a Lock."""
-        user, owned, operation, _ = self.caller(head)
-        if owned != repo:
-            raise Refused("A4")
-        default = {"studio/film": "refs/heads/main", "a/b": "refs/x"}.get(repo)
-        if default is None:
-            raise Refused("R1")
-        path, ref = read_lock(body)
-        if operation != "upload":
-            raise Refused("A5")
-        ref = ref or default
-        is_allowed, row = decide(self.rows, user, repo, ref, path)
-        if not is_allowed:
-            return 403, message(f"P{row}", f"policy row {row} denies lock" if row else "no policy row allows lock")
-        stands = self.locks.get((repo, ref, path))
-        if stands:
-            return 409, '{"lock":' + stands + "," + message("L1", "the path is already locked")[1:]
-        self.made[repo] = self.made.get(repo, 0) + 1
-        moment = time.strftime("%Y-%m-%dT%H:%M:%SZ", time.gmtime(NOW))
-        shown = f'"id":"{self.made[repo]}","locked_at":"{moment}","owner":{{"name":"{user}"}},"path":"{escaped(path)}"'
-        text = "{" + shown + "}"
-        self.locks[repo, ref, path] = text
-        return 201, '{"lock":' + text + "}"
-
-    def serve(self, stream):
-        """All that is replied to a stream; and whether a refusal of its last bytes may be left out."""
-        out = b""
-        while True:
-            found = HEAD.match(stream)
-            if found and found.end() <= HEAD_LIMIT and is_utf8(found["target"]):
-                head = Head(found)
-            elif len(stream) >= HEAD_LIMIT:
-                return out + refusal("H1", True), False
-            else:
-                return out, True
-            if head.count > FIELD_LIMIT:
-                return out + refusal("H1", True), False
-            try:
-                length, repo = head.judge()
-            except Refused as rule:
-                return out + refusal(str(rule), True), False
-            body, rest = stream[head.size : head.size + length], stream[head.size + length :]
-            if len(body) < length:
-                return out, False
-            try:
-                status, text = self.lock(head, repo, body)
-            except Refused as rule:
-                status, text = RULES[str(rule)][0], message(str(rule), RULES[str(rule)][1])
-            out += reply(status, text, "", head.closes)
-            if head.closes:
-                return out, False
-            stream = rest
-
-
-def is_utf8(text):
-    try:
-        text.decode()
-    except UnicodeDecodeError:
-        return False
-    return True
-
-
-def message(code, text):
-    return f'{{"message":"{code}: {text}"}}'
-
-
-def refusal(rule, closes):
-    status, text = RULES[rule]
-    return reply(status, message(rule, text), "Allow: POST\r\n" if rule == "H7" else "", closes)
-
-
-def reply(status, text, allow, closes):
-    body = text.encode()
-    asks = 'LFS-Authenticate: Bearer realm="Git LFS"\r\n' if status == 401 else ""
-    close = "Connection: close\r\n" if closes else ""
-    lines = f"HTTP/1.1 {status} {PHRASES[status]}\r\nContent-Type: {JSON_TYPE}\r\nContent-Length: {len(body)}\r\n"
-    return f"{lines}{allow}{asks}{close}\r\n".encode() + body
 
 
 class Maker:
@@ -505,31 +237,99 @@ class Maker:
             fields.append("A: " + "b" * choose([15000, 16000, 16190, 16200, 16210, 16220, 16230, 17000]))
         return fields
 
+    def content(self):
+        """The bytes of an object, and its name or another."""
+        bytes_ = self.random.choice(CONTENTS)
+        name = hashlib.sha256(bytes_).hexdigest()
+        return bytes_, self.one(name, hashlib.sha256(b"abc").hexdigest(), name.upper(), "x", name + "0")
+
+    def size(self, length):
+        return self.one(str(length), "0", "5", "-1", "5.0", "5e0", "268435457", "18446744073709551616", '"5"', "null")
+
+    def query(self, *keys):
+        """A query of some of the keys."""
+        values = {
+            "ref": self.ref(),
+            "refspec": self.ref(),
+            "path": self.one("art/x", "a", "art/hero.psd", "a%2Fb", "%FF", "../a", "a+b"),
+            "id": self.one("1", "2", "3", "01", "0", "4294967295", "4294967296", "x"),
+            "cursor": self.one("1", "2", "3", "01", "4294967296", "x"),
+            "limit": self.one("1", "2", "100", "0", "-5", "1000", "99999999999", "1.5", "+1"),
+        }
+        pairs = [f"{key}={self.one(values[key], '')}" for key in keys if self.random.random() < 0.4]
+        pairs += [self.one("x=1", "x", "&", "%", "=") for _ in range(self.random.choice([0, 0, 1]))]
+        pairs += pairs[:1] if self.random.random() < 0.05 else []
+        return "?" + "&".join(pairs) if pairs else ""
+
+    def keys(self, *members):
+        """The body of some members, each there or not."""
+        some = [it for it in members if self.random.random() < 0.7]
+        self.random.shuffle(some)
+        return self.one("{" + ",".join(some) + "}", "{" + ",".join(members) + "}", "[]", "", "{" + ",".join(some))
+
+    def batch(self):
+        def entry():
+            bytes_, name = self.content()
+            return f'{{"oid":"{name}","size":{self.size(len(bytes_))}}}'
+
+        objects = ",".join(entry() for _ in range(self.one(1, 0, 2, 3, 100, 101)))
+        operation = self.random.choice(["download", "upload", "upload", "delete"])
+        return self.one(
+            f'{{"operation":"{operation}","objects":[{objects}]}}',
+            self.keys(f'"operation":"{operation}"', f'"objects":[{objects}]', f'"ref":{{"name":"{self.ref()}"}}'),
+            f'{{"operation":"{operation}","transfers":["tus"],"objects":[{objects}]}}',
+            f'{{"operation":"{operation}","transfers":["tus","basic"],"hash_algo":"sha256","objects":[{objects}]}}',
+            f'{{"operation":"{operation}","transfers":[],"hash_algo":"sha512","objects":[{objects}]}}',
+        )
+
+    def request(self, form):
+        """The method, the rest of the target, and the body of a request."""
+        bytes_, name = self.content()
+        ref = f'"ref":{{"name":"{self.ref()}"}}'
+        ident = self.one("1", "2", "3", "4", "9", "01", "x", "4294967296")
+        limit = '"limit":' + self.one("1", "0", "-1", "200", "1.5", "null", '"1"', "-0", "9223372036854775808")
+        oid, size = f'"oid":"{name}"', f'"size":{self.size(len(bytes_))}'
+        return {
+            "Batch": lambda: ("POST", "objects/batch", self.batch()),
+            "Get": lambda: ("GET", f"content/{name}", ""),
+            "Put": lambda: ("PUT", f"content/{name}{self.query('ref')}", bytes_),
+            "Verify": lambda: ("POST", f"verify{self.query('ref')}", self.keys(oid, size, ref)),
+            "Lock": lambda: ("POST", "locks", self.body()),
+            "List": lambda: ("GET", "locks" + self.query("path", "id", "refspec", "cursor", "limit"), ""),
+            "VerifyLocks": lambda: ("POST", "locks/verify", self.keys(f'"cursor":"{ident}"', limit, ref)),
+            "Unlock": lambda: ("POST", f"locks/{ident}/unlock", self.keys('"force":true', ref)),
+        }[form]()
+
     def message(self):
-        body = self.body().encode("utf-8", "surrogatepass")
-        method = self.one("POST", "GET", "PUT", "DELETE", "post", "HEAD", "P(ST", "PUT")
+        others = sorted(REQUESTS) if SERVED == {"Lock"} else sorted(SERVED)
+        method, rest, body = self.request(self.one(self.random.choice(sorted(SERVED)), *others))
+        body = body if isinstance(body, bytes) else body.encode("utf-8", "surrogatepass")
+        method = self.one(method, "GET", "PUT", "DELETE", "post", "HEAD", "P(ST", "PUT")
         target = self.one(
-            "/studio/film.git/info/lfs/locks",
-            "/a/b.git/info/lfs/locks",
-            "/no/where.git/info/lfs/locks",
-            "/studio/film.git/info/lfs/locks?x=1",
-            "/studio/film.git/info/lfs/locks/",
+            f"/studio/film.git/info/lfs/{rest}",
+            f"/a/b.git/info/lfs/{rest}",
+            f"/no/where.git/info/lfs/{rest}",
+            f"/studio/film.git/info/lfs/{rest}?x=1",
+            f"/studio/film.git/info/lfs/{rest}/",
             "/studio/film.git/info/lfs/locks/verify",
-            "/studio/film/info/lfs/locks",
-            "//film.git/info/lfs/locks",
+            f"/studio/film/info/lfs/{rest}",
+            f"//film.git/info/lfs/{rest}",
             "*",
-            "http://h/studio/film.git/info/lfs/locks",
-            "/é/é.git/info/lfs/locks",
-            "/a/.git/info/lfs/locks",
+            f"http://h/studio/film.git/info/lfs/{rest}",
+            f"/é/é.git/info/lfs/{rest}",
+            f"/a/.git/info/lfs/{rest}",
             "/studio/film.git/info/lfs/lock s",
-            "/studio/film.git.git/info/lfs/locks",
+            f"/studio/film.git.git/info/lfs/{rest}",
             "/\x7f",
         )
         version = self.one("HTTP/1.1", "HTTP/1.1", "HTTP/1.0", "HTTP/2.0", "http/1.1", "HTTP/1.1 ")
         end = self.one("\r\n", "\n")
         front = self.one("", "\r\n", "\n\n", "\r", " ") if self.random.random() < 0.1 else ""
-        head = front + end.join([f"{method} {target} {version}", *self.fields(len(body))]) + end + end
-        return head.encode() + body
+        fields = self.fields(len(body))
+        if method == "GET" and not body:
+            fields = [it for it in fields if not it.lower().startswith("content-length")]
+        head = front + end.join([f"{method} {target} {version}", *fields]) + end + end
+        return head.encode("utf-8", "surrogatepass") + body
 
     def bent(self, stream):
         """The stream with one byte changed, taken away or put in, or cut short."""
@@ -596,23 +396,29 @@ def new_database(program, room, number, rows):
     return database
 
 
+def new_server(rows):
+    """The second reading, with the same policy and tokens."""
+    tokens = {it * 64: (user, repo, operation, at + 3600) for it, (user, repo, operation, at) in TOKENS.items()}
+    return Server(BASE, REPOS, rows, tokens, NOW, SERVED)
+
+
 def compare(program, room, make, until):
-    """Serves connections until then. Returns how many agreed, how often each code was told, and what differed."""
+    """Serves connections until then. Returns how many agreed, how often each code was sent, and what differed."""
     agreed, seen = 0, {}
     while time.time() < until:
         if agreed % 40 == 0:
             rows = make.rows()
-            database, server = new_database(program, room, agreed, rows), Server(rows)
+            database, server = new_database(program, room, agreed, rows), new_server(rows)
         stream = make.connection()
         words = ["session", "--db", database, "--policy", f"{room}/policy", "--now", str(NOW)]
         ran = run(program, words, stream)
         want, may_refuse = server.serve(stream)
-        is_same = ran.stdout == want or may_refuse and ran.stdout == want + refusal("H1", True)
+        is_same = ran.stdout == want or may_refuse and ran.stdout == want + denial(Refused("H1"), True)
         if ran.returncode or not is_same:
             program_said = f"the program, with status {ran.returncode}: {ran.stdout!r} {ran.stderr!r}"
             return agreed, seen, f"of {stream!r}\n{program_said}\nthe document: {want!r}"
-        for denial, created in re.findall(rb'"message":"(\w+): |HTTP/1.1 (201)', want):
-            code = (denial or created).decode()
+        for refused, granted in re.findall(rb'"message":"(\w+): |HTTP/1.1 (20[01])', want):
+            code = (refused or granted).decode()
             seen[code] = seen.get(code, 0) + 1
         agreed += 1
     return agreed, seen, None

@@ -1,5 +1,5 @@
 -- What is done in another repository leaves a view.
-use Rattle.std.proofs.Common.{◌≡◌, ℕ, Bool, true, false, not, ◌&&◌, ◌||◌, List, [], ◌∷◌, filter, map, length, refl, sym, ap, subst, ◌∙◌, Result, Ok, Err, Option, Some, None, bytes_eq, cond, IfOk, is_some, codes, ◌==◌, nat_lt}
+use Rattle.std.proofs.Common.{◌≡◌, ℕ, Bool, true, false, not, ◌&&◌, ◌||◌, List, [], ◌∷◌, filter, map, length, refl, sym, ap, subst, ◌∙◌, Result, Ok, Err, Option, Some, None, bytes_eq, cond, IfOk, is_some, ◌==◌, nat_lt}
 use Rattle.std.specs.Bool.{⊤}
 use Rattle.std.specs.Prelude.{sum_by, ℤ, pos, ◌-ℤ◌, ◌+◌}
 use Rattle.std.proofs.lemmas.Bool.{true≢false, cond_both}
@@ -13,7 +13,7 @@ use Rattle.model.specs.Reading.{◌>>=◌, check, ok_or, none_or}
 use Rattle.model.specs.Orders.{sort_by, text_before}
 use Rattle.model.specs.Policy.{Policy, Repo, repo_named}
 use Rattle.model.specs.World.{World, Object, Lock, with_lock, without_lock, with_object, one_more, has_id, object_named, total, name_of}
-use Rattle.model.specs.RepoState.{RepoState, object_size, locks_of, objects_of, size_of, has_room, lock_at}
+use Rattle.model.specs.RepoState.{object_size, locks_of, objects_of, size_of, has_room, lock_at}
 use Rattle.model.specs.Forms.{Request, asks_batch, asks_get, asks_put, asks_verify, asks_lock, asks_list, asks_verify_locks, asks_unlock}
 use Rattle.model.specs.Heads.{Target, head_verdict}
 use Rattle.model.specs.Callers.{Caller, caller_by, sees, lock_question, push_question}
@@ -24,7 +24,7 @@ use Rattle.model.specs.Batch.{may_batch, batch_verdict}
 use Rattle.model.specs.Pages.{cursor_in}
 use Rattle.model.specs.Objects.{finish, verify_verdict}
 use Rattle.model.specs.Verdict.{plan_to, plan_for, is_covered, desk_plan, desk_request, target_verdict, verdict}
-use Rattle.model.specs.Steps.{verdict_on, after, after_grant, Message, message, Exchange, Carries, by_verdict, by_refusal}
+use Rattle.model.specs.Steps.{verdict_on, after, after_grant, Message, Exchange, Carries, by_verdict, by_refusal}
 use Rattle.model.specs.Views.{View, view_of, room_in, sees_objects, tokens_of}
 use Rattle.model.specs.Laws.{IsElsewhere, OthersLeaveViews}
 use Rattle.model.proofs.Checks.{passed, then_any, by_rules_ok, found_ok, find_ok}

@@ -1,7 +1,7 @@
 -- The worked examples that computing proves.
 use Rattle.std.proofs.Common.{refl}
 use Rattle.model.proofs.OnLiterals.{on_literals}
-use Rattle.model.specs.Examples.{FirstIsLocked, SecondIsRefused, OtherRefIsLocked, HeadsAreRefused, MethodIsRefused, RoutesLead, NamelessIsRefused, TokenExpires, RepositoryIsUnknown, DownloadLocksNothing, CutIsUnanswered, FolderIsFrozen, PushIsDenied, ContentHasItsName, ContentIsServed, QuotaIsKept, UploadIsRefusedEarly, StoredIsConfirmed, UploadIsOffered, DownloadIsOffered, ObjectsAreRefused, HashIsRefused, BatchIsRefused, HiddenIsLeftOut, PagesAreCut, PagesAreRefused, LocksAreSplit, LockIsReleased, RefusalCloses, TokenIsIssued, TokenIsPruned, MomentsArePrinted}
+use Rattle.model.specs.Examples.{FirstIsLocked, SecondIsRefused, OtherRefIsLocked, HeadsAreRefused, MethodIsRefused, RoutesLead, NamelessIsRefused, TokenExpires, RepositoryIsUnknown, DownloadLocksNothing, CutIsUnanswered, FolderIsFrozen, PushIsDenied, ContentHasItsName, ContentIsServed, QuotaIsKept, UploadIsRefusedEarly, StoredIsConfirmed, UploadIsOffered, DownloadIsOffered, ObjectsAreRefused, ObjectsAreInvalid, HashIsRefused, BatchIsRefused, HiddenIsLeftOut, PagesAreCut, PagesAreRefused, LocksAreSplit, LockIsReleased, RefusalCloses, TokenIsIssued, TokenIsPruned, MomentsArePrinted}
 
 pub first_is_locked : FirstIsLocked
 unfolding on_literals
@@ -85,7 +85,11 @@ download_is_offered = refl
 
 pub objects_are_refused : ObjectsAreRefused
 unfolding on_literals
-objects_are_refused = (refl, refl, refl, refl, refl)
+objects_are_refused = (refl, refl, refl)
+
+pub objects_are_invalid : ObjectsAreInvalid
+unfolding on_literals
+objects_are_invalid = (refl, refl)
 
 pub hash_is_refused : HashIsRefused
 unfolding on_literals

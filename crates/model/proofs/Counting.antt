@@ -4,8 +4,8 @@ use Rattle.model.specs.World.{World, Object, Lock, Token, object_named, with_obj
 use Rattle.model.specs.Answers.{stores, makes_lock, offers, serves, confirms, lists, splits, releases, Answer}
 use Rattle.model.specs.Operator.{TokenDenial, token_verdict, after_token, Outcome, issue_outcome, prune_outcome, Reports, by_success, by_fault}
 use Rattle.model.specs.Steps.{Exchange, judgement, Carries, by_verdict, by_refusal, after, Event, exchanged, issues, prunes, IsStep}
-use Rattle.model.specs.Laws.{CountsOn, NewIdIsNext}
-use Rattle.model.proofs.Keeping.{counted_itself, counted_above, IsNewLock, IfGranted, exchange_grantable}
+use Rattle.model.specs.Laws.{CountsOn, NewIdIsNext, NoIdComesAgain}
+use Rattle.model.proofs.Keeping.{counted_itself, counted_above, IsNewLock, IfGranted, exchange_grantable, keeps_step, keeps_run}
 
 object_counts : (o : Object) (world : World) (repo : List ℕ) → world.made repo ≤ (with_object o world).made repo
 object_counts o world repo = at (object_named o.repo o.name world)
@@ -61,3 +61,10 @@ new_next old e l new may (by_refusal given sure is) told = absurd (cc)
 pub new_id_is_next : NewIdIsNext
 new_id_is_next old e l new w step told =
     new_next old e l new (exchange_grantable old e new w step) step.carries told
+
+pub no_id_comes_again : NoIdComesAgain
+no_id_comes_again old e f l m w t =
+    let one = new_id_is_next old e l t.mid w t.first t.made in
+    let start = keeps_step old (exchanged e) t.mid t.first w in
+    let other = new_id_is_next t.late f m t.new (keeps_run t.mid t.between t.late t.run start) t.second t.made_later in
+    omega (arith, one.1, counts_on t.mid t.between t.late t.run l.repo, other.0, ap (λ (r : List ℕ). t.late.made r) t.repo)

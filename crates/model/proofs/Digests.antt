@@ -1,25 +1,25 @@
 -- What worlds with equal views serve has one digest.
-use Rattle.std.proofs.Common.{◌≡◌, ℕ, ◌<◌, List, [], ◌∷◌, ◌++◌, length, refl, sym, ap, subst, ◌∙◌, arith, Result, Ok, Err, Option, Some, None, zero, suc, slice_index, IfOk, bytes_eq, ◌&&◌}
+use Rattle.std.proofs.Common.{◌≡◌, ℕ, ◌<◌, List, [], ◌∷◌, refl, sym, ap, subst, ◌∙◌, arith, Result, Ok, Err, Option, Some, None, zero, suc, slice_index, IfOk, bytes_eq, ◌&&◌}
 use Rattle.std.specs.Bool.{⊤}
 use Rattle.std.specs.List.{AllByRecursion}
 use Rattle.std.specs.Int.{w32, to_be_bytes}
 use Rattle.std.proofs.lemmas.List.Elements.{recursion_from_All}
-use Rattle.hex.specs.Hex.{IsBytes, encode_lower, decode_of}
+use Rattle.hex.specs.Hex.{IsBytes, decode_of}
 use Rattle.hex.proofs.HexLemmas.{decode_of-encode_lower, decode_of-same}
 use Rattle.sha2.specs.Sha256.{sha256, digest_bytes}
-use Rattle.names.specs.declared.rules.Rule.{Rule}
 use Rattle.names.specs.declared.rules.Rule.TheVariants as rule
+use Rattle.model.specs.declared.Form.{Form}
 use Rattle.model.specs.declared.Form.TheVariants as form
 use Rattle.model.specs.Reading.{◌>>=◌, check, ok_or}
 use Rattle.model.specs.World.{World, Object, IsObject, object_named, name_of}
 use Rattle.model.specs.Forms.{Request, asks_batch, asks_get, asks_put, asks_verify, asks_lock, asks_list, asks_verify_locks, asks_unlock}
-use Rattle.model.specs.Callers.{Caller, caller_by}
-use Rattle.model.specs.Cases.{Setting, DeskRequest}
+use Rattle.model.specs.Callers.{Caller}
+use Rattle.model.specs.Cases.{Setting}
 use Rattle.model.specs.Answers.{Answer, Grant, stores, makes_lock, offers, serves, confirms, lists, splits, releases, by_rules, Plan, grants, sends, receives}
 use Rattle.model.specs.Objects.{finish}
-use Rattle.model.specs.Verdict.{desk_plan, desk_verdict}
-use Rattle.model.specs.Replies.{Reply, Body, empty, json, content, reply_of}
-use Rattle.model.specs.Views.{View, view_of, NoCaller, CallerRequest, to_desk, foresee}
+use Rattle.model.specs.Verdict.{desk_plan}
+use Rattle.model.specs.Replies.{Reply, Body, content, reply_of}
+use Rattle.model.specs.Views.{View, NoCaller, CallerRequest, to_desk, foresee}
 use Rattle.model.specs.Laws.{AreAlike, answer_in, ViewsServeOneDigest}
 use Rattle.model.proofs.Checks.{passed, then_any, ok_is}
 use Rattle.model.proofs.Lists.{In, each_in, each_append, in_found}
@@ -53,15 +53,20 @@ one_digest a b e =
 
 -- ---- what is served is stored
 
-put_name : Request → List ℕ
-put_name (asks_put asked) = asked.name
-put_name _ = []
+-- the form and the parameter of a request for a content
+abbrev form_for : Request → Form
+form_for (asks_get name) = form.Get
+form_for _ = form.Put
 
-is_asked : (request : Request) → IsAsked form.Put (put_name request) request
-unfolding put_name
+abbrev name_for : Request → List ℕ
+name_for (asks_put asked) = asked.name
+name_for (asks_get name) = name
+name_for _ = []
+
+is_asked : (request : Request) → IsAsked (form_for request) (name_for request) request
 is_asked (asks_put asked) = (refl, refl)
+is_asked (asks_get name) = (refl, refl)
 is_asked (asks_batch asked) = tt
-is_asked (asks_get name) = tt
 is_asked (asks_verify asked) = tt
 is_asked (asks_lock asked) = tt
 is_asked (asks_list asked) = tt
@@ -87,16 +92,16 @@ found_stored : (world : World) (repo name : List ℕ) (o : Option Object) → ob
 found_stored world repo name (Some o) e = in_found (λ p. bytes_eq p.repo repo && bytes_eq p.name name) world.objects o e
 found_stored world repo name None e = tt
 
-finish_stored : (world : World) (repo body : List ℕ) (parameter : List ℕ) (plan : Plan) → IsFrom form.Put parameter plan → IfOk (finish world repo body plan) (ServesStored world)
-finish_stored world repo body parameter (grants g) is = plain_stored world g is
-finish_stored world repo body parameter (sends name size) is = found_stored world repo name (object_named repo name world) refl
-finish_stored world repo body parameter (receives name) is = then_any (ServesStored world) (by_rules (check (bytes_eq name (name_of body)) rule.X2)) _ (λ same. tt)
+finish_stored : (world : World) (repo body : List ℕ) (f : Form) (parameter : List ℕ) (plan : Plan) → IsFrom f parameter plan → IfOk (finish world repo body plan) (ServesStored world)
+finish_stored world repo body f parameter (grants g) is = plain_stored world g is
+finish_stored world repo body f parameter (sends name size) is = found_stored world repo name (object_named repo name world) refl
+finish_stored world repo body f parameter (receives name) is = then_any (ServesStored world) (by_rules (check (bytes_eq name (name_of body)) rule.X2)) _ (λ same. tt)
 
 answer_stored : (world : World) (setting : Setting) (caller : Caller) (asked : CallerRequest) → IfOk (answer_in world setting caller asked) (ServesStored world)
 answer_stored world setting caller asked =
-    passed (IsFrom form.Put (put_name asked.request)) (ServesStored world) (desk_plan world setting (to_desk caller.repo asked)) _
-    (desk_from world setting (to_desk caller.repo asked) form.Put (put_name asked.request) (is_asked asked.request))
-    (λ plan is. finish_stored world caller.repo asked.body (put_name asked.request) plan is)
+    passed (IsFrom (form_for asked.request) (name_for asked.request)) (ServesStored world) (desk_plan world setting (to_desk caller.repo asked)) _
+    (desk_from world setting (to_desk caller.repo asked) (form_for asked.request) (name_for asked.request) (is_asked asked.request))
+    (λ plan is. finish_stored world caller.repo asked.body (form_for asked.request) (name_for asked.request) plan is)
 
 served_is_object : (world : World) (setting : Setting) (caller : Caller) (asked : CallerRequest) (o : Object) → AllByRecursion IsObject world.objects
     → answer_in world setting caller asked ≡ Ok (serves o) → IsObject o

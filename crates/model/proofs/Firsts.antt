@@ -1,5 +1,5 @@
 -- A list of bytes has at most one first message.
-use Rattle.std.proofs.Common.{◌≡◌, ℕ, ◌<◌, ◌≤◌, true, false, Bool, List, [], length, take, drop, refl, sym, ap, subst, ◌∙◌, arith, length-take, length-take-le}
+use Rattle.std.proofs.Common.{◌≡◌, ℕ, true, false, Bool, List, length, take, drop, refl, sym, ap, subst, ◌∙◌, arith, length-take, length-take-le}
 use Rattle.std.specs.Prelude.{nat_le}
 use Rattle.std.proofs.lemmas.Bool.{leb-false, leb-true}
 use Rattle.std.proofs.lemmas.List.{drop_all}
@@ -7,8 +7,8 @@ use Rattle.httparse.specs.Grammar.{RequestHead}
 use Rattle.httparse.proofs.GrammarLemmas.{request_unique}
 use Rattle.model.specs.Heads.{body_length}
 use Rattle.model.specs.Steps.{Message, message, bad_head, IsMessage}
-use Rattle.model.specs.Stream.{IsHeadThen, BeginsBadly, too_many_fields, too_long, hopeless, BeginsWithHead, BeginsWith, with_message, with_bad_head, message_with, IsUnfinished}
-use Rattle.model.specs.Laws.{HasOneFirst, ChoosesOnlyThere, CutIsLast, BeginsWithMessage, IsFreeChoice}
+use Rattle.model.specs.Stream.{IsHeadThen, BeginsBadly, too_many_fields, too_long, hopeless, BeginsWithHead, with_message, with_bad_head, message_with, IsUnfinished}
+use Rattle.model.specs.Laws.{HasOneFirst, ChoosesOnlyThere, MessageIsFinished, CutIsLast, BeginsWithMessage, IsFreeChoice}
 
 -- the head of the bytes is one, and so is what follows it
 heads_one : (bytes : List ℕ) (h k : RequestHead) (r q : List ℕ) → IsHeadThen bytes h r → IsHeadThen bytes k q → (h ≡ k) × (r ≡ q)
@@ -69,3 +69,7 @@ cut_is_last bytes head body rest (with_bad_head bad is none) = none
 cut_is_last bytes head body rest (with_message h next good is after) =
     let less = leb-false (body_length h) (length next) (sym (ap whole_of is)) in
     after ∙ drop_all (body_length h) next (omega (arith, less))
+
+pub message_is_finished : MessageIsFinished
+message_is_finished bytes head body whole rest (with_bad_head bad is none) x = absurd (cc)
+message_is_finished bytes head body whole rest (with_message h next good is after) x = x.none h next good.reads

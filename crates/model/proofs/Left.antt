@@ -7,9 +7,9 @@ use Rattle.std.proofs.lemmas.List.Elements.{All-from_recursion, recursion_from_A
 use Rattle.model.specs.World.{World, Object, Token, object_named, with_object, without_expired, expired_count}
 use Rattle.model.specs.Answers.{stores, makes_lock, offers, serves, confirms, lists, splits, releases, Answer, Grant, is_store_refusal}
 use Rattle.model.specs.Operator.{TokenRequest, TokenDenial, token_verdict, after_token, issue_outcome, prune_outcome, Reports, by_success, by_fault}
-use Rattle.model.specs.Steps.{Exchange, judgement, Carries, by_verdict, by_refusal, after, after_grant, Event, exchanged, issues, prunes, IsStep, Run}
+use Rattle.model.specs.Steps.{Exchange, judgement, Carries, by_verdict, by_refusal, after, after_grant, Event, exchanged, issues, prunes, Run}
 use Rattle.model.specs.Bounds.{SameWorld, Bound, IsWithin, Ending, changed, unchanged, failed, is_changed, left_by, is_change, answer_ending, ending_of, intended_world, world_by, next_world, bound_after, bound_of_run}
-use Rattle.model.specs.Laws.{ReportsAreTrue, NoneChanges, IsHalfDone, LeavesOneChange}
+use Rattle.model.specs.Laws.{ReportsAreTrue, OnlyReportedChanges, IsHalfDone, LeavesOneChange}
 
 -- ---- each step leads to the world that its report says
 
@@ -86,6 +86,15 @@ pub reports_are_true : ReportsAreTrue
 reports_are_true old (exchanged e) new step = exchange_true old e new step.carries
 reports_are_true old (issues asked given) new step = issue_true old asked given new step.1
 reports_are_true old (prunes now given) new step = prune_true old now given new step
+
+unchanged_world : (v : Ending) (old made : World) → is_changed v ≡ false → world_by v old made ≡ old
+unchanged_world changed old made e = absurd (true≢false e)
+unchanged_world unchanged old made e = refl
+unchanged_world failed old made e = refl
+
+pub only_reported_changes : OnlyReportedChanges
+only_reported_changes old event new step quiet =
+    reports_are_true old event new step ∙ unchanged_world (ending_of old event) old (intended_world old event) quiet
 
 -- ---- the bound of a run
 

@@ -21,3 +21,5 @@ pub mod Computed
 pub mod Streamed
 pub mod Quota
 pub mod Digests
+pub mod Ordered
+pub mod Foreseen

@@ -1,15 +1,15 @@
 -- The text that is computed of a moment is its text.
-use Rattle.std.proofs.Common.{◌≡◌, ℕ, zero, suc, ◌+◌, ◌-◌, ◌/◌, ◌%◌, ◌<◌, ◌≤◌, Bool, true, false, nat_lt, cond, refl, sym, ap, ◌∙◌, arith, ℤ, pos}
+use Rattle.std.proofs.Common.{◌≡◌, ℕ, zero, suc, ◌+◌, ◌-◌, ◌/◌, ◌%◌, ◌<◌, ◌≤◌, Bool, true, false, nat_lt, cond, refl, sym, ap, subst, ◌∙◌, arith, ℤ, pos}
 use Rattle.std.proofs.lemmas.Bool.{lt-ltb, le-ltb, ltb-true, ltb-false}
-use Rattle.jiff_core.specs.Calendar.{IsCivilDate, days_in_year, days_in_month, days_of_months, day_count}
+use Rattle.jiff_core.specs.Calendar.{IsCivilDate, IsYear, days_from_civil, days_in_year, days_in_month, days_of_months, day_count}
 use Rattle.jiff_core.proofs.SignedLemmas.{signed_arith}
-use Rattle.jiff_core.proofs.CalendarLemmas.{day_count-epoch, days_from_civil-day_count, day_count-next_year, day_count-lt_year, day_count-day_of_year, day_of_year_bound, days_of_months_more, days_of_months-zero}
-use Rattle.names.specs.Moments.{civil_text}
+use Rattle.jiff_core.proofs.CalendarLemmas.{day_count-epoch, day_count-end, days_from_civil-day_count, day_count-next_year, day_count-lt_year, day_count-day_of_year, day_of_year_bound, days_of_months_more, days_of_months-zero, days_of_months_all}
+use Rattle.names.specs.Moments.{civil_text, IsMomentText}
 use Rattle.model.specs.Moments.{count_off, year_and_day, month_and_day, text_in, moment_text}
-use Rattle.model.specs.Laws.{MomentIsText}
+use Rattle.model.specs.Laws.{MomentIsText, MomentHasText}
 
 -- the days before the n + k-th
-before : (ℕ → ℕ) → ℕ → ℕ → ℕ
+pub before : (ℕ → ℕ) → ℕ → ℕ → ℕ
 before f n zero = 0
 before f n (suc k) = f n + before f (n + 1) k
 
@@ -106,3 +106,71 @@ moment_is_text moment text is =
     is.spelled
     ∙ sym (text_is is.year is.month is.day (moment % 86400) is.date)
     ∙ ap (λ (p : ℕ × ℕ). text_in p (moment % 86400)) (sym (year_is is.year is.month is.day d is.date days))
+
+-- ---- each moment has a text
+
+-- what counting off finds: the n + k-th, and what is left of it
+pub record IsCountedOff (f : ℕ → ℕ) (most n day : ℕ) (found : ℕ × ℕ) : Type 0 where
+  pub k : ℕ
+  pub few : k ≤ most
+  pub is : found.0 ≡ n + k
+  pub whole : before f n k + found.1 ≡ day
+  pub less : found.1 < f (n + k)
+
+counted_here : (f : ℕ → ℕ) (most n day : ℕ) → day < f n → IsCountedOff f most n day (n, day)
+unfolding before
+counted_here f most n day less =
+    let at : f (n + 0) ≡ f n = ap f (omega arith) in
+    record { k = 0; few = omega arith; is = omega arith; whole = omega arith; less = omega (arith, less, at) }
+
+counted_on : (f : ℕ → ℕ) (most n day : ℕ) (found : ℕ × ℕ) → f n ≤ day → IsCountedOff f most (n + 1) (day - f n) found → IsCountedOff f (suc most) n day found
+unfolding before
+counted_on f most n day found past c =
+    let at : f (n + 1 + c.k) ≡ f (n + suc c.k) = ap f (omega arith) in
+    record { k = suc c.k; few = omega (arith, c.few); is = omega (arith, c.is); whole = omega (arith, c.whole, past); less = omega (arith, c.less, at) }
+
+counted : (f : ℕ → ℕ) (most n day : ℕ) → day < before f n (suc most) → IsCountedOff f most n day (count_off f most n day)
+unfolding before
+counted f zero n day less = counted_here f 0 n day (omega (arith, less))
+counted f (suc most) n day less = at (nat_lt day (f n)) refl (counted f most (n + 1) (day - f n))
+  where
+    at : (v : Bool) → nat_lt day (f n) ≡ v → (day - f n < before f (n + 1) (suc most) → IsCountedOff f most (n + 1) (day - f n) (count_off f most (n + 1) (day - f n)))
+        → IsCountedOff f (suc most) n day (cond v (n, day) (count_off f most (n + 1) (day - f n)))
+    at true e rest = counted_here f (suc most) n day (ltb-true day (f n) e)
+    at false e rest = let past = ltb-false day (f n) e in counted_on f most n day (count_off f most (n + 1) (day - f n)) past (rest (omega (arith, less, past)))
+
+-- the day of a year that has this place in it, from 0 on
+date_in : (year r : ℕ) → IsYear (pos year) → r < days_in_year (pos year)
+    → (month : ℕ) × (day : ℕ) × IsCivilDate (pos year) month day × (days_of_months (pos year) (month - 1) + day ≡ r + 1)
+date_in year r is less =
+    let f : ℕ → ℕ = days_in_month (pos year) in
+    let from : before f (1 + 0) 12 ≡ before f 1 12 = ap (λ (m : ℕ). before f m 12) (omega arith) in
+    let c = counted f 11 1 r (omega (arith, less, months_before (pos year) 0 12, days_of_months_all (pos year), days_of_months-zero (pos year), from)) in
+    let q = (count_off f 11 1 r).1 in
+    let first : before f (1 + 0) c.k ≡ before f 1 c.k = ap (λ (m : ℕ). before f m c.k) (omega arith) in
+    let at : days_of_months (pos year) (0 + c.k) ≡ days_of_months (pos year) (1 + c.k - 1) = ap (days_of_months (pos year)) (omega arith) in (
+      1 + c.k,
+      q + 1,
+      (is, (omega arith, omega (arith, c.few)), (omega arith, omega (arith, c.less))),
+      omega (arith, c.whole, months_before (pos year) 0 c.k, days_of_months-zero (pos year), first, at),
+    )
+
+-- the date of a count of days from 1970 on, up to the year 9999
+date_of : (d : ℕ) → d < 2_932_897
+    → (year : ℕ) × (month : ℕ) × (day : ℕ) × IsCivilDate (pos year) month day × (days_from_civil (pos year) month day ≡ pos d)
+date_of d less =
+    let f : ℕ → ℕ = λ y. days_in_year (pos y) in
+    let c = counted f 8029 1970 d (omega (arith, less, years_before 1970 8030, day_count-epoch, day_count-end)) in
+    let year = 1970 + c.k in
+    let r = (count_off f 8029 1970 d).1 in
+    let date = date_in year r (omega (arith, signed_arith, c.few)) c.less in
+    let count = days_from_civil-day_count (pos year) date.0 date.1 in
+    let whole = day_count-day_of_year (pos year) date.0 date.1 date.2.2.0 in
+    (year, date.0, date.1, date.2, omega (arith, signed_arith, count, whole, date.3, c.whole, years_before 1970 c.k, day_count-epoch))
+
+pub moment_has_text : MomentHasText
+moment_has_text moment within =
+    let d = date_of (moment / 86400) (omega (arith, within)) in
+    let text = civil_text d.0 d.1 d.2 (moment % 86400) in
+    let is : IsMomentText moment text = record { year = d.0; month = d.1; day = d.2; date = d.3; days = d.4; spelled = refl } in
+    subst (IsMomentText moment) (moment_is_text moment text is) is

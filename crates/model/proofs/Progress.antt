@@ -1,5 +1,5 @@
 -- How a session goes on, and how it ends.
-use Rattle.std.proofs.Common.{◌≡◌, ℕ, ◌+◌, Bool, true, false, MatchBool, List, [], ◌∷◌, ◌++◌, map, refl, sym, ap, subst, ◌∙◌, arith, append_assoc, append-nil}
+use Rattle.std.proofs.Common.{◌≡◌, ℕ, ◌+◌, Bool, true, false, MatchBool, List, [], ◌∷◌, ◌++◌, map, refl, sym, ap, subst, ◌∙◌, append_assoc, append-nil}
 use Rattle.std.specs.Prelude.{is_some, cond}
 use Rattle.std.proofs.lemmas.List.Sums.{sum_by-append}
 use Rattle.std.specs.Bool.{⊤}
@@ -10,7 +10,7 @@ use Rattle.model.specs.World.{World}
 use Rattle.model.specs.Cases.{Setting}
 use Rattle.model.specs.Steps.{Exchange, Event, exchanged, IsExchange, Run, closes}
 use Rattle.model.specs.Stream.{Ended, input_ended, closed, Answers, AnswersFirst, BeginsWith, IsUnfinished}
-use Rattle.model.specs.Sessions.{Session, AreUnder, IsWritten, EndsWith, InputEnded, ReadFailed, Closed, WriteFailed, IsSession, IsPartOf, session_text, text_of, reply_count}
+use Rattle.model.specs.Sessions.{Session, AreUnder, IsWritten, InputEnded, ReadFailed, Closed, WriteFailed, IsSession, IsPartOf, session_text, text_of, reply_count}
 use Rattle.model.specs.Progress.{LeadsTo, IsProgress, fresh, with_exchange}
 
 pub run_append : (old mid new : World) (before after : List Event) → Run old before mid → Run mid after new → Run old (before ++ after) new

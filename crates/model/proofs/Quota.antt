@@ -1,9 +1,8 @@
 -- A stored total within its quota stays within it.
-use Rattle.std.proofs.Common.{◌≡◌, ℕ, ◌+◌, ◌≤◌, inl, inr, ◌⊎◌, Bool, true, false, ◌||◌, List, [], ◌∷◌, length, filter, refl, sym, ap, subst, ◌∙◌, arith, Result, Ok, Err, Option, Some, None, bytes_eq, cond, IfOk, IfSome, IsTrue, is_some, is_err, sum_by, option_map, suc}
+use Rattle.std.proofs.Common.{◌≡◌, ℕ, ◌+◌, ◌≤◌, Bool, true, false, ◌||◌, List, [], ◌∷◌, length, filter, refl, sym, ap, subst, ◌∙◌, arith, Result, Ok, Err, Option, Some, None, bytes_eq, cond, IfOk, IfSome, IsTrue, is_some, is_err, sum_by, option_map}
 use Rattle.std.specs.Bool.{⊤}
-use Rattle.std.specs.List.{All, AllByRecursion}
-use Rattle.std.proofs.lemmas.Bool.{true≢false, cond_both}
-use Rattle.std.proofs.lemmas.Option.{none-some, same_Some}
+use Rattle.std.specs.List.{AllByRecursion}
+use Rattle.std.proofs.lemmas.Bool.{true≢false}
 use Rattle.std.proofs.lemmas.List.Elements.{recursion_from_All}
 use Rattle.std.proofs.lemmas.List.Sums.{sum_by-cons}
 use Rattle.std.proofs.lemmas.Slice.Eq.{bytes_eq-Decides}
@@ -12,7 +11,7 @@ use Rattle.names.specs.declared.rules.Rule.{Rule}
 use Rattle.names.specs.declared.rules.Rule.TheVariants as rule
 use Rattle.model.specs.Reading.{◌>>=◌, check, ok_or, or_default}
 use Rattle.model.specs.Policy.{Policy, Repo, repo_named}
-use Rattle.model.specs.World.{World, Object, Lock, Token, IsWorld, object_named, name_of, with_object, total}
+use Rattle.model.specs.World.{World, Object, Token, IsWorld, object_named, name_of, with_object, total}
 use Rattle.model.specs.RepoState.{ObjectSize, object_size, repo_state, size_of, has_room}
 use Rattle.model.specs.Forms.{Request, asks_batch, asks_get, asks_put, asks_verify, asks_lock, asks_list, asks_verify_locks, asks_unlock}
 use Rattle.model.specs.Heads.{Target, head_verdict, query_of, content_length, body_length}
@@ -24,13 +23,13 @@ use Rattle.model.specs.Batch.{batch_verdict}
 use Rattle.model.specs.Objects.{finish, verify_verdict}
 use Rattle.model.specs.Verdict.{plan_to, plan_for, is_covered, desk_plan, desk_request, target_verdict, verdict, early_verdict}
 use Rattle.model.specs.Operator.{TokenDenial, token_verdict, after_token, Outcome, issue_outcome, prune_outcome, Reports, by_success, by_fault}
-use Rattle.model.specs.Steps.{verdict_on, denial_alone, after, after_grant, Message, message, bad_head, IsMessage, Exchange, judgement, Carries, by_verdict, by_refusal, IsExchange, Event, exchanged, issues, prunes, IsStep, Run}
+use Rattle.model.specs.Steps.{verdict_on, denial_alone, after, after_grant, Message, message, bad_head, IsMessage, Exchange, Carries, by_verdict, by_refusal, Event, exchanged, issues, prunes, IsStep, Run}
 use Rattle.model.specs.Laws.{quota_of, HasQuotaWithin, StaysInQuota}
-use Rattle.model.proofs.Checks.{passed, then_any, by_rules_ok, found_ok, rules_check_ok, ok_is}
+use Rattle.model.proofs.Checks.{passed, then_any, by_rules_ok, found_ok, rules_check_ok}
 use Rattle.model.proofs.Keeping.{keeps_step}
 use Rattle.model.proofs.Refusals.{verdict_refused}
 use Rattle.model.proofs.Rooms.{room_is_quota}
-use Rattle.model.proofs.Serving.{IsPlain, IsFrom, desk_from, request_asked, grant_of}
+use Rattle.model.proofs.Serving.{IsPlain, IsFrom, desk_from, request_asked}
 use Rattle.model.proofs.Views.{size_stored}
 use Rattle.model.proofs.Lists.{found_passes}
 

@@ -1,14 +1,12 @@
 -- Which rules refuse a head, and which a request whose head is not refused.
-use Rattle.std.proofs.Common.{◌≡◌, ℕ, Bool, true, false, not, ◌||◌, ◌&&◌, List, [], ◌∷◌, find, nat_lt, nat_le, length, refl, sym, ap, ◌∙◌, Result, Ok, Err, Option, Some, None, codes, bytes_eq, cond, is_some, ◌==◌, IfOk}
-use Rattle.std.specs.Bool.{⊤}
+use Rattle.std.proofs.Common.{◌≡◌, ℕ, Bool, true, false, not, ◌||◌, ◌&&◌, List, [], ◌∷◌, find, nat_lt, nat_le, length, refl, ap, Result, Ok, Err, Option, Some, None, codes, bytes_eq, is_some, ◌==◌}
 use Rattle.std.specs.Result.{IfErr}
-use Rattle.std.specs.List.{list_all}
 use Rattle.std.specs.Str.{is_utf8}
 use Rattle.std.proofs.lemmas.Bool.{cond_both}
 use Rattle.httparse.specs.Grammar.{RequestHead}
 use Rattle.serde_json.specs.Data.{Data, Num, null, boolean, number, string, array, object, Members}
 use Rattle.serde_json.specs.Find.{get_member, as_str, as_number, as_bool, as_u64, as_i64}
-use Rattle.names.specs.Texts.{is_lock_path, is_ref, is_hex_64, is_empty, lock_id_in, last_lock_id, parts}
+use Rattle.names.specs.Texts.{is_lock_path, is_ref, is_hex_64, lock_id_in, last_lock_id, parts}
 use Rattle.names.specs.declared.rules.Rule.{Rule}
 use Rattle.names.specs.declared.rules.Rule.TheVariants as rule
 use Rattle.model.specs.declared.Form.{Form}
@@ -19,13 +17,13 @@ use Rattle.model.specs.declared.Operation.{Operation}
 use Rattle.model.specs.declared.Operation.TheVariants as operation
 use Rattle.model.specs.Reading.{◌>>=◌, check, ok_or, none_or}
 use Rattle.model.specs.Policy.{Policy, Decision, allowed, denied, decide, repo_named}
-use Rattle.model.specs.World.{World, Object, Lock, find_token, object_named, name_of}
-use Rattle.model.specs.RepoState.{RepoState, size_of, has_room, lock_at}
+use Rattle.model.specs.World.{World, Lock, find_token, object_named, name_of}
+use Rattle.model.specs.RepoState.{size_of, has_room, lock_at}
 use Rattle.model.specs.Forms.{Request, asks_batch, asks_get, asks_put, asks_verify, asks_lock, asks_list, asks_verify_locks, asks_unlock, BatchForm, request_of, batch_keys, batch_form, put_form, verify_form, lock_form, list_form, verify_locks_form, unlock_form, members_of, if_given, optional, required, as_name, as_array_of, as_batch_object, operation_in, is_if_given, has_basic, object_limit, query_value, query_values, query_single, query_ref, read_if_given, limit_in, whole_if_given, is_size}
-use Rattle.model.specs.Heads.{Target, Route, RouteRow, head_verdict, head_verdict_in, check_framing, is_measured, is_clear, is_small, at_most, form_of, accepts, values, route_in, route_of_parts, served_routes, path_of, repo_text, row_fits}
+use Rattle.model.specs.Heads.{Target, RouteRow, head_verdict, head_verdict_in, check_framing, is_measured, is_clear, is_small, at_most, form_of, accepts, values, route_in, route_of_parts, served_routes, path_of, repo_text, row_fits}
 use Rattle.model.specs.Callers.{Caller, caller_by, bearer, pull_question, push_question, lock_question}
 use Rattle.model.specs.Cases.{Setting, Case, case_in, DeskRequest}
-use Rattle.model.specs.Answers.{Answer, Denial, by_rule, by_row, by_lock, by_rules, permit_by, permit, hiding_status, may_pull, may_push, makes_lock, is_rule, is_store_refusal, Plan, grants, sends, receives}
+use Rattle.model.specs.Answers.{Answer, Denial, by_rule, by_lock, by_rules, permit_by, permit, hiding_status, may_pull, may_push, is_rule, is_store_refusal, Plan, grants, sends, receives}
 use Rattle.model.specs.Locks.{ref_or_default, new_lock, lock_verdict, list_verdict, verify_locks_verdict, unlock_verdict, visible_lock, release_verdict}
 use Rattle.model.specs.Batch.{may_batch, batch_verdict}
 use Rattle.model.specs.Pages.{cursor_in}

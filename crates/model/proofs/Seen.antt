@@ -1,5 +1,5 @@
 -- What a user does not see decides nothing of the replies to that user.
-use Rattle.std.proofs.Common.{◌≡◌, ℕ, ◌+◌, Bool, true, false, ◌||◌, ◌&&◌, nat_lt, List, [], ◌∷◌, filter, refl, sym, ap, ◌∙◌, Result, Ok, Err, Option, Some, None, bytes_eq, cond, IsTrue, ◌==◌, is_some}
+use Rattle.std.proofs.Common.{◌≡◌, ℕ, ◌+◌, Bool, true, false, ◌||◌, ◌&&◌, nat_lt, List, [], ◌∷◌, filter, refl, sym, ap, ◌∙◌, Result, Ok, Err, Option, Some, bytes_eq, cond, IsTrue, ◌==◌, is_some}
 use Rattle.std.specs.Prelude.{ℤ}
 use Rattle.std.specs.Bool.{⊤}
 use Rattle.std.specs.List.{AllByRecursion, list_any}

@@ -1,9 +1,10 @@
 -- What is served was put.
-use Rattle.std.proofs.Common.{◌≡◌, ℕ, inl, inr, ◌⊎◌, Bool, true, false, not, ◌||◌, List, [], ◌∷◌, refl, sym, ap, subst, ◌∙◌, arith, Result, Ok, Err, Option, Some, None, bytes_eq, cond, IfOk, codes, ◌==◌, is_some, ◌&&◌, nat_lt, suc}
+use Rattle.std.proofs.Common.{◌≡◌, ℕ, inl, inr, ◌⊎◌, Bool, true, false, ◌||◌, List, [], ◌∷◌, refl, sym, ap, subst, ◌∙◌, arith, Result, Ok, Err, Option, Some, None, bytes_eq, cond, IfOk, ◌==◌, is_some, ◌&&◌, nat_lt, suc}
 use Rattle.std.specs.Bool.{⊤}
 use Rattle.std.proofs.lemmas.Option.{none-some, same_Some}
 use Rattle.std.proofs.lemmas.Bool.{cond_both}
 use Rattle.std.proofs.lemmas.List.Elements.{recursion_from_All}
+use Rattle.std.proofs.lemmas.Slice.Eq.{bytes_eq-Decides}
 use Rattle.httparse.specs.Grammar.{RequestHead}
 use Rattle.names.specs.Texts.{is_hex_64, last_lock_id}
 use Rattle.names.specs.declared.rules.Rule.{Rule}
@@ -27,9 +28,10 @@ use Rattle.model.specs.Objects.{finish, verify_verdict}
 use Rattle.model.specs.Verdict.{plan_to, plan_for, is_covered, desk_plan, desk_request, target_verdict, verdict, early_verdict}
 use Rattle.model.specs.Operator.{TokenDenial, token_verdict, after_token, Outcome, issue_outcome, prune_outcome, Reports, by_success, by_fault}
 use Rattle.model.specs.Steps.{verdict_on, denial_alone, after, Message, message, bad_head, Exchange, judgement, Carries, by_verdict, by_refusal, Event, exchanged, issues, prunes, IsStep, Run}
-use Rattle.model.specs.Laws.{IsPutOf, ServesWhatIsKept, ServedHasItsName, ServedWasPut, WasPut}
+use Rattle.model.specs.Laws.{IsPutOf, IsGetOf, ServesWhatIsAsked, ServesWhatIsKept, ServedHasItsName, ServedWasPut, WasPut}
 use Rattle.model.proofs.Checks.{passed, then_any, by_rules_ok, ok_is}
-use Rattle.model.proofs.Lists.{In, into, each_in, in_found}
+use Rattle.model.proofs.Lists.{In, into, each_in, in_found, found_passes}
+use Rattle.model.proofs.Tests.{both_true}
 
 -- ---- which requests touch contents
 
@@ -42,11 +44,12 @@ IsPlain _ = ⊤
 -- a content is content_verdict of a Put alone, under the name of its target
 abbrev pub IsFrom : Form → List ℕ → Plan → Type 0
 IsFrom f parameter (grants g) = IsPlain g
-IsFrom f parameter (sends name size) = ⊤
+IsFrom f parameter (sends name size) = (f ≡ form.Get) × (parameter ≡ name)
 IsFrom f parameter (receives name) = (f ≡ form.Put) × (parameter ≡ name)
 
 abbrev pub IsAsked : Form → List ℕ → Request → Type 0
 IsAsked f parameter (asks_put asked) = (f ≡ form.Put) × (parameter ≡ asked.name)
+IsAsked f parameter (asks_get name) = (f ≡ form.Get) × (parameter ≡ name)
 IsAsked f parameter _ = ⊤
 
 put_asked : (parameter query : List ℕ) → IfOk (put_form parameter query) (λ asked. parameter ≡ asked.name)
@@ -59,7 +62,7 @@ pub request_asked : (f : Form) (parameter query body : List ℕ) → IfOk (reque
 request_asked form.Put parameter query body = passed (λ (asked : PutForm). parameter ≡ asked.name) (IsAsked form.Put parameter) (put_form parameter query) _ (put_asked parameter query) (λ asked e. (refl, e))
 request_asked form.Lock parameter query body = then_any (IsAsked form.Lock parameter) (lock_form body) _ (λ asked. tt)
 request_asked form.Batch parameter query body = then_any (IsAsked form.Batch parameter) (batch_form body) _ (λ asked. tt)
-request_asked form.Get parameter query body = then_any (IsAsked form.Get parameter) (check (is_hex_64 parameter) rule.J2) _ (λ asked. tt)
+request_asked form.Get parameter query body = then_any (IsAsked form.Get parameter) (check (is_hex_64 parameter) rule.J2) _ (λ asked. (refl, refl))
 request_asked form.Verify parameter query body = then_any (IsAsked form.Verify parameter) (verify_form query body) _ (λ asked. tt)
 request_asked form.List parameter query body = then_any (IsAsked form.List parameter) (list_form query) _ (λ asked. tt)
 request_asked form.VerifyLocks parameter query body = then_any (IsAsked form.VerifyLocks parameter) (verify_locks_form body) _ (λ asked. tt)
@@ -92,7 +95,7 @@ module _ (c : Case) (f : Form) (parameter : List ℕ) where
   plans_from left (asks_batch asked) is = plan_from (batch_verdict c asked) (then_any IsPlain (may_batch c asked asked.operation) _ (λ may. tt))
   plans_from left (asks_get name) is =
       then_any (IsFrom f parameter) (may_pull c.setting.policy c.caller.user c.repo.name 404) _ (λ may.
-      then_any (IsFrom f parameter) (by_rules (ok_or (size_of name c.state) rule.X1)) _ (λ size. tt))
+      then_any (IsFrom f parameter) (by_rules (ok_or (size_of name c.state) rule.X1)) _ (λ size. is))
   plans_from left (asks_put asked) is =
       then_any (IsFrom f parameter) (may_push c.setting.policy c.caller.user c.repo.name (ref_or_default asked.ref c.repo)) _ (λ may.
       then_any (IsFrom f parameter) (by_rules (check (has_room left c.state || is_some (size_of asked.name c.state)) rule.X3)) _ (λ fits. is))
@@ -134,8 +137,17 @@ pub record IsPut (head : RequestHead) (body : List ℕ) (o : Object) : Type 0 wh
   pub name_is : target.parameter ≡ o.name
   pub bytes_are : body ≡ o.bytes
 
+-- the head of a Get of this object, which is stored
+pub record IsGet (world : World) (head : RequestHead) (o : Object) : Type 0 where
+  pub target : Target
+  pub verdict_is : head_verdict head ≡ Ok target
+  pub form_is : target.form ≡ form.Get
+  pub repo_is : target.repo ≡ o.repo
+  pub name_is : target.parameter ≡ o.name
+  pub stored : In world.objects o
+
 abbrev CameFrom : World → RequestHead → List ℕ → Grant → Type 0
-CameFrom world head body (serves o) = In world.objects o
+CameFrom world head body (serves o) = IsGet world head o
 CameFrom world head body (stores o) = IsPut head body o
 CameFrom world head body _ = ⊤
 
@@ -149,17 +161,27 @@ plain_came world head body (lists page) is = tt
 plain_came world head body (splits user page) is = tt
 plain_came world head body (releases l) is = tt
 
-stored_came : (world : World) (head : RequestHead) (body repo name : List ℕ) → IfOk (by_rules (ok_or (object_named repo name world) rule.X1) >>= λ o. Ok (serves o)) (CameFrom world head body)
-stored_came world head body repo name = at (object_named repo name world) refl
+stored_came : (world : World) (head : RequestHead) (body : List ℕ) (target : Target) (name : List ℕ) → head_verdict head ≡ Ok target → target.form ≡ form.Get → target.parameter ≡ name
+    → IfOk (by_rules (ok_or (object_named target.repo name world) rule.X1) >>= λ o. Ok (serves o)) (CameFrom world head body)
+stored_came world head body target name j get same = at (object_named target.repo name world) refl
   where
-    at : (there : Option Object) → object_named repo name world ≡ there → IfOk (by_rules (ok_or there rule.X1) >>= λ o. Ok (serves o)) (CameFrom world head body)
-    at (Some o) e = in_found (λ p. bytes_eq p.repo repo && bytes_eq p.name name) world.objects o e
+    at : (there : Option Object) → object_named target.repo name world ≡ there → IfOk (by_rules (ok_or there rule.X1) >>= λ o. Ok (serves o)) (CameFrom world head body)
+    at (Some o) e =
+        let both = both_true (bytes_eq o.repo target.repo) (bytes_eq o.name name) (found_passes (λ (p : Object). bytes_eq p.repo target.repo && bytes_eq p.name name) world.objects o e) in
+        record {
+          target = target;
+          verdict_is = j;
+          form_is = get;
+          repo_is = sym ((bytes_eq-Decides o.repo target.repo).0 both.0);
+          name_is = same ∙ sym ((bytes_eq-Decides o.name name).0 both.1);
+          stored = in_found (λ p. bytes_eq p.repo target.repo && bytes_eq p.name name) world.objects o e;
+        }
     at None e = tt
 
 finish_came : (world : World) (head : RequestHead) (body : List ℕ) (target : Target) (plan : Plan) → head_verdict head ≡ Ok target → IsFrom target.form target.parameter plan
     → IfOk (finish world target.repo body plan) (CameFrom world head body)
 finish_came world head body target (grants g) j is = plain_came world head body g is
-finish_came world head body target (sends name size) j is = stored_came world head body target.repo name
+finish_came world head body target (sends name size) j is = stored_came world head body target name j is.0 is.1
 finish_came world head body target (receives name) j is =
     then_any (CameFrom world head body) (by_rules (check (bytes_eq name (name_of body)) rule.X2)) _ (λ same.
     record { target = target; verdict_is = j; form_is = is.0; repo_is = refl; name_is = is.1; bytes_are = refl })
@@ -203,12 +225,30 @@ grant_of old e g new (by_verdict given is) told =
 grant_of old e g new (by_refusal given sure is) told = absurd (cc)
 
 pub serves_what_is_kept : ServesWhatIsKept
-serves_what_is_kept old e o new step told = let g = grant_of old e (serves o) new step.carries told in into old.objects o g.came
+serves_what_is_kept old e o new step told = let g = grant_of old e (serves o) new step.carries told in into old.objects o g.came.stored
 
 pub served_has_its_name : ServedHasItsName
 served_has_its_name old e o new w step told =
     let g = grant_of old e (serves o) new step.carries told in
-    (each_in IsObject old.objects o (recursion_from_All IsObject old.objects w.objects) g.came).name
+    (each_in IsObject old.objects o (recursion_from_All IsObject old.objects w.objects) g.came.stored).name
+
+-- what is served is what the head asks for
+get_of : (old : World) (e : Exchange) (o : Object) (new : World) → Carries old e new → e.given ≡ Some (Ok (serves o)) → IsGetOf o e
+get_of old e o new carries told =
+    let g = grant_of old e (serves o) new carries told in
+    record {
+      head = g.head;
+      body = g.body;
+      target = g.came.target;
+      asked = g.asked;
+      verdict = g.came.verdict_is;
+      form = g.came.form_is;
+      repo = g.came.repo_is;
+      name = g.came.name_is;
+    }
+
+pub serves_what_is_asked : ServesWhatIsAsked
+serves_what_is_asked old e o new step told = get_of old e o new step.carries told
 
 -- what was kept was put
 put_of : (old : World) (e : Exchange) (o : Object) (new : World) → Carries old e new → e.given ≡ Some (Ok (stores o)) → IsPutOf o e
@@ -301,4 +341,4 @@ nothing_before events o (inr p) = p
 pub served_was_put : ServedWasPut
 served_was_put events old e o new run step told =
     let g = grant_of old e (serves o) new step.carries told in
-    nothing_before events o (run_old nothing events old o run g.came)
+    nothing_before events o (run_old nothing events old o run g.came.stored)

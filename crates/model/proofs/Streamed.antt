@@ -1,24 +1,23 @@
 -- The worked examples of streams and sessions.
-use Rattle.std.proofs.Common.{◌≡◌, ◌∙◌, ℕ, ◌≤◌, ◌<◌, Bool, true, false, List, [], ◌∷◌, ◌++◌, codes, refl, append_assoc, append-nil, length, lit<, lit≤, arith, IsTrue, sym, ap, subst, take, drop, replicate, zero, suc}
-use Rattle.std.specs.Prelude.{nat_le}
+use Rattle.std.proofs.Common.{◌≡◌, ◌∙◌, ℕ, Bool, true, List, [], ◌∷◌, ◌++◌, codes, refl, append-nil, length, lit<, lit≤, arith, IsTrue, sym, ap, take, drop, replicate, zero, suc}
 use Rattle.std.proofs.Common.{length-append}
 use Rattle.std.proofs.lemmas.Bool.{le-leb}
 use Rattle.std.specs.List.{list_all, AllByRecursion}
 use Rattle.std.proofs.lemmas.List.Elements.{All-from_recursion}
 use Rattle.std.proofs.lemmas.Str.{IsUtf8-from_is_utf8}
 use Rattle.std.specs.Str.{is_utf8, chars}
-use Rattle.httparse.specs.Grammar.{AllPass, Field, RequestHead, IsField, IsRequestHead, is_token_byte, is_value_byte, is_uri_byte, print_request, print_blank, print_version, print_end, print_section}
+use Rattle.httparse.specs.Grammar.{AllPass, Field, IsField, IsRequestHead, is_token_byte, is_value_byte, is_uri_byte, print_request, print_blank, print_version, print_end, print_section}
 use Rattle.httparse.proofs.GrammarLemmas.{print_request-append}
 use Rattle.httparse.proofs.OnLiterals.{httparse_on_literals}
 use Rattle.names.specs.Texts.{is_repo, is_ref}
 use Rattle.model.proofs.Tests.{both_true}
 use Rattle.model.proofs.OnLiterals.{on_literals}
 use Rattle.model.specs.Policy.{IsPolicy, Repo}
-use Rattle.model.specs.World.{World, with_lock}
+use Rattle.model.specs.World.{with_lock}
 use Rattle.model.specs.Heads.{body_length}
 use Rattle.model.specs.Steps.{message, Exchange, IsExchange, by_verdict}
-use Rattle.model.specs.Stream.{head_limit, IsHeadThen, HasNoHead, too_many_fields, with_message, with_bad_head, message_with, BeginsWith, IsUnfinished, Answers, input_ended, closed}
-use Rattle.model.specs.Studio.{token_of, authorization, length_field, field, lfs, post_lock, hello, lock_head, first_head, first_body, studio, at_now, opened, first_lock}
+use Rattle.model.specs.Stream.{IsHeadThen, HasNoHead, too_many_fields, with_message, with_bad_head, message_with, BeginsWith, IsUnfinished, Answers, input_ended, closed}
+use Rattle.model.specs.Studio.{token_of, authorization, length_field, field, lfs, post_lock, hello, first_head, first_body, studio, at_now, with_ann, first_lock}
 use Rattle.model.specs.Examples.{FirstIsFirst, CrowdedIsRefused, TwoAreServed, BodyIsNoMessage, first_exchange, second_exchange, smuggling_head, smuggling_exchange, two_messages}
 
 -- ---- heads
@@ -133,11 +132,11 @@ studio_is : IsPolicy studio
 unfolding on_literals
 studio_is = All-from_recursion (λ (r : Repo). IsTrue (is_repo r.name) × IsTrue (is_ref r.default_ref)) studio.repos ((refl, refl), tt)
 
-first_step : IsExchange opened first_exchange (with_lock first_lock opened)
+first_step : IsExchange with_ann first_exchange (with_lock first_lock with_ann)
 unfolding on_literals
 first_step = record { policy = studio_is; now = lit≤ tt; asked = refl; carries = by_verdict refl refl }
 
-second_step : IsExchange (with_lock first_lock opened) second_exchange (with_lock first_lock opened)
+second_step : IsExchange (with_lock first_lock with_ann) second_exchange (with_lock first_lock with_ann)
 unfolding on_literals
 second_step = record { policy = studio_is; now = lit≤ tt; asked = refl; carries = by_verdict refl refl }
 
@@ -154,10 +153,10 @@ unfolding on_literals
 two_are_served = record {
   ends = (two_answered, record { written = refl; answered = refl });
   under = All-from_recursion (λ (e : Exchange). e.setting ≡ at_now studio) (first_exchange ∷ second_exchange ∷ []) (refl, (refl, tt));
-  run = (with_lock first_lock opened, first_step, (with_lock first_lock opened, second_step, refl));
+  run = (with_lock first_lock with_ann, first_step, (with_lock first_lock with_ann, second_step, refl));
 }
 
-smuggling_step : IsExchange opened smuggling_exchange opened
+smuggling_step : IsExchange with_ann smuggling_exchange with_ann
 unfolding on_literals
 smuggling_step = record { policy = studio_is; now = lit≤ tt; asked = refl; carries = by_verdict refl refl }
 
@@ -175,5 +174,5 @@ unfolding on_literals
 body_is_no_message = record {
   ends = (smuggling_answered, record { written = refl; answered = refl });
   under = All-from_recursion (λ (e : Exchange). e.setting ≡ at_now studio) (smuggling_exchange ∷ []) (refl, tt);
-  run = (opened, smuggling_step, refl);
+  run = (with_ann, smuggling_step, refl);
 }

@@ -1,8 +1,8 @@
 -- A view foretells the replies.
-use Rattle.std.proofs.Common.{◌≡◌, ℕ, Bool, true, false, not, ◌||◌, ◌&&◌, nat_lt, List, [], ◌∷◌, length, filter, map, refl, sym, ap, subst, ◌∙◌, arith, Result, Ok, Err, Option, Some, None, find, bytes_eq, cond, suc, option_map, IfOk, IfSome, is_some}
+use Rattle.std.proofs.Common.{◌≡◌, ℕ, Bool, true, false, ◌||◌, ◌&&◌, nat_lt, List, [], ◌∷◌, length, filter, map, refl, sym, ap, subst, ◌∙◌, arith, Result, Ok, Err, Option, Some, None, find, bytes_eq, cond, suc, option_map, IfOk, IfSome, is_some}
 use Rattle.std.specs.Bool.{⊤}
 use Rattle.std.specs.List.{AllByRecursion, AllPairs}
-use Rattle.std.proofs.lemmas.List.Elements.{recursion_from_All}
+use Rattle.std.proofs.lemmas.List.Elements.{recursion_from_All, All-from_recursion}
 use Rattle.std.proofs.lemmas.Bool.{and_from}
 use Rattle.std.proofs.lemmas.Option.{none-some, same_Some}
 use Rattle.std.proofs.lemmas.Slice.Eq.{bytes_eq-Decides}
@@ -23,8 +23,8 @@ use Rattle.model.specs.Locks.{ref_or_default, lock_verdict, list_verdict, verify
 use Rattle.model.specs.Batch.{batch_verdict}
 use Rattle.model.specs.Verdict.{plan_to, plan_for, is_covered, caller_plan, desk_verdict}
 use Rattle.model.specs.Replies.{Reply, reply, content, reply_of}
-use Rattle.model.specs.Views.{OwnToken, own_token, is_issued_to, tokens_of, view_of, visible_state, room_in, NoCaller, no_caller, caller_in, CallerRequest, to_desk, plan_reply, plan_in, case_seen, foresee, sees_objects}
-use Rattle.model.specs.Laws.{ViewsForetell}
+use Rattle.model.specs.Views.{OwnToken, own_token, is_issued_to, tokens_of, view_of, room_in, NoCaller, no_caller, caller_in, CallerRequest, to_desk, plan_reply, plan_in, foresee, sees_objects}
+use Rattle.model.specs.Laws.{ViewsForetell, ViewsShowWhatIsSeen}
 use Rattle.model.proofs.Lists.{IsOnly, only_filter, only_map, find_rising, find_map, find_filter, find_and, found_passes, only_left, each_rising, each_weaker, each_passes}
 use Rattle.model.proofs.Checks.{passed, then_any, by_rules_ok, found_ok}
 use Rattle.model.proofs.Tests.{both_true}
@@ -51,7 +51,7 @@ only_of Differ p (x ∷ xs) apart all = (
 
 -- ---- the caller
 
-abbrev caller_as : List ℕ → Token → Caller
+abbrev pub caller_as : List ℕ → Token → Caller
 caller_as text i = record { token = text; user = i.user; repo = i.repo; operation = i.operation; expires = i.expires }
 
 -- what the world knows of a caller
@@ -266,3 +266,14 @@ views_foretell world setting caller asked w h =
     let k = known world setting.now asked.bearers caller h in
     foretold world setting caller asked w
     (subst (λ (c : Caller). caller_in (view_of world setting.policy c.user c.repo) setting.now asked.bearers ≡ Ok c) k.is (caller_there world setting.policy setting.now asked.bearers k.text k.held w k.bears k.stands k.good)) h
+
+-- ---- what a view shows
+
+hidden : {A : Type 0} (v : Bool) (xs : List A) → v ≡ false → cond v xs [] ≡ []
+hidden v xs e = ap (λ (b : Bool). cond b xs []) e
+
+pub views_show_what_is_seen : ViewsShowWhatIsSeen
+views_show_what_is_seen world policy user repo = record {
+  locks = All-from_recursion (λ (l : Lock). sees policy user l ≡ true) (filter (sees policy user) (locks_of repo world)) (each_passes (sees policy user) (locks_of repo world));
+  objects = λ e. hidden (sees_objects policy user repo) (objects_of repo world) e;
+}

@@ -1,5 +1,5 @@
 -- Worked examples: what the definitions say of small cases.
-use Rattle.std.specs.Prelude.{◌≡◌, ℕ, Bool, true, false, List, [], ◌∷◌, ◌++◌, length, Some, None, Ok, Err, codes, replicate}
+use Rattle.std.specs.Prelude.{◌≡◌, ℕ, true, false, List, [], ◌∷◌, ◌++◌, length, Some, None, Ok, Err, codes, replicate, flat_map}
 use Rattle.httparse.specs.Grammar.{RequestHead, Field, print_request}
 use Rattle.names.specs.declared.rules.Rule.{Rule}
 use Rattle.names.specs.declared.rules.Rule.TheVariants as rule
@@ -7,7 +7,7 @@ use Rattle.model.specs.declared.Form.{Form}
 use Rattle.model.specs.declared.Form.TheVariants as form
 use Rattle.model.specs.declared.Right.TheVariants as right
 use Rattle.model.specs.declared.Operation.TheVariants as operation
-use Rattle.model.specs.World.{World, Lock, nothing, with_lock, without_lock, with_object, without_expired}
+use Rattle.model.specs.World.{World, nothing, with_lock, without_lock, with_object, without_expired}
 use Rattle.model.specs.Heads.{Target, values, routes, head_verdict_in, route_in, methods_of}
 use Rattle.model.specs.Callers.{caller_by}
 use Rattle.model.specs.Cases.{DeskRequest}
@@ -19,7 +19,7 @@ use Rattle.model.specs.Moments.{moment_text}
 use Rattle.model.specs.Stream.{BeginsWith}
 use Rattle.model.specs.Replies.{reply_text}
 use Rattle.model.specs.Sessions.{Session, InputEnded, Closed, IsSession, text_if}
-use Rattle.model.specs.Studio.{film, main_branch, studio, small_studio, frozen_art, paths_alone, readers, b_is_hidden, forcing, now, at_now, token_of, token_until, opened, expires_at_100, caller_named, ann, bob, Asking, with_body, put, get, list, unlock, to_film, answer, status_and_body, field, authorization, length_field, lfs, head_of, post_lock, lock_head, first_head, first_body, with_field, judge, lock_by, first_lock, object_of, with_one, hello, abc, nil, lines, json_head, close_line, bearer_line, message_of, lock_text}
+use Rattle.model.specs.Studio.{film, main_branch, studio, small_studio, frozen_art, paths_alone, readers, b_is_hidden, forcing, now, at_now, token_of, with_ann, expires_at_100, caller_named, ann, bob, Asking, with_body, put, get, list, unlock, answer, status_and_body, field, authorization, length_field, lfs, head_of, post_lock, first_head, first_body, with_field, judge, lock_by, first_lock, object_of, with_one, hello, abc, nil, lines, json_head, close_line, bearer_line, message_of, lock_text}
 
 -- ---- a lock, and the same again
 
@@ -37,8 +37,8 @@ second_reply =
     ++ codes ",\"message\":\"L1: the path is already locked\"}"
 
 -- the text of the reply to a message in the studio
-abbrev pub replied : World → Message → List ℕ
-replied world asked = text_if asked (verdict_on world (at_now studio) asked)
+abbrev pub reply_in : World → Message → List ℕ
+reply_in world asked = text_if asked (verdict_on world (at_now studio) asked)
 
 -- the bytes of the first message, and then any, begin with the first message
 abbrev pub FirstIsFirst : Type 0
@@ -49,15 +49,15 @@ FirstIsFirst =
 -- it makes the lock of id 1, and its reply has 187 bytes
 abbrev pub FirstIsLocked : Type 0
 FirstIsLocked =
-    (judge opened first_head first_body ≡ Ok (makes_lock first_lock))
-    × (replied opened (message first_head first_body true) ≡ first_reply) × (length first_reply ≡ 187)
+    (judge with_ann first_head first_body ≡ Ok (makes_lock first_lock))
+    × (reply_in with_ann (message first_head first_body true) ≡ first_reply) × (length first_reply ≡ 187)
 
 -- the same message again finds the lock (L1), and its reply has 232 bytes
 abbrev pub SecondIsRefused : Type 0
 SecondIsRefused =
-    let world = with_lock first_lock opened in
+    let world = with_lock first_lock with_ann in
     (judge world first_head first_body ≡ Err (by_lock first_lock))
-    × (replied world (message first_head first_body true) ≡ second_reply) × (length second_reply ≡ 232)
+    × (reply_in world (message first_head first_body true) ≡ second_reply) × (length second_reply ≡ 232)
 
 -- on another ref the path is free, and the lock has the next id; without an id that is left it is L5
 abbrev pub OtherRefIsLocked : Type 0
@@ -99,7 +99,7 @@ session_of bytes exchanges written answered = record {
 abbrev pub TwoAreServed : Type 0
 TwoAreServed =
     IsSession (session_of two_messages (first_exchange ∷ second_exchange ∷ []) (first_reply ++ second_reply) 2)
-    InputEnded opened (with_lock first_lock opened)
+    InputEnded with_ann (with_lock first_lock with_ann)
 
 -- an upload whose body is the first message, without a token
 abbrev pub smuggling_head : RequestHead
@@ -124,7 +124,7 @@ BodyIsNoMessage =
     IsSession
     (session_of (print_request smuggling_head ++ print_request first_head ++ first_body) (smuggling_exchange ∷ [])
     smuggling_reply 1)
-    Closed opened opened
+    Closed with_ann with_ann
 
 -- ---- heads
 
@@ -136,7 +136,7 @@ CrowdedIsRefused =
 -- the head is refused by the rule, and the connection closes
 abbrev pub refuses : RequestHead → Rule → Type 0
 refuses head r =
-    (judge opened head [] ≡ Err (by_rule r)) × (closes_after (message head [] true) (Err (by_rule r)) ≡ true)
+    (judge with_ann head [] ≡ Err (by_rule r)) × (closes_after (message head [] true) (Err (by_rule r)) ≡ true)
 
 -- the rules of heads, each with a head that it refuses
 abbrev pub HeadsAreRefused : Type 0
@@ -157,7 +157,7 @@ method_reply =
 
 -- it lists the methods that are
 abbrev pub MethodIsRefused : Type 0
-MethodIsRefused = replied opened (message (head_of (codes "DELETE") (lfs (codes "locks")) []) [] true) ≡ method_reply
+MethodIsRefused = reply_in with_ann (message (head_of (codes "DELETE") (lfs (codes "locks")) []) [] true) ≡ method_reply
 
 -- a request of the whole table of routes asks for this form
 abbrev pub leads : List ℕ → List ℕ → Form → List ℕ → Type 0
@@ -189,7 +189,7 @@ nameless_reply =
 abbrev pub NamelessIsRefused : Type 0
 NamelessIsRefused =
     let head = post_lock (length_field (codes "23") ∷ field (codes "Connection") (codes "close") ∷ []) in
-    replied opened (message head first_body true) ≡ nameless_reply
+    reply_in with_ann (message head first_body true) ≡ nameless_reply
 
 -- a token is good before it expires, and A3 from then on; an unknown one is A2
 abbrev pub TokenExpires : Type 0
@@ -218,7 +218,7 @@ DownloadLocksNothing =
 
 -- a message that is cut off has no answer
 abbrev pub CutIsUnanswered : Type 0
-CutIsUnanswered = verdict_on opened (at_now studio) (message first_head (codes "{\"pat") false) ≡ None
+CutIsUnanswered = verdict_on with_ann (at_now studio) (message first_head (codes "{\"pat") false) ≡ None
 
 -- ---- the policy
 
@@ -286,14 +286,14 @@ hello_target = record { repo = film; parameter = hello; form = form.Put }
 abbrev pub put_head : List Field → RequestHead
 put_head fields = head_of (codes "PUT") (lfs (codes "content/" ++ hello)) (length_field (codes "5") ∷ fields)
 
--- an upload without a token is denied from its head, and the connection closes; with a token it is not denied; X2, which
--- comes after the body, closes nothing
+-- an upload without a token is denied from its head, and the connection closes; with a token it is not; X2, which comes
+-- after the body, closes nothing
 abbrev pub UploadIsRefusedEarly : Type 0
 UploadIsRefusedEarly =
     let asked = message (put_head []) (codes "{\"pat") in
-    (early_check opened (at_now studio) (put_head []) hello_target form.Put ≡ Err (by_rule rule.A1))
+    (early_check with_ann (at_now studio) (put_head []) hello_target form.Put ≡ Err (by_rule rule.A1))
     × (text_if (asked true) (Some (Err (by_rule rule.A1))) ≡ nameless_reply)
-    × (early_check opened (at_now studio) (put_head (authorization ∷ [])) hello_target form.Put ≡ Ok tt)
+    × (early_check with_ann (at_now studio) (put_head (authorization ∷ [])) hello_target form.Put ≡ Ok tt)
     × (closes_after (asked true) (Err (by_rule rule.X3)) ≡ true)
     × (closes_after (asked true) (Err (by_rule rule.X2)) ≡ false)
     × (closes_after (asked true) (Ok (stores (object_of hello []))) ≡ false)
@@ -368,19 +368,23 @@ error_body code text name size =
 abbrev pub has_error : Answer → List ℕ → Type 0
 has_error given body = status_and_body given ≡ (200, body)
 
--- the rules of objects of a batch, each with an object that it refuses
+-- a name or a size that is not valid is B2, and such a size is shown as 0
+abbrev pub ObjectsAreInvalid : Type 0
+ObjectsAreInvalid =
+    let text = codes "B2: the object name or size is not valid" in
+    has_error (answer nothing studio ann (one_object (codes "download") (codes "xyz") (codes "5")))
+    (error_body (codes "422") text (codes "xyz") (codes "5"))
+    × has_error (answer nothing studio ann (one_object (codes "upload") hello (codes "-1")))
+    (error_body (codes "422") text hello (codes "0"))
+
+-- the other rules of objects of a batch, each with an object that it refuses
 abbrev pub ObjectsAreRefused : Type 0
 ObjectsAreRefused =
-    let download = one_object (codes "download") in let upload = one_object (codes "upload") in
-    let bad = codes "B2: the object name or size is not valid" in let fill = codes "hello" in
-    has_error (answer nothing studio ann (download hello (codes "5")))
+    has_error (answer nothing studio ann (one_object (codes "download") hello (codes "5")))
     (error_body (codes "404") (codes "B1: the object is not stored") hello (codes "5"))
-    × has_error (answer nothing studio ann (download (codes "xyz") (codes "5")))
-    (error_body (codes "422") bad (codes "xyz") (codes "5"))
-    × has_error (answer nothing studio ann (upload hello (codes "-1"))) (error_body (codes "422") bad hello (codes "0"))
-    × has_error (answer (with_one hello fill) studio ann (download hello (codes "6")))
+    × has_error (answer (with_one hello (codes "hello")) studio ann (one_object (codes "download") hello (codes "6")))
     (error_body (codes "422") (codes "B4: the stored size differs") hello (codes "6"))
-    × has_error (answer nothing small_studio ann (upload hello (codes "6")))
+    × has_error (answer nothing small_studio ann (one_object (codes "upload") hello (codes "6")))
     (error_body (codes "507") (codes "B5: the quota does not hold the object") hello (codes "6"))
 
 -- an upload of hello with another hash
@@ -395,16 +399,12 @@ HashIsRefused =
     has_error (answer nothing studio ann other_hash)
     (error_body (codes "409") (codes "B3: the hash algorithm is not served") hello (codes "5"))
 
--- the texts, joined
-abbrev pub joined : List (List ℕ) → List ℕ
-joined [] = []
-joined (text ∷ texts) = text ++ joined texts
-
 -- a batch of 101 objects
 abbrev pub many_objects : List ℕ
 many_objects =
     codes "{\"operation\":\"upload\",\"objects\":["
-    ++ joined (replicate 100 (codes "{\"oid\":\"\",\"size\":0},")) ++ codes "{\"oid\":\"\",\"size\":0}]}"
+    ++ flat_map (λ text. text) (replicate 100 (codes "{\"oid\":\"\",\"size\":0},"))
+    ++ codes "{\"oid\":\"\",\"size\":0}]}"
 
 -- the rule refuses the batch
 abbrev pub batch_refused : List ℕ → Rule → Type 0

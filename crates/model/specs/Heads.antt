@@ -1,5 +1,5 @@
 -- What the head of a request asks, and which heads are refused (RFC 9110, RFC 9112).
-use Rattle.std.specs.Prelude.{ℕ, ◌+◌, ◌-◌, Bool, true, false, take, drop, find, ◌&&◌, ◌||◌, not, ◌==◌, nat_lt, nat_le, List, [], ◌∷◌, ◌++◌, length, filter, map, Option, Some, None, Result, Ok, Err, codes, bytes_eq, if◌then◌else◌, ⊤, is_err}
+use Rattle.std.specs.Prelude.{ℕ, ◌+◌, ◌-◌, Bool, true, false, take, drop, find, ◌&&◌, ◌||◌, not, ◌==◌, nat_lt, nat_le, List, [], ◌∷◌, ◌++◌, length, filter, map, flat_map, Option, Some, None, Result, Ok, Err, codes, bytes_eq, if◌then◌else◌, ⊤, is_err}
 use Rattle.std.specs.List.{list_all, list_any, slice_split, before_first, ends_with}
 use Rattle.std.specs.Str.{is_utf8, str_eq_ignore_ascii_case}
 use Rattle.std.specs.Str.Parse.{digits_value}
@@ -48,8 +48,7 @@ largest_form = 1048576
 
 -- the items of comma-separated values
 abbrev pub items : List (List ℕ) → List (List ℕ)
-items [] = []
-items (value ∷ values) = map trim_ows (slice_split (λ b. b == comma) value) ++ items values
+items values = flat_map (λ value. map trim_ows (slice_split (λ b. b == comma) value)) values
 
 -- an item of Accept that names the type of the Git LFS API, without its parameters
 abbrev pub is_accepted : List ℕ → Bool

@@ -1,15 +1,16 @@
 -- Laws of the definitions.
-use Rattle.std.specs.Prelude.{◌≡◌, ◌<◌, ◌≤◌, ◌+◌, ℕ, true, false, List, [], ◌∷◌, ◌++◌, length, All, AllPairs, Contains, Some, None, Ok, Err, bytes_eq, ◌⊎◌, ◌↔◌, option_map, ⊤}
+use Rattle.std.specs.Prelude.{◌≡◌, ◌<◌, ◌≤◌, ◌+◌, ℕ, true, false, List, [], ◌∷◌, ◌++◌, length, All, AllPairs, Contains, Some, None, Ok, Err, bytes_eq, ◌⊎◌, ◌↔◌, option_map, ⊤, Bool}
 use Rattle.httparse.specs.Grammar.{RequestHead}
 use Rattle.sha2.specs.Sha256.{sha256}
+use Rattle.names.specs.Texts.{last_moment}
 use Rattle.names.specs.Moments.{IsMomentText}
 use Rattle.model.specs.declared.Form.TheVariants as form
 use Rattle.model.specs.Reading.{or_default}
 use Rattle.model.specs.Policy.{Policy, Repo, repo_named}
 use Rattle.model.specs.World.{World, Object, Lock, IsWorld, DiffersInPlace, name_of, nothing, total}
 use Rattle.model.specs.Heads.{Target, head_verdict}
-use Rattle.model.specs.RepoState.{repo_state, has_room, locks_of}
-use Rattle.model.specs.Callers.{Caller, caller_by}
+use Rattle.model.specs.RepoState.{RepoState, repo_state, has_room, locks_of}
+use Rattle.model.specs.Callers.{Caller, caller_by, sees}
 use Rattle.model.specs.Cases.{Setting}
 use Rattle.model.specs.Answers.{Answer, Denial, serves, stores, makes_lock}
 use Rattle.model.specs.Pages.{page_of, IsPage, IsBelow, Leg, IsWalk, walk_locks}
@@ -17,8 +18,8 @@ use Rattle.model.specs.Verdict.{verdict, early_verdict, target_verdict, early_ch
 use Rattle.model.specs.Steps.{Message, message, IsMessage, Event, exchanged, Exchange, IsExchange, IsStep, Run}
 use Rattle.model.specs.Stream.{HasNoHead, NeverIsHead, BeginsWith, IsUnfinished, head_limit}
 use Rattle.model.specs.Moments.{moment_text}
-use Rattle.model.specs.Replies.{reply_of}
-use Rattle.model.specs.Views.{view_of, CallerRequest, to_desk, foresee}
+use Rattle.model.specs.Replies.{Reply, reply_of}
+use Rattle.model.specs.Views.{View, view_of, sees_objects, CallerRequest, to_desk, foresee}
 use Rattle.model.specs.Bounds.{SameWorld, IsWithin, failed, is_changed, ending_of, intended_world, next_world, bound_of_run}
 
 -- ---- streams
@@ -35,10 +36,16 @@ HasOneFirst =
     (bytes : List ℕ) (a b : Message) (rest more : List ℕ) → BeginsWith bytes a rest → BeginsWith bytes b more
     → (a ≡ b) × (rest ≡ more)
 
--- bytes that have a first message are less than a head only if the choice is free; a whole message never is
+-- bytes that have a first message are less than a head only if the choice is free
 abbrev pub ChoosesOnlyThere : Type 0
 ChoosesOnlyThere =
     (bytes : List ℕ) (a : Message) (rest : List ℕ) → BeginsWith bytes a rest → IsUnfinished bytes → IsFreeChoice bytes
+
+-- bytes that begin with a message are never unfinished, cut off or not
+abbrev pub MessageIsFinished : Type 0
+MessageIsFinished =
+    (bytes : List ℕ) (head : RequestHead) (body : List ℕ) (whole : Bool) (rest : List ℕ)
+    → BeginsWith bytes (message head body whole) rest → ¬ (IsUnfinished bytes)
 
 -- the body of the first message is as long as its head says, or cut off
 abbrev pub BeginsWithMessage : Type 0
@@ -109,12 +116,36 @@ CountsOn =
     (old : World) (events : List Event) (new : World) → Run old events new
     → (repo : List ℕ) → old.made repo ≤ new.made repo
 
--- a new lock has the next id, and is counted; so no id is given twice
+-- a new lock has the next id, and is counted
 abbrev pub NewIdIsNext : Type 0
 NewIdIsNext =
     (old : World) (e : Exchange) (l : Lock) (new : World)
     → IsWorld old → IsExchange old e new → e.given ≡ Some (Ok (makes_lock l))
     → (l.id ≡ old.made l.repo + 1) × (new.made l.repo ≡ l.id)
+
+-- an event that reports no change leaves the world: a denial, a refusal by the store, a message without an answer
+abbrev pub OnlyReportedChanges : Type 0
+OnlyReportedChanges =
+    (old : World) (event : Event) (new : World) → IsStep old event new → is_changed (ending_of old event) ≡ false
+    → new ≡ old
+
+-- two locks of one repository, the second made after the first, with any run between them
+pub record AreInTurn (old : World) (e f : Exchange) (l m : Lock) : Type 0 where
+  pub mid : World
+  pub late : World
+  pub new : World
+  pub between : List Event
+  pub first : IsExchange old e mid
+  pub run : Run mid between late
+  pub second : IsExchange late f new
+  pub made : e.given ≡ Some (Ok (makes_lock l))
+  pub made_later : f.given ≡ Some (Ok (makes_lock m))
+  pub repo : l.repo ≡ m.repo
+
+-- no id is given twice: a later lock has a greater one
+abbrev pub NoIdComesAgain : Type 0
+NoIdComesAgain =
+    (old : World) (e f : Exchange) (l m : Lock) → IsWorld old → AreInTurn old e f l m → l.id < m.id
 
 -- ---- contents
 
@@ -128,6 +159,23 @@ pub record IsPutOf (o : Object) (e : Exchange) : Type 0 where
   pub repo : target.repo ≡ o.repo
   pub name : target.parameter ≡ o.name
   pub given : e.given ≡ Some (Ok (stores o))
+
+-- the exchange is a download of this object: of its name, in its repository
+pub record IsGetOf (o : Object) (e : Exchange) : Type 0 where
+  pub head : RequestHead
+  pub body : List ℕ
+  pub target : Target
+  pub asked : e.asked ≡ message head body true
+  pub verdict : head_verdict head ≡ Ok target
+  pub form : target.form ≡ form.Get
+  pub repo : target.repo ≡ o.repo
+  pub name : target.parameter ≡ o.name
+
+-- a download is answered with the object that it asks for
+abbrev pub ServesWhatIsAsked : Type 0
+ServesWhatIsAsked =
+    (old : World) (e : Exchange) (o : Object) (new : World) → IsExchange old e new
+    → e.given ≡ Some (Ok (serves o)) → IsGetOf o e
 
 -- a download is answered with an object that is stored
 abbrev pub ServesWhatIsKept : Type 0
@@ -189,6 +237,21 @@ PageIsLeast =
 abbrev pub LocksRise : Type 0
 LocksRise = (world : World) (repo : List ℕ) → IsWorld world → AllPairs IsBelow (locks_of repo world)
 
+-- the two lists have the same members
+abbrev pub HaveSame : List Lock → List Lock → Type 0
+HaveSame xs ys = (l : Lock) → Contains xs l ↔ Contains ys l
+
+-- the locks of a repository, and so its pages, do not depend on the order in which the world lists them
+abbrev pub LocksIgnoreOrder : Type 0
+LocksIgnoreOrder =
+    (a b : World) (repo : List ℕ) → IsWorld a → IsWorld b → HaveSame a.locks b.locks → locks_of repo a ≡ locks_of repo b
+
+-- they are the locks of that repository, and no others
+abbrev pub LocksAreThose : Type 0
+LocksAreThose =
+    (world : World) (repo : List ℕ) (l : Lock)
+    → Contains (locks_of repo world) l ↔ (Contains world.locks l × (l.repo ≡ repo))
+
 -- the joined pages of a walk rise, so none is there twice; and each lock that was shown at every page is there
 pub record IsWholeWalk (cursor : ℕ) (legs : List Leg) : Type 0 where
   pub rise : AllPairs IsBelow (walk_locks legs)
@@ -207,6 +270,31 @@ ViewsForetell =
     → IsWorld world → caller_by world setting.now asked.bearers ≡ Ok caller
     → foresee (view_of world setting.policy caller.user caller.repo) setting.now asked
     ≡ Ok (reply_of (desk_verdict world setting (to_desk caller.repo asked) asked.body))
+
+-- a caller of the world, of this user and this repository
+pub record IsCallerOf (world : World) (now : ℕ) (bearers : List (List ℕ)) (view : View) : Type 0 where
+  pub caller : Caller
+  pub is : caller_by world now bearers ≡ Ok caller
+  pub user : caller.user ≡ view.user
+  pub repo : caller.repo ≡ view.repo
+
+-- a reply is foreseen only if the token that is presented is a good one of the view's user and repository
+abbrev pub OnlyCallersAreForeseen : Type 0
+OnlyCallersAreForeseen =
+    (world : World) (policy : Policy) (user repo : List ℕ) (now : ℕ) (asked : CallerRequest) (r : Reply)
+    → IsWorld world → foresee (view_of world policy user repo) now asked ≡ Ok r
+    → IsCallerOf world now asked.bearers (view_of world policy user repo)
+
+-- what the user does not see is not in the view
+pub record IsSeen (policy : Policy) (user repo : List ℕ) (state : RepoState) : Type 0 where
+  pub locks : All (λ l. sees policy user l ≡ true) state.locks
+  pub objects : sees_objects policy user repo ≡ false → state.objects ≡ []
+
+-- a view has only the locks that the user sees, and no objects unless the user sees them
+abbrev pub ViewsShowWhatIsSeen : Type 0
+ViewsShowWhatIsSeen =
+    (world : World) (policy : Policy) (user repo : List ℕ)
+    → IsSeen policy user repo (view_of world policy user repo).state
 
 -- two worlds that look the same to a caller, and the same request of that caller to both
 pub record AreAlike (setting : Setting) (caller : Caller) (asked : CallerRequest) (a b : World) : Type 0 where
@@ -247,6 +335,10 @@ OthersLeaveViews =
 -- what is a moment's text is the text that is computed
 abbrev pub MomentIsText : Type 0
 MomentIsText = (moment : ℕ) (text : List ℕ) → IsMomentText moment text → text ≡ moment_text moment
+
+-- the text that is computed of a moment in range is its text
+abbrev pub MomentHasText : Type 0
+MomentHasText = (moment : ℕ) → moment ≤ last_moment → IsMomentText moment (moment_text moment)
 
 -- ---- stops
 

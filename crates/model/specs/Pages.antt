@@ -1,5 +1,5 @@
 -- Pages of locks, and walks over them.
-use Rattle.std.specs.Prelude.{◌≡◌, ℕ, ◌<◌, ◌≤◌, ◌⊎◌, nat_le, min, max, List, [], ◌∷◌, ◌++◌, length, take, drop, filter, option_map, Option, Some, None, Result, Ok, All, AllPairs, Contains, MatchOption, ℤ, pos, negsuc}
+use Rattle.std.specs.Prelude.{◌≡◌, ℕ, ◌<◌, ◌≤◌, ◌⊎◌, nat_le, min, max, List, [], ◌∷◌, length, take, drop, filter, flat_map, option_map, Option, Some, None, Result, Ok, All, AllPairs, Contains, MatchOption, ℤ, pos, negsuc}
 use Rattle.names.specs.Texts.{lock_id_in}
 use Rattle.names.specs.declared.rules.Rule.{Rule}
 use Rattle.names.specs.declared.rules.Rule.TheVariants.{L4}
@@ -81,5 +81,4 @@ IsWalk cursor (leg ∷ more ∷ legs) =
 
 -- the locks of all the pages, joined
 abbrev pub walk_locks : List Leg → List Lock
-walk_locks [] = []
-walk_locks (leg ∷ legs) = leg.page.locks ++ walk_locks legs
+walk_locks legs = flat_map (λ leg. leg.page.locks) legs

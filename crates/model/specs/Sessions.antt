@@ -1,5 +1,5 @@
 -- What one connection is sent, how it ends, and the world after it.
-use Rattle.std.specs.Prelude.{◌≡◌, ℕ, ◌+◌, true, List, [], ◌∷◌, ◌++◌, All, map, count_by, is_some, Option, Some, None, Ok}
+use Rattle.std.specs.Prelude.{◌≡◌, ℕ, ◌+◌, true, List, [], ◌∷◌, ◌++◌, All, map, flat_map, count_by, is_some, Option, Some, None, Ok}
 use Rattle.model.specs.World.{World, Object}
 use Rattle.model.specs.Cases.{Setting}
 use Rattle.model.specs.Answers.{Answer, serves, store_refusal}
@@ -20,8 +20,7 @@ text_of e = text_if e.asked e.given
 
 -- the texts of the replies, joined
 abbrev pub session_text : List Exchange → List ℕ
-session_text [] = []
-session_text (e ∷ exchanges) = text_of e ++ session_text exchanges
+session_text exchanges = flat_map text_of exchanges
 
 -- the number of replies
 abbrev pub reply_count : List Exchange → ℕ

@@ -1,5 +1,5 @@
 -- The messages of a stream of bytes, and which of them a connection answers.
-use Rattle.std.specs.Prelude.{◌≡◌, ℕ, ◌<◌, ◌≤◌, Bool, nat_le, List, [], ◌∷◌, ◌++◌, length, take, drop, MatchBool, ⊤}
+use Rattle.std.specs.Prelude.{◌≡◌, ℕ, ◌<◌, ◌≤◌, nat_le, List, [], ◌∷◌, ◌++◌, length, take, drop, MatchBool, ⊤}
 use Rattle.httparse.specs.Grammar.{RequestHead, print_request, ReadsRequest}
 use Rattle.model.specs.Heads.{body_length}
 use Rattle.model.specs.Steps.{Message, bad_head, message, Exchange, closes}

@@ -1,7 +1,6 @@
 -- A small studio for the worked examples: its policies, its tokens, and the messages of its members.
-use Rattle.std.specs.Prelude.{ℕ, Bool, List, [], ◌∷◌, ◌++◌, length, codes, replicate, Result}
+use Rattle.std.specs.Prelude.{ℕ, List, [], ◌∷◌, ◌++◌, length, codes, replicate}
 use Rattle.httparse.specs.Grammar.{RequestHead, Field, crlf}
-use Rattle.names.specs.declared.rules.Rule.{Rule}
 use Rattle.model.specs.declared.Form.{Form}
 use Rattle.model.specs.declared.Form.TheVariants as form
 use Rattle.model.specs.declared.Effect.{Effect}
@@ -107,8 +106,8 @@ token_until expires =
     record { text = token_of 97; user = codes "ann"; repo = film; operation = operation.Upload; expires = expires }
 
 -- a world with that token alone
-unfoldable pub opened : World
-opened = record nothing { tokens = token_until 1463503600 ∷ [] }
+unfoldable pub with_ann : World
+with_ann = record nothing { tokens = token_until 1463503600 ∷ [] }
 
 -- the same, where the token expires at 100
 unfoldable pub expires_at_100 : World

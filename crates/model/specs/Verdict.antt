@@ -1,7 +1,6 @@
 -- The verdict on a request: one chain of checks, in the order of the rules.
-use Rattle.std.specs.Prelude.{ℕ, Bool, true, false, not, ◌||◌, List, [], Option, Some, None, Result, Ok, Err, codes, bytes_eq, ⊤}
+use Rattle.std.specs.Prelude.{ℕ, Bool, not, ◌||◌, List, [], Result, Ok, codes, bytes_eq, ⊤}
 use Rattle.httparse.specs.Grammar.{RequestHead}
-use Rattle.names.specs.declared.rules.Rule.{Rule}
 use Rattle.names.specs.declared.rules.Rule.TheVariants as rule
 use Rattle.model.specs.declared.Form.{Form}
 use Rattle.model.specs.declared.Form.TheVariants as form

@@ -1,5 +1,5 @@
 -- What a user can learn of a repository; nothing else decides the replies to that user.
-use Rattle.std.specs.Prelude.{ℕ, Bool, true, false, ◌&&◌, ◌||◌, not, nat_lt, List, [], length, map, filter, find, Option, Some, None, Result, Ok, Err, bytes_eq, if◌then◌else◌, ℤ, pos, ◌-ℤ◌}
+use Rattle.std.specs.Prelude.{ℕ, Bool, true, false, ◌&&◌, ◌||◌, nat_lt, List, [], length, map, filter, find, Option, Some, None, Result, Ok, Err, bytes_eq, if◌then◌else◌, ℤ, pos, ◌-ℤ◌}
 use Rattle.std.specs.List.{list_any}
 use Rattle.sha2.specs.Sha256.{sha256}
 use Rattle.names.specs.declared.rules.Rule.TheVariants as rule
@@ -14,7 +14,7 @@ use Rattle.model.specs.Orders.{sort_by, text_before}
 use Rattle.model.specs.RepoState.{RepoState, objects_of, locks_of}
 use Rattle.model.specs.Forms.{Request}
 use Rattle.model.specs.Callers.{Caller, bearer, pull_question, is_allowed, sees}
-use Rattle.model.specs.Cases.{Setting, Case, DeskRequest}
+use Rattle.model.specs.Cases.{Case, DeskRequest}
 use Rattle.model.specs.Answers.{Denial, by_rules, Plan, grants, sends, receives}
 use Rattle.model.specs.Objects.{content_verdict}
 use Rattle.model.specs.Verdict.{plan_for, is_covered}

@@ -5,7 +5,7 @@ ghost use Rattle.model.specs.Examples.{FirstIsFirst, FirstIsLocked, SecondIsRefu
 ghost use Rattle.model.specs.Examples.{CrowdedIsRefused, HeadsAreRefused, MethodIsRefused, RoutesLead, NamelessIsRefused, TokenExpires};
 ghost use Rattle.model.specs.Examples.{RepositoryIsUnknown, DownloadLocksNothing, CutIsUnanswered, FolderIsFrozen, PushIsDenied};
 ghost use Rattle.model.specs.Examples.{ContentHasItsName, ContentIsServed, QuotaIsKept, UploadIsRefusedEarly, StoredIsConfirmed};
-ghost use Rattle.model.specs.Examples.{UploadIsOffered, DownloadIsOffered, ObjectsAreRefused, HashIsRefused, BatchIsRefused};
+ghost use Rattle.model.specs.Examples.{UploadIsOffered, DownloadIsOffered, ObjectsAreInvalid, ObjectsAreRefused, HashIsRefused, BatchIsRefused};
 ghost use Rattle.model.specs.Examples.{HiddenIsLeftOut, PagesAreCut, PagesAreRefused, LocksAreSplit, LockIsReleased};
 ghost use Rattle.model.specs.Examples.{RefusalCloses, TokenIsIssued, TokenIsPruned, MomentsArePrinted};
 
@@ -63,6 +63,7 @@ pub fn objects()
 pub fn batches()
     ensures upload_is_offered { UploadIsOffered }
     ensures download_is_offered { DownloadIsOffered }
+    ensures objects_are_invalid { ObjectsAreInvalid }
     ensures objects_are_refused { ObjectsAreRefused }
     ensures hash_is_refused { HashIsRefused }
     ensures batch_is_refused { BatchIsRefused }

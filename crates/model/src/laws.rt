@@ -1,10 +1,10 @@
 //! Laws of the definitions. Each function does nothing, and its contract is the law.
 
-ghost use Rattle.model.specs.Laws.{HasOneFirst, BeginsWithMessage, CutIsLast, ChoosesOnlyThere, HeadDecides, TargetDecides};
-ghost use Rattle.model.specs.Laws.{StepsKeepWorlds, RunsKeepWorlds, RunsMakeWorlds, ServesWhatIsKept, ServedHasItsName, ServedWasPut};
-ghost use Rattle.model.specs.Laws.{DenialsChangeNothing, SilenceChangesNothing, OnlyCutIsSilent, NeverLocksTwice, CountsOn, NewIdIsNext};
-ghost use Rattle.model.specs.Laws.{RoomIsQuota, StaysInQuota, PageIsLeast, LocksRise, WalksAreWhole, ViewsForetell, ViewsServeOneDigest, OthersLeaveViews};
-ghost use Rattle.model.specs.Laws.{ReportsAreTrue, LeavesOneChange, MomentIsText};
+ghost use Rattle.model.specs.Laws.{HasOneFirst, BeginsWithMessage, CutIsLast, ChoosesOnlyThere, MessageIsFinished, HeadDecides, TargetDecides};
+ghost use Rattle.model.specs.Laws.{StepsKeepWorlds, RunsKeepWorlds, RunsMakeWorlds, ServesWhatIsAsked, ServesWhatIsKept, ServedHasItsName, ServedWasPut};
+ghost use Rattle.model.specs.Laws.{DenialsChangeNothing, SilenceChangesNothing, OnlyReportedChanges, OnlyCutIsSilent, NeverLocksTwice, CountsOn, NewIdIsNext, NoIdComesAgain};
+ghost use Rattle.model.specs.Laws.{RoomIsQuota, StaysInQuota, PageIsLeast, LocksRise, LocksAreThose, LocksIgnoreOrder, WalksAreWhole, ViewsForetell, OnlyCallersAreForeseen, ViewsServeOneDigest, ViewsShowWhatIsSeen, OthersLeaveViews};
+ghost use Rattle.model.specs.Laws.{ReportsAreTrue, LeavesOneChange, MomentIsText, MomentHasText};
 
 /// A list of bytes has at most one first message and one rest after it. The body is as long as the head
 /// says, or cut off, and then nothing is after it.
@@ -15,9 +15,10 @@ pub fn message_law()
 {}
 
 /// At the end of a stream, H1 and no reply are both allowed only if less than a head is there and nothing
-/// that follows could complete it.
+/// that follows could complete it. Bytes that begin with a message are more than that.
 pub fn choice_law()
-    ensures { ChoosesOnlyThere }
+    ensures there { ChoosesOnlyThere }
+    ensures finished { MessageIsFinished }
 {}
 
 /// What denies a message before its body is read denies it with any body, for every form of request.
@@ -32,22 +33,25 @@ pub fn step_law()
     ensures { StepsKeepWorlds }
 {}
 
-/// A run keeps the laws of worlds, and one from the empty world has them. What a download is answered with
-/// is stored and has its name, and in such a run just these bytes were uploaded before, under this name in
-/// this repository.
+/// A run keeps the laws of worlds, and one from the empty world has them. A download is answered with the
+/// object that it asks for, which is stored and has its name, and in such a run just these bytes were uploaded
+/// before, under this name in this repository.
 pub fn run_law()
     ensures keeps { RunsKeepWorlds }
     ensures makes { RunsMakeWorlds }
+    ensures asked { ServesWhatIsAsked }
     ensures kept { ServesWhatIsKept }
     ensures named { ServedHasItsName }
     ensures put { ServedWasPut }
 {}
 
-/// A denial leaves the world as it was, and so does a message without an answer. Only a message that is
-/// cut off has none, if nothing denies it before its body is read.
+/// A denial leaves the world as it was, and so does a message without an answer, and each step of the
+/// operator that reports no change. Only a message that is cut off has no answer, if nothing denies it before
+/// its body is read.
 pub fn denial_law()
     ensures denial { DenialsChangeNothing }
     ensures silence { SilenceChangesNothing }
+    ensures reported { OnlyReportedChanges }
     ensures cut { OnlyCutIsSilent }
 {}
 
@@ -56,10 +60,12 @@ pub fn place_law()
     ensures { NeverLocksTwice }
 {}
 
-/// The count of made locks never falls, and a new lock has the next id. So no id is given twice.
+/// The count of made locks never falls, and a new lock has the next id. So no id is given twice, whatever is
+/// released meanwhile.
 pub fn id_law()
     ensures counts { CountsOn }
     ensures next { NewIdIsNext }
+    ensures again { NoIdComesAgain }
 {}
 
 /// An object fits exactly if the stored total and its size are within the quota. A stored total within a
@@ -69,10 +75,13 @@ pub fn quota_law()
     ensures stays { StaysInQuota }
 {}
 
-/// A page of rising locks has those of least id from the cursor on, and the locks of a repository rise.
+/// A page of rising locks has those of least id from the cursor on. The locks of a repository, as its pages
+/// are cut from them, rise, are those of the world, and do not depend on the world's order.
 pub fn page_law()
     ensures least { PageIsLeast }
     ensures rise { LocksRise }
+    ensures those { LocksAreThose }
+    ensures order { LocksIgnoreOrder }
 {}
 
 /// The joined pages of a walk rise, have no lock twice, and have each lock that was shown at every page.
@@ -80,11 +89,14 @@ pub fn walk_law()
     ensures { WalksAreWhole }
 {}
 
-/// The reply to a user is the one that the user's view foretells, in every world with that view, and the
-/// contents that such worlds serve have one SHA-256. An exchange in another repository leaves the view.
+/// The reply to a user is the one that the user's view foretells, in every world with that view, and no reply is
+/// foretold to anyone else. The contents that such worlds serve have one SHA-256. A view shows only what the user sees, and an exchange in
+/// another repository leaves it.
 pub fn view_law()
     ensures foretell { ViewsForetell }
+    ensures callers { OnlyCallersAreForeseen }
     ensures digest { ViewsServeOneDigest }
+    ensures seen { ViewsShowWhatIsSeen }
     ensures apart { OthersLeaveViews }
 {}
 
@@ -95,7 +107,8 @@ pub fn stop_law()
     ensures leaves { LeavesOneChange }
 {}
 
-/// What is the text of a moment equals the text that is computed.
+/// Each moment in range has one text, and it is the one that is computed.
 pub fn moment_law()
-    ensures { MomentIsText }
+    ensures is { MomentIsText }
+    ensures has { MomentHasText }
 {}
