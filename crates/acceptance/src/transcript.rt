@@ -218,7 +218,7 @@ impl Step {
         !self.missing.is_empty() && fs::metadata(host, path.as_str()).is_ok()
     }
 
-    /// Runs the command, where there is one, which has to do what is told.
+    /// Runs the command, if there is one, and compares what it did with the step.
     fn run(&self, rt: &impl Tester, host: &HostRuntime, folder: &str) {
         if self.command.is_empty() {
             return;

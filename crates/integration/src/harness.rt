@@ -172,7 +172,7 @@ pub(crate) fn told_by<S: Alter>(
     Told { text, served }
 }
 
-/// What a client is told by a server over this store, which gets the tokens.
+/// The replies of a server over this store, which gets the tokens.
 pub(crate) fn tell_over<S: Storage>(rt: &impl Tester, store: &mut Store<S>, text: &str) -> Told {
     sure(rt, store.create_or_check(rt.alloc()));
     keep_tokens(rt, store);

@@ -9,7 +9,7 @@ use service::judge;
 use wire::{Cut, FIELD_ROOM, Head, first_head, front_of};
 
 /// What a head asks: the owner and the name of the repository, the query, and the size of the body;
-/// or the rule that refuses it, and the methods that are told with it.
+/// or the rule that refuses it, and the methods that are reported with it.
 type Judged = Result<(&'static str, &'static str, &'static str, u64), (Rule, &'static str)>;
 
 /// That the head of the text asks this, or is refused so.

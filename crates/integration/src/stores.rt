@@ -59,7 +59,7 @@ fn ids_are_used_up(rt: HostRuntime) {
         // Nothing is held by a lock that has no id.
         Step::Serve(MESSAGE, USED_UP),
         Step::Serve(MESSAGE, USED_UP),
-        // A path that is held is told before.
+        // A path that is locked is reported first.
         Step::Serve(TREE, LAST_HELD),
     ];
     take_steps(&rt, &rt, "ids.db", steps);

@@ -195,7 +195,7 @@ const SIZES: &[(u64, Option<u64>, &str)] = &[
     (268_435_457, None, NONE),
 ];
 
-/// How many digits a text has, and whether an object's name may have so many.
+/// How many digits a text has, and whether an object's name may have that many.
 const COUNTS: &[(usize, bool)] = &[(63, false), (64, true), (65, false)];
 
 /// That the digit, repeated, is an object's name, or not.
