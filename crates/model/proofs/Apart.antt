@@ -23,7 +23,7 @@ use Rattle.model.specs.Locks.{ref_or_default, new_lock, lock_verdict, list_verdi
 use Rattle.model.specs.Batch.{may_batch, batch_verdict}
 use Rattle.model.specs.Pages.{cursor_in}
 use Rattle.model.specs.Objects.{finish, verify_verdict}
-use Rattle.model.specs.Verdict.{plan_to, plan_for, is_covered, desk_plan, desk_request, target_verdict, verdict}
+use Rattle.model.specs.Verdict.{plan_to, plan_for, is_covered, desk_plan, desk_request, verdict, desk_verdict}
 use Rattle.model.specs.Steps.{verdict_on, after, after_grant, Message, Exchange, Carries, by_verdict, by_refusal}
 use Rattle.model.specs.Views.{View, view_of, room_in, sees_objects, tokens_of}
 use Rattle.model.specs.Laws.{IsElsewhere, OthersLeaveViews}
@@ -123,7 +123,7 @@ finish_in world name body (receives oid) is = then_any (IsIn name) (by_rules (ch
 verdict_in : (world : World) (setting : Setting) (head : RequestHead) (body : List ℕ) (target : Target) → head_verdict head ≡ Ok target → IfOk (verdict world setting head body) (IsIn target.repo)
 unfolding verdict
 verdict_in world setting head body target j =
-    subst (λ (r : Result Target Rule). IfOk (by_rules r >>= λ t. target_verdict world setting head t body) (IsIn target.repo)) (sym j)
+    subst (λ (r : Result Target Rule). IfOk (by_rules r >>= λ t. desk_verdict world setting (desk_request head t body) body) (IsIn target.repo)) (sym j)
     (passed (IsPlanIn target.repo) (IsIn target.repo) (desk_plan world setting (desk_request head target body)) _
     (desk_in world setting (desk_request head target body))
     (λ plan is. finish_in world target.repo body plan is))

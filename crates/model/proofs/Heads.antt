@@ -13,7 +13,7 @@ use Rattle.model.specs.Heads.{Target, head_verdict, query_of}
 use Rattle.model.specs.Cases.{Setting, DeskRequest}
 use Rattle.model.specs.Answers.{Denial, by_rules, Grant}
 use Rattle.model.specs.Objects.{finish}
-use Rattle.model.specs.Verdict.{desk_plan, desk_request, target_verdict, early_check, verdict, early_verdict}
+use Rattle.model.specs.Verdict.{desk_plan, desk_request, early_check, verdict, early_verdict, desk_verdict}
 use Rattle.model.specs.Steps.{verdict_on, denial_alone, Message, message, bad_head, Exchange, Carries, by_verdict, by_refusal}
 use Rattle.model.specs.Laws.{HeadDecides, TargetDecides, OnlyCutIsSilent, IsCutShort}
 
@@ -36,7 +36,7 @@ same_put head target body is =
     ap (λ r. record (desk_request head target []) { request = r }) (ap (λ f. request_of f p q []) is ∙ sym (ap (λ f. request_of f p q body) is))
 
 check_decides : (world : World) (setting : Setting) (head : RequestHead) (target : Target) (body : List ℕ) (f : Form) (denial : Denial) → target.form ≡ f
-    → early_check world setting head target f ≡ Err denial → target_verdict world setting head target body ≡ Err denial
+    → early_check f (desk_plan world setting (desk_request head target [])) ≡ Err denial → desk_verdict world setting (desk_request head target body) body ≡ Err denial
 check_decides world setting head target body form.Put denial is e =
     err_stays (desk_plan world setting (desk_request head target body)) (λ plan. finish world target.repo body plan) denial
     (subst (λ (asked : DeskRequest). (desk_plan world setting asked >>= λ _. Ok tt) ≡ Err denial) (same_put head target body is) e)
@@ -55,8 +55,8 @@ pub head_decides : HeadDecides
 unfolding verdict early_verdict
 head_decides world setting head body denial e = at (head_verdict head) e
   where
-    at : (r : Result Target Rule) → (by_rules r >>= λ target. early_check world setting head target target.form) ≡ Err denial
-        → (by_rules r >>= λ target. target_verdict world setting head target body) ≡ Err denial
+    at : (r : Result Target Rule) → (by_rules r >>= λ target. early_check target.form (desk_plan world setting (desk_request head target []))) ≡ Err denial
+        → (by_rules r >>= λ target. desk_verdict world setting (desk_request head target body) body) ≡ Err denial
     at (Err x) h = ap (refused {B = Grant} denial) h
     at (Ok target) h = target_decides world setting head target body denial h
 

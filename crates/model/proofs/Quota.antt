@@ -21,7 +21,7 @@ use Rattle.model.specs.Answers.{Grant, stores, makes_lock, offers, serves, confi
 use Rattle.model.specs.Locks.{ref_or_default, lock_verdict, list_verdict, verify_locks_verdict, unlock_verdict}
 use Rattle.model.specs.Batch.{batch_verdict}
 use Rattle.model.specs.Objects.{finish, verify_verdict}
-use Rattle.model.specs.Verdict.{plan_to, plan_for, is_covered, desk_plan, desk_request, target_verdict, verdict, early_verdict}
+use Rattle.model.specs.Verdict.{plan_to, plan_for, is_covered, desk_plan, desk_request, verdict, early_verdict, desk_verdict}
 use Rattle.model.specs.Operator.{TokenDenial, token_verdict, after_token, Outcome, issue_outcome, prune_outcome, Reports, by_success, by_fault}
 use Rattle.model.specs.Steps.{verdict_on, denial_alone, after, after_grant, Message, message, bad_head, IsMessage, Exchange, Carries, by_verdict, by_refusal, Event, exchanged, issues, prunes, IsStep, Run}
 use Rattle.model.specs.Laws.{quota_of, HasQuotaWithin, StaysInQuota}
@@ -123,7 +123,7 @@ verdict_fits world setting head body target j =
     let Q = IsFrom target.form target.parameter in
     let R = GrantFits world setting.policy target.repo (content_length head) body in
     let asked = desk_request head target body in
-    subst (λ (r : Result Target Rule). IfOk (by_rules r >>= λ t. target_verdict world setting head t body) R) (sym j)
+    subst (λ (r : Result Target Rule). IfOk (by_rules r >>= λ t. desk_verdict world setting (desk_request head t body) body) R) (sym j)
     (passed (λ plan. P plan × Q plan) R (desk_plan world setting asked) _
     (both_if P Q (desk_plan world setting asked) (desk_fits world setting asked)
     (desk_from world setting asked target.form target.parameter (request_asked target.form target.parameter (query_of head.target) body)))

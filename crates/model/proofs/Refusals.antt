@@ -28,7 +28,7 @@ use Rattle.model.specs.Locks.{ref_or_default, new_lock, lock_verdict, list_verdi
 use Rattle.model.specs.Batch.{may_batch, batch_verdict}
 use Rattle.model.specs.Pages.{cursor_in}
 use Rattle.model.specs.Objects.{finish, verify_verdict}
-use Rattle.model.specs.Verdict.{plan_to, plan_for, is_covered, caller_plan, desk_plan, desk_verdict, target_verdict, verdict, early_verdict, early_check}
+use Rattle.model.specs.Verdict.{plan_to, plan_for, is_covered, caller_plan, desk_plan, desk_verdict, verdict, early_verdict, early_check, desk_request}
 use Rattle.model.specs.Steps.{is_early, is_of_head, is_h7}
 
 -- ---- what a chain of checks may refuse with
@@ -365,18 +365,18 @@ head_fails head =
 
 pub verdict_refused : (world : World) (setting : Setting) (head : RequestHead) (body : List ℕ) (r : Rule) → head_verdict head ≡ Err r → verdict world setting head body ≡ Err (by_rule r)
 unfolding verdict
-verdict_refused world setting head body r e = ap (λ (v : Result Target Rule). by_rules v >>= λ target. target_verdict world setting head target body) e
+verdict_refused world setting head body r e = ap (λ (v : Result Target Rule). by_rules v >>= λ target. desk_verdict world setting (desk_request head target body) body) e
 
 pub early_refused : (world : World) (setting : Setting) (head : RequestHead) (r : Rule) → head_verdict head ≡ Err r → early_verdict world setting head ≡ Err (by_rule r)
 unfolding early_verdict
-early_refused world setting head r e = ap (λ (v : Result Target Rule). by_rules v >>= λ target. early_check world setting head target target.form) e
+early_refused world setting head r e = ap (λ (v : Result Target Rule). by_rules v >>= λ target. early_check target.form (desk_plan world setting (desk_request head target []))) e
 
 pub verdict_at : (world : World) (setting : Setting) (head : RequestHead) (body : List ℕ) (target : Target) → head_verdict head ≡ Ok target
-    → verdict world setting head body ≡ target_verdict world setting head target body
+    → verdict world setting head body ≡ desk_verdict world setting (desk_request head target body) body
 unfolding verdict
-verdict_at world setting head body target e = ap (λ (v : Result Target Rule). by_rules v >>= λ t. target_verdict world setting head t body) e
+verdict_at world setting head body target e = ap (λ (v : Result Target Rule). by_rules v >>= λ t. desk_verdict world setting (desk_request head t body) body) e
 
 pub early_at : (world : World) (setting : Setting) (head : RequestHead) (target : Target) → head_verdict head ≡ Ok target
-    → early_verdict world setting head ≡ early_check world setting head target target.form
+    → early_verdict world setting head ≡ early_check target.form (desk_plan world setting (desk_request head target []))
 unfolding early_verdict
-early_at world setting head target e = ap (λ (v : Result Target Rule). by_rules v >>= λ t. early_check world setting head t t.form) e
+early_at world setting head target e = ap (λ (v : Result Target Rule). by_rules v >>= λ t. early_check t.form (desk_plan world setting (desk_request head t []))) e

@@ -25,7 +25,7 @@ use Rattle.model.specs.Locks.{ref_or_default, new_lock, lock_verdict, list_verdi
 use Rattle.model.specs.Batch.{may_batch, batch_verdict}
 use Rattle.model.specs.Pages.{cursor_in}
 use Rattle.model.specs.Objects.{finish, verify_verdict}
-use Rattle.model.specs.Verdict.{plan_to, plan_for, is_covered, desk_plan, desk_request, target_verdict, verdict, early_verdict}
+use Rattle.model.specs.Verdict.{plan_to, plan_for, is_covered, desk_plan, desk_request, verdict, early_verdict, desk_verdict}
 use Rattle.model.specs.Operator.{TokenDenial, token_verdict, after_token, Outcome, issue_outcome, prune_outcome, Reports, by_success, by_fault}
 use Rattle.model.specs.Steps.{verdict_on, denial_alone, after, Message, message, bad_head, Exchange, judgement, Carries, by_verdict, by_refusal, Event, exchanged, issues, prunes, IsStep, Run}
 use Rattle.model.specs.Laws.{IsPutOf, IsGetOf, ServesWhatIsAsked, ServesWhatIsKept, ServedHasItsName, ServedWasPut, WasPut}
@@ -191,7 +191,7 @@ unfolding verdict
 verdict_came world setting head body = at (head_verdict head) refl
   where
     at : (r : Result Target Rule) → head_verdict head ≡ r
-        → IfOk (by_rules r >>= λ target. target_verdict world setting head target body) (CameFrom world head body)
+        → IfOk (by_rules r >>= λ target. desk_verdict world setting (desk_request head target body) body) (CameFrom world head body)
     at (Err e) j = tt
     at (Ok target) j =
         passed (IsFrom target.form target.parameter) (CameFrom world head body) (desk_plan world setting (desk_request head target body)) _

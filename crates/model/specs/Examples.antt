@@ -1,5 +1,5 @@
 -- Worked examples: what the definitions say of small cases.
-use Rattle.std.specs.Prelude.{◌≡◌, ℕ, true, false, List, [], ◌∷◌, ◌++◌, length, Some, None, Ok, Err, codes, replicate, flat_map}
+use Rattle.std.specs.Prelude.{⊤, ◌≡◌, ℕ, true, false, List, [], ◌∷◌, ◌++◌, length, Some, None, Result, Ok, Err, codes, replicate, flat_map}
 use Rattle.httparse.specs.Grammar.{RequestHead, Field, print_request}
 use Rattle.names.specs.declared.rules.Rule.{Rule}
 use Rattle.names.specs.declared.rules.Rule.TheVariants as rule
@@ -11,8 +11,8 @@ use Rattle.model.specs.World.{World, nothing, with_lock, without_lock, with_obje
 use Rattle.model.specs.Heads.{Target, values, routes, head_verdict_in, route_in, methods_of}
 use Rattle.model.specs.Callers.{caller_by}
 use Rattle.model.specs.Cases.{DeskRequest}
-use Rattle.model.specs.Answers.{Answer, by_rule, by_row, by_lock, makes_lock, stores, confirms, releases, may_push, store_refusal}
-use Rattle.model.specs.Verdict.{caller_plan, early_check}
+use Rattle.model.specs.Answers.{Answer, Denial, by_rule, by_row, by_lock, makes_lock, stores, confirms, releases, may_push, store_refusal}
+use Rattle.model.specs.Verdict.{caller_plan, desk_plan, desk_request, early_check}
 use Rattle.model.specs.Operator.{TokenRequest, token_verdict, after_token, already_issued, expires_too_late}
 use Rattle.model.specs.Steps.{Message, message, bad_head, verdict_on, closes_after, Exchange}
 use Rattle.model.specs.Moments.{moment_text}
@@ -286,14 +286,18 @@ hello_target = record { repo = film; parameter = hello; form = form.Put }
 abbrev pub put_head : List Field → RequestHead
 put_head fields = head_of (codes "PUT") (lfs (codes "content/" ++ hello)) (length_field (codes "5") ∷ fields)
 
+-- what is judged of that upload before its body, with these fields
+abbrev pub early_plan : RequestHead → Result ⊤ Denial
+early_plan head = early_check form.Put (desk_plan with_ann (at_now studio) (desk_request head hello_target []))
+
 -- an upload without a token is denied from its head, and the connection closes; with a token it is not; X2, which comes
 -- after the body, closes nothing
 abbrev pub UploadIsRefusedEarly : Type 0
 UploadIsRefusedEarly =
     let asked = message (put_head []) (codes "{\"pat") in
-    (early_check with_ann (at_now studio) (put_head []) hello_target form.Put ≡ Err (by_rule rule.A1))
+    (early_plan (put_head []) ≡ Err (by_rule rule.A1))
     × (text_if (asked true) (Some (Err (by_rule rule.A1))) ≡ nameless_reply)
-    × (early_check with_ann (at_now studio) (put_head (authorization ∷ [])) hello_target form.Put ≡ Ok tt)
+    × (early_plan (put_head (authorization ∷ [])) ≡ Ok tt)
     × (closes_after (asked true) (Err (by_rule rule.X3)) ≡ true)
     × (closes_after (asked true) (Err (by_rule rule.X2)) ≡ false)
     × (closes_after (asked true) (Ok (stores (object_of hello []))) ≡ false)

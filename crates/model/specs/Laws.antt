@@ -14,7 +14,7 @@ use Rattle.model.specs.Callers.{Caller, caller_by, sees}
 use Rattle.model.specs.Cases.{Setting}
 use Rattle.model.specs.Answers.{Answer, Denial, serves, stores, makes_lock}
 use Rattle.model.specs.Pages.{page_of, IsPage, IsBelow, Leg, IsWalk, walk_locks}
-use Rattle.model.specs.Verdict.{verdict, early_verdict, target_verdict, early_check, desk_verdict}
+use Rattle.model.specs.Verdict.{verdict, early_verdict, early_check, desk_plan, desk_request, desk_verdict}
 use Rattle.model.specs.Steps.{Message, message, IsMessage, Event, exchanged, Exchange, IsExchange, IsStep, Run}
 use Rattle.model.specs.Stream.{HasNoHead, NeverIsHead, BeginsWith, IsUnfinished, head_limit}
 use Rattle.model.specs.Moments.{moment_text}
@@ -67,8 +67,8 @@ HeadDecides =
 abbrev pub TargetDecides : Type 0
 TargetDecides =
     (world : World) (setting : Setting) (head : RequestHead) (target : Target) (body : List ℕ) (denial : Denial)
-    → early_check world setting head target target.form ≡ Err denial
-    → target_verdict world setting head target body ≡ Err denial
+    → early_check target.form (desk_plan world setting (desk_request head target [])) ≡ Err denial
+    → desk_verdict world setting (desk_request head target body) body ≡ Err denial
 
 -- ---- worlds
 

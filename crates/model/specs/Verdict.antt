@@ -66,22 +66,17 @@ desk_request head target body = record {
   request = request_of target.form target.parameter (query_of head.target) body;
 }
 
--- the verdict on what a head and its whole body ask
-abbrev pub target_verdict : World → Setting → RequestHead → Target → List ℕ → Answer
-target_verdict world setting head target body = desk_verdict world setting (desk_request head target body) body
-
 -- the verdict on a head and its whole body
 unfoldable pub verdict : World → Setting → RequestHead → List ℕ → Answer
 verdict world setting head body =
-    by_rules (head_verdict head) >>= λ target. target_verdict world setting head target body
+    by_rules (head_verdict head) >>= λ target. desk_verdict world setting (desk_request head target body) body
 
--- before the body is read, an upload is judged by all but its bytes, and any other request by its head alone
-abbrev pub early_check : World → Setting → RequestHead → Target → Form → Result ⊤ Denial
-early_check world setting head target form.Put =
-    desk_plan world setting (desk_request head target []) >>= λ plan. Ok tt
-early_check world setting head target _ = Ok tt
+-- before the body is read, the plan of an upload may be refused, and no other plan
+abbrev pub early_check : Form → Result Plan Denial → Result ⊤ Denial
+early_check form.Put plan = plan >>= λ granted. Ok tt
+early_check _ plan = Ok tt
 
 -- what denies the message before its body is read, if anything does
 unfoldable pub early_verdict : World → Setting → RequestHead → Result ⊤ Denial
 early_verdict world setting head =
-    by_rules (head_verdict head) >>= λ target. early_check world setting head target target.form
+    by_rules (head_verdict head) >>= λ target. early_check target.form (desk_plan world setting (desk_request head target []))

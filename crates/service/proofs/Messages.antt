@@ -138,8 +138,8 @@ is_whole bytes len h m b within is body fits total bearer last =
 -- ---- a message that is cut off
 
 -- a head that asks for no upload is denied by its own rules alone, before its body
-passes_early : (world : World) (setting : Setting) (h : RequestHead) (t : Target) (form : ServedForm) → early_check world setting h t (form_of_served form) ≡ Ok tt
-passes_early world setting h t served.Lock = refl
+passes_early : (form : ServedForm) (plan : Result Plan Denial) → early_check (form_of_served form) plan ≡ Ok tt
+passes_early served.Lock plan = refl
 
 -- the bytes of a head that is there, and less than its body
 pub is_cut_off : (bytes after : List ℕ) (h : RequestHead) (t : code.Target) → BeginsWithHead bytes h after → Asks h t → length after < t.size → IsCutOff bytes h
@@ -150,7 +150,7 @@ is_cut_off bytes after h t b is less =
       body = take (body_length h) after;
       begins = with_message h after b (ap (λ (v : Bool). message h (take (body_length h) after) v) (sym all))
           (sym (drop_all (body_length h) after (omega (arith, wanted, less))));
-      passes = λ world setting. early_at world setting h (target_seen t) is.target ∙ passes_early world setting h (target_seen t) t.form;
+      passes = λ world setting. early_at world setting h (target_seen t) is.target ∙ passes_early t.form _;
     }
 
 -- no bytes are left after it, so less than a head is
