@@ -1,8 +1,10 @@
 -- What is done in another repository leaves a view.
-use Rattle.std.proofs.Common.{◌≡◌, ℕ, Bool, true, false, not, ◌&&◌, ◌||◌, List, [], ◌∷◌, filter, map, length, refl, sym, ap, subst, ◌∙◌, Result, Ok, Err, Option, Some, None, bytes_eq, cond, IfOk, is_some, ◌==◌, nat_lt}
+use Rattle.std.proofs.Common.{◌≡◌, ◌≢◌, ℕ, Bool, true, false, not, ◌&&◌, ◌||◌, List, [], ◌∷◌, filter, map, length, refl, sym, ap, subst, ◌∙◌, Result, Ok, Err, Option, Some, None, bytes_eq, cond, IfOk, is_some, ◌==◌, nat_lt}
 use Rattle.std.specs.Bool.{⊤}
 use Rattle.std.specs.Prelude.{sum_by, ℤ, pos, ◌-ℤ◌, ◌+◌}
 use Rattle.std.proofs.lemmas.Bool.{true≢false, cond_both}
+use Rattle.std.specs.List.{AllByRecursion}
+use Rattle.std.proofs.lemmas.List.Elements.{recursion_from_All}
 use Rattle.std.proofs.lemmas.Slice.Eq.{bytes_eq-Decides}
 use Rattle.httparse.specs.Grammar.{RequestHead}
 use Rattle.names.specs.Texts.{last_lock_id}
@@ -23,12 +25,13 @@ use Rattle.model.specs.Locks.{ref_or_default, new_lock, lock_verdict, list_verdi
 use Rattle.model.specs.Batch.{may_batch, batch_verdict}
 use Rattle.model.specs.Pages.{cursor_in}
 use Rattle.model.specs.Objects.{finish, verify_verdict}
-use Rattle.model.specs.Verdict.{plan_to, plan_for, is_covered, desk_plan, desk_request, verdict, desk_verdict}
-use Rattle.model.specs.Steps.{verdict_on, after, after_grant, Message, Exchange, Carries, by_verdict, by_refusal}
-use Rattle.model.specs.Views.{View, view_of, room_in, sees_objects, tokens_of}
-use Rattle.model.specs.Laws.{IsElsewhere, OthersLeaveViews}
+use Rattle.model.specs.Verdict.{plan_to, plan_for, is_covered, desk_plan, desk_request, verdict, early_verdict, desk_verdict}
+use Rattle.model.specs.Steps.{verdict_on, after, after_grant, denial_alone, Message, message, bad_head, repo_of, repo_asked, Exchange, exchanged, Carries, by_verdict, by_refusal, Run}
+use Rattle.model.specs.Views.{View, view_of, SameViews, room_in, sees_objects, tokens_of}
+use Rattle.model.specs.Laws.{OthersLeaveViews, SessionsLeaveViews}
 use Rattle.model.proofs.Checks.{passed, then_any, by_rules_ok, found_ok, find_ok}
 use Rattle.model.proofs.Lists.{filter_weaker, found_passes, each_of}
+use Rattle.model.proofs.Refusals.{verdict_refused}
 use Rattle.model.proofs.Views.{own_locks, NamedSo, entry_named}
 
 -- ---- a grant is of the target's repository
@@ -235,12 +238,47 @@ view_after : (old : World) (answer : Answer) (policy : Policy) (user repo n : Li
 view_after old (Ok g) policy user repo n is off = view_grant old g policy user repo n is off
 view_after old (Err d) policy user repo n is off = refl
 
-view_step : (old : World) (e : Exchange) (new : World) (repo : List ℕ) (policy : Policy) (user : List ℕ) → Carries old e new → IsElsewhere repo e
-    → view_of new policy user repo ≡ view_of old policy user repo
-view_step old e new repo policy user (by_refusal given sure is) x = ap (λ (w : World). view_of w policy user repo) is
-view_step old e new repo policy user (by_verdict given is) x =
-    ap (λ (w : World). view_of w policy user repo) (is ∙ ap (λ (m : Message). after old (verdict_on old e.setting m)) x.asked)
-    ∙ view_after old (verdict old e.setting x.head x.body) policy user repo x.target.repo (verdict_in old e.setting x.head x.body x.target x.verdict) x.other
+-- a denial alone leaves the world
+denied : {A : Type 0} (old : World) (r : Result A Denial) → after old (denial_alone r) ≡ old
+denied old (Ok x) = refl
+denied old (Err d) = refl
+
+-- texts that differ are told apart
+told_apart : (a b : List ℕ) → a ≢ b → bytes_eq a b ≡ false
+told_apart a b differ = at (bytes_eq a b) refl
+  where
+    at : (v : Bool) → bytes_eq a b ≡ v → v ≡ false
+    at true e = absurd (differ ((bytes_eq-Decides a b).0 e))
+    at false e = refl
+
+module _ (old : World) (setting : Setting) (repo : List ℕ) (policy : Policy) (user : List ℕ) where
+  view_verdict : (asked : Message) → repo_asked asked ≢ Some repo
+      → view_of (after old (verdict_on old setting asked)) policy user repo ≡ view_of old policy user repo
+  view_verdict (message head body true) off = at (head_verdict head) refl
+    where
+      at : (r : Result Target Rule) → head_verdict head ≡ r
+          → view_of (after old (Some (verdict old setting head body))) policy user repo ≡ view_of old policy user repo
+      at (Err e) j = ap (λ (a : Answer). view_of (after old (Some a)) policy user repo) (verdict_refused old setting head body e j)
+      at (Ok target) j =
+          view_after old (verdict old setting head body) policy user repo target.repo (verdict_in old setting head body target j)
+          (told_apart target.repo repo (λ same. off (ap repo_of j ∙ ap (λ (n : List ℕ). Some n) same)))
+  view_verdict (message head body false) off = ap (λ (w : World). view_of w policy user repo) (denied old (early_verdict old setting head))
+  view_verdict bad_head off = refl
+
+view_step : (old : World) (e : Exchange) (new : World) (repo : List ℕ) → Carries old e new → repo_asked e.asked ≢ Some repo → SameViews repo old new
+view_step old e new repo (by_refusal given sure is) off policy user = ap (λ (w : World). view_of w policy user repo) is
+view_step old e new repo (by_verdict given is) off policy user =
+    ap (λ (w : World). view_of w policy user repo) is ∙ view_verdict old e.setting repo policy user e.asked off
 
 pub others_leave_views : OthersLeaveViews
-others_leave_views old e new repo step x policy user = view_step old e new repo policy user step.carries x
+others_leave_views old e new repo step off = view_step old e new repo step.carries off
+
+views_stay : (old : World) (exchanges : List Exchange) (new : World) (repo : List ℕ) → Run old (map exchanged exchanges) new
+    → AllByRecursion (λ e. repo_asked e.asked ≢ Some repo) exchanges → SameViews repo old new
+views_stay old [] new repo run off policy user = ap (λ (w : World). view_of w policy user repo) run
+views_stay old (e ∷ exchanges) new repo run off policy user =
+    views_stay run.0 exchanges new repo run.2 off.1 policy user ∙ view_step old e run.0 repo run.1.carries off.0 policy user
+
+pub sessions_leave_views : SessionsLeaveViews
+sessions_leave_views old exchanges new repo run none =
+    views_stay old exchanges new repo run (recursion_from_All (λ e. repo_asked e.asked ≢ Some repo) exchanges none)

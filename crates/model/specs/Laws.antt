@@ -1,5 +1,5 @@
 -- Laws of the definitions.
-use Rattle.std.specs.Prelude.{◌≡◌, ◌<◌, ◌≤◌, ◌+◌, ℕ, true, false, List, [], ◌∷◌, ◌++◌, length, All, AllPairs, Contains, Some, None, Ok, Err, bytes_eq, ◌⊎◌, ◌↔◌, option_map, ⊤, Bool}
+use Rattle.std.specs.Prelude.{◌≡◌, ◌≢◌, ◌<◌, ◌≤◌, ◌+◌, ℕ, true, false, List, [], ◌∷◌, ◌++◌, length, map, All, AllPairs, Contains, Some, None, Ok, Err, bytes_eq, ◌⊎◌, ◌↔◌, option_map, ⊤, Bool}
 use Rattle.httparse.specs.Grammar.{RequestHead}
 use Rattle.sha2.specs.Sha256.{sha256}
 use Rattle.names.specs.Texts.{last_moment}
@@ -15,11 +15,11 @@ use Rattle.model.specs.Cases.{Setting}
 use Rattle.model.specs.Answers.{Answer, Denial, serves, stores, makes_lock}
 use Rattle.model.specs.Pages.{page_of, IsPage, IsBelow, Leg, IsWalk, walk_locks}
 use Rattle.model.specs.Verdict.{verdict, early_verdict, early_check, desk_plan, desk_request, desk_verdict}
-use Rattle.model.specs.Steps.{Message, message, IsMessage, Event, exchanged, Exchange, IsExchange, IsStep, Run}
+use Rattle.model.specs.Steps.{Message, message, IsMessage, repo_asked, Event, exchanged, Exchange, IsExchange, IsStep, Run}
 use Rattle.model.specs.Stream.{HasNoHead, NeverIsHead, BeginsWith, IsUnfinished, head_limit}
 use Rattle.model.specs.Moments.{moment_text}
 use Rattle.model.specs.Replies.{Reply, reply_of}
-use Rattle.model.specs.Views.{View, view_of, sees_objects, CallerRequest, to_desk, foresee}
+use Rattle.model.specs.Views.{View, view_of, SameViews, sees_objects, CallerRequest, to_desk, foresee}
 use Rattle.model.specs.Bounds.{SameWorld, IsWithin, failed, is_changed, ending_of, intended_world, next_world, bound_of_run}
 
 -- ---- streams
@@ -315,20 +315,21 @@ ViewsServeOneDigest =
     → AreAlike setting caller asked a b → answer_in a setting caller asked ≡ Ok (serves o)
     → answer_in b setting caller asked ≡ Ok (serves p) → sha256 o.bytes ≡ sha256 p.bytes
 
--- the exchange is of a whole message to another repository
-pub record IsElsewhere (repo : List ℕ) (e : Exchange) : Type 0 where
-  pub head : RequestHead
-  pub body : List ℕ
-  pub target : Target
-  pub asked : e.asked ≡ message head body true
-  pub verdict : head_verdict head ≡ Ok target
-  pub other : bytes_eq target.repo repo ≡ false
-
--- an exchange in another repository leaves every user's view
+-- an exchange leaves every user's view of a repository that its message does not ask about
 abbrev pub OthersLeaveViews : Type 0
 OthersLeaveViews =
-    (old : World) (e : Exchange) (new : World) (repo : List ℕ) → IsExchange old e new → IsElsewhere repo e
-    → (policy : Policy) (user : List ℕ) → view_of new policy user repo ≡ view_of old policy user repo
+    (old : World) (e : Exchange) (new : World) (repo : List ℕ)
+    → IsExchange old e new → repo_asked e.asked ≢ Some repo → SameViews repo old new
+
+-- no message of the exchanges asks about the repository
+abbrev pub NoneAsks : List ℕ → List Exchange → Type 0
+NoneAsks repo exchanges = All (λ e. repo_asked e.asked ≢ Some repo) exchanges
+
+-- exchanges leave every user's view of a repository that none of their messages asks about
+abbrev pub SessionsLeaveViews : Type 0
+SessionsLeaveViews =
+    (old : World) (exchanges : List Exchange) (new : World) (repo : List ℕ)
+    → Run old (map exchanged exchanges) new → NoneAsks repo exchanges → SameViews repo old new
 
 -- ---- moments
 

@@ -6,7 +6,7 @@ use Rattle.names.specs.declared.rules.Rule.{Rule}
 use Rattle.names.specs.declared.rules.Rule.TheVariants as rule
 use Rattle.model.specs.Policy.{IsPolicy}
 use Rattle.model.specs.World.{World, Token, with_lock, without_lock, with_object}
-use Rattle.model.specs.Heads.{body_length, is_method, methods_at, asks_close}
+use Rattle.model.specs.Heads.{Target, head_verdict, body_length, is_method, methods_at, asks_close}
 use Rattle.model.specs.Cases.{Setting}
 use Rattle.model.specs.Answers.{Denial, by_rule, Answer, Grant, stores, makes_lock, releases, store_refusal, is_rule, is_store_refusal}
 use Rattle.model.specs.Verdict.{verdict, early_verdict}
@@ -24,6 +24,16 @@ abbrev pub IsMessage : Message → Type 0
 IsMessage (message head body true) = length body ≡ body_length head
 IsMessage (message head body false) = length body < body_length head
 IsMessage bad_head = ⊤
+
+-- the repository of a target, if the head has one
+abbrev pub repo_of : Result Target Rule → Option (List ℕ)
+repo_of (Ok target) = Some target.repo
+repo_of (Err rule) = None
+
+-- the repository that a message asks about, if its head is not refused
+abbrev pub repo_asked : Message → Option (List ℕ)
+repo_asked (message head body whole) = repo_of (head_verdict head)
+repo_asked bad_head = None
 
 -- a denial as the answer, and no answer if there is none
 abbrev pub denial_alone : {A : Type 0} → Result A Denial → Option Answer

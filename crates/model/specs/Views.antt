@@ -1,5 +1,5 @@
 -- What a user can learn of a repository; nothing else decides the replies to that user.
-use Rattle.std.specs.Prelude.{ℕ, Bool, true, false, ◌&&◌, ◌||◌, nat_lt, List, [], length, map, filter, find, Option, Some, None, Result, Ok, Err, bytes_eq, if◌then◌else◌, ℤ, pos, ◌-ℤ◌}
+use Rattle.std.specs.Prelude.{◌≡◌, ℕ, Bool, true, false, ◌&&◌, ◌||◌, nat_lt, List, [], length, map, filter, find, Option, Some, None, Result, Ok, Err, bytes_eq, if◌then◌else◌, ℤ, pos, ◌-ℤ◌}
 use Rattle.std.specs.List.{list_any}
 use Rattle.sha2.specs.Sha256.{sha256}
 use Rattle.names.specs.declared.rules.Rule.TheVariants as rule
@@ -88,6 +88,10 @@ view_of world policy user repo = record {
   tokens = tokens_of user repo world;
   state = visible_state world policy user repo;
 }
+
+-- every user has the same view of the repository in both worlds, under any policy
+abbrev pub SameViews : List ℕ → World → World → Type 0
+SameViews repo old new = (policy : Policy) (user : List ℕ) → view_of new policy user repo ≡ view_of old policy user repo
 
 -- ---- the replies that a view foretells
 

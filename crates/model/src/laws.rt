@@ -3,7 +3,7 @@
 ghost use Rattle.model.specs.Laws.{HasOneFirst, BeginsWithMessage, CutIsLast, ChoosesOnlyThere, MessageIsFinished, HeadDecides, TargetDecides};
 ghost use Rattle.model.specs.Laws.{StepsKeepWorlds, RunsKeepWorlds, RunsMakeWorlds, ServesWhatIsAsked, ServesWhatIsKept, ServedHasItsName, ServedWasPut};
 ghost use Rattle.model.specs.Laws.{DenialsChangeNothing, SilenceChangesNothing, OnlyReportedChanges, OnlyCutIsSilent, NeverLocksTwice, CountsOn, NewIdIsNext, NoIdComesAgain};
-ghost use Rattle.model.specs.Laws.{RoomIsQuota, StaysInQuota, PageIsLeast, LocksRise, LocksAreThose, LocksIgnoreOrder, WalksAreWhole, ViewsForetell, OnlyCallersAreForeseen, ViewsServeOneDigest, ViewsShowWhatIsSeen, OthersLeaveViews};
+ghost use Rattle.model.specs.Laws.{RoomIsQuota, StaysInQuota, PageIsLeast, LocksRise, LocksAreThose, LocksIgnoreOrder, WalksAreWhole, ViewsForetell, OnlyCallersAreForeseen, ViewsServeOneDigest, ViewsShowWhatIsSeen, OthersLeaveViews, SessionsLeaveViews};
 ghost use Rattle.model.specs.Laws.{ReportsAreTrue, LeavesOneChange, MomentIsText, MomentHasText};
 
 /// A list of bytes has at most one first message and one rest after it. The body is as long as the head
@@ -90,14 +90,15 @@ pub fn walk_law()
 {}
 
 /// The reply to a user is the one that the user's view foretells, in every world with that view, and no reply is
-/// foretold to anyone else. The contents that such worlds serve have one SHA-256. A view shows only what the user sees, and an exchange in
-/// another repository leaves it.
+/// foretold to anyone else. The contents that such worlds serve have one SHA-256. A view shows only what the user sees. A
+/// message leaves each view of a repository that it does not ask about, and so do the messages of a session.
 pub fn view_law()
     ensures foretell { ViewsForetell }
     ensures callers { OnlyCallersAreForeseen }
     ensures digest { ViewsServeOneDigest }
     ensures seen { ViewsShowWhatIsSeen }
     ensures apart { OthersLeaveViews }
+    ensures session { SessionsLeaveViews }
 {}
 
 /// Each step leads to the world that its report says. A stop leaves the last world of a run, or that world
