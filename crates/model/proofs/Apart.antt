@@ -1,4 +1,4 @@
--- What is done in another repository leaves a view.
+-- A request in another repository leaves a view unchanged.
 use Rattle.std.proofs.Common.{◌≡◌, ◌≢◌, ℕ, Bool, true, false, not, ◌&&◌, ◌||◌, List, [], ◌∷◌, filter, map, length, refl, sym, ap, subst, ◌∙◌, Result, Ok, Err, Option, Some, None, bytes_eq, cond, IfOk, is_some, ◌==◌, nat_lt}
 use Rattle.std.specs.Bool.{⊤}
 use Rattle.std.specs.Prelude.{sum_by, ℤ, pos, ◌-ℤ◌, ◌+◌}
@@ -123,17 +123,20 @@ finish_in world name body (grants g) is = is
 finish_in world name body (sends oid size) is = then_any (IsIn name) (by_rules (ok_or (object_named name oid world) rule.X1)) _ (λ o. tt)
 finish_in world name body (receives oid) is = then_any (IsIn name) (by_rules (check (bytes_eq oid (name_of body)) rule.X2)) _ (λ same. refl)
 
+-- what the desk grants is in the repository that the request asks about
+asked_in : (world : World) (setting : Setting) (asked : DeskRequest) (body : List ℕ) → IfOk (desk_verdict world setting asked body) (IsIn asked.repo)
+asked_in world setting asked body =
+    passed (IsPlanIn asked.repo) (IsIn asked.repo) (desk_plan world setting asked) _ (desk_in world setting asked) (λ plan is. finish_in world asked.repo body plan is)
+
 verdict_in : (world : World) (setting : Setting) (head : RequestHead) (body : List ℕ) (target : Target) → head_verdict head ≡ Ok target → IfOk (verdict world setting head body) (IsIn target.repo)
 unfolding verdict
 verdict_in world setting head body target j =
     subst (λ (r : Result Target Rule). IfOk (by_rules r >>= λ t. desk_verdict world setting (desk_request head t body) body) (IsIn target.repo)) (sym j)
-    (passed (IsPlanIn target.repo) (IsIn target.repo) (desk_plan world setting (desk_request head target body)) _
-    (desk_in world setting (desk_request head target body))
-    (λ plan is. finish_in world target.repo body plan is))
+    (asked_in world setting (desk_request head target body) body)
 
--- ---- and leaves what others see
+-- ---- and leaves what others see unchanged
 
--- a filter leaves out what is new and does not pass
+-- a filter drops a new element that does not pass
 left_out : {A : Type 0} (q : A → Bool) (x : A) (xs : List A) → q x ≡ false → filter q (x ∷ xs) ≡ filter q xs
 left_out {A = A} q x xs e = ap (λ (b : Bool). cond b (x ∷ filter q xs) (filter q xs)) e
 
@@ -147,7 +150,7 @@ turned a b off = at (bytes_eq b a) refl
     at true e = absurd (true≢false (sym ((bytes_eq-Decides a b).1 (sym ((bytes_eq-Decides b a).0 e))) ∙ off))
     at false e = refl
 
--- a view, by what changes in it
+-- a view is unchanged if these parts of it are
 abbrev view_with : World → Policy → List ℕ → List ℕ → List Lock → ℕ → ℤ → View
 view_with old policy user repo locks made room = record {
   user = user;
@@ -162,7 +165,7 @@ view_with old policy user repo locks made room = record {
   };
 }
 
--- objects alone take room
+-- only objects take room
 room_of_locks : (old : World) (locks : List Lock) (made : List ℕ → ℕ) (o : Option Repo) → room_in o (record old { locks = locks; made = made }) ≡ room_in o old
 room_of_locks old locks made None = refl
 room_of_locks old locks made (Some entry) = refl
@@ -238,13 +241,18 @@ view_after : (old : World) (answer : Answer) (policy : Policy) (user repo n : Li
 view_after old (Ok g) policy user repo n is off = view_grant old g policy user repo n is off
 view_after old (Err d) policy user repo n is off = refl
 
--- a denial alone leaves the world
+-- a request to the desk leaves the view of any other repository unchanged
+pub desk_leaves_views : (old : World) (setting : Setting) (asked : DeskRequest) (body : List ℕ) (policy : Policy) (user repo : List ℕ) → bytes_eq asked.repo repo ≡ false
+    → view_of (after old (Some (desk_verdict old setting asked body))) policy user repo ≡ view_of old policy user repo
+desk_leaves_views old setting asked body policy user repo off = view_after old (desk_verdict old setting asked body) policy user repo asked.repo (asked_in old setting asked body) off
+
+-- a denial leaves the world unchanged
 denied : {A : Type 0} (old : World) (r : Result A Denial) → after old (denial_alone r) ≡ old
 denied old (Ok x) = refl
 denied old (Err d) = refl
 
--- texts that differ are told apart
-told_apart : (a b : List ℕ) → a ≢ b → bytes_eq a b ≡ false
+-- texts that differ have different bytes
+pub told_apart : (a b : List ℕ) → a ≢ b → bytes_eq a b ≡ false
 told_apart a b differ = at (bytes_eq a b) refl
   where
     at : (v : Bool) → bytes_eq a b ≡ v → v ≡ false

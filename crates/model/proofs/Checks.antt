@@ -1,4 +1,4 @@
--- What a chain of checks has passed.
+-- The facts after a chain of checks that passed.
 use Rattle.std.proofs.Common.{◌≡◌, Bool, true, false, List, [], ◌∷◌, refl, Result, Ok, Err, Option, Some, None, find, IfOk, IfSome, IsTrue, subst}
 use Rattle.std.specs.Bool.{⊤}
 use Rattle.std.specs.List.{AllByRecursion}
@@ -36,10 +36,10 @@ find_ok Q test [] all = tt
 find_ok Q test (x ∷ xs) all =
     cond_both (test x) (Some x) (find test xs) (λ o. IfSome o Q) (λ _. all.0) (λ _. find_ok Q test xs all.1)
 
--- what an answer is known to be, where it is Ok
+-- a property of the Ok results of an answer, for an answer that is Ok
 pub ok_is : {A E : Type 0} (P : A → Type 0) (r : Result A E) (x : A) → r ≡ Ok x → IfOk r P → P x
 ok_is {A = A} {E = E} P r x e is = let moved : IfOk {E = E} (Ok x) P = subst (λ (q : Result A E). IfOk q P) e is in moved
 
--- a check that passed, as a rule of a denial
+-- a check that passed, lifted to a denial by a rule
 pub rules_check_ok : (test : Bool) (e : Rule) → IfOk (by_rules (check test e)) (λ _. IsTrue test)
 rules_check_ok test e = by_rules_ok (λ _. IsTrue test) (check test e) (check_ok test e)

@@ -1,4 +1,4 @@
--- The worked examples that computing proves.
+-- The worked examples that are proved by computation.
 use Rattle.std.proofs.Common.{refl}
 use Rattle.model.proofs.OnLiterals.{on_literals}
 use Rattle.model.specs.Examples.{FirstIsLocked, SecondIsRefused, OtherRefIsLocked, HeadsAreRefused, MethodIsRefused, RoutesLead, NamelessIsRefused, TokenExpires, RepositoryIsUnknown, DownloadLocksNothing, CutIsUnanswered, FolderIsFrozen, PushIsDenied, ContentHasItsName, ContentIsServed, QuotaIsKept, UploadIsRefusedEarly, StoredIsConfirmed, UploadIsOffered, DownloadIsOffered, ObjectsAreRefused, ObjectsAreInvalid, HashIsRefused, BatchIsRefused, HiddenIsLeftOut, PagesAreCut, PagesAreRefused, LocksAreSplit, LockIsReleased, RefusalCloses, TokenIsIssued, TokenIsPruned, MomentsArePrinted}

@@ -63,8 +63,10 @@ new_id_is_next old e l new w step told =
     new_next old e l new (exchange_grantable old e new w step) step.carries told
 
 pub no_id_comes_again : NoIdComesAgain
-no_id_comes_again old e f l m w t =
-    let one = new_id_is_next old e l t.mid w t.first t.made in
-    let start = keeps_step old (exchanged e) t.mid t.first w in
-    let other = new_id_is_next t.late f m t.new (keeps_run t.mid t.between t.late t.run start) t.second t.made_later in
-    omega (arith, one.1, counts_on t.mid t.between t.late t.run l.repo, other.0, ap (λ (r : List ℕ). t.late.made r) t.repo)
+no_id_comes_again l m t =
+    let a = t.first in
+    let b = t.second in
+    let one = new_id_is_next a.old a.exchange l a.new t.laws a.step a.made in
+    let start = keeps_step a.old (exchanged a.exchange) a.new a.step t.laws in
+    let other = new_id_is_next b.old b.exchange m b.new (keeps_run a.new t.between b.old t.run start) b.step b.made in
+    omega (arith, one.1, counts_on a.new t.between b.old t.run l.repo, other.0, ap (λ (r : List ℕ). b.old.made r) t.repo)

@@ -1,4 +1,4 @@
--- What worlds with equal views serve has one digest.
+-- The contents that worlds with equal views serve have one digest.
 use Rattle.std.proofs.Common.{◌≡◌, ℕ, ◌<◌, List, [], ◌∷◌, refl, sym, ap, subst, ◌∙◌, arith, Result, Ok, Err, Option, Some, None, zero, suc, slice_index, IfOk, bytes_eq, ◌&&◌}
 use Rattle.std.specs.Bool.{⊤}
 use Rattle.std.specs.List.{AllByRecursion}
@@ -118,9 +118,12 @@ abbrev reply_or : Reply → Result Reply NoCaller → Reply
 reply_or other (Ok r) = r
 reply_or other (Err e) = other
 
-foreseen : (setting : Setting) (caller : Caller) (asked : CallerRequest) (a b : World) → AreAlike setting caller asked a b
-    → reply_of (answer_in a setting caller asked) ≡ reply_of (answer_in b setting caller asked)
-foreseen setting caller asked a b alike =
+foreseen : (a b : World) (alike : AreAlike a b)
+    → reply_of (answer_in a alike.setting alike.caller alike.asked) ≡ reply_of (answer_in b alike.setting alike.caller alike.asked)
+foreseen a b alike =
+    let setting = alike.setting in
+    let caller = alike.caller in
+    let asked = alike.asked in
     ap (reply_or (reply_of (answer_in a setting caller asked)))
     (sym (views_foretell a setting caller asked alike.left alike.here)
     ∙ ap (λ (v : View). foresee v setting.now asked) alike.same
@@ -133,7 +136,10 @@ same_name given other o p g h e =
     ∙ ap (λ (a : Answer). content_name [] (reply_of a).body) h
 
 pub views_serve_one_digest : ViewsServeOneDigest
-views_serve_one_digest setting caller asked a b o p alike here there =
+views_serve_one_digest a b o p alike here there =
+    let setting = alike.setting in
+    let caller = alike.caller in
+    let asked = alike.asked in
     let left = served_is_object a setting caller asked o (recursion_from_All IsObject a.objects alike.left.objects) here in
     let right = served_is_object b setting caller asked p (recursion_from_All IsObject b.objects alike.right.objects) there in
-    one_digest o.bytes p.bytes (sym left.name ∙ same_name (answer_in a setting caller asked) (answer_in b setting caller asked) o p here there (foreseen setting caller asked a b alike) ∙ right.name)
+    one_digest o.bytes p.bytes (sym left.name ∙ same_name (answer_in a setting caller asked) (answer_in b setting caller asked) o p here there (foreseen a b alike) ∙ right.name)

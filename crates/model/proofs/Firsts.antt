@@ -10,11 +10,11 @@ use Rattle.model.specs.Steps.{Message, message, bad_head, IsMessage}
 use Rattle.model.specs.Stream.{IsHeadThen, BeginsBadly, too_many_fields, too_long, hopeless, BeginsWithHead, with_message, with_bad_head, message_with, IsUnfinished}
 use Rattle.model.specs.Laws.{HasOneFirst, ChoosesOnlyThere, MessageIsFinished, CutIsLast, BeginsWithMessage, IsFreeChoice}
 
--- the head of the bytes is one, and so is what follows it
+-- the head at the front of the bytes is unique, and so is the rest after it
 heads_one : (bytes : List ℕ) (h k : RequestHead) (r q : List ℕ) → IsHeadThen bytes h r → IsHeadThen bytes k q → (h ≡ k) × (r ≡ q)
 heads_one bytes h k r q a b = request_unique bytes h k r q a.reads b.reads
 
--- the message and the rest are functions of the head and of what follows it
+-- the message and the rest are functions of the head and the bytes after it
 same_parts : {A : Type 0} (f : RequestHead → List ℕ → A) (h k : RequestHead) (r q : List ℕ) → (h ≡ k) × (r ≡ q) → f h r ≡ f k q
 same_parts f h k r q e = ap (λ x. f x r) e.0 ∙ ap (f k) e.1
 

@@ -17,7 +17,7 @@ use Rattle.model.proofs.Lists.{In, IsOnly, only_filter, only_map, find_rising, f
 use Rattle.model.proofs.Tests.{both_true}
 use Rattle.model.proofs.Views.{only_of, caller_as}
 
--- the one that passes is found
+-- the only element that passes is found
 only_found : {A : Type 0} (p : A → Bool) (xs : List A) (x : A) → IsOnly p xs → In xs x → p x ≡ true → find p xs ≡ Some x
 only_found p [] x only is e = absurd is
 only_found {A = A} p (y ∷ ys) x only is e = at (p y) refl is (λ i. only_found p ys x only.1 i e)
@@ -74,7 +74,7 @@ module _ (world : World) (user repo text : List ℕ) (w : IsWorld world) where
             repo_is = (bytes_eq-Decides t.repo repo).0 ours.1;
           }
 
--- what a caller of the view presents
+-- the token that a caller of the view presents
 pub record IsPresented (view : View) (now : ℕ) (bearers : List (List ℕ)) : Type 0 where
   pub text : List ℕ
   pub token : OwnToken

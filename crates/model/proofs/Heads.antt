@@ -1,4 +1,4 @@
--- What a head decides before its body is read.
+-- The decisions that a head makes before its body is read.
 use Rattle.std.proofs.Common.{◌≡◌, ℕ, true, false, List, [], refl, sym, ap, subst, ◌∙◌, Result, Ok, Err, None}
 use Rattle.std.specs.Bool.{⊤}
 use Rattle.std.proofs.lemmas.Option.{none-some}
@@ -17,7 +17,7 @@ use Rattle.model.specs.Verdict.{desk_plan, desk_request, early_check, verdict, e
 use Rattle.model.specs.Steps.{verdict_on, denial_alone, Message, message, bad_head, Exchange, Carries, by_verdict, by_refusal}
 use Rattle.model.specs.Laws.{HeadDecides, TargetDecides, OnlyCutIsSilent, IsCutShort}
 
--- a refusal stays one, whatever would come after it
+-- a refusal by an earlier check does not depend on the later checks
 abbrev refused : {B E : Type 0} → E → Result ⊤ E → Result B E
 refused d (Ok x) = Err d
 refused d (Err e) = Err e
@@ -29,7 +29,7 @@ err_stays : {A B E : Type 0} (r : Result A E) (C : A → Result B E) (d : E) →
 err_stays (Ok x) C d e = absurd (cc)
 err_stays {B = B} {E = E} (Err x) C d e = ap (refused {B = B} d) e
 
--- an upload is read without its body
+-- an upload request is read without its body
 same_put : (head : RequestHead) (target : Target) (body : List ℕ) → target.form ≡ form.Put → desk_request head target [] ≡ desk_request head target body
 same_put head target body is =
     let p = target.parameter in let q = query_of head.target in

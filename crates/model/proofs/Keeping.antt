@@ -1,4 +1,4 @@
--- Each step stores the laws of worlds.
+-- Each step keeps the laws of worlds.
 use Rattle.std.proofs.Common.{◌≡◌, ℕ, ◌+◌, ◌<◌, ◌≤◌, Bool, true, false, not, ◌||◌, ◌&&◌, nat_lt, nat_le, List, [], ◌∷◌, length, filter, refl, sym, ap, subst, ◌∙◌, arith, Result, Ok, Err, Option, Some, None, find, bytes_eq, cond, IfOk, IfSome, IsTrue, codes, is_err, is_some, ◌==◌}
 use Rattle.std.specs.Bool.{⊤}
 use Rattle.std.specs.List.{AllByRecursion}
@@ -96,7 +96,7 @@ ref_in_range : (ref : Option (List ℕ)) (default_ref : List ℕ) → IsTrue (is
 ref_in_range (Some ref) default_ref given default = given
 ref_in_range None default_ref given default = default
 
--- ---- what may be granted in a world
+-- ---- grants in a world
 
 -- the lock is in range, its place is free, and its id is the next
 pub record IsNewLock (world : World) (l : Lock) : Type 0 where
@@ -122,7 +122,7 @@ pub record IsSetting (setting : Setting) : Type 0 where
   pub policy : IsPolicy setting.policy
   pub now : setting.now ≤ last_moment
 
--- so is a case in a world
+-- and so is a case in a world
 pub record IsCase (setting : Setting) (who : Caller) (entry : Repo) : Type 0 where
   pub now : setting.now ≤ last_moment
   pub caller : IsCaller who
@@ -197,7 +197,7 @@ both_ok : {A B : Type 0} (P : A → Type 0) (r : Result A B) (Q : Type 0) → If
 both_ok P (Ok x) Q is also = (is, also)
 both_ok P (Err e) Q is also = tt
 
--- a plan that a caller's request leads to is feasible, and its repository is in range
+-- the plan of a caller's request is feasible, and its repository is in range
 abbrev IsGoodPlan : World → List ℕ → Plan → Type 0
 IsGoodPlan world repo plan = IsFeasible world plan × IsTrue (is_repo repo)
 
@@ -246,9 +246,9 @@ verdict_grantable world setting head body w at is =
     (desk_feasible world setting (desk_request head target body) w at (request_in_range target.form target.parameter (query_of head.target) body)) (λ plan good.
     finish_grantable world target.repo body plan good small))
 
--- ---- one lock more
+-- ---- one more lock
 
--- the place of the lock is free, so each other lock stands elsewhere
+-- the place of the lock is free, so each other lock has another place
 elsewhere : (l k : Lock) → (bytes_eq k.repo l.repo ≡ true → (bytes_eq k.ref l.ref && bytes_eq k.path l.path) ≡ false) → DiffersInPlace l k
 elsewhere l k free repo ref path =
     true≢false (sym (and_from _ _ ((bytes_eq-Decides k.ref l.ref).1 (sym ref)) ((bytes_eq-Decides k.path l.path).1 (sym path))) ∙ free ((bytes_eq-Decides k.repo l.repo).1 (sym repo)))
@@ -264,7 +264,7 @@ free_place world l new =
     let own : Lock → Bool = λ k. bytes_eq k.repo l.repo in
     all_elsewhere l world.locks (none_filter place own world.locks (none_rising (λ a b. nat_lt a.id b.id) place (filter own world.locks) new.free))
 
--- the id is past all that were made, so each other lock has another
+-- the id is greater than all that were made, so each other lock has another id
 new_id : (l : Lock) (made : List ℕ → ℕ) (locks : List Lock) → l.id ≡ made l.repo + 1 → AllByRecursion (IsLock made) locks → AllByRecursion (DiffersInId l) locks
 new_id l made [] e all = tt
 new_id l made (k ∷ locks) e all =
@@ -308,7 +308,7 @@ keeps_with_lock world l new w =
       digests = w.digests;
     }
 
--- ---- one token more, and fewer tokens
+-- ---- one more token, and fewer tokens
 
 other_digest : (i j : Token) → bytes_eq (sha256 j.text) (sha256 i.text) ≡ false → DiffersInDigest i j
 other_digest i j is same = true≢false (sym ((bytes_eq-Decides (sha256 j.text) (sha256 i.text)).1 (sym same)) ∙ is)
@@ -355,7 +355,7 @@ keeps_without_lock l world w = record {
   digests = w.digests;
 }
 
--- ---- one object more
+-- ---- one more object
 
 other_name : (o p : Object) → (bytes_eq p.repo o.repo && bytes_eq p.name o.name) ≡ false → DiffersInName o p
 other_name o p is repo name = true≢false (sym (and_from _ _ ((bytes_eq-Decides p.repo o.repo).1 (sym repo)) ((bytes_eq-Decides p.name o.name).1 (sym name))) ∙ is)
@@ -488,7 +488,7 @@ silence_leaves old e new (by_refusal given sure is) told = is
 pub silence_changes_nothing : SilenceChangesNothing
 silence_changes_nothing old e new step told = silence_leaves old e new step.carries told
 
--- the world after an exchange is the one after the answer that was given
+-- the world after an exchange is the one after its answer
 after_given : (old : World) (e : Exchange) (new : World) → Carries old e new → new ≡ after old e.given
 after_given old e new (by_verdict given is) = is ∙ ap (after old) (sym given)
 after_given old e new (by_refusal given sure is) = is ∙ ap (after old) (sym given)

@@ -1,4 +1,4 @@
--- What a stop may leave.
+-- The worlds that a stop may leave.
 use Rattle.std.proofs.Common.{◌≡◌, ℕ, inl, inr, ◌⊎◌, Bool, true, false, not, nat_lt, List, [], ◌∷◌, ◌++◌, length, filter, refl, sym, ap, subst, ◌∙◌, arith, Result, Ok, Err, Option, Some, None, cond, is_some, is_none, append_assoc, append-nil}
 use Rattle.std.specs.List.{AllByRecursion}
 use Rattle.std.proofs.lemmas.Bool.{true≢false, ltb-false}
@@ -20,7 +20,7 @@ same_object o world e = at (object_named o.repo o.name world) e
     at (Some p) h = refl
     at None h = absurd (true≢false h)
 
--- a grant that is no change leaves the world
+-- a grant that is not a change leaves the world unchanged
 same_grant : (world : World) (g : Grant) → is_change world g ≡ false → after_grant world g ≡ world
 same_grant world (stores o) e = same_object o world e
 same_grant world (makes_lock l) e = absurd (true≢false e)
@@ -31,7 +31,7 @@ same_grant world confirms e = refl
 same_grant world (lists page) e = refl
 same_grant world (splits user page) e = refl
 
--- the world after a verdict, as its ending says
+-- the world after a verdict is the one that its ending gives
 after_is : (world : World) (given : Option Answer) → after world given ≡ world_by (answer_ending world given) world (after world given)
 after_is world (Some (Ok g)) = at (is_change world g) refl
   where
@@ -87,6 +87,14 @@ reports_are_true old (exchanged e) new step = exchange_true old e new step.carri
 reports_are_true old (issues asked given) new step = issue_true old asked given new step.1
 reports_are_true old (prunes now given) new step = prune_true old now given new step
 
+-- the worlds left by a run with one more event
+pub bound_one : (old : World) (events : List Event) (mid : World) (event : Event) (bound : Bound) → Run old events mid
+    → bound_of_run old (events ++ event ∷ []) bound ≡ bound_after mid event (bound_of_run old events bound)
+bound_one old [] mid event bound run = ap (λ (w : World). bound_after w event bound) (sym run)
+bound_one old (e ∷ events) mid event bound run =
+    bound_one (next_world old e) events mid event (bound_after old e bound)
+    (subst (λ (w : World). Run w events mid) (reports_are_true old e run.0 run.1) run.2)
+
 unchanged_world : (v : Ending) (old made : World) → is_changed v ≡ false → world_by v old made ≡ old
 unchanged_world changed old made e = absurd (true≢false e)
 unchanged_world unchanged old made e = refl
@@ -98,7 +106,7 @@ only_reported_changes old event new step quiet =
 
 -- ---- the bound of a run
 
--- the store refused one of the events, and after it none made a change; done is in order
+-- the world is the last one, or one that the store refused to make after the last change; the events are in order
 abbrev IsLeft : List Event → World → World → Type 0
 IsLeft done new world = SameWorld new world ⊎ IsHalfDone done new world
 
@@ -106,7 +114,7 @@ each_append : {A : Type 0} (P : A → Type 0) (xs : List A) (x : A) → AllByRec
 each_append P [] x all is = (is, tt)
 each_append P (y ∷ xs) x all is = (all.0, each_append P xs x all.1 is)
 
--- one event more, which made no change
+-- one more event, which made no change
 half_done_on : (done : List Event) (event : Event) (world left : World) → is_changed (ending_of world event) ≡ false → IsHalfDone done world left
     → IsHalfDone (done ++ event ∷ []) world left
 half_done_on done event world left quiet h = record {

@@ -1,4 +1,4 @@
--- Lists in sort_by order, and what is ok_or in them.
+-- Lists in `sort_by` order, and lookups in them.
 use Rattle.std.proofs.Common.{◌≡◌, Bool, true, false, ◌&&◌, List, [], ◌∷◌, refl, sym, ap, ◌∙◌, Option, Some, None, find, filter, cond, map, zero, suc, arith, inl, inr, ◌⊎◌, option_map, subst, ◌++◌}
 use Rattle.std.specs.List.{AllByRecursion, Contains}
 use Rattle.std.specs.Bool.{⊤}
@@ -6,7 +6,7 @@ use Rattle.std.proofs.lemmas.Option.{none-some, same_Some}
 use Rattle.std.proofs.lemmas.Bool.{cond_both, true≢false}
 use Rattle.model.specs.Orders.{insert_by, sort_by}
 
--- ---- nothing is ok_or
+-- ---- nothing is found
 
 pub not_found : {A : Type 0} (b : Bool) (x : A) (rest : Option A) → cond b (Some x) rest ≡ None → (b ≡ false) × (rest ≡ None)
 not_found true x rest e = absurd (none-some x (sym e))
@@ -45,7 +45,7 @@ none_filter p q (x ∷ xs) e = at (q x) (none_filter p q xs) e
     at true rest h = let there = not_found (p x) x (find p (filter q xs)) h in ((λ _. there.0), rest there.1)
     at false rest h = ((λ is. absurd (true≢false (sym is))), rest h)
 
--- ---- of each element
+-- ---- properties of each element
 
 pub each_placed : {A : Type 0} (P : A → Type 0) (before : A → A → Bool) (x : A) (ys : List A) → P x → AllByRecursion P ys → AllByRecursion P (insert_by before x ys)
 each_placed P before x [] is all = (is, tt)
@@ -61,9 +61,9 @@ each_filter P q [] all = tt
 each_filter P q (x ∷ xs) all =
     cond_both (q x) (x ∷ filter q xs) (filter q xs) (AllByRecursion P) (λ _. (all.0, each_filter P q xs all.1)) (λ _. each_filter P q xs all.1)
 
--- ---- a weaker filter before
+-- ---- a filter followed by a stronger one
 
--- what passes p passes q, so q receives nothing from p
+-- each element that passes p also passes q, so filtering by q first changes nothing
 pub filter_weaker : {A : Type 0} (p q : A → Bool) (xs : List A) → AllByRecursion (λ x. p x ≡ true → q x ≡ true) xs → filter p (filter q xs) ≡ filter p xs
 filter_weaker p q [] weaker = refl
 filter_weaker {A = A} p q (x ∷ xs) weaker = at (filter_weaker p q xs weaker.1) weaker.0 (q x) refl (p x) refl
@@ -121,7 +121,7 @@ pub each_append : {A : Type 0} (P : A → Type 0) (xs ys : List A) → AllByRecu
 each_append P [] ys a b = b
 each_append P (x ∷ xs) ys a b = (a.0, each_append P xs ys a.1 b)
 
--- what passes a filter was there, and what was there and passes is left
+-- an element of a filtered list is in the list, and an element of the list that passes is in the filtered list
 pub in_before_filter : {A : Type 0} (p : A → Bool) (xs : List A) (x : A) → In (filter p xs) x → In xs x
 in_before_filter p [] x is = is
 in_before_filter p (y ∷ ys) x is =
@@ -136,19 +136,19 @@ in_filter p [] x is e = is
 in_filter p (y ∷ ys) x (inl h) e = cond_both (p y) (y ∷ filter p ys) (filter p ys) (λ l. In l x) (λ _. inl h) (λ off. absurd (true≢false (sym e ∙ ap p (sym h) ∙ off)))
 in_filter p (y ∷ ys) x (inr is) e = cond_both (p y) (y ∷ filter p ys) (filter p ys) (λ l. In l x) (λ _. inr (in_filter p ys x is e)) (λ _. in_filter p ys x is e)
 
--- what passes a filter passes its test
+-- each element of a filtered list passes the test
 pub each_passes : {A : Type 0} (p : A → Bool) (xs : List A) → AllByRecursion (λ x. p x ≡ true) (filter p xs)
 each_passes p [] = tt
 each_passes p (y ∷ ys) = cond_both (p y) (y ∷ filter p ys) (filter p ys) (AllByRecursion (λ x. p x ≡ true)) (λ e. (e, each_passes p ys)) (λ _. each_passes p ys)
 
--- what is ok_or is there
+-- a found element is in the list
 pub in_found : {A : Type 0} (p : A → Bool) (xs : List A) (x : A) → find p xs ≡ Some x → In xs x
 in_found p [] x e = absurd (none-some x e)
 in_found p (y ∷ ys) x e = cond_both (p y) (Some y) (find p ys) (λ o. o ≡ Some x → (y ≡ x) ⊎ In ys x) (λ _ h. inl (same_Some y x h)) (λ _ h. inr (in_found p ys x h)) e
 
--- ---- one that is the only one
+-- ---- the only element that passes
 
--- none behind it passes, where one passes
+-- if an element passes, none after it passes
 abbrev pub IsOnly : {A : Type 0} → (A → Bool) → List A → Type 0
 IsOnly p [] = ⊤
 IsOnly p (x ∷ xs) = (p x ≡ true → AllByRecursion (λ y. p y ≡ false) xs) × IsOnly p xs
@@ -170,7 +170,7 @@ pub only_map : {A B : Type 0} (p : B → Bool) (f : A → B) (xs : List A) → I
 only_map p f [] only = tt
 only_map p f (x ∷ xs) only = ((λ e. each_map (λ y. p y ≡ false) f xs (only.0 e)), only_map p f xs only.1)
 
--- the first of two is ok_or in either order, where not both pass
+-- the first match of two elements is the same in either order, if not both pass
 swapped : {A : Type 0} (x y : A) (v w : Bool) (o : Option A) → (v ≡ true → w ≡ false) → cond w (Some y) (cond v (Some x) o) ≡ cond v (Some x) (cond w (Some y) o)
 swapped x y true true o not_both = absurd (true≢false (not_both refl))
 swapped x y true false o not_both = refl
@@ -211,13 +211,13 @@ found_and x y true false o r e is rest = absurd (true≢false (sym (is (same_Som
 found_and x y false true o r e is rest = rest e
 found_and x y false false o r e is rest = rest e
 
--- ok_or, also where q is asked before
+-- the match is the same if q is tested first
 pub find_and : {A : Type 0} (p q : A → Bool) (xs : List A) (x : A) → find p xs ≡ Some x → q x ≡ true → find (λ y. q y && p y) xs ≡ Some x
 find_and p q [] x e is = absurd (none-some x e)
 find_and p q (y ∷ ys) x e is =
     found_and x y (p y) (q y) (find p ys) (find (λ z. q z && p z) ys) e (λ same. ap q same ∙ is) (λ f. find_and p q ys x f is)
 
--- what is ok_or passes
+-- a found element passes
 pub found_passes : {A : Type 0} (p : A → Bool) (xs : List A) (x : A) → find p xs ≡ Some x → p x ≡ true
 found_passes p [] x e = absurd (none-some x e)
 found_passes p (y ∷ ys) x e = at (p y) refl e (found_passes p ys x)

@@ -1,4 +1,4 @@
--- The text that is computed of a moment is its text.
+-- The computed text of a moment is its text.
 use Rattle.std.proofs.Common.{◌≡◌, ℕ, zero, suc, ◌+◌, ◌-◌, ◌/◌, ◌%◌, ◌<◌, ◌≤◌, Bool, true, false, nat_lt, cond, refl, sym, ap, subst, ◌∙◌, arith, ℤ, pos}
 use Rattle.std.proofs.lemmas.Bool.{lt-ltb, le-ltb, ltb-true, ltb-false}
 use Rattle.jiff_core.specs.Calendar.{IsCivilDate, IsYear, days_from_civil, days_in_year, days_in_month, days_of_months, day_count}
@@ -8,7 +8,7 @@ use Rattle.names.specs.Moments.{civil_text, IsMomentText}
 use Rattle.model.specs.Moments.{count_off, year_and_day, month_and_day, text_in, moment_text}
 use Rattle.model.specs.Laws.{MomentIsText, MomentHasText}
 
--- the days before the n + k-th
+-- the number of days before the n + k-th unit
 pub before : (ℕ → ℕ) → ℕ → ℕ → ℕ
 before f n zero = 0
 before f n (suc k) = f n + before f (n + 1) k
@@ -109,7 +109,7 @@ moment_is_text moment text is =
 
 -- ---- each moment has a text
 
--- what counting off finds: the n + k-th, and what is left of it
+-- the result of counting off: the n + k-th unit, and the days left in it
 pub record IsCountedOff (f : ℕ → ℕ) (most n day : ℕ) (found : ℕ × ℕ) : Type 0 where
   pub k : ℕ
   pub few : k ≤ most
@@ -139,7 +139,7 @@ counted f (suc most) n day less = at (nat_lt day (f n)) refl (counted f most (n 
     at true e rest = counted_here f (suc most) n day (ltb-true day (f n) e)
     at false e rest = let past = ltb-false day (f n) e in counted_on f most n day (count_off f most (n + 1) (day - f n)) past (rest (omega (arith, less, past)))
 
--- the day of a year that has this place in it, from 0 on
+-- the day of a year that has this index, counted from 0
 date_in : (year r : ℕ) → IsYear (pos year) → r < days_in_year (pos year)
     → (month : ℕ) × (day : ℕ) × IsCivilDate (pos year) month day × (days_of_months (pos year) (month - 1) + day ≡ r + 1)
 date_in year r is less =
@@ -155,7 +155,7 @@ date_in year r is less =
       omega (arith, c.whole, months_before (pos year) 0 c.k, days_of_months-zero (pos year), first, at),
     )
 
--- the date of a count of days from 1970 on, up to the year 9999
+-- the date for a count of days from 1970 on, up to the year 9999
 date_of : (d : ℕ) → d < 2_932_897
     → (year : ℕ) × (month : ℕ) × (day : ℕ) × IsCivilDate (pos year) month day × (days_from_civil (pos year) month day ≡ pos d)
 date_of d less =

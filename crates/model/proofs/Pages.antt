@@ -51,7 +51,7 @@ rise_append : (xs ys : List Lock) → Rise xs → Rise ys → AllByRecursion (λ
 rise_append [] ys a b all = b
 rise_append (x ∷ xs) ys a b all = (each_append (IsBelow x) xs ys a.0 all.0, rise_append xs ys a.1 b all.1)
 
--- ---- the first of them, and the one behind
+-- ---- the first of them, and the one after
 
 abbrev Behind : ℕ → List Lock → Option Lock → Type 0
 Behind n left None = (l : Lock) → In left l → In (take n left) l
@@ -169,7 +169,7 @@ in_right : (xs ys : List Lock) (l : Lock) → In ys l → In (xs ++ ys) l
 in_right [] ys l is = is
 in_right (x ∷ xs) ys l is = inr (in_right xs ys l is)
 
--- a page, and behind it what rises from its next
+-- a page, and then the pages that begin at its next id
 joined : (cursor : ℕ) (leg : Leg) (legs : List Leg) (n : ℕ) → IsPage leg.shown cursor leg.limit leg.page → leg.page.next ≡ Some n → IsWhole n legs → IsWhole cursor (leg ∷ legs)
 joined cursor leg legs n p e w =
     let locks = leg.page.locks in

@@ -1,4 +1,4 @@
--- How a session goes on, and how it ends.
+-- How a session continues, and how it ends.
 use Rattle.std.proofs.Common.{◌≡◌, ℕ, ◌+◌, Bool, true, false, MatchBool, List, [], ◌∷◌, ◌++◌, map, refl, sym, ap, subst, ◌∙◌, append_assoc, append-nil}
 use Rattle.std.specs.Prelude.{is_some, cond}
 use Rattle.std.proofs.lemmas.List.Sums.{sum_by-append}
@@ -23,7 +23,7 @@ run_one old mid new exchanges e a b =
     subst (λ (events : List Event). Run old events new) (sym (map-append exchanged exchanges (e ∷ [])))
     (run_append old mid new (map exchanged exchanges) (exchanged e ∷ []) a (new, b, refl))
 
--- the text of one exchange more
+-- the text of one more exchange
 pub text_one : (exchanges : List Exchange) (e : Exchange) → session_text (exchanges ++ e ∷ []) ≡ session_text exchanges ++ text_of e
 text_one [] e = append-nil (text_of e)
 text_one (f ∷ exchanges) e = ap (λ t. text_of f ++ t) (text_one exchanges e) ∙ sym (append_assoc (text_of f) (session_text exchanges) (text_of e))
@@ -45,14 +45,14 @@ leads_one bytes rest next [] e same begins stays =
 leads_one bytes rest next (f ∷ exchanges) e leads begins stays =
     (leads.0, leads.1, leads.2, leads_one leads.0 rest next exchanges e leads.3 begins stays)
 
--- what answers the rest answers the whole, after what led there
+-- what answers the rest answers the whole, after the exchanges that led there
 pub answers_on : (bytes rest : List ℕ) (exchanges more : List Exchange) (end : Ended) → LeadsTo bytes exchanges rest → Answers rest more end
     → Answers bytes (exchanges ++ more) end
 answers_on bytes rest [] more end same a = subst (λ (b : List ℕ). Answers b more end) same a
 answers_on bytes rest (e ∷ exchanges) more end leads a =
     (leads.0, leads.1, rw leads.2 (answers_on leads.0 rest exchanges more end leads.3 a))
 
--- one exchange more answers the first messages
+-- one more exchange answers the first messages
 pub first_one : (bytes rest next : List ℕ) (exchanges : List Exchange) (e : Exchange) → LeadsTo bytes exchanges rest → BeginsWith rest e.asked next
     → AnswersFirst bytes (exchanges ++ e ∷ [])
 first_one bytes rest next [] e same begins =
@@ -64,7 +64,7 @@ first_one bytes rest next [] e same begins =
 first_one bytes rest next (f ∷ exchanges) e leads begins =
     (leads.0, leads.1, rw leads.2 (first_one leads.0 rest next exchanges e leads.3 begins))
 
--- the replies of one exchange more
+-- the replies of one more exchange
 pub count_one : (exchanges : List Exchange) (e : Exchange) → reply_count (exchanges ++ e ∷ []) ≡ reply_count exchanges + reply_count (e ∷ [])
 count_one exchanges e = sum_by-append (λ f. cond (is_some f.given) 1 0) exchanges (e ∷ [])
 
@@ -84,7 +84,7 @@ begun setting bytes world = record {
   written = record { written = refl; answered = refl };
 }
 
--- one exchange more, from one world to another
+-- one more exchange, from one world to another
 pub record IsNextExchange (s : Session) (rest next : List ℕ) (e : Exchange) (mid new : World) : Type 0 where
   pub begins : BeginsWith rest e.asked next
   pub under : e.setting ≡ s.setting
@@ -104,15 +104,15 @@ answers_all : (s : Session) (rest : List ℕ) (old new : World) → IsProgress s
 answers_all s rest old new p less =
     subst (λ (es : List Exchange). Answers s.bytes es input_ended) (append-nil s.exchanges) (answers_on s.bytes rest s.exchanges [] input_ended p.leads (less, refl))
 
--- no head is left, and the input ended
+-- no complete head is left, and the input ended
 pub ends_unfinished : (s : Session) (rest : List ℕ) (old new : World) → IsProgress s rest old new → IsUnfinished rest → IsSession s InputEnded old new
 ends_unfinished s rest old new p less = record { ends = (answers_all s rest old new p less, p.written); under = p.under; run = p.run }
 
--- no head is left, and a read failed
+-- no complete head is left, and a read failed
 pub ends_unread : (s : Session) (rest : List ℕ) (old new : World) → IsProgress s rest old new → IsUnfinished rest → IsSession s ReadFailed old new
 ends_unread s rest old new p less = record { ends = (answers_all s rest old new p less, p.written); under = p.under; run = p.run }
 
--- the connection closes after one exchange more
+-- the connection closes after one more exchange
 pub ends_closed : (s : Session) (rest next : List ℕ) (old mid new : World) (e : Exchange)
     → IsProgress s rest old mid → IsNextExchange s rest next e mid new → closes e ≡ true → IsSession (with_exchange e s) Closed old new
 ends_closed s rest next old mid new e p more shut = record {
@@ -121,11 +121,11 @@ ends_closed s rest next old mid new e p more shut = record {
   run = run_one old mid new s.exchanges e p.run more.step;
 }
 
--- the session with one more exchange, of whose reply a part alone is written
+-- the session with one more exchange, whose reply is written in part
 abbrev pub with_part : Exchange → List ℕ → Session → Session
 with_part e part s = record s { exchanges = s.exchanges ++ e ∷ []; written = s.written ++ part }
 
--- a write fails within the reply of one exchange more
+-- a write fails within the reply of one more exchange
 pub breaks_off : (s : Session) (rest next : List ℕ) (old mid new : World) (e : Exchange) (part : List ℕ)
     → IsProgress s rest old mid → IsNextExchange s rest next e mid new → IsPartOf part (text_of e) → IsSession (with_part e part s) WriteFailed old new
 breaks_off s rest next old mid new e part p more partial = record {

@@ -137,7 +137,7 @@ verdict_fits world setting head body target j =
 
 -- ---- the total
 
--- what the total of a repository is with one object more
+-- the total of a repository with one more object
 total_with : (old : World) (o : Object) (n : List ℕ) (v : Bool) → bytes_eq o.repo n ≡ v
     → total n (record old { objects = o ∷ old.objects }) ≡ cond v (length o.bytes + total n old) (total n old)
 total_with old o n true e =

@@ -1,4 +1,4 @@
--- Which rules refuse a head, and which a request whose head is not refused.
+-- Which rules refuse a head, and which refuse a request whose head is accepted.
 use Rattle.std.proofs.Common.{◌≡◌, ℕ, Bool, true, false, not, ◌||◌, ◌&&◌, List, [], ◌∷◌, find, nat_lt, nat_le, length, refl, ap, Result, Ok, Err, Option, Some, None, codes, bytes_eq, is_some, ◌==◌}
 use Rattle.std.specs.Result.{IfErr}
 use Rattle.std.specs.Str.{is_utf8}
@@ -68,7 +68,7 @@ IsLateRule r = IsLate (by_rule r)
 late : {d : Denial} → is_rule is_early (Err d) ≡ false → is_rule is_of_head (Err d) ≡ false → is_rule is_h7 (Err d) ≡ false → is_store_refusal (Err d) ≡ false → IsLate d
 late a b c d = record { early = a; of_head = b; method = c; store = d }
 
--- a check, a value that has to be there, and a rule before others
+-- a check, a required value, and a rule before others
 check_late : (test : Bool) (e : Rule) → IsLateRule e → IfErr (check test e) IsLateRule
 check_late test e is = check_fails IsLateRule test e is
 
@@ -319,7 +319,7 @@ finish_fails world repo body (receives name) =
     let same = bytes_eq name (name_of body) in
     and_late (by_rules (check same rule.X2)) _ (rule_late (check same rule.X2) (check_late same rule.X2 (late refl refl refl refl))) (λ is. tt)
 
--- the desk refuses with no rule of the head, and not for the store
+-- the desk never refuses with a rule of the head, nor with a store refusal
 pub desk_fails : (world : World) (setting : Setting) (asked : DeskRequest) (body : List ℕ) → IfErr asked.request IsLateRule
     → IfErr (desk_verdict world setting asked body) IsLate
 desk_fails world setting asked body is =

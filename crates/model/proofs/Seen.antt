@@ -1,4 +1,4 @@
--- What a user does not see decides nothing of the replies to that user.
+-- The replies to a user do not depend on what the user does not see.
 use Rattle.std.proofs.Common.{◌≡◌, ℕ, ◌+◌, Bool, true, false, ◌||◌, ◌&&◌, nat_lt, List, [], ◌∷◌, filter, refl, sym, ap, ◌∙◌, Result, Ok, Err, Option, Some, bytes_eq, cond, IsTrue, ◌==◌, is_some}
 use Rattle.std.specs.Prelude.{ℤ}
 use Rattle.std.specs.Bool.{⊤}
@@ -30,7 +30,7 @@ use Rattle.model.specs.Views.{sees_objects, may_allow_push, is_allow}
 use Rattle.model.proofs.Tests.{both_true}
 use Rattle.model.proofs.Lists.{filter_weaker, find_weaker, each_weaker}
 
--- ---- chains that go the same way
+-- ---- chains with the same result
 
 same_then : {A B E : Type 0} (r : Result A E) (f g : A → Result B E) → ((x : A) → r ≡ Ok x → f x ≡ g x) → (r >>= f) ≡ (r >>= g)
 same_then (Ok x) f g same = same x refl
@@ -44,7 +44,7 @@ or_right : (a b : Bool) → b ≡ true → (a || b) ≡ true
 or_right true b e = refl
 or_right false b e = e
 
--- ---- what the policy lets through
+-- ---- what the policy allows
 
 permit_is : (d : Decision) (r : Right) (status : ℕ) (x : ⊤) → permit_by d r status ≡ Ok x → is_allowed d ≡ true
 permit_is (allowed n) r status x e = refl
@@ -54,7 +54,7 @@ decision_allows : (e : Effect) (n : ℕ) → is_allowed (decision_by e n) ≡ tr
 decision_allows effect.Allow n h = refl
 decision_allows effect.Deny n h = absurd (true≢false (sym h))
 
--- a row that allows a push to a ref is one that may allow some push
+-- a row that allows a push to a ref may allow some push
 row_may_push : (user repo ref : List ℕ) (row : Row) → IsTrue (matches row (push_question user repo ref)) → is_allow row.effect ≡ true → may_allow_push user repo row ≡ true
 row_may_push user repo ref row m a =
     let first4 = both_true _ _ m in let first3 = both_true _ _ first4.0 in let first2 = both_true _ _ first3.0 in let both = both_true _ _ first2.0 in
@@ -97,7 +97,7 @@ module _ (setting : Setting) (caller : Caller) (repo : Repo) (objects : List Obj
   abbrev pub whole : RepoState
   whole = record { objects = objects; locks = locks; made = made; room = room }
 
-  -- the same, as far as it is seen, with these objects
+  -- the visible part of the state, with these objects
   abbrev seen_with_objects : List ObjectSize → RepoState
   seen_with_objects os = record { objects = os; locks = filter (sees policy user) locks; made = made; room = room }
 
@@ -151,7 +151,7 @@ module _ (setting : Setting) (caller : Caller) (repo : Repo) (objects : List Obj
   abbrev place_question : Right → List ℕ → List ℕ → List ℕ → Question
   place_question right name ref path = record { user = user; repo = name; right = right; ref = Some ref; path = Some path }
 
-  -- a lock in the place that the caller may lock is seen
+  -- a lock in a place that the caller may lock is visible
   sees_by_lock : (ref path : List ℕ) (l : Lock) → is_allowed (decide policy (place_question right.Lock repo.name ref path)) ≡ true → l.repo ≡ repo.name
       → (bytes_eq l.ref ref && bytes_eq l.path path) ≡ true → sees policy user l ≡ true
   sees_by_lock ref path l may e place =

@@ -1,4 +1,4 @@
--- What is served was put.
+-- What is served was uploaded.
 use Rattle.std.proofs.Common.{◌≡◌, ℕ, inl, inr, ◌⊎◌, Bool, true, false, ◌||◌, List, [], ◌∷◌, refl, sym, ap, subst, ◌∙◌, arith, Result, Ok, Err, Option, Some, None, bytes_eq, cond, IfOk, ◌==◌, is_some, ◌&&◌, nat_lt, suc}
 use Rattle.std.specs.Bool.{⊤}
 use Rattle.std.proofs.lemmas.Option.{none-some, same_Some}
@@ -35,13 +35,13 @@ use Rattle.model.proofs.Tests.{both_true}
 
 -- ---- which requests touch contents
 
--- a grant that is of no content
+-- a grant without a content
 abbrev pub IsPlain : Grant → Type 0
 IsPlain (serves o) = ⊥
 IsPlain (stores o) = ⊥
 IsPlain _ = ⊤
 
--- a content is content_verdict of a Put alone, under the name of its target
+-- a content is stored only for a Put, under the name of its target
 abbrev pub IsFrom : Form → List ℕ → Plan → Type 0
 IsFrom f parameter (grants g) = IsPlain g
 IsFrom f parameter (sends name size) = (f ≡ form.Get) × (parameter ≡ name)
@@ -126,7 +126,7 @@ desk_from world setting asked f parameter is =
     then_any P (by_rules (check (is_covered caller request) rule.A5)) _ (λ covered.
     plans_from (case_in world setting caller repo) f parameter asked.left request what)))))
 
--- ---- where a grant comes from
+-- ---- the origin of a grant
 
 -- the head and the body of a Put of just this object
 pub record IsPut (head : RequestHead) (body : List ℕ) (o : Object) : Type 0 where
@@ -200,7 +200,7 @@ verdict_came world setting head body = at (head_verdict head) refl
 
 -- ---- exchanges
 
--- the exchange is of a head and its whole body, and this is what its grant comes from
+-- the exchange has a head and its whole body, and its grant comes from this
 pub record IsGrant (old : World) (e : Exchange) (g : Grant) : Type 0 where
   pub head : RequestHead
   pub body : List ℕ
@@ -232,7 +232,7 @@ served_has_its_name old e o new w step told =
     let g = grant_of old e (serves o) new step.carries told in
     (each_in IsObject old.objects o (recursion_from_All IsObject old.objects w.objects) g.came.stored).name
 
--- what is served is what the head asks for
+-- the served object is the one that the head asks for
 get_of : (old : World) (e : Exchange) (o : Object) (new : World) → Carries old e new → e.given ≡ Some (Ok (serves o)) → IsGetOf o e
 get_of old e o new carries told =
     let g = grant_of old e (serves o) new carries told in
@@ -250,7 +250,7 @@ get_of old e o new carries told =
 pub serves_what_is_asked : ServesWhatIsAsked
 serves_what_is_asked old e o new step told = get_of old e o new step.carries told
 
--- what was kept was put
+-- the stored object was uploaded
 put_of : (old : World) (e : Exchange) (o : Object) (new : World) → Carries old e new → e.given ≡ Some (Ok (stores o)) → IsPutOf o e
 put_of old e o new carries told =
     let g = grant_of old e (stores o) new carries told in
@@ -267,7 +267,7 @@ put_of old e o new carries told =
 
 -- ---- steps and runs
 
--- an object that is new was put by the step
+-- a new object was uploaded by the step
 abbrev IsOldOrPut : World → Event → Object → Type 0
 IsOldOrPut old event o = In old.objects o ⊎ ((e : Exchange) × (event ≡ exchanged e) × IsPutOf o e)
 

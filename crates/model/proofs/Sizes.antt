@@ -1,4 +1,4 @@
--- A head that is not refused announces no body that is larger than an object.
+-- An accepted head states no body that is larger than an object.
 use Rattle.std.proofs.Common.{◌≡◌, ℕ, ◌≤◌, Bool, true, false, not, ◌||◌, ◌&&◌, nat_lt, nat_le, List, [], ◌∷◌, refl, sym, subst, arith, Ok, Some, find, filter, bytes_eq, cond, IfOk, IfSome, IsTrue, codes, inl, inr, ◌⊎◌}
 use Rattle.std.specs.Bool.{⊤}
 use Rattle.std.specs.List.{AllByRecursion, list_all}

@@ -110,7 +110,7 @@ crowded_is_refused =
     }) (lit< tt))
     refl refl
 
--- ---- no bytes are no head
+-- ---- no bytes are not a head
 
 not_empty : (a b : List ℕ) (x : ℕ) (c : List ℕ) → [] ≡ a ++ (b ++ x ∷ c) → ⊥
 not_empty [] [] x c e = absurd (cc)

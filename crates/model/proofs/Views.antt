@@ -1,4 +1,4 @@
--- A view foretells the replies.
+-- A view determines the replies.
 use Rattle.std.proofs.Common.{◌≡◌, ℕ, Bool, true, false, ◌||◌, ◌&&◌, nat_lt, List, [], ◌∷◌, length, filter, map, refl, sym, ap, subst, ◌∙◌, arith, Result, Ok, Err, Option, Some, None, find, bytes_eq, cond, suc, option_map, IfOk, IfSome, is_some}
 use Rattle.std.specs.Bool.{⊤}
 use Rattle.std.specs.List.{AllByRecursion, AllPairs}
@@ -30,7 +30,7 @@ use Rattle.model.proofs.Checks.{passed, then_any, by_rules_ok, found_ok}
 use Rattle.model.proofs.Tests.{both_true}
 use Rattle.model.proofs.Seen.{same_plan}
 
--- ---- what is there once
+-- ---- elements that occur once
 
 fails : {A : Type 0} (p : A → Bool) (x y : A) → (p x ≡ true → p y ≡ true → ⊥) → p x ≡ true → (v : Bool) → p y ≡ v → v ≡ false
 fails p x y apart e true is = absurd (apart e is)
@@ -41,7 +41,7 @@ others : {A : Type 0} (Differ : A → A → Type 0) (p : A → Bool) (x : A) →
 others Differ p x apart e [] all = tt
 others Differ p x apart e (y ∷ ys) all = (fails p x y (apart y all.0) e (p y) refl, others Differ p x apart e ys all.1)
 
--- where no two agree in what a test asks, one alone passes it
+-- if no two elements that pass the test can be in the list, only one passes
 pub only_of : {A : Type 0} (Differ : A → A → Type 0) (p : A → Bool) (xs : List A) → ((x y : A) → Differ x y → p x ≡ true → p y ≡ true → ⊥) → AllPairs Differ xs → IsOnly p xs
 only_of Differ p [] apart all = tt
 only_of Differ p (x ∷ xs) apart all = (
@@ -54,7 +54,7 @@ only_of Differ p (x ∷ xs) apart all = (
 abbrev pub caller_as : List ℕ → Token → Caller
 caller_as text i = record { token = text; user = i.user; repo = i.repo; operation = i.operation; expires = i.expires }
 
--- what the world knows of a caller
+-- the facts about a caller in the world
 pub record Known (world : World) (now : ℕ) (values : List (List ℕ)) (caller : Caller) : Type 0 where
   pub text : List ℕ
   pub held : Token
@@ -122,7 +122,7 @@ own_locks repo world =
     (each_weaker (λ l. q l ≡ true) (λ l. l.repo ≡ repo) (filter q world.locks) (λ l e. (bytes_eq-Decides l.repo repo).0 e) (each_passes q world.locks))
 
 module _ (world : World) (setting : Setting) (caller : Caller) (left : ℕ) (request : Request) where
-  -- what the caller sees of a repository of this name, if this is the policy's entry
+  -- the part of the repository of this name that the caller sees, if this is the policy's entry
   abbrev seen_as : List ℕ → Option Repo → RepoState
   seen_as name entry = record {
     objects = cond (sees_objects setting.policy caller.user name) (objects_of name world) [];

@@ -83,7 +83,7 @@ pub data Grant : Type 0 where
 abbrev pub Answer : Type 0
 Answer = Result Grant Denial
 
--- the store or memory refused
+-- the store refused or memory ran out
 abbrev pub store_refusal : Answer
 store_refusal = Err (by_rule rule.S1)
 

@@ -77,7 +77,7 @@ upload_of c ref hash_algo o = do
   hash ← check_hash hash_algo
   unless_stored c.state (upload_actions c ref o.oid) (size_of o.oid c.state) size
 
--- the object as it was given, with its actions; a size that is no whole number of 64 bits is shown as 0
+-- the object as it was given, with its actions; a size that is not a whole number of 64 bits is shown as 0
 abbrev pub offer : (BatchObject → Result Actions Rule) → BatchObject → Offer
 offer actions o = record { oid = o.oid; size = or_default o.size 0; actions = actions o }
 

@@ -40,7 +40,7 @@ abbrev pub IsWithin : Bound → World → Type 0
 IsWithin [] world = ⊥
 IsWithin (one ∷ bound) world = SameWorld one world ⊎ IsWithin bound world
 
--- how a call ends: it made a change and reported it, it left the world, or the store or memory refused
+-- how a call ends: it made a change and reported it, it left the world, or the store refused or memory ran out
 pub data Ending : Type 0 where
   changed unchanged failed : Ending
 
@@ -49,8 +49,8 @@ abbrev pub is_changed : Ending → Bool
 is_changed changed = true
 is_changed _ = false
 
--- what a call leaves: a change that was reported its world alone, any other call also the world that there was, and a
--- refusal by the store also the world that the call was to make
+-- the worlds that a stop may leave after a call: after a reported change only the new one; after any other call the
+-- old one and those of the bound, and after a store refusal also the one that the call was to make
 abbrev pub left_by : Ending → (old made : World) → Bound → Bound
 left_by changed old made bound = made ∷ []
 left_by unchanged old made bound = old ∷ bound

@@ -34,7 +34,7 @@ bearer (value ∷ []) =
     then Some text else None
 bearer _ = None
 
--- the caller with these values of Authorization; a token is good before it expires
+-- the caller with these values of Authorization; a token is valid before it expires
 abbrev pub caller_by : World → ℕ → List (List ℕ) → Result Caller Rule
 caller_by world now values = do
   text ← ok_or (bearer values) A1

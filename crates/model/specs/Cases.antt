@@ -24,8 +24,8 @@ abbrev pub case_in : World → Setting → Caller → Repo → Case
 case_in world setting caller repo =
     record { setting = setting; caller = caller; repo = repo; state = repo_state repo world }
 
--- a request as it comes to the desk: the values of Authorization, the repository's text, how long the body is,
--- and what is asked, or the J rule that refuses it
+-- a request as it reaches the desk: the values of Authorization, the repository's text, the size of the body,
+-- and the request itself, or the J rule that refuses it
 pub record DeskRequest : Type 0 where
   pub bearers : List (List ℕ)
   pub repo : List ℕ

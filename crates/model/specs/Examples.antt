@@ -1,4 +1,4 @@
--- Worked examples: what the definitions say of small cases.
+-- Worked examples: the results of the definitions in small cases.
 use Rattle.std.specs.Prelude.{⊤, ◌≡◌, ℕ, true, false, List, [], ◌∷◌, ◌++◌, length, Some, None, Result, Ok, Err, codes, replicate, flat_map}
 use Rattle.httparse.specs.Grammar.{RequestHead, Field, print_request}
 use Rattle.names.specs.declared.rules.Rule.{Rule}
@@ -21,7 +21,7 @@ use Rattle.model.specs.Replies.{reply_text}
 use Rattle.model.specs.Sessions.{Session, InputEnded, Closed, IsSession, text_if}
 use Rattle.model.specs.Studio.{film, main_branch, studio, small_studio, frozen_art, paths_alone, readers, b_is_hidden, forcing, now, at_now, token_of, with_ann, expires_at_100, caller_named, ann, bob, Asking, with_body, put, get, list, unlock, answer, status_and_body, field, authorization, length_field, lfs, head_of, post_lock, first_head, first_body, with_field, judge, lock_by, first_lock, object_of, with_one, hello, abc, nil, lines, json_head, close_line, bearer_line, message_of, lock_text}
 
--- ---- a lock, and the same again
+-- ---- a lock, and the same request again
 
 -- the reply to the first request for a lock
 unfoldable pub first_reply : List ℕ
@@ -40,7 +40,7 @@ second_reply =
 abbrev pub reply_in : World → Message → List ℕ
 reply_in world asked = text_if asked (verdict_on world (at_now studio) asked)
 
--- the bytes of the first message, and then any, begin with the first message
+-- the bytes of the first message, followed by any bytes, begin with the first message
 abbrev pub FirstIsFirst : Type 0
 FirstIsFirst =
     (rest : List ℕ)
@@ -59,7 +59,7 @@ SecondIsRefused =
     (judge world first_head first_body ≡ Err (by_lock first_lock))
     × (reply_in world (message first_head first_body true) ≡ second_reply) × (length second_reply ≡ 232)
 
--- on another ref the path is free, and the lock has the next id; without an id that is left it is L5
+-- on another ref the path is free, and the lock has the next id; if no id is left, the answer is L5
 abbrev pub OtherRefIsLocked : Type 0
 OtherRefIsLocked =
     let asked = with_body form.Lock (codes "{\"path\":\"art/hero.psd\",\"ref\":{\"name\":\"refs/heads/dev\"}}") in
@@ -155,7 +155,7 @@ method_reply =
     json_head (codes "405 Method Not Allowed") (codes "47") (codes "Allow: POST" ∷ close_line ∷ [])
     ++ message_of (codes "H7: the method is not served here")
 
--- it lists the methods that are
+-- it lists the methods that are served
 abbrev pub MethodIsRefused : Type 0
 MethodIsRefused = reply_in with_ann (message (head_of (codes "DELETE") (lfs (codes "locks")) []) [] true) ≡ method_reply
 
@@ -191,7 +191,7 @@ NamelessIsRefused =
     let head = post_lock (length_field (codes "23") ∷ field (codes "Connection") (codes "close") ∷ []) in
     reply_in with_ann (message head first_body true) ≡ nameless_reply
 
--- a token is good before it expires, and A3 from then on; an unknown one is A2
+-- a token is valid before it expires, and A3 from then on; an unknown one is A2
 abbrev pub TokenExpires : Type 0
 TokenExpires =
     let bearers = values (codes "authorization") first_head in
@@ -209,7 +209,7 @@ RepositoryIsUnknown =
     × (caller_plan nothing (at_now studio) (record ann { repo = codes "a/b" }) (in_repo (codes "a/b"))
     ≡ Err (by_rule rule.R1))
 
--- a download token locks nothing (A5), and J2 comes before that
+-- a download token does not allow a lock (A5), and J2 comes before that
 abbrev pub DownloadLocksNothing : Type 0
 DownloadLocksNothing =
     let caller = caller_named (codes "ann") 97 operation.Download in
@@ -222,7 +222,7 @@ CutIsUnanswered = verdict_on with_ann (at_now studio) (message first_head (codes
 
 -- ---- the policy
 
--- the first row that matches decides: below art/ it denies with P1, and beside it the next allows
+-- the first row that matches decides: below art/ it denies with P1, and for other paths the next row allows
 abbrev pub FolderIsFrozen : Type 0
 FolderIsFrozen =
     (status_and_body (answer nothing frozen_art ann (with_body form.Lock (codes "{\"path\":\"art/x\"}")))
@@ -245,7 +245,7 @@ PushIsDenied =
 
 -- ---- objects
 
--- an object is stored under the name of its bytes alone (X2); one that is not stored is X1
+-- an object is stored only under the name of its bytes (X2); a download of one that is not stored is X1
 abbrev pub ContentHasItsName : Type 0
 ContentHasItsName =
     (answer nothing studio ann (put abc (codes "abc")) ≡ Ok (stores (object_of abc (codes "abc"))))
@@ -286,7 +286,7 @@ hello_target = record { repo = film; parameter = hello; form = form.Put }
 abbrev pub put_head : List Field → RequestHead
 put_head fields = head_of (codes "PUT") (lfs (codes "content/" ++ hello)) (length_field (codes "5") ∷ fields)
 
--- what is judged of that upload before its body, with these fields
+-- the verdict on that upload before its body, with these fields
 abbrev pub early_plan : RequestHead → Result ⊤ Denial
 early_plan head = early_check form.Put (desk_plan with_ann (at_now studio) (desk_request head hello_target []))
 
@@ -432,7 +432,7 @@ three_locks =
       made = λ _. 3;
     }
 
--- the texts of the locks of a and of c
+-- the text of the lock of a
 abbrev pub lock_a : List ℕ
 lock_a = lock_text (codes "1") (codes "ann") (codes "a")
 
@@ -472,7 +472,7 @@ PagesAreCut =
 abbrev pub list_refused : List ℕ → Rule → Type 0
 list_refused query r = answer three_locks studio bob (list query) ≡ Err (by_rule r)
 
--- a cursor that is no id is L4, a limit that is no number J2, and so is a key that is there twice
+-- a cursor that is not an id is L4, a limit that is not a number is J2, and so is a key that occurs twice
 abbrev pub PagesAreRefused : Type 0
 PagesAreRefused =
     list_refused (codes "cursor=01") rule.L4 × list_refused (codes "cursor=4294967296") rule.L4
@@ -517,7 +517,7 @@ released_reply =
     json_head (codes "200 OK") (codes "99") [] ++ codes "{\"lock\":"
     ++ lock_text (codes "1") (codes "ann") (codes "art/hero.psd") ++ codes "}"
 
--- another user's lock needs force (L3) and the right to it; no lock of that id is L2
+-- another user's lock needs `force` (L3) and the right to it; an unknown id is L2
 abbrev pub LockIsReleased : Type 0
 LockIsReleased =
     let force = codes "{\"force\":true}" in
@@ -530,7 +530,7 @@ LockIsReleased =
 
 -- ---- the store, the operator, moments
 
--- the reply by which the store or memory refuses (S1)
+-- the reply of the store refusal (S1)
 unfoldable pub refusal_reply : List ℕ
 refusal_reply =
     json_head (codes "500 Internal Server Error") (codes "35") (close_line ∷ [])

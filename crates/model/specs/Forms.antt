@@ -1,4 +1,4 @@
--- What a request asks, read from its route's parameter, its query and its body (Git LFS API).
+-- Reads a request from its route's parameter, its query and its body (Git LFS API).
 use Rattle.std.specs.Prelude.{ℕ, Bool, true, false, ◌&&◌, List, [], ◌∷◌, length, map, filter, drop, Option, Some, None, Result, Ok, Err, option_and_then, option_map, codes, bytes_eq, if◌then◌else◌, nat_le, ℤ, pos, neg_ℤ}
 use Rattle.std.specs.List.{list_all, list_any}
 use Rattle.std.specs.Char.{is_ascii_digit}
@@ -34,7 +34,7 @@ if_given kind (Some value) = ok_or (kind value) J1 >>= λ x. Ok (Some x)
 abbrev pub optional : {A : Type 0} → (Data → Option A) → List ℕ → Members → Result (Option A) Rule
 optional kind key members = if_given kind (get_member key members)
 
--- the value of a key that has to be there
+-- the value of a required key
 abbrev pub required : {A : Type 0} → (Data → Option A) → List ℕ → Members → Result A Rule
 required kind key members = optional kind key members >>= λ value. ok_or value J1
 
@@ -66,7 +66,7 @@ is_if_given test None = true
 abbrev pub decode_text : List ℕ → List ℕ
 decode_text bytes = utf8_lossy (decode bytes)
 
--- the one value of a key: an empty one counts as missing, and two are J2
+-- the only value of a key: an empty one counts as missing, and two are J2
 abbrev pub query_single : List (List ℕ) → Result (Option (List ℕ)) Rule
 query_single [] = Ok None
 query_single (value ∷ []) = Ok (if is_empty value then None else Some value)
@@ -82,7 +82,7 @@ query_values key query =
 unfoldable pub query_value : List ℕ → List ℕ → Result (Option (List ℕ)) Rule
 query_value key query = query_single (query_values key query)
 
--- what a value that is given reads as, or J2
+-- the given value as read, or J2
 abbrev pub read_if_given : {A : Type 0} → (List ℕ → Option A) → Option (List ℕ) → Result (Option A) Rule
 read_if_given reading None = Ok None
 read_if_given reading (Some text) = ok_or (reading text) J2 >>= λ x. Ok (Some x)

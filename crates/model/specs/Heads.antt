@@ -1,4 +1,4 @@
--- What the head of a request asks, and which heads are refused (RFC 9110, RFC 9112).
+-- What the head of a request asks for, and which heads are refused (RFC 9110, RFC 9112).
 use Rattle.std.specs.Prelude.{ℕ, ◌+◌, ◌-◌, Bool, true, false, take, drop, find, ◌&&◌, ◌||◌, not, ◌==◌, nat_lt, nat_le, List, [], ◌∷◌, ◌++◌, length, filter, map, flat_map, Option, Some, None, Result, Ok, Err, codes, bytes_eq, if◌then◌else◌, ⊤, is_err}
 use Rattle.std.specs.List.{list_all, list_any, slice_split, before_first, ends_with}
 use Rattle.std.specs.Str.{is_utf8, str_eq_ignore_ascii_case}
@@ -158,7 +158,7 @@ abbrev pub repo_text : List ℕ → List ℕ → Option (List ℕ)
 repo_text owner part =
     if ends_with (λ a b. a == b) part (codes ".git") then Some (owner ++ slash ∷ take (length part - 4) part) else None
 
--- where a path leads: the repository's text, the parameter, and the row of the table
+-- the result of routing a path: the repository's text, the parameter, and the row of the table
 pub record Route : Type 0 where
   pub repo : List ℕ
   pub parameter : List ℕ
@@ -221,19 +221,19 @@ is_small head =
     if is_method (codes "POST") head then nat_le (content_length head) largest_form
     else (if is_method (codes "PUT") head then nat_le (content_length head) largest_object else true)
 
--- a POST or a PUT says how long its body is
+-- a POST or a PUT states the size of its body
 abbrev pub is_measured : RequestHead → Bool
 is_measured head =
     not (is_method (codes "POST") head || is_method (codes "PUT") head) || not (at_most 0 (lengths head))
 
--- no field that matters is there twice, and a GET has no body
+-- no field that matters occurs twice, and a GET has no body
 abbrev pub is_clear : RequestHead → Bool
 is_clear head =
     at_most 1 (lengths head) && list_all is_length (lengths head)
     && at_most 1 (values (codes "authorization") head) && at_most 1 (values (codes "accept") head)
     && not (is_method (codes "GET") head && nat_lt 0 (content_length head))
 
--- the rules on the length of the body, and on fields that are there twice
+-- the rules on the length of the body, and on fields that occur twice
 abbrev pub check_framing : RequestHead → Result ⊤ Rule
 check_framing head = do
   uncoded ← check (at_most 0 (values (codes "transfer-encoding") head)) H2
@@ -260,6 +260,6 @@ head_verdict_in table head = do
 abbrev pub head_verdict : RequestHead → Result Target Rule
 head_verdict head = head_verdict_in served_routes head
 
--- the number of bytes of body that belong to the head; a refused head has none
+-- the size of the body of the head, in bytes; a refused head has no body
 abbrev pub body_length : RequestHead → ℕ
 body_length head = if is_err (head_verdict head) then 0 else content_length head

@@ -24,7 +24,7 @@ use Rattle.model.specs.Bounds.{SameWorld, IsWithin, failed, is_changed, ending_o
 
 -- ---- streams
 
--- less than a head is there, and nothing that follows makes it one: H1 and no reply are both allowed
+-- a truncated head that no continuation completes: H1 and silence are both allowed
 pub record IsFreeChoice (bytes : List ℕ) : Type 0 where
   pub none : HasNoHead bytes
   pub short : length bytes < head_limit
@@ -36,7 +36,7 @@ HasOneFirst =
     (bytes : List ℕ) (a b : Message) (rest more : List ℕ) → BeginsWith bytes a rest → BeginsWith bytes b more
     → (a ≡ b) × (rest ≡ more)
 
--- bytes that have a first message are less than a head only if the choice is free
+-- bytes that have a first message are an incomplete head only if H1 and silence are both allowed
 abbrev pub ChoosesOnlyThere : Type 0
 ChoosesOnlyThere =
     (bytes : List ℕ) (a : Message) (rest : List ℕ) → BeginsWith bytes a rest → IsUnfinished bytes → IsFreeChoice bytes
@@ -51,7 +51,7 @@ MessageIsFinished =
 abbrev pub BeginsWithMessage : Type 0
 BeginsWithMessage = (bytes : List ℕ) (a : Message) (rest : List ℕ) → BeginsWith bytes a rest → IsMessage a
 
--- after a body that is cut off there is nothing
+-- nothing follows a body that is cut off
 abbrev pub CutIsLast : Type 0
 CutIsLast =
     (bytes : List ℕ) (head : RequestHead) (body rest : List ℕ) → BeginsWith bytes (message head body false) rest
@@ -84,13 +84,13 @@ RunsKeepWorlds = (old : World) (events : List Event) (new : World) → Run old e
 abbrev pub RunsMakeWorlds : Type 0
 RunsMakeWorlds = (events : List Event) (new : World) → Run nothing events new → IsWorld new
 
--- a denial leaves the world as it was
+-- a denial leaves the world unchanged
 abbrev pub DenialsChangeNothing : Type 0
 DenialsChangeNothing =
     (old : World) (e : Exchange) (denial : Denial) (new : World) → IsExchange old e new
     → e.given ≡ Some (Err denial) → new ≡ old
 
--- a message without an answer leaves the world as it was
+-- a message without an answer leaves the world unchanged
 abbrev pub SilenceChangesNothing : Type 0
 SilenceChangesNothing = (old : World) (e : Exchange) (new : World) → IsExchange old e new → e.given ≡ None → new ≡ old
 
@@ -123,29 +123,32 @@ NewIdIsNext =
     → IsWorld old → IsExchange old e new → e.given ≡ Some (Ok (makes_lock l))
     → (l.id ≡ old.made l.repo + 1) × (new.made l.repo ≡ l.id)
 
--- an event that reports no change leaves the world: a denial, a refusal by the store, a message without an answer
+-- an event that reports no change leaves the world: a denial, a store refusal, a message without an answer
 abbrev pub OnlyReportedChanges : Type 0
 OnlyReportedChanges =
     (old : World) (event : Event) (new : World) → IsStep old event new → is_changed (ending_of old event) ≡ false
     → new ≡ old
 
--- two locks of one repository, the second made after the first, with any run between them
-pub record AreInTurn (old : World) (e f : Exchange) (l m : Lock) : Type 0 where
-  pub mid : World
-  pub late : World
+-- an exchange that makes the lock
+pub record Makes (l : Lock) : Type 0 where
+  pub old : World
+  pub exchange : Exchange
   pub new : World
+  pub step : IsExchange old exchange new
+  pub made : exchange.given ≡ Some (Ok (makes_lock l))
+
+-- two locks of one repository, the second made after the first, with any run between them
+pub record AreInTurn (l m : Lock) : Type 0 where
+  pub first : Makes l
+  pub second : Makes m
+  pub laws : IsWorld first.old
   pub between : List Event
-  pub first : IsExchange old e mid
-  pub run : Run mid between late
-  pub second : IsExchange late f new
-  pub made : e.given ≡ Some (Ok (makes_lock l))
-  pub made_later : f.given ≡ Some (Ok (makes_lock m))
+  pub run : Run first.new between second.old
   pub repo : l.repo ≡ m.repo
 
--- no id is given twice: a later lock has a greater one
+-- no id is reused: a later lock has a greater one
 abbrev pub NoIdComesAgain : Type 0
-NoIdComesAgain =
-    (old : World) (e f : Exchange) (l m : Lock) → IsWorld old → AreInTurn old e f l m → l.id < m.id
+NoIdComesAgain = (l m : Lock) → AreInTurn l m → l.id < m.id
 
 -- ---- contents
 
@@ -252,7 +255,7 @@ LocksAreThose =
     (world : World) (repo : List ℕ) (l : Lock)
     → Contains (locks_of repo world) l ↔ (Contains world.locks l × (l.repo ≡ repo))
 
--- the joined pages of a walk rise, so none is there twice; and each lock that was shown at every page is there
+-- the joined pages of a walk rise, so no lock occurs twice; and each lock that was shown at every page is in them
 pub record IsWholeWalk (cursor : ℕ) (legs : List Leg) : Type 0 where
   pub rise : AllPairs IsBelow (walk_locks legs)
   pub complete : (l : Lock) → cursor ≤ l.id → All (λ leg. Contains leg.shown l) legs → Contains (walk_locks legs) l
@@ -278,7 +281,7 @@ pub record IsCallerOf (world : World) (now : ℕ) (bearers : List (List ℕ)) (v
   pub user : caller.user ≡ view.user
   pub repo : caller.repo ≡ view.repo
 
--- a reply is foreseen only if the token that is presented is a good one of the view's user and repository
+-- a reply is foreseen only if the token that is presented is a valid one of the view's user and repository
 abbrev pub OnlyCallersAreForeseen : Type 0
 OnlyCallersAreForeseen =
     (world : World) (policy : Policy) (user repo : List ℕ) (now : ℕ) (asked : CallerRequest) (r : Reply)
@@ -297,7 +300,10 @@ ViewsShowWhatIsSeen =
     → IsSeen policy user repo (view_of world policy user repo).state
 
 -- two worlds that look the same to a caller, and the same request of that caller to both
-pub record AreAlike (setting : Setting) (caller : Caller) (asked : CallerRequest) (a b : World) : Type 0 where
+pub record AreAlike (a b : World) : Type 0 where
+  pub setting : Setting
+  pub caller : Caller
+  pub asked : CallerRequest
   pub left : IsWorld a
   pub right : IsWorld b
   pub here : caller_by a setting.now asked.bearers ≡ Ok caller
@@ -308,12 +314,12 @@ pub record AreAlike (setting : Setting) (caller : Caller) (asked : CallerRequest
 abbrev pub answer_in : World → Setting → Caller → CallerRequest → Answer
 answer_in world setting caller asked = desk_verdict world setting (to_desk caller.repo asked) asked.body
 
--- what such worlds serve has one SHA-256
+-- the contents that such worlds serve have one SHA-256
 abbrev pub ViewsServeOneDigest : Type 0
 ViewsServeOneDigest =
-    (setting : Setting) (caller : Caller) (asked : CallerRequest) (a b : World) (o p : Object)
-    → AreAlike setting caller asked a b → answer_in a setting caller asked ≡ Ok (serves o)
-    → answer_in b setting caller asked ≡ Ok (serves p) → sha256 o.bytes ≡ sha256 p.bytes
+    (a b : World) (o p : Object) (alike : AreAlike a b)
+    → answer_in a alike.setting alike.caller alike.asked ≡ Ok (serves o)
+    → answer_in b alike.setting alike.caller alike.asked ≡ Ok (serves p) → sha256 o.bytes ≡ sha256 p.bytes
 
 -- an exchange leaves every user's view of a repository that its message does not ask about
 abbrev pub OthersLeaveViews : Type 0
@@ -333,11 +339,11 @@ SessionsLeaveViews =
 
 -- ---- moments
 
--- what is a moment's text is the text that is computed
+-- the text of a moment is the computed text
 abbrev pub MomentIsText : Type 0
 MomentIsText = (moment : ℕ) (text : List ℕ) → IsMomentText moment text → text ≡ moment_text moment
 
--- the text that is computed of a moment in range is its text
+-- the computed text of a moment in range is its text
 abbrev pub MomentHasText : Type 0
 MomentHasText = (moment : ℕ) → moment ≤ last_moment → IsMomentText moment (moment_text moment)
 

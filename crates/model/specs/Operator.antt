@@ -1,11 +1,11 @@
 -- What the operator of a server does: issuing tokens and removing those that expired.
-use Rattle.std.specs.Prelude.{◌≡◌, ℕ, ◌+◌, nat_le, List, Option, Some, None, Result, Ok, Err, IsTrue}
+use Rattle.std.specs.Prelude.{◌≡◌, ℕ, ◌+◌, ◌≤◌, nat_le, List, Option, Some, None, Result, Ok, Err, IsTrue}
 use Rattle.names.specs.Texts.{last_moment, is_hex_64, is_user, is_repo}
 use Rattle.model.specs.declared.Operation.{Operation}
 use Rattle.model.specs.Reading.{◌>>=◌, check, none_or}
 use Rattle.model.specs.World.{World, Token, find_token, with_token, without_expired, expired_count}
 
--- a token that the operator asks for, good for this many seconds from now on
+-- a token that the operator asks for, valid for this many seconds from now on
 pub record TokenRequest : Type 0 where
   pub text : List ℕ
   pub user : List ℕ
@@ -19,6 +19,7 @@ pub record IsTokenRequest (asked : TokenRequest) : Type 0 where
   pub text : IsTrue (is_hex_64 asked.text)
   pub user : IsTrue (is_user asked.user)
   pub repo : IsTrue (is_repo asked.repo)
+  pub now : asked.now ≤ last_moment
 
 -- why no token is issued: there is one with its digest (K1), or it would expire after the last moment (K2)
 pub data TokenDenial : Type 0 where

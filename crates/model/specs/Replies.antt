@@ -89,7 +89,7 @@ lock_json l = object (members ((codes "lock", lock_data l) ∷ []))
 abbrev pub conflict_json : Lock → Data
 conflict_json l = object (members ((codes "lock", lock_data l) ∷ (codes "message", string (rule_message L1)) ∷ []))
 
--- the body for a message alone
+-- the body with only a message
 abbrev pub message_json : List ℕ → Data
 message_json text = object (members ((codes "message", string text) ∷ []))
 
@@ -110,7 +110,7 @@ action_data action = object (members (
     ∷ (codes "header", object (members ((codes "Authorization", string (codes "Bearer " ++ action.token)) ∷ [])))
     ∷ (codes "href", string action.href) ∷ []))
 
--- the name and the size of a batch's object as they were given
+-- the name and the size of a batch's object, as given
 abbrev pub offer_end : Offer → List (List ℕ × Data)
 offer_end offer = (codes "oid", string offer.oid) ∷ (codes "size", number (unsigned offer.size)) ∷ []
 

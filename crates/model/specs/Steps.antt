@@ -1,4 +1,4 @@
--- One step of the server: the answer to a message, and what is kept afterwards.
+-- One step of the server: the answer to a message, and the world after it.
 use Rattle.std.specs.Prelude.{◌≡◌, ℕ, ◌<◌, ◌≤◌, length, Bool, true, false, not, ◌&&◌, ◌||◌, List, [], ◌∷◌, Option, Some, None, Result, Ok, Err, codes, if◌then◌else◌, ⊤}
 use Rattle.httparse.specs.Grammar.{RequestHead}
 use Rattle.names.specs.Texts.{last_moment}
@@ -107,7 +107,7 @@ pub record IsExchange (old : World) (e : Exchange) (new : World) : Type 0 where
 
 -- ---- runs
 
--- a message is answered; the operator issues a token, or removes those that are not good at a moment, and gets a report
+-- a message is answered; or the operator issues a token or removes those not valid at a moment, and gets a report
 pub data Event : Type 0 where
   exchanged : Exchange → Event
   issues : TokenRequest → (given : Option (Result Token TokenDenial)) → Event

@@ -21,7 +21,7 @@ pub record IsHeadThen (bytes : List ℕ) (head : RequestHead) (rest : List ℕ) 
 abbrev pub HasNoHead : List ℕ → Type 0
 HasNoHead bytes = (head : RequestHead) (rest : List ℕ) → ¬ (IsHeadThen bytes head rest)
 
--- no bytes that follow make them a head
+-- no further bytes can complete them to a head
 abbrev pub NeverIsHead : List ℕ → Type 0
 NeverIsHead bytes = (more : List ℕ) (head : RequestHead) → ¬ (IsHeadThen (bytes ++ more) head [])
 
@@ -38,7 +38,7 @@ pub record BeginsWithHead (bytes : List ℕ) (head : RequestHead) (rest : List �
   pub reads : IsHeadThen bytes head rest
   pub fields : length head.fields ≤ field_limit
 
--- the message of a head and the bytes after it: as much of its body as is there, and whether that is all
+-- the message of a head and the bytes after it: the part of its body that arrived, and whether it is complete
 abbrev pub message_with : RequestHead → List ℕ → Message
 message_with head next = message head (take (body_length head) next) (nat_le (body_length head) (length next))
 
@@ -49,7 +49,7 @@ pub data BeginsWith (bytes : List ℕ) (asked : Message) (rest : List ℕ) : Typ
       → rest ≡ drop (body_length head) next → BeginsWith bytes asked rest
   with_bad_head : BeginsBadly bytes → asked ≡ bad_head → rest ≡ [] → BeginsWith bytes asked rest
 
--- less than a head is there
+-- the bytes are an incomplete head
 pub record IsUnfinished (bytes : List ℕ) : Type 0 where
   pub none : HasNoHead bytes
   pub short : length bytes < head_limit

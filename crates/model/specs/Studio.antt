@@ -69,7 +69,7 @@ small_studio = studio_of 5 (members_row ∷ [])
 unfoldable pub frozen_art : Policy
 frozen_art = studio_of 1000000 (row_for effect.Deny all (codes "art/" ∷ []) (right.Lock ∷ []) ∷ everybody_row ∷ [])
 
--- ann may push below art/ alone, and nobody may pull
+-- ann may push only below art/, and nobody may pull
 unfoldable pub paths_alone : Policy
 paths_alone = studio_of 1000000 (row_for effect.Allow (codes "ann" ∷ []) (codes "art/" ∷ []) (right.Push ∷ []) ∷ [])
 
@@ -105,11 +105,11 @@ abbrev pub token_until : ℕ → Token
 token_until expires =
     record { text = token_of 97; user = codes "ann"; repo = film; operation = operation.Upload; expires = expires }
 
--- a world with that token alone
+-- a world with only that token
 unfoldable pub with_ann : World
 with_ann = record nothing { tokens = token_until 1463503600 ∷ [] }
 
--- the same, where the token expires at 100
+-- the same, but the token expires at 100
 unfoldable pub expires_at_100 : World
 expires_at_100 = record nothing { tokens = token_until 100 ∷ [] }
 
@@ -135,7 +135,7 @@ pub record Asking : Type 0 where
   pub query : List ℕ
   pub body : List ℕ
 
--- a request with a body alone
+-- a request with only a body
 abbrev pub with_body : Form → List ℕ → Asking
 with_body form body = record { form = form; parameter = []; query = []; body = body }
 
@@ -279,7 +279,7 @@ close_line = codes "Connection: close"
 abbrev pub bearer_line : List ℕ
 bearer_line = codes "LFS-Authenticate: Bearer realm=\"Git LFS\""
 
--- a body with a message alone
+-- a body with only a message
 abbrev pub message_of : List ℕ → List ℕ
 message_of text = codes "{\"message\":\"" ++ text ++ codes "\"}"
 

@@ -79,4 +79,5 @@ early_check _ plan = Ok tt
 -- what denies the message before its body is read, if anything does
 unfoldable pub early_verdict : World → Setting → RequestHead → Result ⊤ Denial
 early_verdict world setting head =
-    by_rules (head_verdict head) >>= λ target. early_check target.form (desk_plan world setting (desk_request head target []))
+    by_rules (head_verdict head) >>= λ target.
+    early_check target.form (desk_plan world setting (desk_request head target []))

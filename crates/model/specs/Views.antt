@@ -95,7 +95,7 @@ SameViews repo old new = (policy : Policy) (user : List ℕ) → view_of new pol
 
 -- ---- the replies that a view foretells
 
--- the token that is presented is no good token of the view
+-- the token that is presented is not a valid token of the view
 pub data NoCaller : Type 0 where
   no_caller : NoCaller
 
@@ -110,7 +110,7 @@ abbrev pub to_desk : List ℕ → CallerRequest → DeskRequest
 to_desk repo asked =
     record { bearers = asked.bearers; repo = repo; left = length asked.body; request = Ok asked.request }
 
--- the caller whose token is presented, if it is a good one of the view
+-- the caller whose token is presented, if it is a valid one of the view
 abbrev pub caller_in : View → ℕ → List (List ℕ) → Result Caller NoCaller
 caller_in view now bearers = do
   text ← ok_or (bearer bearers) no_caller

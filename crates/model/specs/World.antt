@@ -1,4 +1,4 @@
--- What the server keeps.
+-- The contents of the server's store.
 use Rattle.std.specs.Prelude.{◌≡◌, ℕ, ◌+◌, ◌≤◌, Bool, ◌&&◌, ◌==◌, not, List, [], ◌∷◌, length, if◌then◌else◌, IsTrue, All, AllPairs, bytes_eq, Option, is_some, find, filter, nat_lt, sum_by}
 use Rattle.sha2.specs.Sha256.{sha256}
 use Rattle.hex.specs.Hex.{encode_lower}
@@ -11,7 +11,7 @@ pub record Object : Type 0 where
   pub name : List ℕ
   pub bytes : List ℕ
 
--- a path of a ref that one user alone may change, and since when
+-- a path of a ref that only one user may change, and since when
 pub record Lock : Type 0 where
   pub repo : List ℕ
   pub id : ℕ
@@ -28,7 +28,7 @@ pub record Token : Type 0 where
   pub operation : Operation
   pub expires : ℕ
 
--- the three lists are sets: their order says nothing; made is how many locks each repository ever made
+-- the three lists are sets: their order does not matter; made is how many locks each repository ever made
 pub record World : Type 0 where
   pub objects : List Object
   pub locks : List Lock
@@ -68,23 +68,23 @@ pub record IsToken (t : Token) : Type 0 where
   pub repo : IsTrue (is_repo t.repo)
   pub expires : t.expires ≤ last_moment
 
--- not the same name in one repository
+-- two objects of one repository differ in name
 abbrev pub DiffersInName : Object → Object → Type 0
 DiffersInName a b = a.repo ≡ b.repo → a.name ≡ b.name → ⊥
 
--- not the same id in one repository
+-- two locks of one repository differ in id
 abbrev pub DiffersInId : Lock → Lock → Type 0
 DiffersInId a b = a.repo ≡ b.repo → a.id ≡ b.id → ⊥
 
--- not the same path of one ref of one repository
+-- two locks of one ref of one repository differ in path
 abbrev pub DiffersInPlace : Lock → Lock → Type 0
 DiffersInPlace a b = a.repo ≡ b.repo → a.ref ≡ b.ref → a.path ≡ b.path → ⊥
 
--- not the same digest of the text
+-- two tokens differ in the digest of their texts
 abbrev pub DiffersInDigest : Token → Token → Type 0
 DiffersInDigest a b = sha256 a.text ≡ sha256 b.text → ⊥
 
--- everything is in range and nothing is there twice
+-- everything is in range and nothing occurs twice
 pub record IsWorld (world : World) : Type 0 where
   pub objects : All IsObject world.objects
   pub names : AllPairs DiffersInName world.objects
@@ -123,7 +123,7 @@ with_lock l world = record world { locks = l ∷ world.locks; made = one_more l.
 abbrev pub has_id : List ℕ → ℕ → Lock → Bool
 has_id repo id l = bytes_eq l.repo repo && l.id == id
 
--- the world without a lock; its id is not used again
+-- the world without a lock; its id is not reused
 abbrev pub without_lock : Lock → World → World
 without_lock l world = record world { locks = filter (λ k. not (has_id l.repo l.id k)) world.locks }
 
@@ -137,10 +137,10 @@ with_object o world =
 abbrev pub with_token : Token → World → World
 with_token t world = record world { tokens = t ∷ world.tokens }
 
--- the world without the tokens that are not good at the moment
+-- the world without the tokens that are not valid at the moment
 abbrev pub without_expired : ℕ → World → World
 without_expired now world = record world { tokens = filter (λ t. nat_lt now t.expires) world.tokens }
 
--- how many tokens are not good at the moment
+-- the number of tokens that are not valid at the moment
 abbrev pub expired_count : ℕ → World → ℕ
 expired_count now world = length (filter (λ t. not (nat_lt now t.expires)) world.tokens)

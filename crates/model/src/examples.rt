@@ -10,7 +10,7 @@ ghost use Rattle.model.specs.Examples.{HiddenIsLeftOut, PagesAreCut, PagesAreRef
 ghost use Rattle.model.specs.Examples.{RefusalCloses, TokenIsIssued, TokenIsPruned, MomentsArePrinted};
 
 /// The first message of a stream makes the first lock. The same message again finds it (L1). The path is
-/// free on another ref, and without an id that is left it is L5.
+/// free on another ref, and if no id is left the answer is L5.
 pub fn locks()
     ensures first_is_first { FirstIsFirst }
     ensures first_is_locked { FirstIsLocked }
@@ -18,7 +18,7 @@ pub fn locks()
     ensures other_ref_is_locked { OtherRefIsLocked }
 {}
 
-/// A session of two messages is a run. The body of an upload that is refused from its head is no message.
+/// A session of two messages is a run. If an upload is refused from its head, its body is not read as a message.
 pub fn sessions()
     ensures two_are_served { TwoAreServed }
     ensures body_is_no_message { BodyIsNoMessage }
@@ -59,7 +59,7 @@ pub fn objects()
     ensures stored_is_confirmed { StoredIsConfirmed }
 {}
 
-/// What a batch is offered, and each rule that refuses an object of it or the whole.
+/// What a batch returns for its objects, and each rule that refuses an object of it or the whole batch.
 pub fn batches()
     ensures upload_is_offered { UploadIsOffered }
     ensures download_is_offered { DownloadIsOffered }
@@ -79,7 +79,7 @@ pub fn pages()
     ensures lock_is_released { LockIsReleased }
 {}
 
-/// The refusal by the store; tokens that are issued and removed; the first and the last moment.
+/// The store refusal; tokens that are issued and removed; the first and the last moment.
 pub fn operator()
     ensures refusal_closes { RefusalCloses }
     ensures token_is_issued { TokenIsIssued }

@@ -7,15 +7,15 @@ ghost use Rattle.model.specs.Laws.{RoomIsQuota, StaysInQuota, PageIsLeast, Locks
 ghost use Rattle.model.specs.Laws.{ReportsAreTrue, LeavesOneChange, MomentIsText, MomentHasText};
 
 /// A list of bytes has at most one first message and one rest after it. The body is as long as the head
-/// says, or cut off, and then nothing is after it.
+/// says, or it is cut off and nothing follows it.
 pub fn message_law()
     ensures one { HasOneFirst }
     ensures is { BeginsWithMessage }
     ensures cut { CutIsLast }
 {}
 
-/// At the end of a stream, H1 and no reply are both allowed only if less than a head is there and nothing
-/// that follows could complete it. Bytes that begin with a message are more than that.
+/// At the end of a stream, H1 and no reply are both allowed only for an incomplete head that no further
+/// bytes could complete. Bytes that begin with a message are more than that.
 pub fn choice_law()
     ensures there { ChoosesOnlyThere }
     ensures finished { MessageIsFinished }
@@ -28,7 +28,7 @@ pub fn head_law()
 {}
 
 /// Each step keeps the laws of worlds: everything is in range, objects have the names of their bytes, no
-/// place and no id is used twice, ids are within those made, digests differ.
+/// place and no id is used twice, ids are at most the number of locks made, digests differ.
 pub fn step_law()
     ensures { StepsKeepWorlds }
 {}
@@ -45,7 +45,7 @@ pub fn run_law()
     ensures put { ServedWasPut }
 {}
 
-/// A denial leaves the world as it was, and so does a message without an answer, and each step of the
+/// A denial leaves the world unchanged, and so does a message without an answer, and each step of the
 /// operator that reports no change. Only a message that is cut off has no answer, if nothing denies it before
 /// its body is read.
 pub fn denial_law()
@@ -60,8 +60,8 @@ pub fn place_law()
     ensures { NeverLocksTwice }
 {}
 
-/// The count of made locks never falls, and a new lock has the next id. So no id is given twice, whatever is
-/// released meanwhile.
+/// The number of locks made never falls, and a new lock has the next id. So no id is given twice, even if
+/// locks are released meanwhile.
 pub fn id_law()
     ensures counts { CountsOn }
     ensures next { NewIdIsNext }
@@ -89,9 +89,10 @@ pub fn walk_law()
     ensures { WalksAreWhole }
 {}
 
-/// The reply to a user is the one that the user's view foretells, in every world with that view, and no reply is
-/// foretold to anyone else. The contents that such worlds serve have one SHA-256. A view shows only what the user sees. A
-/// message leaves each view of a repository that it does not ask about, and so do the messages of a session.
+/// The reply to a user is the one that the user's view foretells, in every world with that view, and no reply
+/// is foretold to anyone else. The contents that such worlds serve have one SHA-256. A view shows only what the
+/// user sees. A message leaves each view of a repository that it does not ask about, and so do the messages of a
+/// session.
 pub fn view_law()
     ensures foretell { ViewsForetell }
     ensures callers { OnlyCallersAreForeseen }
@@ -108,7 +109,7 @@ pub fn stop_law()
     ensures leaves { LeavesOneChange }
 {}
 
-/// Each moment in range has one text, and it is the one that is computed.
+/// Each moment in range has exactly one text, the computed one.
 pub fn moment_law()
     ensures is { MomentIsText }
     ensures has { MomentHasText }

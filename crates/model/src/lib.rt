@@ -1,5 +1,5 @@
-//! The definitions that every contract of the workspace cites: what the server keeps, what a policy
-//! allows, what a request asks, how it is answered, and what a connection is sent.
+//! The definitions that every contract of the workspace cites: what the server stores, what a policy
+//! allows, what a request asks for, how it is answered, and what a connection is sent.
 //!
 //! They are in `specs/`, one file a subject, in the order in which they are best read: Reading, Policy,
 //! World, Orders, RepoState, Forms, Heads, Callers, Cases, Answers, Pages, Locks, Objects, Batch, Verdict,
@@ -14,15 +14,15 @@ pub mod laws;
 /// What a policy row may allow or deny.
 #[derive(Clone, Copy, Debug, PartialEq, Eq, Hash)]
 pub enum Right {
-    /// To download objects, and to learn that the repository exists.
+    /// Download objects, and learn that the repository exists.
     Pull,
-    /// To upload objects.
+    /// Upload objects.
     Push,
-    /// To see locks.
+    /// See locks.
     List,
-    /// To lock a path, and to release one's own lock.
+    /// Lock a path, and release one's own lock.
     Lock,
-    /// To release another user's lock.
+    /// Release another user's lock.
     Force,
 }
 
@@ -35,40 +35,40 @@ pub enum Effect {
     Deny,
 }
 
-/// What a token was issued for.
+/// The operation that a token was issued for.
 #[derive(Clone, Copy, Debug, PartialEq, Eq, Hash)]
 pub enum Operation {
-    /// To pull and to list.
+    /// Pull and list.
     Download,
     /// All five rights.
     Upload,
 }
 
-/// What a route and a method ask for.
+/// The form of a request, from its route and its method.
 #[derive(Clone, Copy, Debug, PartialEq, Eq, Hash)]
 pub enum Form {
     /// How to download or upload some objects.
     Batch,
     /// The content of an object.
     Get,
-    /// To upload an object.
+    /// Upload an object.
     Put,
     /// Whether an object is stored.
     Verify,
-    /// To lock a path.
+    /// Lock a path.
     Lock,
     /// A list of locks.
     List,
     /// The locks of a ref, one's own apart.
     VerifyLocks,
-    /// To release a lock.
+    /// Release a lock.
     Unlock,
 }
 
-/// What the requests that are served ask for. A request that the server learns to serve gets its
+/// The forms of the requests that are served. A request that the server learns to serve gets its
 /// variant here.
 #[derive(Clone, Copy, Debug, PartialEq, Eq, Hash)]
 pub enum ServedForm {
-    /// To lock a path.
+    /// Lock a path.
     Lock,
 }
