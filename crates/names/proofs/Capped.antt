@@ -1,4 +1,4 @@
--- A read through a cap on the bytes that are handed out.
+-- A read through a limit on the bytes returned.
 use Rattle.std.proofs.Common.{◌≡◌, ℕ, ◌+◌, ◌-◌, ◌<◌, ◌≤◌, List, [], ◌++◌, length, take, Option, Some, None, sym, ap, ◌∙◌, arith, length-take-le}
 use Rattle.std.specs.Io.KnownBytes.{Consumes, IsAtEnd}
 use Rattle.std.proofs.lemmas.List.{take-append-le, take_all}
@@ -22,7 +22,7 @@ at_end : (most : ℕ) (known : Option (List ℕ)) → IsAtEnd known → IsAtEnd 
 at_end most None e = tt
 at_end most (Some xs) e = ap (take most) e ∙ take_all most [] (omega arith)
 
--- the read had the front `buf` of a piece `buf ++ back`, in which there was room if the piece had any
+-- the read filled the front `buf` of a piece `buf ++ back`; the limit left room if the piece had any
 pub capped_read : (room n rest : ℕ) (old new : Option (List ℕ)) (buf back : List ℕ) → rest ≡ room - n → n ≤ room → n ≤ length buf
     → (0 < length (buf ++ back) → 0 < length buf)
     → Consumes old new (take n buf) × (n ≡ 0 → 0 < length buf → IsAtEnd new)

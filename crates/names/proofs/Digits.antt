@@ -1,4 +1,4 @@
--- What digits spell: objects' names in ASCII, and lock ids in decimal.
+-- The values of digits: objects' names in hexadecimal, and lock ids in decimal.
 use Rattle.std.proofs.Common.{◌≡◌, ℕ, ◌<◌, ◌≤◌, ◌^◌, Bool, true, false, ◌&&◌, List, [], ◌∷◌, length, get_or, Some, None, Result, Ok, Err, sym, ap, subst, ◌∙◌, arith, cond, decimal, lit<, zero, suc, inl, inr, ◌⊎◌, ◌==◌, nat_le}
 use Rattle.std.specs.Int.{IsInRange}
 use Rattle.std.specs.List.{list_all}

@@ -1,4 +1,4 @@
--- What cuts at a slash, and a search for two dots, say of a text.
+-- How a split at slashes and a search for two dots decide whether a text is a name.
 use Rattle.std.proofs.Common.{◌≡◌, ℕ, ◌<◌, Bool, true, false, ◌&&◌, ◌||◌, List, [], ◌∷◌, ◌++◌, length, get_or, inl, inr, ◌⊎◌, ◌≤◌, refl, sym, ap, ◌∙◌, arith, cond, ◌==◌, ◌↔◌, codes}
 use Rattle.std.specs.List.{onto_first, list_all, position_or_len, before_first, after_first}
 use Rattle.std.specs.Str.Iter.{HasSubslice}
@@ -49,7 +49,7 @@ no_user text has =
     let other = list_all_at is_name_byte text place 0 has (slash_is_none (get_or text place 0) (passes_at_first is_slash text 0 has)) in
     and_right (between 1 40 (length text)) (list_all is_name_byte text) other
 
--- the second part is the rest, where it is a name
+-- if the rest is a name, it is the second part
 owner_and_rest : (owner name : List ℕ) → are_owner_and_name (owner ∷ parts name) ≡ (is_user owner && is_user name)
 owner_and_rest owner name = at (cases_lt (position_or_len is_slash name) (length name))
   where

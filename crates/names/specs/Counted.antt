@@ -1,4 +1,4 @@
--- What a counted reader or writer holds.
+-- The contents of a counted reader or writer.
 use Rattle.std.specs.Prelude.{ℕ}
 use Rattle.names.specs.declared.counted.Counted.{Counted}
 
@@ -6,10 +6,10 @@ use Rattle.names.specs.declared.counted.Counted.{Counted}
 abbrev pub device : {T : Type 0} → Counted T → T
 device counted = counted.inner
 
--- how many bytes it handed out
+-- the number of bytes it has returned
 abbrev pub handed_out : {T : Type 0} → Counted T → ℕ
 handed_out counted = counted.handed_out
 
--- how many of its calls failed
+-- the number of its failed calls
 abbrev pub failures : {T : Type 0} → Counted T → ℕ
 failures counted = counted.failures

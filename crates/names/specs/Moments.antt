@@ -13,7 +13,7 @@ abbrev pub date_text : ℕ → ℕ → ℕ → List ℕ
 date_text year month day =
     four_digits year ++ codes "-" ++ two_digits month ++ codes "-" ++ two_digits day
 
--- HH:MM:SS, of the second of a day
+-- HH:MM:SS, for a second of the day
 abbrev pub time_text : ℕ → List ℕ
 time_text second =
     two_digits (second / 3600) ++ codes ":" ++ two_digits (second / 60 % 60) ++ codes ":" ++ two_digits (second % 60)
@@ -22,7 +22,7 @@ time_text second =
 abbrev pub civil_text : ℕ → ℕ → ℕ → ℕ → List ℕ
 civil_text year month day second = date_text year month day ++ codes "T" ++ time_text second ++ codes "Z"
 
--- the text is the civil date and the time of day of that many seconds after 1970-01-01
+-- the text is the civil date and the time of day of this many seconds after 1970-01-01
 pub record IsMomentText (moment : ℕ) (text : List ℕ) : Type 0 where
   pub year : ℕ
   pub month : ℕ

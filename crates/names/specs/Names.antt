@@ -1,4 +1,4 @@
--- What the types of names hold.
+-- The contents of the types of names.
 use Rattle.std.specs.Prelude.{ℕ, List}
 use Rattle.names.specs.declared.texts.UserName.{UserName}
 use Rattle.names.specs.declared.texts.RepoName.{RepoName}

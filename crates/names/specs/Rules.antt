@@ -3,7 +3,7 @@ use Rattle.std.specs.Prelude.{ℕ, List, ◌++◌, codes, decimal, Option, Some,
 use Rattle.names.specs.declared.rules.Rule.{Rule}
 use Rattle.names.specs.declared.rules.Rule.TheVariants.{H1, H2, H3, H4, H5, H6, H7, H8, A1, A2, A3, A4, A5, R1, J1, J2, J3, J4, P, B1, B2, B3, B4, B5, X1, X2, X3, V1, V2, L1, L2, L3, L4, L5, S1}
 
--- what a reply tells of a rule; a denial by the policy has its status and its reason from the request
+-- the code, status and reason of a rule; a denial by the policy gets its status and its reason from the request
 pub record RuleRow : Type 0 where
   pub code : List ℕ
   pub status : Option ℕ
@@ -12,7 +12,7 @@ pub record RuleRow : Type 0 where
 abbrev pub row : List ℕ → ℕ → List ℕ → RuleRow
 row code status reason = record { code = code; status = Some status; reason = Some reason }
 
--- the table
+-- the row of each rule
 abbrev pub row_of : Rule → RuleRow
 row_of H1 = row (codes "H1") 400 (codes "bad request head")
 row_of H2 = row (codes "H2") 501 (codes "transfer codings are not served")

@@ -1,14 +1,14 @@
--- What reads and writes do, where the bytes are known.
-use Rattle.std.specs.Prelude.{◌≡◌, ℕ, ◌-◌, ◌^◌, ◌<◌, ◌⊎◌, List, Option, take, option_map}
+-- The effects of reads and writes, if the bytes are known.
+use Rattle.std.specs.Prelude.{◌≡◌, ℕ, ◌+◌, ◌-◌, ◌^◌, min, List, Option, take, option_map}
 
--- the most bytes that a source hands out in its life
+-- the most bytes that a source returns in its life
 abbrev pub most_handed_out : ℕ
 most_handed_out = 1099511627776
 
--- a count of failures went up, or stays at its greatest number
+-- a count of failures went up by one, or stays at its maximum
 abbrev pub HasGrown : ℕ → ℕ → Type 0
-HasGrown old new = (old < new) ⊎ ((old ≡ 2 ^ 64 - 1) × (new ≡ old))
+HasGrown old new = new ≡ min (old + 1) (2 ^ 64 - 1)
 
--- the known bytes, of which at most so many are handed out
+-- the known bytes, cut to at most this many
 abbrev pub capped : ℕ → Option (List ℕ) → Option (List ℕ)
 capped most known = option_map (take most) known

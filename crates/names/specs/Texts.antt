@@ -56,13 +56,13 @@ is_name_byte b = is_ascii_lowercase b || is_ascii_digit b || b == underscore || 
 abbrev pub is_ref_byte : ℕ → Bool
 is_ref_byte b = is_name_byte b || is_ascii_uppercase b || b == slash || b == dot
 
--- no control character and no backslash
+-- neither a control character nor a backslash
 abbrev pub is_path_byte : ℕ → Bool
 is_path_byte b = nat_le 0x20 b && not (b == delete) && not (b == backslash)
 
 -- ---- parts of a text
 
--- what stands between the slashes
+-- the parts between the slashes
 abbrev pub parts : List ℕ → List (List ℕ)
 parts text = slice_split (λ b. b == slash) text
 
@@ -70,7 +70,7 @@ parts text = slice_split (λ b. b == slash) text
 abbrev pub begins : List ℕ → List ℕ → Bool
 begins front text = starts_with (λ a b. a == b) text front
 
--- two dots stand side by side
+-- the text has two adjacent dots
 abbrev pub has_two_dots : List ℕ → Bool
 has_two_dots [] = Bool.false
 has_two_dots (b ∷ text) = begins (codes "..") (b ∷ text) || has_two_dots text

@@ -14,7 +14,7 @@ use std::alloc::{AllocError, Global};
 /// The seconds of a day.
 const DAY: u64 = 86_400;
 
-/// A day of the calendar.
+/// A calendar day.
 #[derive(Clone, Copy)]
 struct Day {
     year: u32,
@@ -50,7 +50,8 @@ fn push_date(text: &mut String, date: Day) -> Result<(), AllocError>
     requires year { date.year < 10000 }
     requires month { date.month < 100 }
     requires day { date.day < 100 }
-    ensures { OnOk result (string_bytes text.new ≡ string_bytes text.old ++ date_text date.year date.month date.day) }
+    ensures { OnOk result (string_bytes text.new
+        ≡ string_bytes text.old ++ date_text date.year date.month date.day) }
 {
     push_four_digits(text, date.year)?;
     push_mark(text, b'-')?;
@@ -75,7 +76,8 @@ fn push_civil(text: &mut String, date: Day, second: u32) -> Result<(), AllocErro
     requires month { date.month < 100 }
     requires day { date.day < 100 }
     requires second { second < DAY }
-    ensures { OnOk result (string_bytes text.new ≡ string_bytes text.old ++ civil_text date.year date.month date.day second) }
+    ensures { OnOk result (string_bytes text.new
+        ≡ string_bytes text.old ++ civil_text date.year date.month date.day second) }
 {
     push_date(text, date)?;
     push_mark(text, b'T')?;
@@ -84,8 +86,8 @@ fn push_civil(text: &mut String, date: Day, second: u32) -> Result<(), AllocErro
     Ok(())
 }
 
-/// The date of a moment: its whole days after 1970-01-01. The last moments lie past the instants
-/// of `jiff`, so none is made.
+/// The date of a moment: its whole days after 1970-01-01. It is not made from an instant of `jiff`,
+/// since the last moments lie past those.
 fn date_of(second: u64) -> Date
     requires { second ≤ last_moment }
     ensures day { epoch_day result ≡ pos (second / 86400) }
@@ -97,7 +99,8 @@ fn date_of(second: u64) -> Date
 fn day_of(second: u64) -> Day
     requires { second ≤ last_moment }
     ensures date { IsCivilDate (pos result.year) result.month result.day }
-    ensures days { days_from_civil (pos result.year) result.month result.day ≡ pos (second / 86400) }
+    ensures days { days_from_civil (pos result.year) result.month result.day
+        ≡ pos (second / 86400) }
 {
     let date = date_of(second);
     Day {
@@ -107,12 +110,12 @@ fn day_of(second: u64) -> Day
     }
 }
 
-/// The moment as its civil date and time in UTC, like `1970-01-01T00:00:00Z` (RFC 3339, Internet
+/// Formats the moment as its civil date and time in UTC, like `1970-01-01T00:00:00Z` (RFC 3339, Internet
 /// Date/Time Format).
 ///
 /// # Errors
 ///
-/// An [`AllocError`] where memory for the text was refused.
+/// An [`AllocError`] if memory for the text runs out.
 pub fn moment_text(alloc: Global, moment: Moment) -> Result<String, AllocError>
     ensures { IfOk result (λ text. IsMomentText moment (string_bytes text)) }
 {

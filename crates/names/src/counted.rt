@@ -1,4 +1,4 @@
-//! Any reader of the standard library as a source, and any writer as a sink.
+//! Adapts any reader of the standard library to a source, and any writer to a sink.
 
 ghost use Rattle.std.specs.Prelude.{◌≡◌, ◌≤◌, ◌-◌};
 ghost use Rattle.names.specs.Streams.{capped, most_handed_out};
@@ -7,14 +7,14 @@ use crate::streams::one_more;
 use crate::{DeviceFault, Sink, Source};
 use std::io::{Read, Write};
 
-/// The most bytes that a source hands out in its life.
+/// The most bytes that a source returns in its life.
 const MOST: u64 = 1_099_511_627_776;
 
 /// A reader or a writer, with the count of its failures.
 ///
-/// As a source it hands out at most 1,099,511,627,776 bytes and then the end, for which it does
-/// not ask the reader again. An error counts as one failure, and so does a write that takes none
-/// of some bytes.
+/// As a source it returns at most 1,099,511,627,776 bytes and then the end, without asking the reader
+/// again. An error counts as one failure, and so does a write that takes no byte of a piece that is not
+/// empty.
 #[derive(Debug, Drop)]
 pub struct Counted<T> {
     inner: T,
@@ -26,7 +26,7 @@ pub struct Counted<T> {
 impl<T> Counted<T> {
     ghost use Rattle.names.specs.Counted.{device, handed_out, failures};
 
-    /// Nothing was handed out so far, and nothing failed.
+    /// Wraps `inner`. No bytes are returned yet, and no failure is counted.
     pub fn new(inner: T) -> Self
         ensures device { device result ≡ inner }
         ensures handed_out { handed_out result ≡ 0 }
@@ -39,7 +39,7 @@ impl<T> Counted<T> {
         }
     }
 
-    /// The reader or the writer.
+    /// Returns the reader or the writer.
     pub fn into_inner(self) -> T
         ensures { result ≡ device self }
     {

@@ -1,16 +1,15 @@
-//! The words of `custody`: what a request may name, why one is refused, and where its bytes come
+//! The vocabulary of `custody`: the names in a request, the rules that refuse one, and where bytes come
 //! from and go to.
 //!
-//! A studio's users lock files and store large ones. Here stand the names in which they ask for
-//! that: a repository, a user, a ref of Git, a path in the work tree, an object's SHA-256 and its
-//! size, a lock's number, a moment. Each has a type, whose `read` takes exactly the texts or
-//! numbers that may stand for one, so that a value of the type needs no further test anywhere.
-//! [`Rule`] has each reason for which the server refuses, with its code and its status.
-//! [`Source`] and [`Sink`] are what a connection is to the server; [`Counted`] makes one of any
-//! reader or writer of the standard library, and [`SliceSource`], [`VecSink`] and [`FailAfter`]
-//! serve tests.
+//! Users lock files and store large ones. This crate has the names that their requests use: a
+//! repository, a user, a ref of Git, a path in the work tree, an object's SHA-256 and its size, a
+//! lock's number, a moment. Each has a type, whose `read` accepts exactly the valid texts or numbers, so
+//! a value of the type needs no further test. [`Rule`] has each reason for which the server refuses,
+//! with its code and its status. [`Source`] and [`Sink`] are a connection, as the server uses it;
+//! [`Counted`] makes one of any reader or writer of the standard library, and [`SliceSource`],
+//! [`VecSink`] and [`FailAfter`] serve tests.
 //!
-//! Only [`moment_text`] takes memory, and [`VecSink`] as it grows.
+//! Only [`moment_text`] allocates memory, and [`VecSink`] as it grows.
 #![tactic(auto)]
 
 mod civil;

@@ -1,12 +1,14 @@
 //! Sources and sinks in memory, for tests: whole, in small pieces, and failing.
 
-ghost use Rattle.std.specs.Prelude.{◌≡◌, ◌-◌, ◌<◌, ◌↔◌, IsTrue, Some, [], length, max};
+ghost use Rattle.std.specs.Prelude.{◌≡◌, ◌-◌, ◌<◌, ◌↔◌, ◌≤◌, ◌+◌, IsTrue, IfOk, OnOk, OnErr, Some, Ok, [], length, max};
+ghost use Rattle.std.specs.Io.KnownBytes.{ReadConsumes, WriteAppends};
+ghost use Rattle.names.specs.Streams.{HasGrown};
 
 use crate::streams::one_more;
 use crate::{DeviceFault, Sink, Source};
 use std::alloc::Global;
 
-/// The bytes of a slice, at most so many a read.
+/// The bytes of a slice, at most `most` of them per read.
 #[derive(Clone, Copy, Debug)]
 pub struct SliceSource<'a> {
     left: &'a [u8],
@@ -17,7 +19,7 @@ pub struct SliceSource<'a> {
 impl<'a> SliceSource<'a> {
     ghost use Rattle.names.specs.Memory.{slice_left, most_read, size_of_read};
 
-    /// Hands out `bytes`, at most `most` of them a read. 0 stands for 1.
+    /// Makes a source of `bytes` that returns at most `most` of them per read. 0 counts as 1.
     pub fn new(bytes: &'a [u8], most: usize) -> Self
         ensures left { slice_left result ≡ bytes.now }
         ensures most { most_read result ≡ max 1 most }
@@ -28,7 +30,7 @@ impl<'a> SliceSource<'a> {
         }
     }
 
-    /// How many bytes a read hands out where there is so much room.
+    /// The number of bytes that a read returns into a piece of `room` bytes.
     fn size_of_read(&self, room: usize) -> usize
         ensures { result ≡ size_of_read self.now room }
     {
@@ -44,15 +46,25 @@ impl<'a> SliceSource<'a> {
 }
 
 impl Source for SliceSource<'_> {
-    ghost use Rattle.names.specs.Memory.{slice_left};
+    ghost use Rattle.names.specs.Memory.{slice_left, slice_failures, most_read, size_of_read};
 
     ghost left = { λ s. Some (slice_left s) };
 
     ghost budget = { λ s. length (slice_left s) };
 
-    ghost failed = { λ _. 0 };
+    ghost failed = { λ s. slice_failures s };
 
-    fn read(&mut self, piece: &mut [u8]) -> Result<usize, DeviceFault> {
+    fn read(&mut self, piece: &mut [u8]) -> Result<usize, DeviceFault>
+        ensures within { IfOk result (λ n. n ≤ length piece.new) }
+        ensures bytes { ReadConsumes (Some (slice_left self.old)) (Some (slice_left self.new)) result piece.new }
+        ensures budget { IfOk result
+            (λ n. n + length (slice_left self.new) ≤ length (slice_left self.old)) }
+        ensures budget_err { OnErr result (length (slice_left self.new) ≤ length (slice_left self.old)) }
+        ensures good { OnOk result (slice_failures self.new ≡ slice_failures self.old) }
+        ensures fault { OnErr result (HasGrown (slice_failures self.old) (slice_failures self.new)) }
+        ensures size { result ≡ Ok (size_of_read self.old (length piece.new)) }
+        ensures most { most_read self.new ≡ most_read self.old }
+    {
         let size = self.size_of_read(piece.len());
         let (front, left) = self.left.split_at(size);
         piece[..size].copy_from_slice(front);
@@ -65,7 +77,7 @@ impl Source for SliceSource<'_> {
     }
 }
 
-/// A vector that takes at most so many bytes a write. Where it finds no memory, the write fails.
+/// A vector that takes at most `most` bytes per write. A write fails if memory runs out.
 #[derive(Debug, Drop)]
 pub struct VecSink {
     taken: Vec<u8>,
@@ -77,7 +89,7 @@ pub struct VecSink {
 impl VecSink {
     ghost use Rattle.names.specs.Memory.{vec_taken, vec_failures, most_written, size_of_write};
 
-    /// Took nothing so far, and takes at most `most` bytes a write. 0 stands for 1.
+    /// Makes an empty sink that takes at most `most` bytes per write. 0 counts as 1.
     pub fn new(alloc: Global, most: usize) -> Self
         ensures taken { vec_taken result ≡ [] }
         ensures failures { vec_failures result ≡ 0 }
@@ -90,14 +102,14 @@ impl VecSink {
         }
     }
 
-    /// How many bytes of so many a write takes.
+    /// The number of bytes that a write takes of `offered` bytes.
     fn size_of_write(&self, offered: usize) -> usize
         ensures { result ≡ size_of_write self.now offered }
     {
         self.most.min(offered)
     }
 
-    /// The bytes that were taken.
+    /// The bytes taken so far.
     pub fn taken(&self) -> &[u8]
         ensures { result.now ≡ vec_taken self.now }
     {
@@ -106,13 +118,21 @@ impl VecSink {
 }
 
 impl Sink for VecSink {
-    ghost use Rattle.names.specs.Memory.{vec_taken, vec_failures};
+    ghost use Rattle.names.specs.Memory.{vec_taken, vec_failures, most_written, size_of_write};
 
     ghost taken = { λ k. Some (vec_taken k) };
 
     ghost failed = { λ k. vec_failures k };
 
-    fn write(&mut self, piece: &[u8]) -> Result<usize, DeviceFault> {
+    fn write(&mut self, piece: &[u8]) -> Result<usize, DeviceFault>
+        ensures within { IfOk result (λ n. n ≤ length piece.now) }
+        ensures some { IfOk result (λ n. 0 < length piece.now → 0 < n) }
+        ensures bytes { WriteAppends (Some (vec_taken self.old)) (Some (vec_taken self.new)) result piece.now }
+        ensures good { OnOk result (vec_failures self.new ≡ vec_failures self.old) }
+        ensures fault { OnErr result (HasGrown (vec_failures self.old) (vec_failures self.new)) }
+        ensures size { IfOk result (λ n. n ≡ size_of_write self.old (length piece.now)) }
+        ensures most { most_written self.new ≡ most_written self.old }
+    {
         let size = self.size_of_write(piece.len());
         match self.taken.extend_from_slice(&piece[..size]) {
             Ok(()) => Ok(size),
@@ -128,7 +148,7 @@ impl Sink for VecSink {
     }
 }
 
-/// A source or a sink of which so many calls reach the device, and then each call fails.
+/// Test double: forwards the first `calls` calls, then always fails.
 #[derive(Debug, Drop)]
 pub struct FailAfter<T> {
     inner: T,
@@ -139,7 +159,7 @@ pub struct FailAfter<T> {
 impl<T> FailAfter<T> {
     ghost use Rattle.names.specs.Memory.{failing, calls_left, failures_so_far};
 
-    /// The first `calls` calls are those of `inner`, and each call after them fails.
+    /// Forwards the first `calls` calls to `inner`; each later call fails.
     pub fn new(inner: T, calls: u64) -> Self
         ensures inner { failing result ≡ inner }
         ensures calls { calls_left result ≡ calls }
@@ -162,7 +182,7 @@ impl<T> FailAfter<T> {
         reaches
     }
 
-    /// The source or the sink.
+    /// Returns the source or the sink inside.
     pub fn into_inner(self) -> T
         ensures { result ≡ failing self }
     {

@@ -16,7 +16,7 @@ fn begins_with_1_to_9(text: &str) -> bool
         .is_some_and(|byte| (b'1'..=b'9').contains(&byte))
 }
 
-/// The number of a lock in its repository, from 1 to 4,294,967,295. A number is never used again.
+/// The number of a lock in its repository, from 1 to 4,294,967,295. A number is never reused.
 #[derive(Clone, Copy, Debug, PartialEq, Eq, PartialOrd, Ord, Hash)]
 pub struct LockId {
     number: u32,
@@ -33,7 +33,7 @@ impl Model for LockId {
 }
 
 impl LockId {
-    /// The lock id of that number; `None` exactly at 0.
+    /// The lock id with this number; `None` exactly for 0.
     pub fn from_number(number: u32) -> Option<Self>
         ensures accepted { IsSome result ↔ (1 ≤ number) }
         ensures value { IfSome result (λ id. id ≡ number) }
@@ -45,8 +45,8 @@ impl LockId {
         }
     }
 
-    /// The lock id whose decimal text this is; `None` exactly where there is none, as for a
-    /// leading zero or a sign.
+    /// Parses a lock id in decimal; `None` exactly if the text is not one, as with a leading zero or a
+    /// sign.
     pub fn read(text: &str) -> Option<Self>
         ensures { result ≡ lock_id_in text.now }
     {
@@ -56,7 +56,7 @@ impl LockId {
         LockId::from_number(text.parse().ok()?)
     }
 
-    /// The number.
+    /// Returns the number.
     pub fn get(&self) -> u32
         ensures value { result ≡ self.now }
         ensures in_range { (1 ≤ result) × (result ≤ last_lock_id) }
@@ -93,7 +93,7 @@ impl Model for Moment {
 }
 
 impl Moment {
-    /// The moment of that second; `None` exactly above 253,402,300,799.
+    /// The moment of this second; `None` exactly above 253,402,300,799.
     pub fn read(second: u64) -> Option<Self>
         ensures accepted { IsSome result ↔ (second ≤ last_moment) }
         ensures value { IfSome result (λ moment. moment ≡ second) }
@@ -105,7 +105,7 @@ impl Moment {
         }
     }
 
-    /// The seconds since 1970-01-01T00:00:00Z.
+    /// Returns the seconds since 1970-01-01T00:00:00Z.
     pub fn get(&self) -> u64
         ensures value { result ≡ self.now }
         ensures in_range { result ≤ last_moment }

@@ -20,10 +20,10 @@ fn has_hex_digits(text: &[u8]) -> bool
     text.iter().copied().all(is_hex_digit)
 }
 
-/// An object's name: the SHA-256 of its bytes, as 64 hexadecimal digits in lower case.
+/// An object's name: the SHA-256 digest of its bytes, as 64 hexadecimal digits in lower case.
 ///
-/// The digits' first byte is the first of the digest (FIPS 180-4). Contracts see the list of the
-/// 64 bytes.
+/// The first two digits are the first byte of the digest (FIPS 180-4). Contracts see the list of the 64
+/// bytes of the text.
 #[derive(Clone, Copy, Debug, PartialEq, Eq, PartialOrd, Ord, Hash)]
 pub struct Oid {
     digits: [u8; 64],
@@ -40,7 +40,7 @@ impl Model for Oid {
 }
 
 impl Oid {
-    /// The name that the text spells; `None` exactly where it is not 64 of `0-9 a-f`.
+    /// Reads a name; `None` exactly if the text is not 64 bytes of `0-9 a-f`.
     pub fn read(text: &[u8]) -> Option<Self>
         ensures accepted { IsSome result ↔ IsTrue (is_hex_64 text.now) }
         ensures value { IfSome result (λ name. name ≡ text.now) }
@@ -88,7 +88,7 @@ impl Model for Size {
 }
 
 impl Size {
-    /// The size of so many bytes; `None` exactly above 268,435,456.
+    /// The size of this many bytes; `None` exactly above 268,435,456.
     pub fn read(bytes: u64) -> Option<Self>
         ensures accepted { IsSome result ↔ (bytes ≤ largest_object) }
         ensures value { IfSome result (λ size. size ≡ bytes) }
@@ -100,7 +100,7 @@ impl Size {
         }
     }
 
-    /// The number of bytes.
+    /// Returns the number of bytes.
     pub fn get(&self) -> u64
         ensures value { result ≡ self.now }
         ensures in_range { result ≤ largest_object }

@@ -3,26 +3,26 @@ ghost use Rattle.names.specs.Rules.{row_of};
 
 use std::fmt;
 
-/// Why a request is refused. A reply tells the code, which [`fmt::Display`] writes.
+/// Why a request is refused. A reply has the code, which [`fmt::Display`] writes.
 ///
 /// The statuses are those of the Git LFS API (Batch, Locking) and of RFC 9110.
 #[derive(Clone, Copy, Debug, PartialEq, Eq, Hash)]
 pub enum Rule {
-    /// There is no request head within 16,384 bytes, or one of over 64 fields.
+    /// No request head within 16,384 bytes, or a head of over 64 fields.
     H1,
     /// A `Transfer-Encoding` field.
     H2,
     /// A POST or PUT without `Content-Length`.
     H3,
-    /// A field that stands twice, a length that is none, or a GET with a body.
+    /// A repeated field, an invalid length, or a GET with a body.
     H4,
     /// A body over the limit of its method.
     H5,
     /// No route has this path.
     H6,
-    /// The route has another method.
+    /// The route does not serve this method.
     H7,
-    /// `Accept` names no type that is served.
+    /// `Accept` names no type that the server sends.
     H8,
     /// No bearer token.
     A1,
@@ -32,7 +32,7 @@ pub enum Rule {
     A3,
     /// The token is for another repository.
     A4,
-    /// The request wants an upload token.
+    /// The request needs an upload token.
     A5,
     /// The policy has no such repository.
     R1,
@@ -44,7 +44,7 @@ pub enum Rule {
     J3,
     /// A batch that names transfers, without `basic`.
     J4,
-    /// The denial by that policy row, counted from 1, or by none at 0.
+    /// The denial by the policy row with this number, counted from 1; 0 if no row matches.
     P(u32),
     /// Batch: the object is not stored.
     B1,
@@ -58,7 +58,7 @@ pub enum Rule {
     B5,
     /// Download: the object is not stored.
     X1,
-    /// Upload: the bytes do not have the object's name.
+    /// Upload: the bytes do not match the object's name.
     X2,
     /// Upload: the quota does not hold the object.
     X3,
@@ -72,16 +72,16 @@ pub enum Rule {
     L2,
     /// The lock is another user's.
     L3,
-    /// The cursor is no lock id.
+    /// The cursor is not a lock id.
     L4,
     /// The repository has no lock id left.
     L5,
-    /// The store or memory refused.
+    /// The store refused or memory ran out.
     S1,
 }
 
 impl Rule {
-    /// The status of the reply; `None` for a denial by the policy, whose request decides.
+    /// The status of the reply; `None` for a denial by the policy, for which the request decides.
     pub fn status(&self) -> Option<u16>
         ensures { result ≡ (row_of self.now).status }
     {
@@ -105,8 +105,7 @@ impl Rule {
         Some(status)
     }
 
-    /// Why the request is refused, in words; `None` for a denial by the policy, whose words name
-    /// the right that was denied.
+    /// The reason in words; `None` for a denial by the policy, whose words name the denied right.
     pub fn reason(&self) -> Option<&'static str>
         ensures { option_map (λ text. text.now) result ≡ (row_of self.now).reason }
     {

@@ -1,4 +1,4 @@
-//! Where bytes come from, and where they go.
+//! Sources and sinks of bytes.
 
 ghost use Rattle.std.specs.Prelude.{◌≡◌, ℕ, ◌+◌, ◌<◌, ◌≤◌, List, Option, Some, None, length, IfOk, OnOk, OnErr};
 ghost use Rattle.std.specs.Borrow.{GName};
@@ -12,31 +12,31 @@ use thiserror::Error;
 #[error("the device failed")]
 pub struct DeviceFault;
 
-/// Where bytes come from.
+/// A source of bytes.
 ///
-/// A source hands out finitely many bytes, so a loop that reads it to its end ends.
+/// A source returns finitely many bytes, so a loop that reads it to its end terminates.
 pub trait Source {
-    /// The bytes that are left, where they are known.
+    /// The bytes that are left, if they are known.
     ghost left: { Self → Option (List ℕ) };
 
-    /// The name of the reference that the source is, where it is one. A read keeps it, so who lent
-    /// the source knows it again when it comes back.
+    /// The name of the reference, if the source is one. A read keeps it, so the lender of the source can
+    /// identify it when it comes back.
     ghost reference: { Self → Option GName } = { λ _. None };
 
-    /// At most so many bytes are handed out from here on.
+    /// An upper bound of the bytes that are still to be returned.
     ghost budget: { Self → ℕ };
 
-    /// How many reads failed so far.
+    /// The number of failed reads so far.
     ghost failed: { Self → ℕ };
 
-    /// Reads some bytes into the front of `piece`, and says how many.
+    /// Reads some bytes into the front of `piece`, and returns how many.
     ///
-    /// 0 into a piece with room is the end: where the bytes are known, none is left. What stands
-    /// behind the bytes that were read is not told.
+    /// 0 for a piece with room is the end: if the bytes are known, none is left. The rest of `piece` is
+    /// unspecified.
     ///
     /// # Errors
     ///
-    /// A [`DeviceFault`] is counted, and leaves the bytes that are left as they were.
+    /// A [`DeviceFault`] is counted once, and leaves the remaining bytes unchanged.
     fn read(&mut self, piece: &mut [u8]) -> Result<usize, DeviceFault>
         ensures within { IfOk result (λ n. n ≤ length piece.new) }
         ensures bytes { ReadConsumes (left self.old) (left self.new) result piece.new }
@@ -46,25 +46,25 @@ pub trait Source {
         ensures good { OnOk result (failed self.new ≡ failed self.old) }
         ensures fault { OnErr result (HasGrown (failed self.old) (failed self.new)) };
 
-    /// How many reads failed so far. At its greatest number the count stays.
+    /// The number of failed reads so far. At its maximum the count stays.
     fn failures(&self) -> u64
         ensures { result ≡ failed self.now };
 }
 
-/// Where bytes go.
+/// A sink for bytes.
 pub trait Sink {
-    /// The bytes that were taken, where they are known.
+    /// The bytes taken so far, if they are known.
     ghost taken: { Self → Option (List ℕ) };
 
-    /// How many writes failed so far.
+    /// The number of failed writes so far.
     ghost failed: { Self → ℕ };
 
-    /// Takes some bytes from the front of `piece`, and says how many: at least one, unless the
-    /// piece is empty.
+    /// Takes some bytes from the front of `piece`, and returns how many: at least one, unless the piece is
+    /// empty.
     ///
     /// # Errors
     ///
-    /// A [`DeviceFault`] is counted, and leaves the bytes that were taken as they were.
+    /// A [`DeviceFault`] is counted once, and leaves the bytes taken so far unchanged.
     fn write(&mut self, piece: &[u8]) -> Result<usize, DeviceFault>
         ensures within { IfOk result (λ n. n ≤ length piece.now) }
         ensures some { IfOk result (λ n. 0 < length piece.now → 0 < n) }
@@ -72,19 +72,19 @@ pub trait Sink {
         ensures good { OnOk result (failed self.new ≡ failed self.old) }
         ensures fault { OnErr result (HasGrown (failed self.old) (failed self.new)) };
 
-    /// How many writes failed so far. At its greatest number the count stays.
+    /// The number of failed writes so far. At its maximum the count stays.
     fn failures(&self) -> u64
         ensures { result ≡ failed self.now };
 }
 
-/// The count of failures after one more. At its greatest number it stays.
+/// The count of failures after one more. At its maximum it stays.
 pub(crate) fn one_more(failures: u64) -> u64
     ensures { HasGrown failures result }
 {
     failures.saturating_add(1)
 }
 
-/// A source that is lent.
+/// A borrowed source.
 impl<S: Source> Source for &mut S {
     ghost left = { λ s. S.left s.now };
 
@@ -103,7 +103,7 @@ impl<S: Source> Source for &mut S {
     }
 }
 
-/// A sink that is lent.
+/// A borrowed sink.
 impl<K: Sink> Sink for &mut K {
     ghost taken = { λ k. K.taken k.now };
 

@@ -1,7 +1,7 @@
 //! Names that are texts: of repositories, users, refs and paths.
 //!
-//! A value of such a type is a text in range, so that its holder has nothing left to test. Two
-//! names are the same where their bytes are.
+//! A value of such a type is a text in range, so its holder has nothing left to test. Two names are
+//! equal if their bytes are.
 
 ghost use Rattle.std.specs.Prelude.{◌≡◌, ◌↔◌, IsTrue, IsSome, IfSome, Some, codes, not};
 ghost use Rattle.std.specs.List.{list_all};
@@ -120,7 +120,7 @@ pub struct UserName<'a> {
 impl<'a> UserName<'a> {
     ghost use Rattle.names.specs.Names.{user_text};
 
-    /// The user of that text; `None` exactly where the text is out of range.
+    /// Reads a user; `None` exactly if the text is out of range.
     pub fn read(text: &'a str) -> Option<Self>
         ensures accepted { IsSome result ↔ IsTrue (is_user text.now) }
         ensures value { IfSome result (λ name. user_text name ≡ text.now) }
@@ -162,7 +162,7 @@ pub struct RepoName<'a> {
 impl<'a> RepoName<'a> {
     ghost use Rattle.names.specs.Names.{repo_text};
 
-    /// The repository of that text; `None` exactly where the text is out of range.
+    /// Reads a repository; `None` exactly if the text is out of range.
     pub fn read(text: &'a str) -> Option<Self>
         ensures accepted { IsSome result ↔ IsTrue (is_repo text.now) }
         ensures value { IfSome result (λ name. repo_text name ≡ text.now) }
@@ -205,7 +205,7 @@ pub struct RefName<'a> {
 impl<'a> RefName<'a> {
     ghost use Rattle.names.specs.Names.{ref_text};
 
-    /// The ref of that text; `None` exactly where the text is out of range.
+    /// Reads a ref; `None` exactly if the text is out of range.
     pub fn read(text: &'a str) -> Option<Self>
         ensures accepted { IsSome result ↔ IsTrue (is_ref text.now) }
         ensures value { IfSome result (λ name. ref_text name ≡ text.now) }
@@ -248,7 +248,7 @@ pub struct LockPath<'a> {
 impl<'a> LockPath<'a> {
     ghost use Rattle.names.specs.Names.{path_text};
 
-    /// The path of that text; `None` exactly where the text is out of range.
+    /// Reads a path; `None` exactly if the text is out of range.
     pub fn read(text: &'a str) -> Option<Self>
         ensures accepted { IsSome result ↔ IsTrue (is_lock_path text.now) }
         ensures value { IfSome result (λ name. path_text name ≡ text.now) }

@@ -1,4 +1,4 @@
--- What the slices of a head show of its fields.
+-- The fields of a head, from the slices of its bytes.
 use Rattle.std.proofs.Common.{◌≡◌, ℕ, ◌≤◌, Bool, true, false, ◌&&◌, ◌||◌, nat_le, ◌==◌, List, [], ◌∷◌, length, map, filter, find, count_by, cond, codes, Option, Some, option_map, refl, sym, ap, ◌∙◌, arith}
 use Rattle.std.specs.List.{AllByRecursion, list_any, slice_split}
 use Rattle.std.proofs.lemmas.List.Folds.{list_any-append}
@@ -35,7 +35,7 @@ covered_is bytes s n within fits =
 abbrev value_at : List ℕ → HeaderSpan → List ℕ
 value_at bytes f = covered bytes f.value
 
--- one field more, on both sides
+-- one more field, on both sides
 one_more : (bytes : List ℕ) (v w : Bool) (f : HeaderSpan) (g : Field) (fs : List HeaderSpan) (gs : List Field) → v ≡ w → value_at bytes f ≡ field_value g
     → map (value_at bytes) fs ≡ map field_value gs → map (value_at bytes) (cond v (f ∷ fs) fs) ≡ map field_value (cond w (g ∷ gs) gs)
 one_more bytes true true f g fs gs e value rest = ap (λ x. x ∷ map (value_at bytes) fs) value ∙ ap (λ l. field_value g ∷ l) rest
@@ -91,7 +91,7 @@ any_map p h (x ∷ xs) = ap (λ b. p (h x) || b) (any_map p h xs)
 abbrev close : List ℕ → Bool
 close = str_eq_ignore_ascii_case (codes "close")
 
--- a value lists close where one of its items is close
+-- a value lists `close` if one of its items is `close`
 close_in : (value : List ℕ) (more : List (List ℕ)) → list_any close (items (value ∷ more)) ≡ (lists_close value || list_any close (items more))
 close_in value more =
     list_any-append close (map trim_ows (slice_split (λ b. b == comma) value)) (items more)

@@ -19,7 +19,7 @@ use Rattle.model.specs.Stream.{IsHeadThen, HasNoHead, NeverIsHead, BeginsBadly, 
 pub head_fits : (bytes : List ℕ) (h : RequestHead) (rest : List ℕ) → ReadsRequest bytes h rest → length (print_request h) ≤ length bytes
 head_fits bytes h rest r = omega (arith, length-append (print_request h) rest, ap length r.1)
 
--- a head of the first bytes is one of all
+-- a head at the front of the first bytes is one at the front of all
 pub reads_all : (n : ℕ) (bytes : List ℕ) (h : RequestHead) (rest : List ℕ) → ReadsRequest (take n bytes) h rest
     → ReadsRequest bytes h (rest ++ drop n bytes)
 reads_all n bytes h rest r =
@@ -31,7 +31,7 @@ pub head_of_front : (bytes : List ℕ) (h : RequestHead) (rest : List ℕ) → R
 head_of_front bytes h rest r =
     record { reads = reads_all head_limit bytes h rest r; short = omega (arith, head_fits _ h rest r, length-take head_limit bytes) }
 
--- no head at the front of the first bytes, none at the front of all
+-- if no head is at the front of the first bytes, none is at the front of all
 pub no_head : (bytes : List ℕ) → HasNoRequest (take head_limit bytes) → HasNoHead bytes
 no_head bytes none h rest is =
     let room : length (print_request h) + (head_limit - length (print_request h)) ≡ head_limit = omega (arith, is.short) in
@@ -50,7 +50,7 @@ fields_size : (fs : List Field) → ByRecursion IsField fs → 3 * length fs ≤
 fields_size [] is = omega arith
 fields_size (f ∷ fs) is = rw (length-append (print_field f) (flat_map print_field fs)) (omega (arith, fields_size fs is.1, field_size f is.0))
 
--- each field takes three bytes at least
+-- each field takes at least three bytes
 pub head_size : (h : RequestHead) → IsRequestHead h → 3 * length h.fields ≤ length (print_request h)
 unfolding print_request
 head_size h is =
@@ -62,7 +62,7 @@ never_exceeds bytes room enough short x =
     let whole : length (x.0 ++ print_end lf) ≡ length (print_request x.3 ++ []) = ap length x.4.1 in
     omega (arith, head_size x.3 x.4.0, x.5, simp (length-append, append-nil) at whole, ap length x.2, length-append x.0 x.1)
 
--- ---- the answers
+-- ---- the results
 
 pub bad_for_fields : (bytes : List ℕ) (h : RequestHead) (rest : List ℕ) → ReadsRequest (take head_limit bytes) h rest
     → field_limit < length h.fields → BeginsBadly bytes
@@ -90,7 +90,7 @@ bad_for_err bytes room error.TooManyHeaders enough never many =
     absurd (never_exceeds (take head_limit bytes) room enough (omega (arith, length-take head_limit bytes)) (many refl))
 bad_for_err bytes room _ enough never many = bad_for_bytes bytes (never (λ e. cc))
 
--- the head and its place, from what the parser says of the first bytes
+-- the head and its place, from the parser's result on the first bytes
 pub begins_with : (bytes : List ℕ) (h : RequestHead) (len : ℕ) → ReadsRequest (take head_limit bytes) h (drop len (take head_limit bytes))
     → len ≡ length (print_request h) → length h.fields ≤ field_limit → BeginsWithHead bytes h (drop len bytes)
 begins_with bytes h len r is few =

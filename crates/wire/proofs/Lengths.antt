@@ -1,4 +1,4 @@
--- The number that 1 to 18 digits write.
+-- The number written with 1 to 18 digits.
 use Rattle.std.proofs.Common.{◌≡◌, ℕ, ◌<◌, ◌≤◌, true, false, ◌&&◌, List, [], ◌∷◌, length, Option, Some, None, Result, Ok, refl, sym, ap, ◌∙◌, arith, lit<, MatchOption, rules, subst, zero, suc}
 use Rattle.std.specs.Char.{is_ascii_digit}
 use Rattle.std.specs.List.{list_all}
@@ -54,7 +54,7 @@ length_read E value text r o same parsed read some short digits =
 some_same : {A : Type 0} {x y : A} → Some x ≡ Some y → x ≡ y
 some_same e = cc
 
--- what is read of the first value is the length that the values state, where there is one value
+-- the length read from the first value is the length that the values state, if there is at most one value
 pub stated_some : (values : List (List ℕ)) (value : List ℕ) (o : Option ℕ) → length values ≤ 1 → Some value ≡ first values
     → MatchOption o (is_length value ≡ false) (λ n. (is_length value ≡ true) × (n ≡ digits_value 10 value))
     → MatchOption o ((at_most 1 values && list_all is_length values) ≡ false)

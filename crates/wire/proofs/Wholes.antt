@@ -18,7 +18,7 @@ pub appends_rest : (old mid new : Option (List ℕ)) (text piece : List ℕ) (at
 appends_rest old mid new text piece at n e a b =
     let P : List ℕ → Type 0 = λ p. Appends mid new (take n p) in appends_more old mid new text at n a (subst P e b)
 
--- one text after the other
+-- one text after another
 pub appends_both : (old mid new : Option (List ℕ)) (front back : List ℕ) → Appends old mid front → Appends mid new back → Appends old new (front ++ back)
 appends_both None mid new front back a b = tt
 appends_both (Some xs) None new front back a b = absurd a

@@ -16,7 +16,7 @@ pub record Covers (bytes : List ℕ) (fields : List HeaderSpan) (spans : Request
   pub version : spans.version ≡ head.minor
   pub fields_are : AreFieldsAt bytes fields spans.headers head.fields
 
--- the head at the front of the bytes, a bad one, or less than one, which more bytes may make one
+-- the head at the front of the bytes, a bad one, or an incomplete one that more bytes may complete
 abbrev pub IsCut : List ℕ → List HeaderSpan → Cut → Type 0
 IsCut bytes fields (Head spans) =
     (head : RequestHead) × BeginsWithHead bytes head (drop spans.len bytes) × Covers (take head_limit bytes) fields spans head

@@ -10,36 +10,36 @@ use Rattle.httparse.specs.declared.spans.HeaderSpan.{HeaderSpan}
 use Rattle.wire.specs.Cut.{Covers}
 use Rattle.wire.specs.declared.head.Head.{Head}
 
--- ---- what a value of Head is made of
+-- ---- the parts of a `Head` value
 
 -- the bytes that the head lies in
 abbrev pub head_bytes : Head → List ℕ
 head_bytes h = h.bytes.now
 
--- where its fields are, of all that there was room for
+-- the spans of its fields; `fields` may hold more
 abbrev pub field_spans : Head → List HeaderSpan
 field_spans h = take h.spans.headers h.fields.now
 
--- the value shows this head
+-- the value represents this head
 abbrev pub Shows : Head → RequestHead → Type 0
 Shows h head = Covers h.bytes.now h.fields.now h.spans head
 
 -- ---- spans
 
--- the bytes that the span covers; none where it reaches past the end
+-- the bytes that the span covers; empty if it reaches past the end
 abbrev pub covered : List ℕ → Span → List ℕ
 covered bytes span =
     if nat_le span.start span.end && nat_le span.end (length bytes) then span_bytes bytes span else []
 
--- the field is of that name, in any case
+-- the field has that name, in any case
 abbrev pub is_named : List ℕ → List ℕ → HeaderSpan → Bool
 is_named bytes name field = str_eq_ignore_ascii_case (covered bytes field.name) name
 
--- the values of the fields of that name
+-- the values of the fields with that name
 abbrev pub values_at : List ℕ → List HeaderSpan → List ℕ → List (List ℕ)
 values_at bytes fields name = map (λ (f : HeaderSpan). covered bytes f.value) (filter (is_named bytes name) fields)
 
--- the values of that name that the value shows
+-- the values of the fields with that name, as the `Head` value has them
 abbrev pub values_shown : Head → List ℕ → List (List ℕ)
 values_shown h name = values_at (head_bytes h) (field_spans h) name
 
@@ -49,7 +49,7 @@ values_shown h name = values_at (head_bytes h) (field_spans h) name
 abbrev pub is_close : List ℕ → Bool
 is_close item = str_eq_ignore_ascii_case (codes "close") (trim_ows item)
 
--- the text between two commas is close
+-- one of the comma-separated items is close
 abbrev pub lists_close : List ℕ → Bool
 lists_close value = list_any is_close (slice_split (λ b. b == comma) value)
 

@@ -1,4 +1,4 @@
--- The head of a reply, as the definitions see it.
+-- The head of a reply, in the model's terms.
 use Rattle.std.specs.Prelude.{ℕ, List, []}
 use Rattle.model.specs.Replies.{Body, empty, json, content, type_line, head_lines}
 use Rattle.wire.specs.declared.reply.ReplyHead.{ReplyHead}

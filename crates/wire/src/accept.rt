@@ -15,7 +15,7 @@ fn first_semicolon(item: &[u8]) -> Option<usize>
     item.iter().position(|byte| *byte == b';')
 }
 
-/// What stands before the first semicolon.
+/// The part before the first semicolon.
 fn without_parameters(item: &[u8]) -> &[u8]
     ensures { result.now ≡ before_first (λ b. b == 59) item.now }
 {
@@ -25,7 +25,7 @@ fn without_parameters(item: &[u8]) -> &[u8]
     }
 }
 
-/// Whether the item names the type of the Git LFS API, or a range of types that holds it.
+/// Whether the item names the type of the Git LFS API, or a range of types that includes it.
 fn is_accepted(item: &[u8]) -> bool
     ensures { result ≡ is_accepted item.now }
 {
@@ -44,10 +44,11 @@ fn lists_accepted(value: &[u8]) -> bool
 }
 
 impl<'a> Head<'a> {
-    /// Whether the client accepts JSON of the Git LFS API: the `Accept` field lists it, or there is
-    /// none.
+    /// Whether the client accepts JSON of the Git LFS API: the `Accept` field lists it, or the head has
+    /// no `Accept`.
     pub fn accepts_json(&self) -> bool
-        ensures { (head : RequestHead) → Shows self.now head → result ≡ accepts (values (codes "accept") head) }
+        ensures { (head : RequestHead) → Shows self.now head → result
+            ≡ accepts (values (codes "accept") head) }
     {
         match self.first("accept") {
             Some(value) => lists_accepted(value),

@@ -1,4 +1,4 @@
-//! How many bytes of body follow a head, and which heads do not say it (RFC 9112, Message Body
+//! The size of the body after a head, and the heads that do not state it (RFC 9112, Message Body
 //! Length).
 
 ghost use Rattle.std.specs.Prelude.{◌≡◌, ◌&&◌, ◌||◌, true, false, Ok, Err, MatchOption, MatchResult};
@@ -19,21 +19,22 @@ pub const LARGEST_FORM: u64 = 1_048_576;
 pub const LARGEST_OBJECT: u64 = 268_435_456;
 
 impl<'a> Head<'a> {
-    /// How many bytes of body follow the head: what its `Content-Length` says, and 0 without one.
+    /// Returns the size of the body in bytes: the value of `Content-Length`, or 0 if the head has none.
     ///
     /// # Errors
     ///
-    /// The first of these rules that holds. Where the body ends is then not known, or not of
-    /// interest, and nothing behind the head may be read.
+    /// The first of these rules that applies. The end of the body is then unknown or irrelevant, and
+    /// nothing after the head may be read.
     ///
     /// - H2: there is a `Transfer-Encoding`.
     /// - H3: POST or PUT without `Content-Length`.
-    /// - H4: a `Content-Length` that stands twice or is not 1 to 18 digits; two `Authorization` or
+    /// - H4: a `Content-Length` that is repeated or is not 1 to 18 digits; two `Authorization` or
     ///   two `Accept`; a GET with a length above 0.
     /// - H5: a POST over [`LARGEST_FORM`] bytes, or a PUT over [`LARGEST_OBJECT`].
     pub fn body_length(&self) -> Result<u64, Rule>
         ensures { (head : RequestHead) → Shows self.now head
-            → MatchResult result (λ n. (check_framing head ≡ Ok tt) × (n ≡ content_length head)) (λ rule. check_framing head ≡ Err rule) }
+            → MatchResult result (λ n. (check_framing head ≡ Ok tt) × (n ≡ content_length head))
+            (λ rule. check_framing head ≡ Err rule) }
     {
         if self.count("transfer-encoding") > 0 {
             return Err(Rule::H2);
@@ -58,12 +59,13 @@ impl<'a> Head<'a> {
         Ok(length)
     }
 
-    /// The length that the head states: 0 where it states none, and `None` where it states two, or
-    /// one that is not 1 to 18 digits.
+    /// The length that the head states: 0 if it states none, and `None` if it states two, or one that
+    /// is not 1 to 18 digits.
     fn stated_length(&self) -> Option<u64>
         ensures { (head : RequestHead) → Shows self.now head → MatchOption result
             ((at_most 1 (lengths head) && list_all is_length (lengths head)) ≡ false)
-            (λ n. ((at_most 1 (lengths head) && list_all is_length (lengths head)) ≡ true) × (n ≡ content_length head)) }
+            (λ n. ((at_most 1 (lengths head) && list_all is_length (lengths head)) ≡ true)
+            × (n ≡ content_length head)) }
     {
         if self.count("content-length") > 1 {
             return None;
@@ -82,9 +84,10 @@ fn are_digits(value: &[u8]) -> bool
     value.iter().all(u8::is_ascii_digit)
 }
 
-/// The number that 1 to 18 digits write; `None` for any other text.
+/// The number written with 1 to 18 digits; `None` for any other text.
 fn length_in(value: &[u8]) -> Option<u64>
-    ensures { MatchOption result (is_length value.now ≡ false) (λ n. (is_length value.now ≡ true) × (n ≡ digits_value 10 value.now)) }
+    ensures { MatchOption result (is_length value.now ≡ false)
+        (λ n. (is_length value.now ≡ true) × (n ≡ digits_value 10 value.now)) }
 {
     if value.is_empty() || value.len() > 18 || !are_digits(value) {
         return None;

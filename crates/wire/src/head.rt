@@ -1,4 +1,4 @@
-//! What the head of a message asks, read from the bytes that it was found in.
+//! Reads the head of a message from the bytes that hold it.
 
 ghost use Rattle.std.specs.Prelude.{◌≡◌, option_map, count_by, find};
 ghost use Rattle.wire.specs.Fields.{covered, is_named, is_close, lists_close, is_closing_field};
@@ -8,7 +8,7 @@ use httparse::spans::{HeaderSpan, RequestSpans, Span};
 
 /// The head of a message: its method, its target and its fields.
 ///
-/// Nothing is copied: the texts that it answers are slices of the bytes of the stream.
+/// Nothing is copied: the texts that it returns are slices of the bytes of the stream.
 #[derive(Clone, Copy, Debug)]
 pub struct Head<'a> {
     bytes: &'a [u8],
@@ -25,10 +25,12 @@ impl<'a> Head<'a> {
     ghost use Rattle.wire.specs.Cut.{Covers};
     ghost use Rattle.wire.specs.Fields.{Shows, head_bytes, field_spans, is_closing_field};
 
-    /// The head that [`first_head`](crate::first_head) found: `bytes` is
-    /// [`front_of`](crate::front_of) the stream, `fields` what it wrote, and `spans` its answer.
+    /// Makes a `Head` from the result of [`first_head`](crate::first_head): `bytes` is
+    /// [`front_of`](crate::front_of) the stream, `fields` holds the spans that it wrote, and `spans` is
+    /// its result.
     pub fn new(bytes: &'a [u8], fields: &'a [HeaderSpan], spans: RequestSpans) -> Self
-        ensures { (head : RequestHead) → Covers bytes.now fields.now spans head → Shows result head }
+        ensures { (head : RequestHead) → Covers bytes.now fields.now spans head
+            → Shows result head }
     {
         Head {
             bytes,
@@ -37,14 +39,14 @@ impl<'a> Head<'a> {
         }
     }
 
-    /// The method, as `POST`. Methods are told apart byte by byte (RFC 9110, Methods).
+    /// Returns the method, as `POST`. Methods are compared byte by byte (RFC 9110, Methods).
     pub fn method(&self) -> &'a [u8]
         ensures { (head : RequestHead) → Shows self.now head → result.now ≡ head.method }
     {
         covered(self.bytes, self.spans.method)
     }
 
-    /// The target: a path, and perhaps a query behind a question mark. It is UTF-8, and not
+    /// Returns the target: a path, and perhaps a query after a question mark. It is UTF-8, and not
     /// decoded.
     pub fn target(&self) -> &'a [u8]
         ensures { (head : RequestHead) → Shows self.now head → result.now ≡ head.target }
@@ -52,25 +54,27 @@ impl<'a> Head<'a> {
         covered(self.bytes, self.spans.path)
     }
 
-    /// Whether the version is HTTP/1.0, and not HTTP/1.1. There is no other.
+    /// Whether the version is HTTP/1.0. The only other version is HTTP/1.1.
     pub fn is_http_1_0(&self) -> bool
         ensures { (head : RequestHead) → Shows self.now head → result ≡ (head.minor == 0) }
     {
         self.spans.version == 0
     }
 
-    /// How many fields of that name there are. Names are compared without regard to ASCII case
+    /// Returns the number of fields with that name. Names are compared without regard to ASCII case
     /// (RFC 9110, Field Names).
     pub fn count(&self, name: &str) -> usize
-        ensures { (head : RequestHead) → Shows self.now head → result ≡ length (values name.now head) }
+        ensures { (head : RequestHead) → Shows self.now head → result
+            ≡ length (values name.now head) }
     {
         count_of(self.bytes, self.field_spans(), name)
     }
 
-    /// The value of the first field of that name, without the white space around it; `None` where
-    /// there is no such field.
+    /// Returns the value of the first field with that name, without the white space around it; `None` if
+    /// the head has no such field.
     pub fn first(&self, name: &str) -> Option<&'a [u8]>
-        ensures { (head : RequestHead) → Shows self.now head → option_map (λ v. v.now) result ≡ first (values name.now head) }
+        ensures { (head : RequestHead) → Shows self.now head → option_map (λ v. v.now) result
+            ≡ first (values name.now head) }
     {
         match first_of(self.bytes, self.field_spans(), name) {
             Some(field) => Some(covered(self.bytes, field.value)),
@@ -78,7 +82,7 @@ impl<'a> Head<'a> {
         }
     }
 
-    /// Whether the connection is to end behind the message: it is of HTTP/1.0, or one of its
+    /// Whether the connection is to end after the message: the version is HTTP/1.0, or one of the
     /// `Connection` fields lists `close` (RFC 9112, Tear-down; RFC 9110, Connection).
     pub fn asks_close(&self) -> bool
         ensures { (head : RequestHead) → Shows self.now head → result ≡ asks_close head }
@@ -88,14 +92,15 @@ impl<'a> Head<'a> {
 
     /// Whether a `Connection` field lists `close`.
     fn lists_close(&self) -> bool
-        ensures { result ≡ list_any (is_closing_field (head_bytes self.now)) (field_spans self.now) }
+        ensures { result
+            ≡ list_any (is_closing_field (head_bytes self.now)) (field_spans self.now) }
     {
         self.field_spans()
             .iter()
             .any(|field| is_closing_field(self.bytes, field))
     }
 
-    /// The spans of the head's own fields, of all that there was room for.
+    /// The spans of the head's own fields, without the unused rest.
     fn field_spans(&self) -> &'a [HeaderSpan]
         ensures { result.now ≡ field_spans self.now }
     {
@@ -103,21 +108,21 @@ impl<'a> Head<'a> {
     }
 }
 
-/// The bytes that the span covers; none where it reaches past the end.
+/// The bytes that the span covers; empty if it reaches past the end.
 fn covered(bytes: &[u8], span: Span) -> &[u8]
     ensures { result.now ≡ covered bytes.now span }
 {
     bytes.get(span.start..span.end).unwrap_or(&[])
 }
 
-/// Whether the field is of that name, in any case.
+/// Whether the field has that name, in any case.
 fn is_named(bytes: &[u8], field: &HeaderSpan, name: &str) -> bool
     ensures { result ≡ is_named bytes.now name.now field.now }
 {
     covered(bytes, field.name).eq_ignore_ascii_case(name.as_bytes())
 }
 
-/// How many fields of that name there are.
+/// The number of fields with that name.
 fn count_of(bytes: &[u8], fields: &[HeaderSpan], name: &str) -> usize
     ensures { result ≡ count_by (is_named bytes.now name.now) fields.now }
 {
@@ -127,21 +132,21 @@ fn count_of(bytes: &[u8], fields: &[HeaderSpan], name: &str) -> usize
         .count()
 }
 
-/// The first field of that name.
+/// The first field with that name.
 fn first_of<'f>(bytes: &[u8], fields: &'f [HeaderSpan], name: &str) -> Option<&'f HeaderSpan>
     ensures { option_map (λ f. f.now) result ≡ find (is_named bytes.now name.now) fields.now }
 {
     fields.iter().find(|field| is_named(bytes, field, name))
 }
 
-/// Whether an item of a list is `close`, in any case, with white space around it or without.
+/// Whether a list item is `close`, in any case, with or without white space around it.
 fn is_close(item: &[u8]) -> bool
     ensures { result ≡ is_close item.now }
 {
     b"close".eq_ignore_ascii_case(trim_ows(item))
 }
 
-/// Whether what stands between two commas of a list is `close`.
+/// Whether an item of a comma-separated list is `close`.
 fn lists_close(value: &[u8]) -> bool
     ensures { result ≡ lists_close value.now }
 {

@@ -1,13 +1,13 @@
-//! What passes over a connection: requests are cut out of its bytes, and replies are written to
-//! it (RFC 9112).
+//! The HTTP messages on a connection: splits requests from its bytes, and writes replies to it
+//! (RFC 9112).
 //!
-//! A client sends its requests one after the other. Each is a head, a few lines of text that say
-//! what is asked, and perhaps a body of bytes. [`first_head`] finds the head at the front of what
-//! has arrived, or tells that none can be there; [`Head`] says what its lines ask: the method, the
-//! target, the fields, how many bytes of body follow, and whether the connection ends behind it.
-//! [`write_reply`] sends a [`ReplyHead`] and a body.
+//! A client sends its requests one after another. Each is a head, which is a few lines of text, and
+//! perhaps a body of bytes. [`first_head`] finds the head at the front of the bytes received, or
+//! reports that they cannot begin with one. [`Head`] returns the method, the target, the fields, the
+//! size of the body, and whether the connection ends after the message. [`write_reply`] sends a
+//! [`ReplyHead`] and a body.
 //!
-//! Nothing here takes memory, knows a route, or reads a body.
+//! This crate allocates no memory, knows no routes, and reads no body.
 #![tactic(auto)]
 
 mod accept;

@@ -17,7 +17,7 @@ fn is_ows(byte: u8) -> bool
     byte == b' ' || byte == b'\t'
 }
 
-/// The text from its first byte on that is no white space.
+/// The text from its first byte that is not white space.
 fn trim_front(text: &[u8]) -> &[u8]
     ensures { result.now ≡ skip_ows text.now }
 {
@@ -31,7 +31,7 @@ fn trim_front(text: &[u8]) -> &[u8]
     left
 }
 
-/// The text up to its last byte that is no white space.
+/// The text up to its last byte that is not white space.
 fn trim_back(text: &[u8]) -> &[u8]
     ensures { reverse result.now ≡ skip_ows (reverse text.now) }
 {

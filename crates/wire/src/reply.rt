@@ -1,7 +1,7 @@
 //! The head of a reply (RFC 9112, Message Format; Git LFS API, Authentication).
 //!
-//! It takes no memory: it is written into a buffer of a fixed size, which holds the longest head
-//! that there is.
+//! It needs no memory: the head is written into a buffer of a fixed size, which holds the longest
+//! head.
 
 ghost use Rattle.std.specs.Prelude.{◌≡◌, ◌+◌, ◌≤◌, ◌<◌, ◌++◌, ◌==◌, length, codes, decimal, not};
 ghost use Rattle.arrayvec.specs.ArrayString.{array_string_len};
@@ -13,37 +13,37 @@ use arrayvec::ArrayString;
 use http::StatusCode;
 use itoa::Buffer;
 
-/// The longest list of methods that a reply can name, in bytes.
+/// The longest list of methods in a reply, in bytes.
 pub const ALLOW_LIMIT: usize = 128;
 
 /// Room for the longest head.
 pub(crate) const HEAD_ROOM: usize = 512;
 
-/// What the body of a reply is.
+/// The kind of a reply's body.
 #[derive(Clone, Copy, Debug, PartialEq, Eq)]
 pub enum Content {
     /// JSON of the Git LFS API: `application/vnd.git-lfs+json`.
     Json,
     /// The bytes of an object: `application/octet-stream`.
     Octets,
-    /// Nothing, and no `Content-Type`.
+    /// No body, and no `Content-Type`.
     Empty,
 }
 
-/// The head of a reply: what is told of it, and of what the server does behind it.
+/// The head of a reply.
 #[derive(Clone, Copy, Debug, PartialEq, Eq)]
 pub struct ReplyHead<'a> {
-    /// The status. Its phrase is that of RFC 9110, and empty for a status that the server never
+    /// The status. Its phrase is that of RFC 9110, or empty for a status that the server never
     /// sends.
     pub status: StatusCode,
-    /// What the body is.
+    /// The kind of the body.
     pub content: Content,
-    /// How many bytes the body has: `Content-Length`.
+    /// The size of the body in bytes: `Content-Length`.
     pub size: u64,
-    /// The methods that the route serves, where the request asked another; else empty, and then
-    /// there is no `Allow`.
+    /// The methods that the route serves, if the request had another method; else empty, and then the
+    /// head has no `Allow`.
     pub allow: &'a str,
-    /// Whether the server closes the connection behind the reply.
+    /// Whether the server closes the connection after the reply.
     pub close: bool,
 }
 
@@ -51,7 +51,7 @@ impl ReplyHead<'_> {
     ghost use Rattle.std.specs.Prelude.{◌≡◌, ◌≤◌, length};
     ghost use Rattle.wire.specs.Replies.{head_of};
 
-    /// The lines of the head, with the empty line that ends it.
+    /// The lines of the head, and the empty line that ends it.
     pub(crate) fn text(&self) -> ArrayString<HEAD_ROOM>
         requires { length self.now.allow.now ≤ ALLOW_LIMIT }
         ensures { result.bytes ≡ head_of self.now }
@@ -110,14 +110,15 @@ fn phrase_of(status: StatusCode) -> &'static str
 fn push_line(text: &mut ArrayString<HEAD_ROOM>, name: &str, value: &str)
     requires { array_string_len text.old + (length name.now + length value.now) + 2 ≤ HEAD_ROOM }
     ensures bytes { text.new.bytes ≡ text.old.bytes ++ line (name.now ++ value.now) }
-    ensures len { array_string_len text.new ≡ array_string_len text.old + (length name.now + length value.now) + 2 }
+    ensures len { array_string_len text.new
+        ≡ array_string_len text.old + (length name.now + length value.now) + 2 }
 {
     text.push_str(name);
     text.push_str(value);
     text.push_str("\r\n");
 }
 
-/// Adds a line, where it is wanted.
+/// Adds a line, if `wanted`.
 fn push_line_if(text: &mut ArrayString<HEAD_ROOM>, wanted: bool, name: &str, value: &str)
     requires { array_string_len text.old + (length name.now + length value.now) + 2 ≤ HEAD_ROOM }
     ensures bytes { text.new.bytes ≡ text.old.bytes ++ line_if wanted (name.now ++ value.now) }
@@ -128,7 +129,7 @@ fn push_line_if(text: &mut ArrayString<HEAD_ROOM>, wanted: bool, name: &str, val
     }
 }
 
-/// Adds the line of the type, where there is a body.
+/// Adds the line of the type, if the reply has a body.
 fn push_type(text: &mut ArrayString<HEAD_ROOM>, content: Content)
     requires { array_string_len text.old + 48 ≤ HEAD_ROOM }
     ensures bytes { text.new.bytes ≡ text.old.bytes ++ type_of content }
@@ -156,7 +157,8 @@ fn push_status(text: &mut ArrayString<HEAD_ROOM>, status: StatusCode)
 /// Adds the line of the length.
 fn push_length(text: &mut ArrayString<HEAD_ROOM>, size: u64)
     requires { array_string_len text.old + 64 ≤ HEAD_ROOM }
-    ensures bytes { text.new.bytes ≡ text.old.bytes ++ line (codes "Content-Length: " ++ decimal size) }
+    ensures bytes { text.new.bytes
+        ≡ text.old.bytes ++ line (codes "Content-Length: " ++ decimal size) }
     ensures len { array_string_len text.new ≤ array_string_len text.old + 64 }
 {
     let mut buffer = Buffer::new();

@@ -1,4 +1,4 @@
-//! Writing to a sink that takes some bytes at a time.
+//! Writes to a sink that takes some bytes at a time.
 
 ghost use Rattle.std.specs.Prelude.{◌≡◌, ◌≤◌, ◌++◌, length, drop, OnOk, IfErr};
 ghost use Rattle.std.specs.Io.KnownBytes.{Appends};
@@ -10,11 +10,11 @@ use crate::reply::{ALLOW_LIMIT, ReplyHead};
 use names::Sink;
 use thiserror::Error;
 
-/// A write failed: of the text that was to be written, the sink took a beginning.
+/// A write failed; the sink took a prefix of the text.
 #[derive(Clone, Copy, Debug, PartialEq, Eq, Error)]
 #[error("a write failed after {written} bytes")]
 pub struct WriteFault {
-    /// How many bytes it took: fewer than the text has.
+    /// The number of bytes that it took: fewer than the text has.
     pub written: usize,
 }
 
@@ -22,12 +22,13 @@ pub struct WriteFault {
 ///
 /// # Errors
 ///
-/// A [`WriteFault`] at the first write that fails: the sink counts it, and has taken as many bytes
-/// from the front of the text as the fault says. Nothing is written twice.
+/// A [`WriteFault`] if a write fails: the sink counts one failure, and it took exactly the first
+/// `written` bytes of the text. Nothing is written twice, and no write is tried after the failure.
 pub fn write_whole<K: Sink>(sink: &mut K, text: &[u8]) -> Result<(), WriteFault>
     ensures ok { OnOk result (Appends (K.taken sink.old) (K.taken sink.new) text.now) }
     ensures good { OnOk result (K.failed sink.new ≡ K.failed sink.old) }
-    ensures part { IfErr result (λ e. IsBeginning (K.taken sink.old) (K.taken sink.new) text.now e.written) }
+    ensures part { IfErr result
+        (λ e. IsBeginning (K.taken sink.old) (K.taken sink.new) text.now e.written) }
     ensures fault { IfErr result (λ _. HasGrown (K.failed sink.old) (K.failed sink.new)) }
 {
     let mut at = 0;
@@ -42,12 +43,12 @@ pub fn write_whole<K: Sink>(sink: &mut K, text: &[u8]) -> Result<(), WriteFault>
 
 /// Writes a reply: its head, and then its body.
 ///
-/// The head says how long the body is; that it says so rightly is up to the caller.
+/// The head states the size of the body; the caller has to make sure that it is correct.
 ///
 /// # Errors
 ///
-/// A [`WriteFault`] at the first write that fails, as of [`write_whole`]; head and body count as
-/// one text.
+/// A [`WriteFault`] at the first write that fails, as for [`write_whole`]; head and body count as one
+/// text.
 pub fn write_reply<K: Sink>(
     sink: &mut K,
     head: &ReplyHead<'_>,
@@ -66,7 +67,8 @@ pub fn write_reply<K: Sink>(
 fn write_both<K: Sink>(sink: &mut K, front: &[u8], back: &[u8]) -> Result<(), WriteFault>
     ensures ok { OnOk result (Appends (K.taken sink.old) (K.taken sink.new) (front.now ++ back.now)) }
     ensures good { OnOk result (K.failed sink.new ≡ K.failed sink.old) }
-    ensures part { IfErr result (λ e. IsBeginning (K.taken sink.old) (K.taken sink.new) (front.now ++ back.now) e.written) }
+    ensures part { IfErr result
+        (λ e. IsBeginning (K.taken sink.old) (K.taken sink.new) (front.now ++ back.now) e.written) }
     ensures fault { IfErr result (λ _. HasGrown (K.failed sink.old) (K.failed sink.new)) }
 {
     match write_whole(sink, front) {
@@ -81,7 +83,7 @@ fn write_both<K: Sink>(sink: &mut K, front: &[u8], back: &[u8]) -> Result<(), Wr
     }
 }
 
-/// The text behind its first bytes.
+/// The rest of the text from this position on.
 fn rest_of(text: &[u8], at: usize) -> &[u8]
     requires { at ≤ length text.now }
     ensures { result.now ≡ drop at text.now }
