@@ -1,4 +1,4 @@
--- What a body asks, by way of its value.
+-- What a body asks for, by way of its JSON value.
 use Rattle.std.proofs.Common.{◌≡◌, ℕ, Bool, true, false, ◌&&◌, List, Option, Some, None, Result, Ok, Err, refl, sym, ap, subst, ◌∙◌, codes, if◌then◌else◌, option_and_then}
 use Rattle.std.specs.Str.{is_utf8, IsUtf8}
 use Rattle.std.proofs.lemmas.Bool.{and_parts}
@@ -27,7 +27,7 @@ value_is body text o same utf8 e =
 abbrev form : List ℕ → Option (List ℕ) → LockForm
 form path ref = record { path = path; ref = ref }
 
--- reading and then judging is reading and judging in turn
+-- reading the fields and then testing their ranges gives what the model's interleaved checks give
 chain : (p : Result (Option (List ℕ)) Rule) (r : Result (Option (List ℕ)) Rule)
     → ((p >>= λ given. ok_or given J1) >>= λ path. r >>= λ ref. check (is_lock_path path && is_if_given is_ref ref) J2 >>= λ valid. Ok (form path ref))
     ≡ ((p >>= λ given. ok_or given J1 >>= λ path. r >>= λ ref. Ok (form path ref)) >>= in_range)
@@ -56,7 +56,7 @@ lock_by_value body =
       | false ↦ refl
     ]
 
--- what the value of a body asks, the body asks
+-- a body asks for what its value asks for
 pub lock_from : (body : List ℕ) (o : Option Data) (r : Result LockForm Rule) → o ≡ value_of body → (ok_or o J1 >>= lock_of_value) ≡ r → lock_form body ≡ r
 lock_from body o r e f = lock_by_value body ∙ ap (λ v. ok_or v J1 >>= lock_of_value) (sym e) ∙ f
 

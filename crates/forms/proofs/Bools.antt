@@ -1,4 +1,4 @@
--- When two truth values are one.
+-- When two truth values are equal.
 use Rattle.std.proofs.Common.{◌≡◌, Bool, true, false, refl, sym, IsTrue, ◌↔◌}
 
 pub same_test : (a b : Bool) → IsTrue a ↔ IsTrue b → a ≡ b

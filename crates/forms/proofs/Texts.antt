@@ -10,7 +10,7 @@ use Rattle.forms.specs.Told.{lock_shown, lock_of_texts, json_of_texts, conflict_
 use Rattle.forms.specs.declared.answer.LockTexts.{LockTexts}
 use Rattle.forms.specs.declared.answer.ShownLock.{ShownLock}
 
--- the texts are those of the lock that is shown
+-- the texts are those of the shown lock
 pub record AreTextsOf (t : LockTexts) (shown : ShownLock) : Type 0 where
   pub id : t.id.now ≡ decimal shown.id
   pub at : t.locked_at.now ≡ moment_text shown.locked_at

@@ -1,4 +1,4 @@
--- The steps by which a body is read: its value, the texts of its keys, and their ranges.
+-- The steps that read a body: its value, the texts under its keys, and their ranges.
 use Rattle.std.specs.Prelude.{◌≡◌, ℕ, ◌&&◌, List, Option, None, Result, Ok, Err, codes, if◌then◌else◌}
 use Rattle.std.specs.Str.{is_utf8}
 use Rattle.serde_json.specs.Data.{Data}
@@ -10,16 +10,16 @@ use Rattle.names.specs.declared.rules.Rule.TheVariants.{J1, J2}
 use Rattle.model.specs.Reading.{◌>>=◌, check, ok_or}
 use Rattle.model.specs.Forms.{LockForm, if_given, as_name, is_if_given}
 
--- what is answered is what the definitions read: the same value, seen by view, or the same refusal
+-- the result is what the model reads: the same value, mapped by `view`, or the same rule
 abbrev pub Gives : {X Y : Type 0} → (X → Y) → Result X Rule → Result Y Rule → Type 0
 Gives view (Ok x) read = read ≡ Ok (view x)
 Gives view (Err e) read = read ≡ Err e
 
--- the value that a body is
+-- the JSON value of a body, if any
 abbrev pub value_of : List ℕ → Option Data
 value_of body = if is_utf8 body then read body else None
 
--- the path and the ref, whatever their range
+-- the path and the ref, not yet tested for range
 abbrev pub lock_fields : Data → Result LockForm Rule
 lock_fields d = do
   given ← if_given as_str (get (codes "path") d)
@@ -27,10 +27,10 @@ lock_fields d = do
   ref ← if_given as_name (get (codes "ref") d)
   Ok (record { path = path; ref = ref })
 
--- the form, where its texts are in range
+-- the form, if its texts are in range
 abbrev pub in_range : LockForm → Result LockForm Rule
 in_range form = check (is_lock_path form.path && is_if_given is_ref form.ref) J2 >>= λ valid. Ok form
 
--- what a value asks for
+-- the lock form of a JSON value
 abbrev pub lock_of_value : Data → Result LockForm Rule
 lock_of_value d = lock_fields d >>= in_range

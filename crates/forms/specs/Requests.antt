@@ -1,4 +1,4 @@
--- A request, as the definitions see it.
+-- A request, in the model's terms.
 use Rattle.std.specs.Prelude.{option_map, string_bytes}
 use Rattle.model.specs.Forms.{LockForm, Request, asks_lock}
 use Rattle.forms.specs.declared.lock.LockRequest.{LockRequest}
@@ -9,6 +9,6 @@ use Rattle.forms.specs.declared.request.Request.TheVariants.{Lock}
 abbrev pub lock_asked : LockRequest → LockForm
 lock_asked r = record { path = string_bytes r.path; ref = option_map string_bytes r.ref_name }
 
--- what is asked
+-- the request
 abbrev pub request_asked : code.Request → Request
 request_asked (Lock r) = asks_lock (lock_asked r)

@@ -1,4 +1,4 @@
--- What a client is told, as the definitions see it.
+-- A reply to a client, in the model's terms.
 use Rattle.std.specs.Prelude.{◌≡◌, ℕ, List, [], ◌∷◌, codes, Ok, Err}
 use Rattle.serde_json.specs.Data.{Data, object, string}
 use Rattle.names.specs.Names.{user_text, path_text}
@@ -13,7 +13,7 @@ use Rattle.forms.specs.declared.answer.Answer.TheVariants.{Locked, Held, Denied,
 use Rattle.forms.specs.declared.answer.DenialStatus.{DenialStatus}
 use Rattle.forms.specs.declared.answer.DenialStatus.TheVariants.{Forbidden, NotFound}
 
--- what is shown of the lock
+-- the shown lock has the values of this lock
 pub record IsOf (shown : ShownLock) (l : Lock) : Type 0 where
   pub id : l.id ≡ shown.id
   pub at : l.at ≡ shown.locked_at
@@ -25,7 +25,7 @@ abbrev pub denial_status : DenialStatus → ℕ
 denial_status Forbidden = 403
 denial_status NotFound = 404
 
--- the value tells this answer
+-- the code's answer represents this answer of the model
 abbrev pub Tells : Answer → model.Answer → Type 0
 Tells (Locked shown) given = (l : Lock) × IsOf shown.now l × (given ≡ Ok (makes_lock l))
 Tells (Held shown) given = (l : Lock) × IsOf shown.now l × (given ≡ Err (by_lock l))
@@ -34,7 +34,7 @@ Tells (DeniedByRow row right status) given = given ≡ Err (by_row row right (de
 
 -- ---- the JSON of a reply
 
--- a lock with the parts that are shown; its repository and its ref are not
+-- a lock with the shown parts; its repository and its ref are not shown
 abbrev pub lock_shown : ShownLock → Lock
 lock_shown shown = record {
   repo = [];

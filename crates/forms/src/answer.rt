@@ -1,4 +1,4 @@
-//! What a client is told, as a status and a JSON body (Git LFS API, File Locking, "Create Lock").
+//! Replies to clients, as a status and a JSON body (Git LFS API, File Locking, "Create Lock").
 
 ghost use Rattle.std.specs.Prelude.{◌≡◌, IfOk, string_bytes};
 ghost use Rattle.serde_json.specs.View.{view};
@@ -12,25 +12,25 @@ use names::{LockId, LockPath, Moment, Rule, UserName, moment_text};
 use serde_json::{Value, json};
 use std::alloc::{AllocError, Global};
 
-/// What a client is shown of a lock: neither its repository nor its ref.
+/// The part of a lock that a client sees: neither its repository nor its ref.
 #[derive(Clone, Copy, Debug)]
 pub struct ShownLock<'a> {
-    /// Its number in the repository; told as a text.
+    /// Its number in the repository; written as a string.
     pub id: LockId,
-    /// When it was made; told as `2016-05-17T15:49:06Z`.
+    /// When it was made; written as `2016-05-17T15:49:06Z`.
     pub locked_at: Moment,
     /// Who made it.
     pub owner: UserName<'a>,
-    /// What it locks.
+    /// The locked path.
     pub path: LockPath<'a>,
 }
 
-/// How a denial by the policy is told, which the request decides (Git LFS API, Batch).
+/// The status of a denial by the policy; the request decides which (Git LFS API, Batch).
 #[derive(Clone, Copy, Debug, PartialEq, Eq)]
 pub enum DenialStatus {
     /// 403: the right is denied.
     Forbidden,
-    /// 404: the caller is told no more than where there is nothing.
+    /// 404: the reply says no more than if nothing were there.
     NotFound,
 }
 
@@ -49,22 +49,22 @@ impl DenialStatus {
     }
 }
 
-/// What a client is told.
+/// An answer to a client.
 #[derive(Clone, Copy, Debug)]
 pub enum Answer<'a> {
     /// The lock was made: 201, with the lock.
     Locked(&'a ShownLock<'a>),
-    /// The path is locked already: L1, 409, with the lock that stands.
+    /// The path is already locked: L1, 409, with the lock that holds it.
     Held(&'a ShownLock<'a>),
-    /// The rule refuses: with its own status, and 403 for a rule that has none.
+    /// The rule refuses: with its own status, or 403 if the rule has none.
     Denied(Rule),
     /// The policy denies.
     DeniedByRow {
-        /// The row that decides, counted from 1; 0 where no row matches.
+        /// The row that decides, counted from 1; 0 if no row matches.
         row: u32,
         /// The right that was asked.
         right: Right,
-        /// The status that the request gives to such a denial.
+        /// The status of the reply, which the request decides.
         status: DenialStatus,
     },
 }
@@ -86,13 +86,15 @@ impl Answer<'_> {
         }
     }
 
-    /// The JSON body of the reply: without white space, its keys in the order of their bytes.
+    /// Renders the JSON body of the reply: no white space, keys in the order of their bytes.
     ///
     /// # Errors
     ///
-    /// Only where memory refused.
+    /// Fails only if memory runs out.
     pub fn body(&self, alloc: Global) -> Result<String, AllocError>
-        ensures { IfOk result (λ text. (given : _) → Tells self.now given → (reply_of given).body ≡ json (string_bytes text)) }
+        ensures { IfOk result
+            (λ text. (given : _) → Tells self.now given → (reply_of given).body
+            ≡ json (string_bytes text)) }
     {
         match self {
             Answer::Locked(lock) => locked_body(alloc, lock),
@@ -109,7 +111,7 @@ impl Answer<'_> {
     }
 }
 
-/// The status of a rule that refuses, and 403 for a rule that has none.
+/// The status of a rule that refuses; 403 if the rule has none.
 fn status_of_rule(rule: Rule) -> StatusCode
     ensures { result ≡ rule_status rule }
 {
@@ -140,14 +142,14 @@ fn told(alloc: Global, rule: Rule, reason: &str) -> Result<String, AllocError>
     Ok(text)
 }
 
-/// What is told of a rule.
+/// The message for a rule.
 fn rule_message(alloc: Global, rule: Rule) -> Result<String, AllocError>
     ensures { IfOk result (λ text. string_bytes text ≡ rule_message rule) }
 {
     told(alloc, rule, rule.reason().unwrap_or(""))
 }
 
-/// Why the row, or no row, denies the right.
+/// The reason for a denial by the row, or by no row.
 fn row_reason(alloc: Global, row: u32, right: Right) -> Result<String, AllocError>
     ensures { IfOk result (λ text. string_bytes text ≡ row_reason row right) }
 {
@@ -162,7 +164,7 @@ fn row_reason(alloc: Global, row: u32, right: Right) -> Result<String, AllocErro
     Ok(text)
 }
 
-/// What is told of a row.
+/// The message for a denial by a policy row.
 fn row_message(alloc: Global, row: u32, right: Right) -> Result<String, AllocError>
     ensures { IfOk result (λ text. string_bytes text ≡ row_message row right) }
 {
@@ -184,7 +186,7 @@ fn message_body(alloc: Global, message: &str) -> Result<String, AllocError>
     message_value(alloc, message)?.to_string(alloc)
 }
 
-/// The parts of a lock, as the texts that stand in its JSON.
+/// The parts of a lock, as the texts in its JSON.
 #[derive(Clone, Copy)]
 struct LockTexts<'a> {
     id: &'a str,
@@ -200,7 +202,7 @@ fn locked_value(alloc: Global, lock: &LockTexts<'_>) -> Result<Value, AllocError
     json!(in alloc; {"lock": {"id": lock.id, "locked_at": lock.locked_at, "owner": {"name": lock.owner}, "path": lock.path}})
 }
 
-/// The text of that.
+/// `locked_value`, serialized.
 fn locked_text(alloc: Global, lock: &LockTexts<'_>) -> Result<String, AllocError>
     ensures { IfOk result (λ text. string_bytes text ≡ compact_text (json_of_texts lock.now)) }
 {
@@ -214,16 +216,18 @@ fn held_value(alloc: Global, lock: &LockTexts<'_>, message: &str) -> Result<Valu
     json!(in alloc; {"lock": {"id": lock.id, "locked_at": lock.locked_at, "owner": {"name": lock.owner}, "path": lock.path}, "message": message})
 }
 
-/// The text of that.
+/// `held_value`, serialized.
 fn held_text(alloc: Global, lock: &LockTexts<'_>, message: &str) -> Result<String, AllocError>
-    ensures { IfOk result (λ text. string_bytes text ≡ compact_text (conflict_of_texts lock.now message.now)) }
+    ensures { IfOk result
+        (λ text. string_bytes text ≡ compact_text (conflict_of_texts lock.now message.now)) }
 {
     held_value(alloc, lock, message)?.to_string(alloc)
 }
 
-/// The body of a lock that was made.
+/// The body for a lock that was made.
 fn locked_body(alloc: Global, lock: &ShownLock<'_>) -> Result<String, AllocError>
-    ensures { IfOk result (λ text. string_bytes text ≡ compact_text (lock_json (lock_shown lock.now))) }
+    ensures { IfOk result
+        (λ text. string_bytes text ≡ compact_text (lock_json (lock_shown lock.now))) }
 {
     let id = lock.id.to_string(alloc)?;
     let locked_at = moment_text(alloc, lock.locked_at)?;
@@ -236,9 +240,10 @@ fn locked_body(alloc: Global, lock: &ShownLock<'_>) -> Result<String, AllocError
     locked_text(alloc, &texts)
 }
 
-/// The body of a lock that stands in the way.
+/// The body for a path that is already locked.
 fn held_body(alloc: Global, lock: &ShownLock<'_>) -> Result<String, AllocError>
-    ensures { IfOk result (λ text. string_bytes text ≡ compact_text (conflict_json (lock_shown lock.now))) }
+    ensures { IfOk result
+        (λ text. string_bytes text ≡ compact_text (conflict_json (lock_shown lock.now))) }
 {
     let id = lock.id.to_string(alloc)?;
     let locked_at = moment_text(alloc, lock.locked_at)?;

@@ -1,4 +1,4 @@
-//! What the bodies of all requests have in common: a JSON value, texts under keys, a ref.
+//! What the bodies of all requests share: a JSON value, texts under keys, a ref.
 
 ghost use Rattle.std.specs.Prelude.{◌≡◌, option_map, IfOk};
 ghost use Rattle.serde_json.specs.View.{view};
@@ -10,12 +10,12 @@ use names::Rule;
 use serde_json::Value;
 use std::alloc::{AllocError, Global};
 
-/// The JSON value that the body is, with nothing but white space around it; `None` where it is not
-/// UTF-8 or no such value (RFC 8259).
+/// Parses the body as one JSON value, with only white space around it; `None` if it is not UTF-8 or
+/// not such a value (RFC 8259).
 ///
 /// # Errors
 ///
-/// Only where memory refused.
+/// Fails only if memory runs out.
 pub(crate) fn value_of(alloc: Global, body: &[u8]) -> Result<Option<Value>, AllocError>
     ensures { IfOk result (λ v. option_map view v ≡ value_of body.now) }
 {
@@ -34,13 +34,14 @@ pub(crate) fn value_of(alloc: Global, body: &[u8]) -> Result<Option<Value>, Allo
     }
 }
 
-/// The text under a key that may be missing.
+/// The text under a key; `None` if the key is missing.
 ///
 /// # Errors
 ///
-/// J1 where it is of another kind. `null` counts as missing.
+/// J1 if the value is of another kind. `null` counts as missing.
 pub(crate) fn text_if_given(value: Option<&Value>) -> Result<Option<&str>, Rule>
-    ensures { Gives (option_map (λ s. s.now)) result (if_given as_str (option_map (λ v. view v.now) value.entry)) }
+    ensures { Gives (option_map
+        (λ s. s.now)) result (if_given as_str (option_map (λ v. view v.now) value.entry)) }
 {
     match value {
         None | Some(Value::Null) => Ok(None),
@@ -49,14 +50,15 @@ pub(crate) fn text_if_given(value: Option<&Value>) -> Result<Option<&str>, Rule>
     }
 }
 
-/// The ref under a key that may be missing: an object with the text `name`.
+/// The ref under a key: an object with the text `name`; `None` if the key is missing.
 ///
 /// # Errors
 ///
-/// J1 where it is of another kind, or has no such text. `null` in its place counts as missing, and
+/// J1 if the value is of another kind, or has no such text. `null` as the value counts as missing,
 /// `null` as its `name` does not.
 pub(crate) fn ref_if_given(value: Option<&Value>) -> Result<Option<&str>, Rule>
-    ensures { Gives (option_map (λ s. s.now)) result (if_given as_name (option_map (λ v. view v.now) value.entry)) }
+    ensures { Gives (option_map
+        (λ s. s.now)) result (if_given as_name (option_map (λ v. view v.now) value.entry)) }
 {
     let Some(value) = value else {
         return Ok(None);

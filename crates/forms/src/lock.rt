@@ -12,23 +12,22 @@ use names::{LockPath, RefName, Rule};
 use serde_json::Value;
 use std::alloc::{AllocError, Global};
 
-/// A path to lock, and perhaps a ref.
+/// A path to lock, and an optional ref.
 #[derive(Debug, Drop)]
 pub struct LockRequest {
-    /// The path: [`LockPath::read`] takes it.
+    /// The path: [`LockPath::read`] accepts it.
     pub path: String,
-    /// The ref: [`RefName::read`] takes it. Where there is none, the repository's default ref is
-    /// meant.
+    /// The ref: [`RefName::read`] accepts it. `None` means the repository's default ref.
     pub ref_name: Option<String>,
     pub ghost path_in_range: { IsTrue (is_lock_path (string_bytes path)) },
     pub ghost ref_in_range: { IsTrue (asked.is_if_given is_ref (option_map string_bytes ref_name)) },
 }
 
-/// What the body asks, or the rule that refuses it: J1 before J2.
+/// Reads the lock request in a body, or returns the rule that refuses it: J1 before J2.
 ///
 /// # Errors
 ///
-/// Only where memory refused.
+/// Fails only if memory runs out.
 pub(crate) fn read_lock(alloc: Global, body: &[u8]) -> Result<Result<LockRequest, Rule>, AllocError>
     ensures { IfOk result (λ r. Gives (λ q. record { path = string_bytes q.path; ref = option_map string_bytes q.ref_name }) r (lock_form body.now)) }
 {
@@ -45,9 +44,14 @@ pub(crate) fn read_lock(alloc: Global, body: &[u8]) -> Result<Result<LockRequest
     }
 }
 
-/// The path and the ref of a value, whatever their range; else J1.
+/// The path and the ref of a value, not yet tested for range; else J1.
 fn lock_fields(value: &Value) -> Result<(&str, Option<&str>), Rule>
-    ensures { Gives (λ p. record { path = p.0.now; ref = option_map (λ s. s.now) p.1 }) result (lock_fields (view value.now)) }
+    ensures { Gives
+        (λ p. record {
+          path = p.0.now;
+          ref = option_map
+              (λ s. s.now) p.1;
+        }) result (lock_fields (view value.now)) }
 {
     let Some(path) = text_if_given(value.get("path"))? else {
         return Err(Rule::J1);
@@ -63,7 +67,7 @@ fn is_ref(name: &str) -> bool
     RefName::read(name).is_some()
 }
 
-/// Whether it is a ref, where there is one.
+/// Whether it is a ref, if one is given.
 fn is_ref_if_given(name: Option<&str>) -> bool
     ensures { result ≡ asked.is_if_given is_ref (option_map (λ s. s.now) name.entry) }
 {
@@ -82,7 +86,12 @@ fn is_lock_path(path: &str) -> bool
 
 /// The path and the ref of a value, in range; else J1, and then J2.
 fn lock_of_value(value: &Value) -> Result<(&str, Option<&str>), Rule>
-    ensures { Gives (λ p. record { path = p.0.now; ref = option_map (λ s. s.now) p.1 }) result (lock_of_value (view value.now)) }
+    ensures { Gives
+        (λ p. record {
+          path = p.0.now;
+          ref = option_map
+              (λ s. s.now) p.1;
+        }) result (lock_of_value (view value.now)) }
 {
     let (path, name) = lock_fields(value)?;
     if is_lock_path(path) && is_ref_if_given(name) {
@@ -92,7 +101,7 @@ fn lock_of_value(value: &Value) -> Result<(&str, Option<&str>), Rule>
     }
 }
 
-/// A copy of the text, where there is one.
+/// A copy of the text, if one is given.
 fn owned(alloc: Global, text: Option<&str>) -> Result<Option<String>, AllocError>
     ensures { IfOk result (λ o. option_map string_bytes o ≡ option_map (λ s. s.now) text.entry) }
 {

@@ -1,4 +1,4 @@
-//! Requests of any form, read from the parameter of the route, the query and the body.
+//! Requests of any form, read from the route's parameter, the query and the body.
 
 ghost use Rattle.std.specs.Prelude.{IfOk};
 ghost use Rattle.model.specs.Forms.{request_of};
@@ -11,23 +11,23 @@ use model::ServedForm;
 use names::Rule;
 use std::alloc::{AllocError, Global};
 
-/// What a client asks. All its texts are in range.
+/// A client's request. All its texts are in range.
 #[derive(Debug, Drop)]
 pub enum Request {
-    /// To lock a path (Git LFS API, File Locking, "Create Lock").
+    /// Lock a path (Git LFS API, File Locking, "Create Lock").
     Lock(LockRequest),
 }
 
-/// What a request of the form asks, or the first of the J rules that refuses it.
+/// Reads a request of the form, or returns the first of the J rules that refuses it.
 ///
-/// `parameter` is what the route's parameter is in the path, and empty where it has none; `query`
-/// is what stands behind the target's first question mark. Where a form reads one of the three
-/// not, it may be anything. Of a body, keys that are not known are passed over, and of a key that
-/// stands twice the last counts.
+/// `parameter` is the value of the route's parameter in the path, empty if the route has none;
+/// `query` is the part of the target after its first question mark. If a form does not read one of
+/// the three, its value does not matter. In a body, unknown keys are ignored, and the last of
+/// repeated keys counts.
 ///
 /// # Errors
 ///
-/// Only where memory refused. What a rule refuses is an answer.
+/// Fails only if memory runs out. A refusal by a rule is an inner `Err`.
 pub fn read_form(
     alloc: Global,
     form: ServedForm,

@@ -1,4 +1,4 @@
--- The TOML crate's values, as the lists that the definitions of the language speak of.
+-- The TOML crate's values, as the lists that the policy language is defined on.
 use Rattle.std.proofs.Common.{◌≡◌, List, [], ◌∷◌, ℕ, Bool, ◌&&◌, map, Some, String, Global, string_bytes, refl, ap}
 use Rattle.std.specs.List.{list_all}
 use Rattle.std.specs.Map.{keys_of}
@@ -12,7 +12,7 @@ list_of-items_of : (ds : List Data) → list_of (items_of ds) ≡ ds
 list_of-items_of [] = refl
 list_of-items_of (d ∷ ds) = ap (λ more. d ∷ more) (list_of-items_of ds)
 
--- what is asked of the names of a table is asked of the keys of its map
+-- a test of a table's names is a test of its map's keys
 list_all-names_of : (test : List ℕ → Bool) (es : List (String Global × Value))
     → list_all test (names_of (members_view es)) ≡ list_all (λ name. test (string_bytes name)) (keys_of es)
 list_all-names_of test [] = refl

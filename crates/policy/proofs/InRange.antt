@@ -1,4 +1,4 @@
--- What every policy keeps, for the proofs of whoever holds one.
+-- The properties of every policy, for proofs in other crates.
 use Rattle.std.proofs.Common.{get_or}
 use Rattle.std.proofs.lemmas.List.Elements.{All-map}
 use Rattle.names.specs.Texts.{is_repo, is_ref}

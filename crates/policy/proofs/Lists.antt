@@ -1,4 +1,4 @@
--- What is asked of a list's items under a function is asked of the items.
+-- A property of the items of a mapped list, as a property of the items themselves.
 use Rattle.std.proofs.Common.{◌≡◌, ◌∙◌, sym, length, Bool, true, false, ◌||◌, List, [], ◌∷◌, map, Option, Some, None, option_map, is_some, Bor, cond, refl, ap, ℕ, ◌&&◌, String, Global, string_bytes}
 use Rattle.std.proofs.lemmas.List.{length-map}
 use Rattle.std.proofs.lemmas.List.Folds.{list_all-map}
@@ -39,6 +39,6 @@ pub are_entries-texts : (test : List ℕ → Bool) (entries : List (String Globa
     → are_entries test (texts entries) ≡ (is_count entries && list_all (λ text. test (string_bytes text)) entries)
 are_entries-texts test entries = rw (length-map, list_all-map test string_bytes entries)
 
--- lists with the same values are of one length
+-- lists with the same values have the same length
 pub length-maps : {A B C : Type 0} (f : A → C) (g : B → C) (xs : List A) (ys : List B) → map f xs ≡ map g ys → length xs ≡ length ys
 length-maps f g xs ys same = sym (length-map xs f) ∙ ap length same ∙ length-map ys g

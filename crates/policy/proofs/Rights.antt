@@ -1,4 +1,4 @@
--- The rights that texts name: as many as there are texts, where each names one.
+-- The rights that texts name: one for each text, if each text names a right.
 use Rattle.std.proofs.Common.{◌≡◌, ℕ, ◌+◌, List, [], ◌∷◌, length, Option, Some, None, is_some, option_map, unwrap_or, true, refl, arith}
 use Rattle.std.proofs.lemmas.Bool.{and_parts}
 use Rattle.std.specs.List.{list_all}

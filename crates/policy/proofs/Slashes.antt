@@ -7,7 +7,7 @@ use Rattle.std.proofs.lemmas.Slice.Eq.{ends_is}
 use Rattle.std.specs.Option.{MatchOption}
 use Rattle.policy.specs.Ranges.{ends_in_slash, before_slash}
 
--- what a text with a slash at its end has before it
+-- the text before the slash of a text that ends in a slash
 before_slash-append : (front : List ℕ) → before_slash (front ++ 47 ∷ []) ≡ Some front
 before_slash-append front =
     let ends : ends_in_slash (front ++ 47 ∷ []) ≡ true = (ends_is Decides-eqb (front ++ 47 ∷ []) (47 ∷ []) _ refl).1 front refl in

@@ -1,4 +1,4 @@
--- The repositories and rows of a file, one after the other.
+-- The repositories and rows of a file, one by one.
 use Rattle.std.proofs.Common.{◌≡◌, ◌∙◌, ℕ, ◌+◌, ◌<◌, List, [], ◌∷◌, ◌++◌, length, map, drop, get_or, true, false, not, ◌||◌, Option, None, is_some, refl, sym, ap, string_bytes, bytes_eq, Bor, append_assoc}
 use Rattle.std.specs.Bool.{IsTrue}
 use Rattle.std.proofs.lemmas.List.{drop_more, map-append}
@@ -18,7 +18,7 @@ use Rattle.policy.specs.Repos.{names_of}
 use Rattle.policy.specs.Values.{repo_view, row_view}
 use Rattle.policy.specs.Reading.{entry_fault, repos_fault, rows_fault, repo_in, table_in, repos_in, rows_in}
 
--- the entries before number index + 1 are read, without a fault
+-- the entries before number index + 1 were read without a fault
 pub record ReposSoFar (all : List Data) (index : ℕ) (repos : List Repo) (rest : List Data) : Type 0 where
   pub faults : repos_fault 1 [] all ≡ repos_fault (index + 1) (names_of repos) rest
   pub values : repos_in all ≡ map repo_view repos ++ repos_in rest
@@ -28,7 +28,7 @@ pub record RowsSoFar (all : List Data) (index : ℕ) (rows : List Row) (rest : L
   pub faults : rows_fault 1 all ≡ rows_fault (index + 1) rest
   pub values : rows_in all ≡ map row_view rows ++ rows_in rest
 
--- the entry at an index, and those after it
+-- the entry at an index, and the entries after it
 pub map-drop : {A B : Type 0} (f : A → B) (xs : List A) (i : ℕ) (x : A) → i < length xs → x ≡ get_or xs i x
     → map f (drop i xs) ≡ f x ∷ map f (drop (i + 1) xs)
 map-drop f xs i x inside same = rw (drop_more xs i x inside) (ap (λ y. f y ∷ map f (drop (i + 1) xs)) (sym same))
@@ -40,7 +40,7 @@ same_text x y other =
     false_from_ne_true (bytes_eq y x)
     (λ same. true≢false (sym ((bytes_eq-Decides x y).1 (sym ((bytes_eq-Decides y x).0 same))) ∙ other))
 
--- one more name, which is not among the others
+-- one more name, which differs from the others
 are_distinct-append : (names : List (List ℕ)) (name : List ℕ) → are_distinct names ≡ true → is_among name names ≡ false → are_distinct (names ++ name ∷ []) ≡ true
 are_distinct-append [] name distinct new = refl
 are_distinct-append (x ∷ xs) name distinct new =

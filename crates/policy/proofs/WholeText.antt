@@ -1,4 +1,4 @@
--- What a text's table answers, the text answers.
+-- The verdict on a text is the verdict on its table.
 use Rattle.std.proofs.Common.{◌≡◌, ◌∙◌, ℕ, ◌≤◌, List, length, Option, Some, Result, Ok, Err, refl, le-leb}
 use Rattle.std.specs.Str.{IsUtf8, is_utf8}
 use Rattle.std.proofs.lemmas.Bool.{false_from_ne_true}
@@ -15,7 +15,7 @@ use Rattle.model.specs.Policy as model
 use Rattle.policy.specs.declared.faults.FaultCode.TheVariants.{Y1}
 use Rattle.policy.specs.declared.faults.Place.TheVariants as place
 
--- the faults of a text that is short enough and TOML are those of its table
+-- the fault of a TOML text within the length limit is that of its table
 pub fault_in-document : (source : List ℕ) (t : Members) → length source ≤ longest_file → IsUtf8 source → parse_document source ≡ Some t
     → fault_in source ≡ document_fault t
 fault_in-document source t short text parsed = rw (le-leb (length source) longest_file short, is_utf8-from_IsUtf8 source text, parsed) refl
@@ -32,7 +32,7 @@ refused-from fault same P (Ok x) e reads = tt
 refused-from fault same P (Err (Refused f)) e reads = e ∙ reads
 refused-from fault same P (Err Memory) e reads = tt
 
--- the fault of bytes that are short enough and no text
+-- the fault of bytes within the length limit that are not UTF-8
 pub fault_in-not_utf8 : (source : List ℕ) → length source ≤ longest_file → ¬ IsUtf8 source → fault_in source ≡ Some (at_place Y1 place.File)
 fault_in-not_utf8 source short bytes =
     rw (le-leb (length source) longest_file short, false_from_ne_true (is_utf8 source) (λ text. bytes (IsUtf8-from_is_utf8 source text))) refl

@@ -1,4 +1,4 @@
--- The language of policy files: the keys of its tables, and what stands at each.
+-- The language of policy files: the keys of its tables, and the values at each key.
 use Rattle.std.specs.Prelude.{ℕ, Bool, false, nat_le, ℤ, pos, negsuc, List, [], ◌∷◌, length, codes, bytes_eq, Option, Some, None, option_map, option_and_then, is_some, if◌then◌else◌}
 use Rattle.std.specs.List.{list_all, list_any}
 use Rattle.toml.specs.Data.{Data, Items, no_items, item, Members, no_members, member, get_member, as_str, as_integer, as_array}
@@ -13,14 +13,14 @@ use Rattle.policy.specs.Ranges.{most_repos, most_rows, longest_life, largest_quo
 
 -- ---- words
 
--- the effect of that name
+-- the effect with that name
 abbrev pub effect_named : List ℕ → Option Effect
 effect_named text =
     if bytes_eq text (codes "allow") then Some effect.Allow
     else if bytes_eq text (codes "deny") then Some effect.Deny
     else None
 
--- the right of that name
+-- the right with that name
 abbrev pub right_named : List ℕ → Option Right
 right_named text =
     if bytes_eq text (codes "pull") then Some right.Pull
@@ -38,7 +38,7 @@ is_right text = is_some (right_named text)
 
 -- ---- the keys
 
--- what stands at a key, and in which range
+-- the kind and the range of the value at a key
 pub data Kind : Type 0 where
   -- a text that passes the test
   text : (List ℕ → Bool) → Kind
@@ -46,10 +46,10 @@ pub data Kind : Type 0 where
   whole : ℕ → ℕ → Kind
   -- an array of 1 to 64 texts that pass the test
   texts : (List ℕ → Bool) → Kind
-  -- an array of at most so many tables; a missing key is as an empty one
+  -- an array of at most this many tables; a missing key counts as an empty array
   tables : ℕ → Kind
 
--- the table of the language
+-- the kind of each key
 abbrev pub kind_of : Key → Kind
 kind_of key.Base = text is_base
 kind_of key.TokenSeconds = whole 1 longest_life
@@ -65,7 +65,7 @@ kind_of key.Refs = texts is_ref_entry
 kind_of key.Paths = texts is_path_entry
 kind_of key.Rights = texts is_right
 
--- how each key is written
+-- the name of each key, as written
 abbrev pub key_name : Key → List ℕ
 key_name key.Base = codes "base"
 key_name key.TokenSeconds = codes "token_seconds"
@@ -81,7 +81,7 @@ key_name key.Refs = codes "refs"
 key_name key.Paths = codes "paths"
 key_name key.Rights = codes "rights"
 
--- the keys of the file, of a repository and of a row, in the order in which they are looked at
+-- the keys of the file, of a repository and of a row, in the order in which they are checked
 abbrev pub top_keys : List Key
 top_keys = key.Base ∷ key.TokenSeconds ∷ key.Repo ∷ key.Row ∷ []
 
@@ -91,7 +91,7 @@ repo_keys = key.Name ∷ key.DefaultRef ∷ key.Quota ∷ []
 abbrev pub row_keys : List Key
 row_keys = key.Effect ∷ key.Users ∷ key.Repos ∷ key.Refs ∷ key.Paths ∷ key.Rights ∷ []
 
--- ---- what stands at a key of a table
+-- ---- the values at the keys of a table
 
 -- the values of an array, as a list
 abbrev pub list_of : Items → List Data
@@ -103,16 +103,16 @@ abbrev pub names_of : Members → List (List ℕ)
 names_of no_members = []
 names_of (member name d ms) = name ∷ names_of ms
 
--- the texts of an array that holds nothing else
+-- the texts of an array that holds only texts
 abbrev pub all_texts : List Data → Option (List (List ℕ))
 all_texts [] = Some []
 all_texts (d ∷ ds) = option_and_then (λ text. option_map (λ more. text ∷ more) (all_texts ds)) (as_str d)
 
--- the values, where it is an array
+-- the values, if it is an array
 abbrev pub as_values : Data → Option (List Data)
 as_values d = option_map list_of (as_array d)
 
--- the texts, where it is an array of texts
+-- the texts, if it is an array of texts
 abbrev pub as_texts : Data → Option (List (List ℕ))
 as_texts d = option_and_then all_texts (as_values d)
 
@@ -120,7 +120,7 @@ as_texts d = option_and_then all_texts (as_values d)
 abbrev pub value_at : Members → Key → Option Data
 value_at t k = get_member (key_name k) t
 
--- the text at the key, where it has one
+-- the text at the key, if the value is a text
 unfoldable pub text_at : Members → Key → Option (List ℕ)
 text_at t k = option_and_then as_str (value_at t k)
 
@@ -132,18 +132,18 @@ whole_at t k = option_and_then as_integer (value_at t k)
 unfoldable pub texts_at : Members → Key → Option (List (List ℕ))
 texts_at t k = option_and_then as_texts (value_at t k)
 
--- the values of an array; none where nothing stands
+-- the values of an array; empty if the key is missing
 abbrev pub entries_of : Option Data → Option (List Data)
 entries_of None = Some []
 entries_of (Some d) = as_values d
 
--- the entries of the array at the key, which has none where it is missing
+-- the entries of the array at the key; empty if the key is missing
 unfoldable pub entries_at : Members → Key → Option (List Data)
 entries_at t k = entries_of (value_at t k)
 
 -- ---- tests of a table
 
--- the number, where it is at least the first and at most the second
+-- the number, if it is at least the first and at most the second
 abbrev pub natural_within : ℕ → ℕ → ℤ → Option ℕ
 natural_within low high (pos n) = if between low high n then Some n else None
 natural_within low high (negsuc n) = None
@@ -154,14 +154,14 @@ test_of (text test) = test
 test_of (texts test) = test
 test_of _ = λ _. false
 
--- what stands at the key has the kind
+-- the value at the key has the kind
 abbrev pub has_kind : Kind → Members → Key → Bool
 has_kind (text test) t k = is_some (text_at t k)
 has_kind (whole low high) t k = is_some (whole_at t k)
 has_kind (texts test) t k = is_some (texts_at t k)
 has_kind (tables most) t k = is_some (entries_at t k)
 
--- and it is in the range of the kind
+-- the value at the key is in the range of the kind
 abbrev pub is_in_range : Kind → Members → Key → Bool
 is_in_range (text test) t k = passes (text_at t k) test
 is_in_range (whole low high) t k = passes (whole_at t k) (λ z. is_some (natural_within low high z))

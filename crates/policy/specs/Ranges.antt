@@ -12,18 +12,18 @@ use Rattle.model.specs.Policy.{is_any}
 abbrev pub longest_file : ℕ
 longest_file = 1048576
 
--- the most repositories of a policy, and the most rows
+-- the largest number of repositories in a policy, and of rows
 abbrev pub most_repos : ℕ
 most_repos = 256
 
 abbrev pub most_rows : ℕ
 most_rows = 1000
 
--- the most entries of a list of a row
+-- the largest number of entries in a list of a row
 abbrev pub most_entries : ℕ
 most_entries = 64
 
--- the longest life of a token, in seconds
+-- the longest lifetime of a token, in seconds
 abbrev pub longest_life : ℕ
 longest_life = 86400
 
@@ -40,7 +40,7 @@ colon = 58
 abbrev pub is_base_byte : ℕ → Bool
 is_base_byte b = is_name_byte b || is_ascii_uppercase b || b == dot || b == colon || b == slash
 
--- the text begins with the front and has more after it
+-- the text begins with the front and is longer than it
 abbrev pub goes_on : List ℕ → List ℕ → Bool
 goes_on front text = begins front text && nat_lt (length front) (length text)
 
@@ -48,7 +48,7 @@ goes_on front text = begins front text && nat_lt (length front) (length text)
 abbrev pub ends_in_slash : List ℕ → Bool
 ends_in_slash text = ends_with (λ a b. a == b) text (codes "/")
 
--- the address below which the repositories lie
+-- the address under which the repositories are served
 abbrev pub is_base : List ℕ → Bool
 is_base text =
     between 8 200 (length text) && list_all is_base_byte text
@@ -60,7 +60,7 @@ is_base text =
 abbrev pub before_slash : List ℕ → Option (List ℕ)
 before_slash text = if ends_in_slash text then Some (take (length text - 1) text) else None
 
--- it is there and passes the test
+-- the value exists and passes the test
 abbrev pub passes : {A : Type 0} → Option A → (A → Bool) → Bool
 passes None test = false
 passes (Some x) test = test x
@@ -99,7 +99,7 @@ are_entries test entries = is_count entries && list_all test entries
 abbrev pub is_among : List ℕ → List (List ℕ) → Bool
 is_among name names = list_any (λ other. bytes_eq other name) names
 
--- no name stands twice
+-- no name occurs twice
 abbrev pub are_distinct : List (List ℕ) → Bool
 are_distinct [] = true
 are_distinct (name ∷ names) = not (is_among name names) && are_distinct names

@@ -1,4 +1,4 @@
--- The policy that a text spells, and the first fault of a text that spells none.
+-- The policy that a text describes, and the first fault of a text that describes none.
 use Rattle.std.specs.Prelude.{◌≡◌, ℕ, ◌+◌, Bool, true, false, ◌&&◌, not, nat_le, ℤ, pos, negsuc, List, [], ◌∷◌, ◌++◌, length, map, Option, Some, None, option_map, is_some, unwrap_or, if◌then◌else◌, Result, MatchResult, ⊤}
 use Rattle.std.specs.Str.{is_utf8}
 use Rattle.toml.specs.Data.{Data, Members, no_members, as_table}
@@ -20,12 +20,12 @@ use Rattle.policy.specs.Language.{Kind, tables, kind_of, top_keys, repo_keys, ro
 
 -- ---- the policy
 
--- a number as a natural one
+-- an integer as a natural number
 abbrev pub natural : ℤ → ℕ
 natural (pos n) = n
 natural (negsuc n) = 0
 
--- what stands at a key, of a table where it does
+-- the value at a key, for a table that has it
 abbrev pub text_in : Members → Key → List ℕ
 text_in t k = unwrap_or (text_at t k) []
 
@@ -38,11 +38,11 @@ texts_in t k = unwrap_or (texts_at t k) []
 abbrev pub entries_in : Members → Key → List Data
 entries_in t k = unwrap_or (entries_at t k) []
 
--- the table that an entry is
+-- the table of an entry
 abbrev pub table_in : Data → Members
 table_in d = unwrap_or (as_table d) no_members
 
--- the rights that texts name
+-- the rights with these names
 abbrev pub rights_named : List (List ℕ) → List Right
 rights_named [] = []
 rights_named (name ∷ names) = unwrap_or (option_map (λ r. r ∷ rights_named names) (right_named name)) (rights_named names)
@@ -61,7 +61,7 @@ row_in t = record {
   rights = rights_named (texts_in t key.Rights);
 }
 
--- those of a list of entries
+-- the repositories and the rows of a list of entries
 abbrev pub repos_in : List Data → List model.Repo
 repos_in entries = map (λ d. repo_in (table_in d)) entries
 
@@ -77,28 +77,28 @@ policy_in t = record {
   rows = rows_in (entries_in t key.Row);
 }
 
--- the table that a text is
+-- the TOML table of a text
 abbrev pub document : List ℕ → Members
 document source = unwrap_or (parse_document source) no_members
 
 -- ---- its first fault
 
--- the first fault of the two
+-- the first of the two faults
 infixr 10 ◌or◌
 abbrev pub ◌or◌ : Option Fault → Option Fault → Option Fault
 None or more = more
 (Some fault) or more = Some fault
 
--- the first fault of all
+-- the first fault in the list
 abbrev pub first_of : List (Option Fault) → Option Fault
 first_of [] = None
 first_of (fault ∷ more) = fault or first_of more
 
--- this fault, where the test fails
+-- this fault, if the test fails
 abbrev pub unless : Bool → Fault → Option Fault
 unless passed fault = if passed then None else Some fault
 
--- a fault of a place as a whole, and one at a key of it
+-- a fault of a place as a whole, and one at a key of the place
 abbrev pub at_place : FaultCode → Place → Fault
 at_place code place = record { code = code; place = place; key = None }
 
@@ -110,18 +110,18 @@ abbrev pub range_code : Kind → FaultCode
 range_code (tables most) = Y5
 range_code _ = Y3
 
--- each key is there and of its kind, there is no other key, and each value is in range
+-- each key exists and has its kind, there is no other key, and each value is in range
 unfoldable pub table_fault : Place → List Key → Members → Option Fault
 table_fault place keys t =
     first_of (map (λ k. unless (has_kind (kind_of k) t k) (at_key Y2 place k)) keys)
     or unless (has_only keys t) (at_place Y2 place)
     or first_of (map (λ k. unless (is_in_range (kind_of k) t k) (at_key (range_code (kind_of k)) place k)) keys)
 
--- an entry is a table, and one without a fault
+-- the entry is a table without a fault
 unfoldable pub entry_fault : Place → List Key → Data → Option Fault
 entry_fault place keys d = unless (is_some (as_table d)) (at_place Y2 place) or table_fault place keys (table_in d)
 
--- the repositories from number n on, each with another name than those before
+-- the repositories from number n on; each name differs from the earlier ones
 abbrev pub repos_fault : ℕ → List (List ℕ) → List Data → Option Fault
 repos_fault n before [] = None
 repos_fault n before (d ∷ ds) =
@@ -142,39 +142,39 @@ document_fault t =
     or repos_fault 1 [] (entries_in t key.Repo)
     or rows_fault 1 (entries_in t key.Row)
 
--- the first fault of a text: its length, then whether it is TOML in UTF-8, then what it says
+-- the first fault of a text: its length, then whether it is TOML in UTF-8, then its contents
 abbrev pub fault_in : List ℕ → Option Fault
 fault_in source =
     unless (nat_le (length source) longest_file) (at_place Y5 place.File)
     or unless (is_utf8 source && is_some (parse_document source)) (at_place Y1 place.File)
     or document_fault (document source)
 
--- ---- what it spells
+-- ---- the policy of a text
 
--- the text has no fault, and the policy is what stands in it
+-- the text has no fault, and describes this policy
 abbrev pub Spells : List ℕ → model.Policy → Type 0
 Spells source policy = (fault_in source ≡ None) × (policy ≡ policy_in (document source))
 
--- ---- what the reader's steps answer
+-- ---- the results of the reader's steps
 
--- the fault that was told is so; of refused memory nothing is said
+-- the reported fault is correct; if memory ran out, nothing is claimed
 abbrev pub IfRefused : PolicyFault → (Fault → Type 0) → Type 0
 IfRefused (Refused fault) P = P fault
 IfRefused Memory P = ⊤
 
--- what is there, or the fault where it is not
+-- the value if it exists, else the fault
 abbrev pub Finds : {A B : Type 0} → (B → A) → Option A → Fault → Result B Fault → Type 0
 Finds seen found fault r = MatchResult r (λ x. found ≡ Some (seen x)) (λ f. (found ≡ None) × (f ≡ fault))
 
--- the same of a step that takes memory
+-- the same for a step that allocates
 abbrev pub FindsInMemory : {A B : Type 0} → (B → A) → Option A → Fault → Result B PolicyFault → Type 0
 FindsInMemory seen found fault r =
     MatchResult r (λ x. found ≡ Some (seen x)) (λ e. IfRefused e (λ f. (found ≡ None) × (f ≡ fault)))
 
--- the test passes, or the fault where it fails
+-- the test passes, or it fails and the result is the fault
 abbrev pub Tests : Bool → Fault → Result ⊤ Fault → Type 0
 Tests passed fault r = MatchResult r (λ _. passed ≡ true) (λ f. (passed ≡ false) × (f ≡ fault))
 
--- there is no fault and the value is as told, or the fault is this
+-- there is no fault and the value is correct, or the result is this fault
 abbrev pub Reads : {A : Type 0} → Option Fault → (A → Type 0) → Result A PolicyFault → Type 0
 Reads fault P r = MatchResult r (λ x. (fault ≡ None) × P x) (λ e. IfRefused e (λ f. fault ≡ Some f))

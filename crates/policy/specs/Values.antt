@@ -1,4 +1,4 @@
--- What the crate's values stand for among the definitions of the model.
+-- The crate's values as values of the model.
 use Rattle.std.specs.Prelude.{◌≡◌, ◌≤◌, Bool, ◌&&◌, List, IsTrue, length, map, string_bytes, option_map}
 use Rattle.names.specs.Names.{user_text, repo_text, ref_text, path_text}
 use Rattle.model.specs.Policy as model
@@ -17,7 +17,7 @@ use Rattle.policy.specs.declared.questions.Verdict.{Verdict}
 use Rattle.policy.specs.declared.questions.Verdict.TheVariants.{Allow, Deny}
 use Rattle.policy.specs.declared.policies.Policy.{Policy}
 
--- what a repository, a row and a policy in memory stand for
+-- a repository, a row and a policy in memory, as the model's values
 abbrev pub repo_view : Repo → model.Repo
 repo_view r = record { name = string_bytes r.name; default_ref = string_bytes r.default_ref; quota = r.quota }
 
@@ -39,7 +39,7 @@ policy_view p = record {
   rows = map row_view p.rows.items;
 }
 
--- what a question and an answer stand for
+-- a question and an answer, as the model's values
 abbrev pub question_view : Question → model.Question
 question_view q = record {
   user = user_text q.user;
@@ -49,7 +49,7 @@ question_view q = record {
   path = option_map path_text q.path;
 }
 
--- the users, repositories, refs and paths of the row hold the question
+-- the users, repositories, refs and paths of the row match the question
 abbrev pub is_about : model.Row → model.Question → Bool
 is_about row q =
     model.held_by row.users q.user && model.held_by row.repos q.repo
@@ -59,12 +59,12 @@ abbrev pub decision_view : Verdict → model.Decision
 decision_view (Allow n) = model.allowed n
 decision_view (Deny n) = model.denied n
 
--- these are the repositories, and no name stands twice
+-- these are the repositories, and no name occurs twice
 pub record AreRepos (repos : List model.Repo) (held : List Repo) : Type 0 where
   pub values : map repo_view held ≡ repos
   pub distinct : IsTrue (are_distinct (names_of held))
 
--- this is what the keys at the top of the table hold, and it is in range
+-- these are the values of the keys at the top of the table, and they are in range
 pub record IsTop (t : Members) (top : Top) : Type 0 where
   pub base : text_in t key.Base ≡ top.base.now
   pub token_seconds : number_in t key.TokenSeconds ≡ top.token_seconds

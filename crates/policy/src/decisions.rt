@@ -8,7 +8,7 @@ use crate::policies::Policy;
 use crate::questions::{Question, Verdict};
 use model::Effect;
 
-/// The answer of the row of that number.
+/// The verdict of the row with this number.
 fn decided(effect: Effect, number: u32) -> Verdict
     ensures { decision_view result ≡ decision_by effect number }
 {
@@ -18,8 +18,8 @@ fn decided(effect: Effect, number: u32) -> Verdict
     }
 }
 
-/// What the policy says to the question: what its first row that matches says, and where no row
-/// matches, a denial by row 0. It takes no memory.
+/// Returns the policy's verdict on the question: that of the first row that matches, or, if no row
+/// matches, a denial by row 0. It needs no memory.
 pub fn decide(policy: &Policy, question: &Question) -> Verdict
     ensures { decision_view result ≡ decide (policy_view policy.now) (question_view question.now) }
 {

@@ -1,4 +1,4 @@
-//! Which texts and words may stand in a policy file.
+//! The texts and words that a policy file may contain.
 
 ghost use Rattle.std.specs.Prelude.{◌≡◌, option_map};
 ghost use Rattle.std.specs.List.{list_all};
@@ -35,8 +35,8 @@ fn goes_on(text: &str, front: &str) -> bool
     text.as_bytes().starts_with(front.as_bytes()) && front.len() < text.len()
 }
 
-/// Whether the text may be the server's address: 8 to 200 bytes of `A-Z a-z 0-9 . : _ / -` that
-/// begin with `http://` or `https://`, go on after it, and do not end in `/`.
+/// Whether the text is a valid server address: 8 to 200 bytes of `A-Z a-z 0-9 . : _ / -` that begin
+/// with `http://` or `https://`, continue after it, and do not end in `/`.
 fn is_base(text: &str) -> bool
     ensures { result ≡ is_base text.now }
 {
@@ -79,7 +79,7 @@ fn is_lock_path(text: &str) -> bool
     LockPath::read(text).is_some()
 }
 
-/// The text before a slash at its end, where it has one.
+/// The text before the slash at its end; `None` if it does not end in one.
 fn before_slash(text: &str) -> Option<&str>
     ensures { option_map (λ front. front.now) result ≡ before_slash text.entry.now }
 {
@@ -104,36 +104,35 @@ fn is_path_front(text: &str) -> bool
     before_slash(text).is_some_and(|front| is_lock_path(front))
 }
 
-/// Whether the text may stand among the users of a row: `*`, or a user.
+/// Whether the text is a valid user entry of a row: `*`, or a user.
 fn is_user_entry(text: &str) -> bool
     ensures { result ≡ is_user_entry text.now }
 {
     is_any(text) || is_user(text)
 }
 
-/// Whether the text may stand among the repositories of a row: `*`, an owner and `/`, or a
-/// repository.
+/// Whether the text is a valid repository entry of a row: `*`, an owner and `/`, or a repository.
 fn is_repo_entry(text: &str) -> bool
     ensures { result ≡ is_repo_entry text.now }
 {
     is_any(text) || is_owner_front(text) || is_repo(text)
 }
 
-/// Whether the text may stand among the refs of a row: `*`, `refs/`, a ref and `/`, or a ref.
+/// Whether the text is a valid ref entry of a row: `*`, `refs/`, a ref and `/`, or a ref.
 fn is_ref_entry(text: &str) -> bool
     ensures { result ≡ is_ref_entry text.now }
 {
     is_any(text) || text == "refs/" || is_ref_front(text) || is_ref(text)
 }
 
-/// Whether the text may stand among the paths of a row: `*`, a path and `/`, or a path.
+/// Whether the text is a valid path entry of a row: `*`, a path and `/`, or a path.
 fn is_path_entry(text: &str) -> bool
     ensures { result ≡ is_path_entry text.now }
 {
     is_any(text) || is_path_front(text) || is_lock_path(text)
 }
 
-/// The effect of that name: `allow` or `deny`.
+/// The effect with that name: `allow` or `deny`.
 pub fn effect_named(name: &str) -> Option<Effect>
     ensures { result ≡ effect_named name.now }
 {
@@ -144,7 +143,7 @@ pub fn effect_named(name: &str) -> Option<Effect>
     }
 }
 
-/// The right of that name: `pull`, `push`, `list`, `lock` or `force`.
+/// The right with that name: `pull`, `push`, `list`, `lock` or `force`.
 pub fn right_named(name: &str) -> Option<Right>
     ensures { result ≡ right_named name.now }
 {
@@ -158,7 +157,7 @@ pub fn right_named(name: &str) -> Option<Right>
     }
 }
 
-/// Whether the text may stand at the key, or among the texts there; false at a key that has none.
+/// Whether the text is valid at the key, or among its texts; false for a key that takes no text.
 pub fn is_text_for(key: Key, text: &str) -> bool
     ensures { result ≡ test_of (kind_of key) text.now }
 {

@@ -1,4 +1,4 @@
-//! What can be wrong with a policy file, and where.
+//! The faults of a policy file: what is wrong, and where.
 
 ghost use Rattle.std.specs.Prelude.{◌≡◌, Some};
 
@@ -10,7 +10,7 @@ use std::fmt;
 /// What is wrong.
 #[derive(Clone, Copy, Debug, PartialEq, Eq)]
 pub enum FaultCode {
-    /// The file is no TOML text in UTF-8.
+    /// The file is not TOML in UTF-8.
     Y1,
     /// A key is unknown or missing, or its value is of the wrong kind.
     Y2,
@@ -22,7 +22,7 @@ pub enum FaultCode {
     Y5,
 }
 
-/// Where it stands. Repositories and rows count from 1.
+/// The place of a fault. Repositories and rows count from 1.
 #[derive(Clone, Copy, Debug, PartialEq, Eq)]
 pub enum Place {
     /// The file as a whole.
@@ -35,31 +35,31 @@ pub enum Place {
     Row(u32),
 }
 
-/// The first fault of a text that spells no policy.
+/// The first fault of a text that is not a policy.
 ///
-/// Faults are looked for in this order: the length of the file, whether it is TOML, the keys at the
-/// top, each repository, each row. Of a table first come its keys and their kinds (Y2), then the
-/// ranges of the values (Y3, or Y5 for a count), then the name of a repository (Y4).
+/// Faults are searched in this order: the length of the file, whether it is TOML, the keys at the top,
+/// each repository, each row. For a table, its keys and their kinds (Y2) come first, then the ranges of
+/// the values (Y3, or Y5 for a count), then the name of a repository (Y4).
 #[derive(Clone, Copy, Debug, PartialEq, Eq)]
 pub struct Fault {
     /// What is wrong.
     pub code: FaultCode,
-    /// Where.
+    /// The place.
     pub place: Place,
-    /// At which key; `None` where the fault is of no key that the place has.
+    /// The key; `None` if the fault is not at one of the place's keys.
     pub key: Option<Key>,
 }
 
-/// Why there is no policy.
+/// Why a policy was not read.
 #[derive(Clone, Copy, Debug, PartialEq, Eq)]
 pub enum PolicyFault {
-    /// The text spells none.
+    /// The text is not a policy.
     Refused(Fault),
-    /// Memory was refused.
+    /// Memory ran out.
     Memory,
 }
 
-/// Writes the code alone.
+/// Writes only the code.
 impl fmt::Display for FaultCode {
     ghost use Rattle.policy.specs.Lines.{code_text};
 
@@ -76,8 +76,8 @@ impl fmt::Display for FaultCode {
     }
 }
 
-/// Writes the code and the place, as `Y2 at top`, `Y4 at repo 2` and `Y3 at row 1`; the code alone
-/// where the fault is one of the whole file.
+/// Writes the code and the place, as `Y2 at top`, `Y4 at repo 2` and `Y3 at row 1`; only the code if
+/// the fault is one of the whole file.
 impl fmt::Display for Fault {
     ghost use Rattle.policy.specs.Lines.{fault_text};
 

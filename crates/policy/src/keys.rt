@@ -8,7 +8,7 @@ ghost use Rattle.policy.specs.Language.{key_name};
 pub enum Key {
     /// At the top: the address of the server.
     Base,
-    /// At the top: the life of a token.
+    /// At the top: the lifetime of a token.
     TokenSeconds,
     /// At the top: the repositories.
     Repo,
@@ -16,21 +16,21 @@ pub enum Key {
     Row,
     /// Of a repository: its name.
     Name,
-    /// Of a repository: the ref of a request that names none.
+    /// Of a repository: the ref for a request that names no ref.
     DefaultRef,
-    /// Of a repository: how many bytes it may keep.
+    /// Of a repository: how many bytes it may store.
     Quota,
     /// Of a row: whether it allows or denies.
     Effect,
-    /// Of a row: whom it is about.
+    /// Of a row: the users.
     Users,
-    /// Of a row: where.
+    /// Of a row: the repositories.
     Repos,
-    /// Of a row: to which refs.
+    /// Of a row: the refs.
     Refs,
-    /// Of a row: to which paths.
+    /// Of a row: the paths.
     Paths,
-    /// Of a row: to do what.
+    /// Of a row: the rights.
     Rights,
 }
 
@@ -51,7 +51,7 @@ pub const ROW_KEYS: [Key; 6] = [
 ];
 
 impl Key {
-    /// How the key is written.
+    /// The name of the key, as written in the file.
     pub fn name(self) -> &'static str
         ensures { result.now ≡ key_name self }
     {

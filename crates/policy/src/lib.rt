@@ -1,9 +1,9 @@
 //! The policy: who may do what in which repository.
 //!
-//! An administrator writes it as a TOML file, which says where the server is, which repositories
-//! it has, and in a list of rows who may pull, push, list, lock and force what. [`Policy::read`]
-//! reads such a text, or tells the first thing that is wrong with it and where. [`decide`] answers
-//! a question by the first row that matches it.
+//! An administrator writes it as a TOML file: the server's address, its repositories, and a list of
+//! rows that say who may pull, push, list, lock and force what. [`Policy::read`] reads such a text, or
+//! reports its first fault and the place of it. [`decide`] answers a question by the first row that
+//! matches it.
 #![tactic(auto)]
 
 mod decisions;

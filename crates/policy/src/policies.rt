@@ -8,7 +8,7 @@ ghost use Rattle.policy.specs.Repos.{names_of};
 use crate::repos::Repo;
 use crate::rows::Row;
 
-/// A policy, whose every value is in range.
+/// A policy. Every value in it is in range.
 #[derive(Debug, Drop)]
 pub struct Policy {
     pub(crate) base: String,
@@ -22,9 +22,10 @@ pub struct Policy {
     pub ghost repos_are_distinct: { IsTrue (are_distinct (names_of repos.items)) },
 }
 
-/// The first of the repositories that has the name.
+/// The first repository with the name.
 pub(crate) fn named<'a>(repos: &'a [Repo], name: &str) -> Option<&'a Repo>
-    ensures { option_copied result ≡ find (λ repo. bytes_eq (string_bytes repo.name) name.now) repos.entry.now }
+    ensures { option_copied result ≡ find
+        (λ repo. bytes_eq (string_bytes repo.name) name.now) repos.entry.now }
 {
     repos.iter().find(|repo| repo.name.as_str() == name)
 }
@@ -34,7 +35,7 @@ impl Policy {
     ghost use Rattle.model.specs.Policy.{IsPolicy, repo_named};
     ghost use Rattle.policy.specs.Values.{policy_view, repo_view};
 
-    /// The address below which the server's repositories lie, as `https://lfs.example`.
+    /// The address under which the server's repositories are served, as `https://lfs.example`.
     pub fn base(&self) -> &str
         ensures value { result.now ≡ (policy_view self.now).base }
         ensures in_range { IsTrue (is_base result.now) }
@@ -42,7 +43,7 @@ impl Policy {
         self.base.as_str()
     }
 
-    /// For how many seconds a token is good, from 1 to 86,400.
+    /// How many seconds a token is valid, from 1 to 86,400.
     pub fn token_seconds(&self) -> u64
         ensures value { result ≡ (policy_view self.now).token_seconds }
         ensures in_range { IsTrue (between 1 longest_life result) }
@@ -50,9 +51,10 @@ impl Policy {
         self.token_seconds
     }
 
-    /// The repository of that name; `None` exactly where there is none.
+    /// The repository with that name; `None` exactly if the policy has none.
     pub fn repo(&self, name: &str) -> Option<&Repo>
-        ensures value { option_map (λ r. repo_view r.now) result ≡ repo_named name.now (policy_view self.now) }
+        ensures value { option_map (λ r. repo_view r.now) result
+            ≡ repo_named name.now (policy_view self.now) }
         ensures in_range { IsPolicy (policy_view self.now) }
     {
         named(&self.repos, name)

@@ -1,22 +1,22 @@
-//! What the policy is asked, and what it answers.
+//! Questions to the policy, and its verdicts.
 
 ghost use Rattle.std.specs.Prelude.{◌≡◌, option_map};
 
 use model::Right;
 use names::{LockPath, RefName, RepoName, UserName};
 
-/// Whether a user may do something in a repository: to a ref and a path, where it is about them.
+/// Whether a user may do something in a repository; the ref and the path are given if it concerns them.
 #[derive(Clone, Copy, Debug)]
 pub struct Question<'a> {
-    /// Who asks.
+    /// The user who asks.
     pub user: UserName<'a>,
-    /// Where.
+    /// The repository.
     pub repo: RepoName<'a>,
-    /// What is to be done.
+    /// The right that is asked for.
     pub right: Right,
-    /// The ref, where the question is about one.
+    /// The ref, if the question concerns one.
     pub ref_name: Option<RefName<'a>>,
-    /// The path, where the question is about one.
+    /// The path, if the question concerns one.
     pub path: Option<LockPath<'a>>,
 }
 
@@ -42,11 +42,11 @@ impl<'a> Question<'a> {
     }
 }
 
-/// The answer, with the number of the row that gave it. Rows count from 1.
+/// The verdict, with the number of the row that gave it. Rows count from 1.
 #[derive(Clone, Copy, Debug, PartialEq, Eq)]
 pub enum Verdict {
-    /// Allowed by the row of this number.
+    /// Allowed by the row with this number.
     Allow(u32),
-    /// Denied by the row of this number, or where it is 0 because no row matches.
+    /// Denied by the row with this number; 0 if no row matches.
     Deny(u32),
 }

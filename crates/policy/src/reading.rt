@@ -1,4 +1,4 @@
-//! A policy, read from its file's text.
+//! Reads a policy from the text of its file.
 
 ghost use Rattle.std.specs.Prelude.{◌≡◌, ◌≤◌, IfOk, IfErr, MatchResult, None, Some, [], length, map};
 ghost use Rattle.toml.specs.View.{view, table_view};
@@ -26,16 +26,16 @@ const LARGEST_QUOTA: u64 = 1_099_511_627_776;
 /// The longest policy file, in bytes.
 const LONGEST_FILE: usize = 1_048_576;
 
-/// The longest life of a token, in seconds.
+/// The longest lifetime of a token, in seconds.
 const LONGEST_LIFE: u64 = 86_400;
 
-/// The most repositories of a policy.
+/// The largest number of repositories in a policy.
 const MOST_REPOS: usize = 256;
 
-/// The most rows of a policy.
+/// The largest number of rows in a policy.
 const MOST_ROWS: usize = 1000;
 
-/// The rights that texts name.
+/// The rights with these names.
 fn rights_named(alloc: Global, names: &[String]) -> Result<Vec<Right>, AllocError>
     ensures { IfOk result (λ rights. rights.items ≡ rights_named (texts names.now)) }
 {
@@ -48,10 +48,11 @@ fn rights_named(alloc: Global, names: &[String]) -> Result<Vec<Right>, AllocErro
     Ok(rights)
 }
 
-/// The repository of a table.
+/// The repository in a table.
 #[tactic(auto, unfolding(crate::specs::Reading::table_fault, crate::specs::Reading::repo_in))]
 fn read_repo(alloc: Global, table: TableAt) -> Result<Repo, PolicyFault>
-    ensures { Reads (table_fault table.entry.place repo_keys (table_view table.entry.table.now)) (λ repo. repo_view repo ≡ repo_in (table_view table.entry.table.now)) result }
+    ensures { Reads (table_fault table.entry.place repo_keys (table_view table.entry.table.now))
+        (λ repo. repo_view repo ≡ repo_in (table_view table.entry.table.now)) result }
 {
     let name = table.text(Key::Name)?;
     let default_ref = table.text(Key::DefaultRef)?;
@@ -67,10 +68,11 @@ fn read_repo(alloc: Global, table: TableAt) -> Result<Repo, PolicyFault>
     })
 }
 
-/// The row of a table.
+/// The row in a table.
 #[tactic(auto, unfolding(crate::specs::Reading::table_fault, crate::specs::Reading::row_in))]
 fn read_row(alloc: Global, table: TableAt) -> Result<Row, PolicyFault>
-    ensures { Reads (table_fault table.entry.place row_keys (table_view table.entry.table.now)) (λ row. row_view row ≡ row_in (table_view table.entry.table.now)) result }
+    ensures { Reads (table_fault table.entry.place row_keys (table_view table.entry.table.now))
+        (λ row. row_view row ≡ row_in (table_view table.entry.table.now)) result }
 {
     let effect = table.text(Key::Effect)?;
     let users = table.texts(alloc, Key::Users)?;
@@ -95,18 +97,20 @@ fn read_row(alloc: Global, table: TableAt) -> Result<Row, PolicyFault>
     })
 }
 
-/// The repository of the entry of that number.
+/// The repository in the entry with this number.
 #[tactic(auto, unfolding(crate::specs::Reading::entry_fault))]
 fn read_repo_entry(alloc: Global, entry: &Value, number: u32) -> Result<Repo, PolicyFault>
-    ensures { Reads (entry_fault (Place.Repo number) repo_keys (view entry.now)) (λ repo. repo_view repo ≡ repo_in (table_in (view entry.now))) result }
+    ensures { Reads (entry_fault (Place.Repo number) repo_keys (view entry.now))
+        (λ repo. repo_view repo ≡ repo_in (table_in (view entry.now))) result }
 {
     read_repo(alloc, TableAt::read(entry, Place::Repo(number))?)
 }
 
-/// The row of the entry of that number.
+/// The row in the entry with this number.
 #[tactic(auto, unfolding(crate::specs::Reading::entry_fault))]
 fn read_row_entry(alloc: Global, entry: &Value, number: u32) -> Result<Row, PolicyFault>
-    ensures { Reads (entry_fault (Place.Row number) row_keys (view entry.now)) (λ row. row_view row ≡ row_in (table_in (view entry.now))) result }
+    ensures { Reads (entry_fault (Place.Row number) row_keys (view entry.now))
+        (λ row. row_view row ≡ row_in (table_in (view entry.now))) result }
 {
     read_row(alloc, TableAt::read(entry, Place::Row(number))?)
 }
@@ -129,7 +133,7 @@ fn of_file(code: FaultCode) -> Fault
     }
 }
 
-/// That the repository of that number has the name of an earlier one.
+/// The fault that the repository with this number has the name of an earlier one.
 fn repeated(number: u32) -> Fault
     ensures { result ≡ at_key Y4 (Place.Repo number) Key.Name }
 {
@@ -140,10 +144,11 @@ fn repeated(number: u32) -> Fault
     }
 }
 
-/// The repositories of the entries, each with another name than those before it.
+/// The repositories of the entries; each name differs from the earlier ones.
 fn read_repos(alloc: Global, entries: &[Value]) -> Result<Vec<Repo>, PolicyFault>
     requires { length entries.now ≤ most_repos }
-    ensures { Reads (repos_fault 1 [] (map view entries.now)) (λ repos. AreRepos (repos_in (map view entries.now)) repos.items) result }
+    ensures { Reads (repos_fault 1 [] (map view entries.now))
+        (λ repos. AreRepos (repos_in (map view entries.now)) repos.items) result }
 {
     let mut repos = Vec::new(alloc);
     for (index, entry) in entries.iter().enumerate() {
@@ -160,7 +165,8 @@ fn read_repos(alloc: Global, entries: &[Value]) -> Result<Vec<Repo>, PolicyFault
 /// The rows of the entries.
 fn read_rows(alloc: Global, entries: &[Value]) -> Result<Vec<Row>, PolicyFault>
     requires { length entries.now ≤ most_rows }
-    ensures { Reads (rows_fault 1 (map view entries.now)) (λ rows. map row_view rows.items ≡ rows_in (map view entries.now)) result }
+    ensures { Reads (rows_fault 1 (map view entries.now))
+        (λ rows. map row_view rows.items ≡ rows_in (map view entries.now)) result }
 {
     let mut rows = Vec::new(alloc);
     for (index, entry) in entries.iter().enumerate() {
@@ -170,7 +176,7 @@ fn read_rows(alloc: Global, entries: &[Value]) -> Result<Vec<Row>, PolicyFault>
     Ok(rows)
 }
 
-/// What the keys at the top of a file hold.
+/// The values of the keys at the top of a file.
 #[derive(Clone, Copy)]
 struct Top<'a> {
     base: &'a str,
@@ -182,7 +188,10 @@ struct Top<'a> {
 /// The keys at the top of the file.
 #[tactic(auto, unfolding(crate::specs::Reading::table_fault))]
 fn read_top(table: &Table) -> Result<Top<'_>, Fault>
-    ensures { MatchResult result (λ top. (table_fault Place.Top top_keys (table_view table.entry.now) ≡ None) × IsTop (table_view table.entry.now) top) (λ fault. table_fault Place.Top top_keys (table_view table.entry.now) ≡ Some fault) }
+    ensures { MatchResult result
+        (λ top. (table_fault Place.Top top_keys (table_view table.entry.now) ≡ None)
+        × IsTop (table_view table.entry.now) top)
+        (λ fault. table_fault Place.Top top_keys (table_view table.entry.now) ≡ Some fault) }
 {
     let top = TableAt {
         table,
@@ -205,9 +214,10 @@ fn read_top(table: &Table) -> Result<Top<'_>, Fault>
     })
 }
 
-/// The policy of a file's table.
+/// The policy in a file's table.
 fn read_document(alloc: Global, table: &Table) -> Result<Policy, PolicyFault>
-    ensures { Reads (document_fault (table_view table.now)) (λ policy. policy_view policy ≡ policy_in (table_view table.now)) result }
+    ensures { Reads (document_fault (table_view table.now))
+        (λ policy. policy_view policy ≡ policy_in (table_view table.now)) result }
 {
     let top = read_top(table)?;
     let repos = read_repos(alloc, top.repos)?;
@@ -221,17 +231,17 @@ fn read_document(alloc: Global, table: &Table) -> Result<Policy, PolicyFault>
 }
 
 impl Policy {
-    /// The policy that the text of a file spells.
+    /// Reads the policy from the text of a file.
     ///
-    /// The text is TOML. Its keys, their kinds and their ranges are told in `docs/POLICY.md`.
+    /// The text is TOML. `docs/POLICY.md` lists its keys, their kinds and their ranges.
     ///
     /// # Errors
     ///
-    /// `Refused` with the first fault of a text that spells none, and `Memory` where memory was
-    /// refused.
+    /// `Refused` with the first fault if the text is not a policy, and `Memory` if memory runs out.
     pub fn read(alloc: Global, source: &str) -> Result<Policy, PolicyFault>
         ensures spelled { IfOk result (λ policy. Spells source.now (policy_view policy)) }
-        ensures refused { IfErr result (λ fault. IfRefused fault (λ first. fault_in source.now ≡ Some first)) }
+        ensures refused { IfErr result
+            (λ fault. IfRefused fault (λ first. fault_in source.now ≡ Some first)) }
     {
         if source.len() > LONGEST_FILE {
             return Err(of_file(FaultCode::Y5).into());
@@ -243,14 +253,15 @@ impl Policy {
         }
     }
 
-    /// The policy that the bytes of a file spell, as [`Policy::read`] says of a text.
+    /// Reads the policy from the bytes of a file, as [`Policy::read`] does from a text.
     ///
     /// # Errors
     ///
-    /// Those of [`Policy::read`]. Bytes within the length that are no UTF-8 are no TOML.
+    /// Those of [`Policy::read`]. Bytes within the length limit that are not UTF-8 count as not TOML.
     pub fn read_bytes(alloc: Global, source: &[u8]) -> Result<Policy, PolicyFault>
         ensures spelled { IfOk result (λ policy. Spells source.now (policy_view policy)) }
-        ensures refused { IfErr result (λ fault. IfRefused fault (λ first. fault_in source.now ≡ Some first)) }
+        ensures refused { IfErr result
+            (λ fault. IfRefused fault (λ first. fault_in source.now ≡ Some first)) }
     {
         if source.len() > LONGEST_FILE {
             return Err(of_file(FaultCode::Y5).into());

@@ -6,7 +6,7 @@ ghost use Rattle.policy.specs.Ranges.{largest_quota};
 
 use names::{RefName, RepoName};
 
-/// A repository that is served.
+/// A repository that the server serves.
 #[derive(Debug, Drop)]
 pub struct Repo {
     pub(crate) name: String,
@@ -28,14 +28,14 @@ impl Repo {
         RepoName::read(self.name.as_str()).unwrap()
     }
 
-    /// The ref of a request that names none.
+    /// The ref for a request that names no ref.
     pub fn default_ref(&self) -> RefName<'_>
         ensures { ref_text result ≡ (repo_view self.now).default_ref }
     {
         RefName::read(self.default_ref.as_str()).unwrap()
     }
 
-    /// How many bytes of objects it may keep, from 0 to 1,099,511,627,776.
+    /// How many bytes of objects it may store, from 0 to 1,099,511,627,776.
     pub fn quota(&self) -> u64
         ensures value { result ≡ (repo_view self.now).quota }
         ensures in_range { result ≤ largest_quota }

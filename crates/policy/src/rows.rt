@@ -1,8 +1,9 @@
 //! A row of the policy, and whether it matches a question.
 //!
-//! A row matches where each of its five lists holds that part of the question. Of users,
-//! repositories, refs and paths, `*` holds every text, a text that ends in `/` all that begin with
-//! it, and any other text itself. What a question does not name is held by `*` alone.
+//! A row matches if each of its five lists holds the corresponding part of the question. In the lists
+//! of users, repositories, refs and paths, `*` holds every text, a text that ends in `/` holds every
+//! text that begins with it, and any other text holds itself. If the question does not name a part,
+//! only `*` holds it.
 
 ghost use Rattle.std.specs.Prelude.{◌≡◌, IsTrue, option_map, string_bytes};
 ghost use Rattle.std.specs.List.{list_any};
@@ -12,7 +13,7 @@ ghost use Rattle.policy.specs.Ranges.{texts, are_entries, is_count, is_user_entr
 use crate::questions::Question;
 use model::{Effect, Right};
 
-/// A row: what it allows or denies.
+/// A row: whom and what it allows or denies.
 #[derive(Debug, Drop)]
 pub struct Row {
     pub effect: Effect,
@@ -57,7 +58,7 @@ fn has_any(patterns: &[String]) -> bool
     patterns.iter().any(|pattern| is_any(pattern.as_str()))
 }
 
-/// Whether the patterns hold what the question names, or what it does not name.
+/// Whether the patterns hold the text; if the question names none, whether they hold its absence.
 fn held_if_named(patterns: &[String], text: Option<&str>) -> bool
     ensures { result ≡ held_if_named (texts patterns.now) (option_map (λ t. t.now) text.entry) }
 {
@@ -76,8 +77,8 @@ fn has_right(rights: &[Right], asked: Right) -> bool
 impl Row {
     ghost use Rattle.policy.specs.Values.{row_view, question_view, is_about};
 
-    /// Whether all five lists hold the question. The rights are looked at first, since they are
-    /// the shortest to compare.
+    /// Whether all five lists hold the question. The rights are compared first, since they are the
+    /// shortest to compare.
     pub fn matches(&self, question: &Question) -> bool
         ensures { result ≡ matches (row_view self.now) (question_view question.now) }
     {

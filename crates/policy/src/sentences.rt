@@ -1,12 +1,12 @@
-//! A fault in words, for a person who mends the file.
+//! Describes a fault in words, for a person who corrects the file.
 
 use crate::faults::{Fault, FaultCode, Place};
 use crate::keys::Key;
 use std::fmt;
 
-/// A fault, which it writes as a sentence: where it stands, what is wrong and what is expected.
+/// Writes a fault as a sentence: its place, what is wrong and what is expected.
 ///
-/// The program's own line has the code and the place alone, which [`Fault`] writes.
+/// The program prints only the code and the place, which [`Fault`] writes.
 #[derive(Clone, Copy, Debug, PartialEq, Eq)]
 pub struct Sentence(pub Fault);
 
@@ -40,7 +40,7 @@ fn wrong(code: FaultCode) -> &'static str {
     }
 }
 
-/// What is wrong with a place, where the fault is of none of its keys.
+/// What is wrong with a place, if the fault is not at one of its keys.
 fn wrong_as_a_whole(fault: Fault) -> &'static str {
     match (fault.code, fault.place) {
         (FaultCode::Y1, _) => "is no TOML text in UTF-8",

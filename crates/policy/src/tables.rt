@@ -1,4 +1,4 @@
-//! The tables of a policy file, and what stands at their keys.
+//! The tables of a policy file, and the values at their keys.
 
 ghost use Rattle.std.specs.Prelude.{◌≡◌, IfOk, MatchResult, Some, None, nat_le, length, map, option_map, string_bytes};
 ghost use Rattle.std.specs.BTreeMap.{keys as btree_keys};
@@ -18,7 +18,8 @@ use toml::{Table, Value};
 
 /// The value at the key.
 fn value_at<'a>(table: &'a Table, key: Key) -> Option<&'a Value>
-    ensures { option_map (λ value. view value.now) result ≡ value_at (table_view table.entry.now) key }
+    ensures { option_map (λ value. view value.now) result
+        ≡ value_at (table_view table.entry.now) key }
 {
     table.get(key.name())
 }
@@ -55,10 +56,11 @@ fn as_values(value: &Value) -> Option<&[Value]>
     }
 }
 
-/// The entries of the array at the key; none where the key is missing.
+/// The entries of the array at the key; empty if the key is missing.
 #[tactic(auto, unfolding(crate::specs::Language::entries_at))]
 fn entries_at<'a>(table: &'a Table, key: Key) -> Option<&'a [Value]>
-    ensures { option_map (λ entries. map view entries.now) result ≡ entries_at (table_view table.entry.now) key }
+    ensures { option_map (λ entries. map view entries.now) result
+        ≡ entries_at (table_view table.entry.now) key }
 {
     match value_at(table, key) {
         Some(value) => as_values(value),
@@ -66,9 +68,10 @@ fn entries_at<'a>(table: &'a Table, key: Key) -> Option<&'a [Value]>
     }
 }
 
-/// Copies of the texts, unless one of the values is no text.
+/// Copies of the texts; `None` if one of the values is not a text.
 fn copied_texts(alloc: Global, values: &[Value]) -> Result<Option<Vec<String>>, AllocError>
-    ensures { IfOk result (λ copies. option_map (λ v. texts v.items) copies ≡ all_texts (map view values.now)) }
+    ensures { IfOk result
+        (λ copies. option_map (λ v. texts v.items) copies ≡ all_texts (map view values.now)) }
 {
     let mut copies = Vec::new(alloc);
     for value in values {
@@ -83,7 +86,8 @@ fn copied_texts(alloc: Global, values: &[Value]) -> Result<Option<Vec<String>>, 
 /// Copies of the texts of the array at the key.
 #[tactic(auto, unfolding(crate::specs::Language::texts_at))]
 fn texts_at(alloc: Global, table: &Table, key: Key) -> Result<Option<Vec<String>>, AllocError>
-    ensures { IfOk result (λ copies. option_map (λ v. texts v.items) copies ≡ texts_at (table_view table.now) key) }
+    ensures { IfOk result
+        (λ copies. option_map (λ v. texts v.items) copies ≡ texts_at (table_view table.now) key) }
 {
     let Some(value) = value_at(table, key) else {
         return Ok(None);
@@ -100,7 +104,7 @@ fn is_name_of(keys: &[Key], name: &str) -> bool
     keys.iter().any(|key| key.name() == name)
 }
 
-/// Whether each of the texts may stand among those at the key.
+/// Whether each of the texts is valid among those at the key.
 fn all_texts_for(key: Key, texts: &[String]) -> bool
     ensures { result ≡ list_all (λ text. test_of (kind_of key) (string_bytes text)) texts.now }
 {
@@ -113,7 +117,7 @@ fn is_count(entries: &[String]) -> bool
     !entries.is_empty() && entries.len() <= 64
 }
 
-/// Whether these may be the texts at the key: 1 to 64, each of which may stand there.
+/// Whether these are valid texts at the key: 1 to 64, each of them valid.
 fn are_texts_for(key: Key, entries: &[String]) -> bool
     ensures { result ≡ are_entries (test_of (kind_of key)) (texts entries.now) }
 {
@@ -122,12 +126,13 @@ fn are_texts_for(key: Key, entries: &[String]) -> bool
 
 /// Whether the table has no other keys.
 fn has_only(keys: &[Key], table: &Table) -> bool
-    ensures { result ≡ list_all (λ name. is_name_of keys.now (string_bytes name)) (btree_keys table.now) }
+    ensures { result ≡ list_all
+        (λ name. is_name_of keys.now (string_bytes name)) (btree_keys table.now) }
 {
     table.keys().all(|name| is_name_of(keys, name.as_str()))
 }
 
-/// A table of the file, and where it stands.
+/// A table of the file, and its place.
 #[derive(Clone, Copy)]
 pub struct TableAt<'a> {
     pub table: &'a Table,
@@ -135,9 +140,12 @@ pub struct TableAt<'a> {
 }
 
 impl<'a> TableAt<'a> {
-    /// The entry as a table, at this place.
+    /// The entry as a table, at this place; the fault Y2 if it is not a table.
     pub fn read(entry: &'a Value, place: Place) -> Result<Self, Fault>
-        ensures { MatchResult result (λ table. (as_table (view entry.entry.now) ≡ Some (table_view table.table.now)) × (table.place ≡ place)) (λ fault. (as_table (view entry.entry.now) ≡ None) × (fault ≡ at_place Y2 place)) }
+        ensures { MatchResult result
+            (λ table. (as_table (view entry.entry.now) ≡ Some (table_view table.table.now))
+            × (table.place ≡ place))
+            (λ fault. (as_table (view entry.entry.now) ≡ None) × (fault ≡ at_place Y2 place)) }
     {
         match entry.as_table() {
             Some(table) => Ok(TableAt { table, place }),
@@ -149,21 +157,21 @@ impl<'a> TableAt<'a> {
         }
     }
 
-    /// The text at the key.
+    /// The text at the key; Y2 if the key is missing or has another kind.
     pub fn text(&self, key: Key) -> Result<&'a str, Fault>
         ensures { Finds (λ text. text.now) (text_at (table_view self.now.table.now) key) (at_key Y2 self.now.place key) result }
     {
         text_at(self.table, key).ok_or(self.fault(FaultCode::Y2, key))
     }
 
-    /// The whole number at the key.
+    /// The whole number at the key; Y2 if the key is missing or has another kind.
     pub fn whole(&self, key: Key) -> Result<i64, Fault>
         ensures { Finds (λ number. number) (whole_at (table_view self.now.table.now) key) (at_key Y2 self.now.place key) result }
     {
         whole_at(self.table, key).ok_or(self.fault(FaultCode::Y2, key))
     }
 
-    /// The texts of the array at the key.
+    /// The texts of the array at the key; Y2 if the key is missing or has another kind, `Memory` if memory runs out.
     pub fn texts(&self, alloc: Global, key: Key) -> Result<Vec<String>, PolicyFault>
         ensures { FindsInMemory (λ copies. texts copies.items) (texts_at (table_view self.now.table.now) key) (at_key Y2 self.now.place key) result }
     {
@@ -173,14 +181,14 @@ impl<'a> TableAt<'a> {
         }
     }
 
-    /// The entries of the array at the key, which has none where it is missing.
+    /// The entries of the array at the key, empty if the key is missing; Y2 if it has another kind.
     pub fn entries(&self, key: Key) -> Result<&'a [Value], Fault>
         ensures { Finds (λ entries. map view entries.now) (entries_at (table_view self.now.table.now) key) (at_key Y2 self.now.place key) result }
     {
         entries_at(self.table, key).ok_or(self.fault(FaultCode::Y2, key))
     }
 
-    /// That the table has no other keys.
+    /// Checks that the table has no other keys; else Y2.
     pub fn has_only(&self, keys: &[Key]) -> Result<(), Fault>
         ensures { Tests (has_only keys.now (table_view self.now.table.now)) (at_place Y2 self.now.place) result }
     {
@@ -195,7 +203,7 @@ impl<'a> TableAt<'a> {
         }
     }
 
-    /// That the text may stand at the key.
+    /// Checks that the text is valid at the key; else Y3.
     pub fn check_text(&self, key: Key, text: &str) -> Result<(), Fault>
         ensures { Tests (test_of (kind_of key) text.now) (at_key Y3 self.now.place key) result }
     {
@@ -206,7 +214,7 @@ impl<'a> TableAt<'a> {
         }
     }
 
-    /// That these may be the texts at the key: 1 to 64, each of which may stand there.
+    /// Checks that these are valid texts at the key: 1 to 64, each of them valid; else Y3.
     pub fn check_texts(&self, key: Key, entries: &[String]) -> Result<(), Fault>
         ensures { Tests (are_entries (test_of (kind_of key)) (texts entries.now)) (at_key Y3 self.now.place key) result }
     {
@@ -217,9 +225,10 @@ impl<'a> TableAt<'a> {
         }
     }
 
-    /// The number as a natural one that is at least `low` and at most `high`.
+    /// Checks that the number is at least `low` and at most `high`, and returns it unsigned; else Y3.
     pub fn check_whole(&self, key: Key, number: i64, low: u64, high: u64) -> Result<u64, Fault>
-        ensures { Finds (λ n. n) (natural_within low high number) (at_key Y3 self.now.place key) result }
+        ensures { Finds
+            (λ n. n) (natural_within low high number) (at_key Y3 self.now.place key) result }
     {
         match u64::try_from(number) {
             Ok(natural) if low <= natural && natural <= high => Ok(natural),
@@ -227,7 +236,7 @@ impl<'a> TableAt<'a> {
         }
     }
 
-    /// That there are at most so many entries.
+    /// Checks that there are at most `most` entries; else Y5.
     pub fn check_count(&self, key: Key, entries: &[Value], most: usize) -> Result<(), Fault>
         ensures { Tests (nat_le (length entries.now) most) (at_key Y5 self.now.place key) result }
     {

@@ -1,4 +1,4 @@
--- What the router finds is the table's row, for every table that is good and every path.
+-- The router finds the table's row, for every good table and every path.
 use Rattle.std.proofs.Common.{◌≡◌, ℕ, suc, ◌<◌, List, [], ◌∷◌, ◌++◌, get_or, Bool, true, false, cond, refl, sym, ap, ◌∙◌, ◌==◌}
 use Rattle.std.specs.List.{onto_first, AllByRecursion}
 use Rattle.std.proofs.lemmas.Bool.{eqb-true, eqb-false}
@@ -19,7 +19,7 @@ use Rattle.routes.proofs.Fitting.{AllApart, all-apart, row-fitting}
 abbrev pub AreBytes : List ℕ → Type 0
 AreBytes bytes = AllByRecursion (λ b. b < 256) bytes
 
--- a path is its first part and the others behind their slashes
+-- a path is its first part and then the others, each after a slash
 record IsCut (path : List ℕ) (cut : List (List ℕ)) : Type 0 where
   front : List ℕ
   others : List (List ℕ)
@@ -51,7 +51,7 @@ cut-path (b ∷ path) bytes = at (b == 47) refl (cut-path path bytes.1)
     }
 
 module _ {K : Type 0} where
-  -- of a table whose literals are texts without slash, and of which no two rows fit one path
+  -- a table whose literals are texts without a slash, and of which no two rows fit one path
   record IsTable (rows : List (List Segment × K)) : Type 0 where
     good : AreGoodRows rows
     apart : AllApart rows
@@ -73,7 +73,7 @@ bytes-of : (path : List ℕ) → ((i : ℕ) → get_or path i 0 < 256) → AreBy
 bytes-of [] h = tt
 bytes-of (b ∷ path) h = (h 0, bytes-of path (λ i. h (suc i)))
 
--- of the table of routes
+-- the case of the table of routes
 pub found-resource : (s : RowsOf (RouteOf Resource)) (path : List ℕ) → ((i : ℕ) → get_or path i 0 < 256) → rename (λ r. r.value) s ≡ patterns table
     → map_key (λ (r : RouteOf Resource). r.value) (first s path) ≡ resource_at path
 found-resource s path bytes e =

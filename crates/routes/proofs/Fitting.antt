@@ -1,4 +1,4 @@
--- Where no two rows fit one path, the row that is found part by part is the first that fits.
+-- If no two rows fit one path, the row found part by part is the first that fits.
 use Rattle.std.proofs.Common.{◌≡◌, ℕ, List, [], ◌∷◌, Option, Some, None, Bool, true, false, cond, not, ◌&&◌, ◌||◌, refl, sym, ap, ◌∙◌, bytes_eq}
 use Rattle.std.specs.List.{list_all}
 use Rattle.std.proofs.lemmas.Bool.{and_parts, and_from, true≢false}
@@ -8,7 +8,7 @@ use Rattle.model.specs.Heads.{Segment, literal, parameter, fits}
 use Rattle.routes.specs.Patterns.{fitting, is_some_text}
 use Rattle.routes.proofs.Rows.{ended, after_literal, after_parameter, row_by_parts, are_apart, is_apart_from, are_all_apart}
 
--- no path fits both
+-- no path fits both rows
 abbrev pub Apart : List Segment → List Segment → Type 0
 Apart ps qs = (parts : List (List ℕ)) → fits ps parts ≡ true → fits qs parts ≡ true → ⊥
 
@@ -130,7 +130,7 @@ module _ {K : Type 0} where
   or_else-nothing : (a b : Option K) → a ≡ None → b ≡ None → or_else a b ≡ None
   or_else-nothing a b e f = ap (λ x. or_else x b) e ∙ f
 
-  -- the first row that fits, where each part has a byte
+  -- the first row that fits, if each part has a byte
   pub row-fitting : (rows : List (List Segment × K)) (parts : List (List ℕ)) → AllApart rows
       → row_by_parts rows parts ≡ cond (list_all is_some_text parts) (fitting rows parts) None
   row-fitting rows [] apart = ended-fitting rows

@@ -32,7 +32,7 @@ no-parameter (literal text ∷ row) [] e = refl
 no-parameter (literal text ∷ row) (part ∷ rest) e = no-parameter row rest e
 no-parameter (parameter ∷ row) rest e = absurd (cc)
 
--- one line for each resource
+-- no route has a parameter, by one line for each resource
 no_parameter : (resource : Resource) → has_parameter (under_lfs (row_of resource).rest) ≡ false
 no_parameter Locks = refl
 

@@ -9,7 +9,7 @@ use Rattle.model.specs.Heads.{Segment, literal, parameter}
 use Rattle.routes.specs.Patterns.{tokens, patterns}
 use Rattle.routes.proofs.Rows.{joined, is_clean_byte, is_clean, is_good, are_good, ended, after_literal, after_parameter, row_by_parts}
 
--- a byte that is no slash
+-- a byte other than a slash
 abbrev pub IsPlain : ℕ → Type 0
 IsPlain b = (b < 256) × (b ≢ 47)
 
@@ -49,7 +49,7 @@ module _ {K : Type 0} where
   seek-drop (suc k) r [] = refl
   seek-drop (suc k) r (b ∷ p) = seek-drop k r p
 
-  -- where no row goes on with a parameter or a catch-all
+  -- the case in which no row continues with a parameter or a catch-all
   seek-byte : (r : RowsOf K) (b : ℕ) (p : List ℕ) → step param_token r ≡ [] → step catch_all_token r ≡ [] → seek 0 r (b ∷ p) ≡ seek 0 (step b r) p
   unfolding seek
   seek-byte r b p no_param no_catch =
@@ -57,7 +57,7 @@ module _ {K : Type 0} where
 
 -- ---- rows in the midst of a literal
 
--- what is left of a literal, and the parts behind it
+-- the rest of a literal, and the parts after it
 abbrev Mids : Type 0 → Type 0
 Mids K = List (List ℕ × List Segment × K)
 
@@ -73,7 +73,7 @@ module _ {K : Type 0} where
   spelled [] = []
   spelled ((t, ps, k) ∷ mids) = (t ++ tokens ps, k) ∷ spelled mids
 
-  -- the rows that go on with that byte
+  -- the rows that continue with this byte
   eat : ℕ → Mids K → Mids K
   eat b [] = []
   eat b (([], ps, k) ∷ mids) = eat b mids
@@ -104,7 +104,7 @@ module _ {K : Type 0} where
         | false ↦ step-spelled b mids n
       ]
 
-  -- no row goes on with a token that is no byte
+  -- no row continues with a token that is not a byte
   step-wild : (y : ℕ) (mids : Mids K) → 256 ≤ y → ArePlainMids mids → step y (spelled mids) ≡ []
   unfolding spelled
   step-wild y [] h plain = refl
@@ -205,7 +205,7 @@ module _ {K : Type 0} where
   picked-lits s ((literal t ∷ ps, k) ∷ rows) = ap (λ r. cond (bytes_eq s t) ((ps, k) ∷ r) r) (picked-lits s rows)
   picked-lits s ((parameter ∷ ps, k) ∷ rows) = picked-lits s rows
 
-  -- the rows behind the slash
+  -- the rows after the slash
   starts : List (List Segment × K) → RowsOf K
   starts [] = []
   starts (([], k) ∷ rows) = starts rows
@@ -295,7 +295,7 @@ module _ {K : Type 0} where
   own-patterns ((literal t ∷ ps, k) ∷ rows) = own-patterns rows
   own-patterns ((parameter ∷ ps, k) ∷ rows) = own-patterns rows
 
--- ---- what a parameter takes
+-- ---- the text of a parameter
 
 drop-all : (s : List ℕ) → drop (length s) s ≡ []
 drop-all s = ap (drop (length s)) (sym (append-nil s)) ∙ drop-append_seam s []
@@ -389,7 +389,7 @@ module _ {K : Type 0} where
   seek-going : (rows : List (List Segment × K)) (r : List ℕ) → seek 0 (patterns (going rows)) (47 ∷ r) ≡ seek 0 (patterns rows) (47 ∷ r)
   seek-going rows r = seek-step (going rows) r ∙ ap (λ x. seek 0 x r) (step-going rows) ∙ sym (seek-step rows r)
 
-  -- where a parameter goes on
+  -- the result after a parameter
   goes : List (List Segment × K) → List ℕ → Option K
   goes rows [] = None
   goes rows (b ∷ p) = seek ((param_step (patterns rows) (b ∷ p)).0 - 1) (param_step (patterns rows) (b ∷ p)).1 p
@@ -445,7 +445,7 @@ module _ {K : Type 0} where
       rw (by_text, starts-param rows good, starts-catch rows good, by_parameter)
       (ap (λ o. or_else (seek 0 (patterns (after_literal (b ∷ s) rows)) rest) o) (or_else-none (seek 0 (patterns (after_parameter rows)) rest)))
 
-  -- a part of no bytes has no route
+  -- an empty part has no route
   seek-empty-part : (rows : List (List Segment × K)) (rest : List ℕ) → AreGoodRows rows → IsNext rest → seek 0 (starts rows) rest ≡ None
   unfolding seek param_step
   seek-empty-part rows [] good next = own-starts rows good
@@ -480,7 +480,7 @@ next-joined [] = tt
 next-joined (s ∷ ss) = refl
 
 module _ {K : Type 0} where
-  -- what the router finds for a path is what its rows give part by part
+  -- the router finds for a path what its rows give part by part
   pub walk : (rows : List (List Segment × K)) (parts : List (List ℕ)) → AreGoodRows rows → ArePlainParts parts
       → first (patterns rows) (joined parts) ≡ row_by_parts rows parts
   unfolding seek

@@ -9,14 +9,14 @@ use Rattle.model.specs.Heads.{Segment, literal, parameter, fits}
 abbrev pub is_some_text : List ℕ → Bool
 is_some_text text = not (is_empty text)
 
--- the tokens of a pattern: each part behind its slash
+-- the tokens of a pattern: each part after its slash
 abbrev pub tokens : List Segment → List ℕ
 tokens [] = []
 tokens (literal text ∷ parts) = slash ∷ (text ++ tokens parts)
 tokens (parameter ∷ parts) = slash ∷ param_token ∷ tokens parts
 
 module _ {K : Type 0} where
-  -- the patterns of a table's rows, with what the router tells of each
+  -- the patterns of a table's rows, with the value that the router returns for each
   abbrev pub patterns : List (List Segment × K) → RowsOf K
   patterns [] = []
   patterns ((parts, key) ∷ rows) = (tokens parts, key) ∷ patterns rows
@@ -26,7 +26,7 @@ module _ {K : Type 0} where
   fitting [] parts = None
   fitting ((ps, key) ∷ rows) parts = cond (fits ps parts) (Some key) (fitting rows parts)
 
-  -- the row of a path, by its parts: nothing stands before its first slash, and no part is empty
+  -- the row of a path, by its parts: the path begins with a slash, and no part is empty
   abbrev pub row_at : List (List Segment × K) → List (List ℕ) → Option K
   row_at rows ([] ∷ parts) = cond (list_all is_some_text parts) (fitting rows parts) None
   row_at rows _ = None

@@ -1,4 +1,4 @@
--- A route, as the definitions see it.
+-- A route, in the model's terms.
 use Rattle.std.specs.Prelude.{[], ◌∷◌, ◌++◌}
 use Rattle.names.specs.Texts.{slash}
 use Rattle.model.specs.Heads as model

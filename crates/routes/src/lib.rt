@@ -1,13 +1,12 @@
-//! Where a request goes: which repository its target names, and what of it (Git LFS API, Server
-//! Discovery).
+//! Routing: which repository and resource a request's target names (Git LFS API, Server Discovery).
 //!
-//! A client asks for `/studio/film.git/info/lfs/locks`, perhaps with a question mark and a query
-//! behind it. [`Routes::route_of`] tells that this is the repository `film` of `studio`, and there
-//! the resource [`Resource::Locks`]; or that no route has that path, which is H6. Targets are
-//! compared byte by byte: nothing is decoded or cleaned, so that no two of them mean the same
-//! repository. The resource tells what each method asks there.
+//! A client requests `/studio/film.git/info/lfs/locks`, perhaps followed by a question mark and a
+//! query. [`Routes::route_of`] returns the repository `film` of `studio` and the resource
+//! [`Resource::Locks`] in it; or `None` if no route has that path, which is H6. Targets are compared
+//! byte by byte: nothing is decoded or normalized, so no two of them name the same repository. The
+//! resource gives what each method asks for.
 //!
-//! Whether there is such a repository, and whether the caller may know, is not asked here.
+//! This crate does not test whether the repository exists, nor whether the caller may know of it.
 #![tactic(auto)]
 
 mod table;

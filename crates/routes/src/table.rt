@@ -10,10 +10,10 @@ use matchit::{InsertError, Router};
 use model::ServedForm;
 use std::alloc::{AllocError, Global};
 
-/// What a route leads to in a repository: a row of the table of routes.
+/// A resource in a repository: a row of the table of routes.
 #[derive(Clone, Copy, Debug, PartialEq, Eq, Hash)]
 pub enum Resource {
-    /// The locks: `/locks` behind the repository's address.
+    /// The locks: `/locks` after the repository's address.
     Locks,
 }
 
@@ -24,14 +24,14 @@ pub struct Routes {
     ghost rows: { rename (λ route. route.value) router ≡ patterns table },
 }
 
-/// Where a target leads.
+/// The route of a target.
 #[derive(Clone, Copy, Debug, PartialEq, Eq)]
 pub struct Route<'t> {
-    /// The repository's owner, which is not empty and may be no name.
+    /// The repository's owner. It is not empty, and may not be a valid name.
     pub owner: &'t str,
-    /// The repository's name in the owner's folder, without `.git`; may be no name.
+    /// The repository's name in the owner's folder, without `.git`. It may not be a valid name.
     pub name: &'t str,
-    /// What of the repository.
+    /// The resource in the repository.
     pub resource: Resource,
 }
 
@@ -40,7 +40,7 @@ impl Resource {
     ghost use Rattle.model.specs.Heads.{form_of, form_of_served, comma_list};
     ghost use Rattle.routes.specs.Table.{row_of};
 
-    /// What the method asks for here; `None` where it is not served (H7).
+    /// The request that the method makes here; `None` if the method is not served (H7).
     ///
     /// Methods are compared byte by byte (RFC 9110, Methods).
     pub fn form_of(self, method: &[u8]) -> Option<ServedForm>
@@ -57,8 +57,8 @@ impl Resource {
         }
     }
 
-    /// The methods that are served here, with a comma and a space between them: what `Allow` says
-    /// where another is asked (RFC 9110, Allow).
+    /// The methods that are served here, separated by a comma and a space: the value of `Allow` in the
+    /// reply to any other method (RFC 9110, Allow).
     pub fn allow(self) -> &'static str
         ensures methods { result.now ≡ comma_list (map (λ r. r.0) (row_of self).requests) }
         ensures short { length result.now ≤ 128 }
@@ -68,7 +68,7 @@ impl Resource {
         }
     }
 
-    /// Whether each reply from here is JSON, so that the client has to accept it (H8).
+    /// Whether each reply from here is JSON, so the client has to accept it (H8).
     pub fn is_json(self) -> bool
         ensures { result ≡ (row_of self).is_json }
     {
@@ -82,11 +82,11 @@ impl Route<'_> {
     ghost use Rattle.std.specs.Prelude.{◌≡◌, IfOk, string_bytes};
     ghost use Rattle.routes.specs.Routes.{route_seen};
 
-    /// The text OWNER/NAME, which may be no repository's name.
+    /// Returns the text OWNER/NAME, which may not be a valid repository name.
     ///
     /// # Errors
     ///
-    /// Only where memory refused.
+    /// Fails only if memory runs out.
     pub fn repo_text(&self, alloc: Global) -> Result<String, AllocError>
         ensures { IfOk result (λ text. string_bytes text ≡ (route_seen self.now).repo) }
     {
@@ -104,11 +104,11 @@ impl Routes {
     ghost use Rattle.routes.specs.Table.{resource_at};
     ghost use Rattle.routes.specs.Routes.{route_seen};
 
-    /// The router over the table.
+    /// Builds the router over the table.
     ///
     /// # Errors
     ///
-    /// Only where memory refused: no two rows of the table conflict.
+    /// Fails only if memory runs out: no two rows of the table conflict.
     pub fn new(alloc: Global) -> Result<Self, AllocError> {
         let mut router = Router::new(alloc);
         match router.insert("/{owner}/{name}/info/lfs/locks", Resource::Locks) {
@@ -120,12 +120,13 @@ impl Routes {
         }
     }
 
-    /// Where a target leads; `None` where no route has its path (H6).
+    /// Returns the route of a target; `None` if no route has its path (H6).
     ///
-    /// The path is the target up to its first question mark: `/OWNER/NAME.git/info/lfs/..`, with no
-    /// empty part, also at its end.
+    /// The path is the target up to its first question mark: `/OWNER/NAME.git/info/lfs/..`. None of its
+    /// parts is empty, nor does it end in a slash.
     pub fn route_of<'t>(&self, target: &'t str) -> Option<Route<'t>>
-        ensures { MatchOption result (route_at target.now ≡ Err H6) (λ route. route_at target.now ≡ Ok (route_seen route)) }
+        ensures { MatchOption result (route_at target.now ≡ Err H6)
+            (λ route. route_at target.now ≡ Ok (route_seen route)) }
     {
         let path = path_of(target);
         let Some(resource) = self.resource_at(path) else {
@@ -147,7 +148,7 @@ impl Routes {
         }
     }
 
-    /// The row of the table that the path fits.
+    /// The resource whose row in the table the path fits.
     fn resource_at(&self, path: &str) -> Option<Resource>
         ensures { result ≡ resource_at path.now }
     {

@@ -5,7 +5,7 @@ ghost use Rattle.std.specs.List.{ends_with, slice_get};
 ghost use Rattle.names.specs.Texts.{parts};
 ghost use Rattle.model.specs.Heads.{path_of, query_of};
 
-/// The path of a target: what stands before its first question mark.
+/// Returns the path of a target: the part before its first question mark.
 pub fn path_of(target: &str) -> &str
     ensures { result.now ≡ path_of target.now }
 {
@@ -15,7 +15,7 @@ pub fn path_of(target: &str) -> &str
     }
 }
 
-/// The query of a target: what stands behind its first question mark; empty where there is none.
+/// Returns the query of a target: the part after its first question mark; empty if there is none.
 pub fn query_of(target: &str) -> &str
     ensures { result.now ≡ query_of target.now }
 {
@@ -25,7 +25,7 @@ pub fn query_of(target: &str) -> &str
     }
 }
 
-/// What stands between the slashes of a path, at that place from 0 on.
+/// The part of a path between slashes at this place, counted from 0.
 pub(crate) fn part_at(path: &str, place: usize) -> Option<&str>
     ensures { option_map (λ part. part.now) result ≡ slice_get (parts path.now) place }
 {
@@ -41,10 +41,11 @@ pub(crate) fn part_at(path: &str, place: usize) -> Option<&str>
     }
 }
 
-/// The part without the `.git` at its end; `None` where it has another.
+/// The part without the `.git` at its end; `None` if it does not end in `.git`.
 pub(crate) fn without_git(part: &str) -> Option<&str>
     ensures { MatchOption result (ends_with (λ a b. a == b) part.now (codes ".git") ≡ false)
-        (λ name. (ends_with (λ a b. a == b) part.now (codes ".git") ≡ true) × (name.now ≡ take (length part.now - 4) part.now)) }
+        (λ name. (ends_with (λ a b. a == b) part.now (codes ".git") ≡ true)
+        × (name.now ≡ take (length part.now - 4) part.now)) }
 {
     if part.as_bytes().ends_with(b".git") {
         Some(&part[..part.len() - 4])

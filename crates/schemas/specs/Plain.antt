@@ -1,4 +1,4 @@
--- What the comparison decides: schemas with no float, no foreign key, no default that reads the time and no view.
+-- The schemas that the comparison decides: no float, no foreign key, no default that reads the time and no view.
 use Rattle.std.specs.Prelude.{ℕ, Bool, true, false, ◌&&◌, List, [], ◌∷◌}
 use Rattle.std.specs.List.{list_all}
 use Rattle.sqlite_value.specs.declared.value.Value.{Value}

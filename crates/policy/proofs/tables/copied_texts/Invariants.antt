@@ -4,7 +4,7 @@ use Rattle.policy.specs.Ranges.{texts}
 use Rattle.policy.specs.Language.{all_texts}
 use Rattle.policy.proofs.tables.copied_texts.Given as goal
 
--- the copies so far, and what is to come
+-- the copies so far, and the values still to come
 abbrev pub invariant-loop-value : goal.invariant-loop-value
 invariant-loop-value l =
     all_texts (map view l.values)
