@@ -1,5 +1,5 @@
--- The number of locks that a repository made, as the statements set it.
-use Rattle.std.proofs.Common.{◌≡◌, ℕ, ℤ, pos, ◌<ℤ◌, Bool, true, false, cond, List, [], ◌∷◌, ◌++◌, find, Option, Some, None, refl, sym, ap, subst, ◌∙◌, arith}
+-- The number of locks that a repository ever made, as the statements set it.
+use Rattle.std.proofs.Common.{◌≡◌, ℕ, ℤ, pos, ◌<ℤ◌, Bool, true, false, cond, List, [], ◌∷◌, ◌++◌, find, Option, Some, None, refl, sym, ap, subst, arith}
 use Rattle.std.proofs.lemmas.Int.{ints}
 use Rattle.std.specs.List.{AllByRecursion}
 use Rattle.std.specs.Ordering.{int_eq}
@@ -7,11 +7,13 @@ use Rattle.sqlite_keyed.specs.Keyed.{IsKeyedBy, next_key}
 use Rattle.sqlite_keyed.specs.Lists.{update_where}
 use Rattle.sqlite.specs.State.{State}
 use Rattle.tables.specs.declared.locks.Count.{Count}
-use Rattle.tables.specs.Rows.{Repo, repo_row, repo_in, Tables, tables_of}
+use Rattle.tables.specs.Rows.{Repo, repo_row, repo_in, repos, Tables, tables_of}
 use Rattle.tables.specs.Statements.{is_named, with_repo, with_made_at}
 use Rattle.tables.specs.Runs.{IsKept, Steps, tables_in}
 use Rattle.tables.specs.Steps.{RepoCount, repo_count, read_count, IsCountOf, set_made, with_made}
-use Rattle.tables.proofs.Typed.{keys_rise}
+use Rattle.tables.proofs.Calls.{same_steps}
+use Rattle.tables.proofs.Parts.{typed_at}
+use Rattle.typed_rows.proofs.Typed.{keys_rise}
 
 abbrev key : Repo → ℤ
 key r = r.rowid
@@ -37,7 +39,7 @@ none_named name n next (r ∷ rs) h = go (is_named name r) (none_named name n ne
     go true rest h = absurd (let e : Some r ≡ None = h in cc)
     go false rest h = ap (λ l. r ∷ l) (rest h)
 
--- rows above a rowid are left
+-- an update leaves the rows above a rowid unchanged
 above_left : (id n : ℤ) (rs : List Repo) → AllByRecursion (λ r. id <ℤ r.rowid) rs → update_where (λ r. int_eq r.rowid id) (counted_as n) rs ≡ rs
 above_left id n [] h = refl
 above_left id n (r ∷ rs) h = let apart : int_eq r.rowid id ≡ false = differ r.rowid id h.0 in rw apart (ap (λ l. r ∷ l) (above_left id n rs h.1))
@@ -72,9 +74,6 @@ pub made_at : (name : List ℕ) (n : ℤ) (t : Tables) (r : Repo) → IsKeyedBy 
 unfolding with_made_at with_made
 made_at name n t r up found = ap (λ rs. record t { repos = rs }) (named_at name n (next_key key t.repos) t.repos r up found)
 
-pub same_steps : (f h : Tables → Tables) (old new : State) → f (tables_in old) ≡ h (tables_in old) → Steps f old new → Steps h old new
-same_steps f h old new same s = record { was_open = s.was_open; is_open = s.is_open; kept = s.kept; tables = s.tables ∙ same; inside = s.inside }
-
 no_row : (o : Option Repo) → IsCountOf None o → o ≡ None
 no_row None h = refl
 no_row (Some r) h = absurd (let e : None ≡ Some (repo_count r) = h in cc)
@@ -84,7 +83,7 @@ a_row c None h = absurd (let e : Some (read_count c) ≡ None = h in cc)
 a_row c (Some r) h = (r, refl, let e : read_count c ≡ repo_count r = (let e : Some (read_count c) ≡ Some (repo_count r) = h in cc) in sym (ap (λ (x : RepoCount). x.rowid) e))
 
 module _ (old new : State) (name : List ℕ) (n : ℤ) (count : Option Count) (counts : IsCountOf count (find (is_named name) (tables_in old).repos)) where
-  -- a repository with no row gets one
+  -- a repository without a row gets one
   pub counted_new : count ≡ None → Steps (with_repo name n) old new → Steps (with_made name n) old new
   counted_new none s = same_steps (with_repo name n) (with_made name n) old new (made_new name n (tables_in old) (no_row _ (subst (λ c. IsCountOf c (find (is_named name) (tables_in old).repos)) none counts))) s
 
@@ -93,6 +92,6 @@ module _ (old new : State) (name : List ℕ) (n : ℤ) (count : Option Count) (c
   unfolding tables_of
   counted_at c some kept s =
       let found = a_row c _ (subst (λ o. IsCountOf o (find (is_named name) (tables_in old).repos)) some counts) in
-      let rises = keys_rise key repo_row repo_in (λ _. refl) (λ _. refl) (old.now.trees 1) kept.typed.repos in
+      let rises = keys_rise key repo_row repo_in (λ _. refl) (λ _. refl) (old.now.trees 1) (typed_at repos old.now.trees kept.typed) in
       same_steps (with_made_at c.rowid n) (with_made name n) old new
       (subst (λ id. with_made_at id n (tables_in old) ≡ with_made name n (tables_in old)) found.2 (made_at name n (tables_in old) found.0 rises found.1)) s

@@ -1,46 +1,21 @@
--- What each statement means under the schema, which the texts compute.
-use Rattle.std.proofs.Common.{◌≡◌, ℕ, ℤ, pos, negsuc, List, [], ◌∷◌, None, false, codes, refl}
+-- The meaning of each statement under the schema, computed from the texts.
+use Rattle.std.proofs.Common.{◌≡◌, ℕ, ℤ, pos, negsuc, List, [], ◌∷◌, false, codes, refl}
 use Rattle.sqlite.specs.declared.types.Value.TheVariants.{Null, Int}
 use Rattle.sqlite.specs.Term.{Term, lit, col, op2}
-use Rattle.sqlite.specs.Query.{Query, inner, end}
+use Rattle.sqlite.specs.Query.{Query}
 use Rattle.sqlite.specs.Command.{Command}
 use Rattle.sqlite.specs.Command.TheVariants.{Insert, Select, Update, Delete}
 use Rattle.sqlite.specs.Source.TheVariants.{Values}
 use Rattle.sqlite_sql.specs.declared.ops.BinaryOp.TheVariants.{Compare}
-use Rattle.sqlite_sql.specs.declared.ops.CompareOp.TheVariants.{Eq, Le, Ge}
+use Rattle.sqlite_sql.specs.declared.ops.CompareOp.TheVariants.{Le, Ge}
 use Rattle.sqlite.specs.Collation.TheVariants.{Binary}
-use Rattle.sqlite_value.specs.Keys.{ascending}
 use Rattle.sqlite.specs.Listing.{understood, reads_listing}
 use Rattle.sqlite_tied.specs.Compute.{everything}
 use Rattle.sqlite.proofs.Callers.{IsPlain, command_of}
+use Rattle.typed_rows.specs.Queries.{query_of, unordered, sorted_by, is_given}
 use Rattle.tables.specs.Layout.{custody}
 use Rattle.tables.specs.Rows.{Lock, Token}
-use Rattle.tables.specs.Statements.{meta, made_by, lock_at, lock_with_id, locks_in, locks_from, token, tokens_of, read_text, add_lock, add_repo, set_made, remove_lock, add_token, remove_expired, write_text}
-
--- the rows of a table that pass the tests, in the order of their rowids
-abbrev pub query_of : List Term → List Term → ℕ → Query
-query_of filter project tree = record {
-  from = inner tree end;
-  filter = filter;
-  group = None;
-  project = project;
-  distinct = false;
-  collations = [];
-  order = (col 1 0, ascending Binary) ∷ [];
-  limit = lit (Int (negsuc 0));
-  offset = lit (Int (pos 0));
-}
-
--- the same in no order
-abbrev pub unordered : List Term → List Term → ℕ → Query
-unordered tests project tree = record (query_of tests project tree) { order = [] }
-
--- the same in the order of a column and then of the rowid, and no more than so many
-abbrev pub sorted_by : ℕ → ℤ → List Term → List Term → ℕ → Query
-sorted_by place limit tests project tree = record (query_of tests project tree) { order = (col 1 place, ascending Binary) ∷ (col 1 0, ascending Binary) ∷ []; limit = lit (Int limit) }
-
-abbrev pub is_given : ℕ → ℕ → Term
-is_given column parameter = op2 (Compare Eq Binary) (col 1 column) (col 0 parameter)
+use Rattle.tables.specs.Statements.{meta, made_by, lock_at, lock_with_id, locks_in, locks_from, token, tokens_of, read_text, add_lock, add_repo, set_made, remove_lock, add_token, remove_expired, write_text, reading, writing}
 
 abbrev pub lock_columns : List Term
 lock_columns = col 1 2 ∷ col 1 3 ∷ col 1 4 ∷ col 1 5 ∷ col 1 6 ∷ []
@@ -65,69 +40,69 @@ pub record IsCommand (sql : List ℕ) (command : Command) : Type 0 where
   pub is : command_of (understood custody sql) ≡ command
 
 pub meta_is : IsQuery (read_text meta) (query_of [] (col 1 0 ∷ col 1 2 ∷ []) 0)
-unfolding read_text understood everything
+unfolding reading understood everything
 meta_is = record { names = codes "one" ∷ codes "version" ∷ []; plain = (refl, refl); unlisted = refl; command = refl }
 
 pub made_is : (repo : List ℕ) → IsQuery (read_text (made_by repo)) (query_of (is_given 1 0 ∷ []) (col 1 0 ∷ col 1 2 ∷ []) 1)
-unfolding read_text understood everything
+unfolding reading understood everything
 made_is repo = record { names = codes "rowid" ∷ codes "made" ∷ []; plain = (refl, refl); unlisted = refl; command = refl }
 
 pub lock_at_is : (repo ref_name path : List ℕ) → IsQuery (read_text (lock_at repo ref_name path)) (query_of (is_given 1 0 ∷ is_given 3 1 ∷ is_given 4 2 ∷ []) lock_columns 10)
-unfolding read_text understood everything
+unfolding reading understood everything
 lock_at_is repo ref_name path = record { names = lock_names; plain = (refl, refl); unlisted = refl; command = refl }
 
 pub lock_with_id_is : (repo : List ℕ) (id : ℕ) → IsQuery (read_text (lock_with_id repo id)) (query_of (is_given 1 0 ∷ is_given 2 1 ∷ []) lock_columns 10)
-unfolding read_text understood everything
+unfolding reading understood everything
 lock_with_id_is repo id = record { names = lock_names; plain = (refl, refl); unlisted = refl; command = refl }
 
 pub locks_in_is : (repo : List ℕ) → IsQuery (read_text (locks_in repo)) (sorted_by 2 (negsuc 0) (is_given 1 0 ∷ []) lock_columns 10)
-unfolding read_text understood everything
+unfolding reading understood everything
 locks_in_is repo = record { names = lock_names; plain = (refl, refl); unlisted = refl; command = refl }
 
 pub locks_from_is : (repo : List ℕ) (id : ℕ) → IsQuery (read_text (locks_from repo id)) (sorted_by 2 (pos 64) (is_given 1 0 ∷ op2 (Compare Ge Binary) (col 1 2) (col 0 1) ∷ []) lock_columns 10)
-unfolding read_text understood everything
+unfolding reading understood everything
 locks_from_is repo id = record { names = lock_names; plain = (refl, refl); unlisted = refl; command = refl }
 
 pub token_is : (digest : List ℕ) → IsQuery (read_text (token digest)) (query_of (is_given 1 0 ∷ []) token_columns 3)
-unfolding read_text understood everything
+unfolding reading understood everything
 token_is digest = record { names = token_names; plain = (refl, refl); unlisted = refl; command = refl }
 
 pub tokens_of_is : (user repo : List ℕ) → IsQuery (read_text (tokens_of user repo)) (query_of (is_given 2 0 ∷ is_given 3 1 ∷ []) token_columns 3)
-unfolding read_text understood everything
+unfolding reading understood everything
 tokens_of_is user repo = record { names = token_names; plain = (refl, refl); unlisted = refl; command = refl }
 
 abbrev pub lock_terms : List Term
 lock_terms = lit Null ∷ col 0 0 ∷ col 0 1 ∷ col 0 2 ∷ col 0 3 ∷ col 0 4 ∷ col 0 5 ∷ []
 
 pub add_lock_is : (l : Lock) → IsCommand (write_text (add_lock l)) (Insert 6 (Values lock_terms 7))
-unfolding write_text understood everything
+unfolding writing understood everything
 add_lock_is l = record { plain = (refl, refl); is = refl }
 
 abbrev pub repo_terms : List Term
 repo_terms = lit Null ∷ col 0 0 ∷ col 0 1 ∷ lit (Int (pos 0)) ∷ []
 
 pub add_repo_is : (name : List ℕ) (made : ℤ) → IsCommand (write_text (add_repo name made)) (Insert 1 (Values repo_terms 4))
-unfolding write_text understood everything
+unfolding writing understood everything
 add_repo_is name made = record { plain = (refl, refl); is = refl }
 
 abbrev pub made_columns : List Term
 made_columns = col 1 0 ∷ col 1 0 ∷ col 1 1 ∷ col 0 1 ∷ col 1 3 ∷ []
 
 pub set_made_is : (rowid made : ℤ) → IsCommand (write_text (set_made rowid made)) (Update 1 (record { lets = []; body = unordered (is_given 0 0 ∷ []) made_columns 1 }))
-unfolding write_text understood everything
+unfolding writing understood everything
 set_made_is rowid made = record { plain = (refl, refl); is = refl }
 
 pub remove_lock_is : (repo : List ℕ) (id : ℕ) → IsCommand (write_text (remove_lock repo id)) (Delete 6 (record { lets = []; body = unordered (is_given 1 0 ∷ is_given 2 1 ∷ []) (col 1 0 ∷ []) 10 }))
-unfolding write_text understood everything
+unfolding writing understood everything
 remove_lock_is repo id = record { plain = (refl, refl); is = refl }
 
 abbrev pub token_terms : List Term
 token_terms = lit Null ∷ col 0 0 ∷ col 0 1 ∷ col 0 2 ∷ col 0 3 ∷ col 0 4 ∷ []
 
 pub add_token_is : (t : Token) → IsCommand (write_text (add_token t)) (Insert 2 (Values token_terms 6))
-unfolding write_text understood everything
+unfolding writing understood everything
 add_token_is t = record { plain = (refl, refl); is = refl }
 
 pub remove_expired_is : (moment : ℤ) → IsCommand (write_text (remove_expired moment)) (Delete 2 (record { lets = []; body = unordered (op2 (Compare Le Binary) (col 1 5) (col 0 0) ∷ []) (col 1 0 ∷ []) 3 }))
-unfolding write_text understood everything
+unfolding writing understood everything
 remove_expired_is moment = record { plain = (refl, refl); is = refl }

@@ -14,7 +14,8 @@ use Rattle.tables.specs.declared.Store.{Store}
 use Rattle.tables.specs.Rows.{tables_of}
 use Rattle.tables.specs.Shown.{IsSafe, Leaves}
 
--- Where the files hold what a stop could leave of a safe store, the next open finds tables that the store leaves. What is asked of the files' store besides is what `Connection::into_store` says of it.
+-- If the files hold what a stop could leave of a safe store, the next open finds tables that the store leaves. The
+-- other conditions on the files' store are those of `Connection::into_store`.
 pub left_again : {D : Type 0} {g : Ghosts D} (s : Store (FileStore D g)) → IsTrue (view s.conn.store).is_numbered → AreDatabases (recovers s.conn.store) → IsSafe over_files s → (image : Image) → (state s.conn.store).may_leave image
     → (opened : State) → FindsIn image opened → ∥ Leaves over_files s (tables_of opened.committed.trees) ∥₁
 left_again s numbered sound safe image may opened found =

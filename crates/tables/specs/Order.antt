@@ -1,4 +1,4 @@
--- The order of what a store has committed.
+-- The order of the rows that a store has committed.
 use Rattle.std.specs.Prelude.{◌≡◌, IsTrue}
 use Rattle.std.proofs.Common.{ap, subst}
 use Rattle.std.proofs.Math.Logic.{∥∥₁_elim}

@@ -1,5 +1,5 @@
--- What the calls make of the tables, and what they answer.
-use Rattle.std.specs.Prelude.{◌≡◌, ◌+ℤ◌, ℕ, ℤ, pos, Bool, if◌then◌else◌, List, [], ◌∷◌, string_bytes, find, Option, Some, None, is_some, option_map, unwrap_or}
+-- The effects of the calls on the tables, and their results.
+use Rattle.std.specs.Prelude.{◌≡◌, ◌+ℤ◌, ℕ, ℤ, pos, Bool, if◌then◌else◌, List, [], ◌∷◌, string_bytes, find, map, Option, Some, None, is_some, option_map, unwrap_or}
 use Rattle.std.specs.Ordering.{int_eq}
 use Rattle.sqlite_keyed.specs.Keyed.{next_key}
 use Rattle.tables.specs.declared.rows.NewLock.{NewLock}
@@ -14,9 +14,9 @@ use Rattle.tables.specs.declared.rows.Creation.TheVariants as creation
 use Rattle.tables.specs.Rows.{Repo, Token, Lock, Tables}
 use Rattle.tables.specs.Statements.{is_named, is_at, has_digest, with_lock, with_token}
 
--- ---- rows as the calls answer them
+-- ---- rows as the calls return them
 
--- a lock less its repository and its rowid
+-- a lock without its repository and its rowid
 pub record LockFields : Type 0 where
   pub id : ℤ
   pub ref_name : List ℕ
@@ -28,9 +28,22 @@ abbrev pub lock_fields : Lock → LockFields
 lock_fields l = record { id = l.id; ref_name = l.ref_name; path = l.path; owner = l.owner; moment = l.moment }
 
 abbrev pub read_lock : LockRow → LockFields
-read_lock row = record { id = pos row.id; ref_name = string_bytes row.ref_name; path = string_bytes row.path; owner = string_bytes row.owner; moment = row.moment }
+read_lock row = record {
+  id = pos row.id;
+  ref_name = string_bytes row.ref_name;
+  path = string_bytes row.path;
+  owner = string_bytes row.owner;
+  moment = row.moment;
+}
 
--- a token less its rowid
+-- the result is this lock, and the result is these locks
+abbrev pub IsLockOf : Option LockRow → Option Lock → Type 0
+IsLockOf row l = option_map read_lock row ≡ option_map lock_fields l
+
+abbrev pub AreLocksOf : List LockRow → List Lock → Type 0
+AreLocksOf rows ls = map read_lock rows ≡ map lock_fields ls
+
+-- a token without its rowid
 pub record TokenFields : Type 0 where
   pub digest : List ℕ
   pub user : List ℕ
@@ -46,11 +59,24 @@ code_of operation.Download = pos 1
 code_of operation.Upload = pos 2
 
 abbrev pub read_token : TokenRow → TokenFields
-read_token row = record { digest = row.digest.items; user = string_bytes row.user; repo = string_bytes row.repo; op = code_of row.operation; expires = row.expires }
+read_token row = record {
+  digest = row.digest.items;
+  user = string_bytes row.user;
+  repo = string_bytes row.repo;
+  op = code_of row.operation;
+  expires = row.expires;
+}
+
+-- the result is this token, and the result is these tokens
+abbrev pub IsTokenOf : Option TokenRow → Option Token → Type 0
+IsTokenOf row t = option_map read_token row ≡ option_map token_fields t
+
+abbrev pub AreTokensOf : List TokenRow → List Token → Type 0
+AreTokensOf rows ts = map read_token rows ≡ map token_fields ts
 
 -- ---- locks
 
--- the rowid of a repository's row, and how many locks the repository ever made
+-- the rowid of a repository's row, and the number of locks that the repository ever made
 pub record RepoCount : Type 0 where
   pub rowid : ℤ
   pub made : ℤ
@@ -61,19 +87,26 @@ repo_count r = record { rowid = r.rowid; made = r.made }
 abbrev pub read_count : Count → RepoCount
 read_count c = record { rowid = c.rowid; made = pos c.made }
 
--- the count is that of the row
+-- the count is the one in the row
 abbrev pub IsCountOf : Option Count → Option Repo → Type 0
 IsCountOf c r = option_map read_count c ≡ option_map repo_count r
 
--- 0 where there is no row
+-- 0 if the repository has no row
 abbrev pub made_in : Option Repo → ℤ
 made_in r = unwrap_or (option_map (λ (x : Repo). x.made) r) (pos 0)
 
--- how many locks the repository ever made
+-- the number of locks that the repository ever made
 abbrev pub made_of : List ℕ → Tables → ℤ
 made_of name t = made_in (find (is_named name) t.repos)
 
--- the number in the repository's first row, or in a new one at the end, which has this rowid
+-- the number of bytes that the repository stores, by its first row; 0 without a row
+abbrev pub used_in : Option Repo → ℤ
+used_in r = unwrap_or (option_map (λ (x : Repo). x.used) r) (pos 0)
+
+abbrev pub used_of : List ℕ → Tables → ℤ
+used_of name t = used_in (find (is_named name) t.repos)
+
+-- the number in the repository's first row is set; without a row, one with this rowid is added at the end
 abbrev pub set_made : List ℕ → ℤ → ℤ → List Repo → List Repo
 set_made name made next [] = record { rowid = next; name = name; made = made; used = pos 0 } ∷ []
 set_made name made next (r ∷ rs) = if is_named name r then record r { made = made } ∷ rs else r ∷ set_made name made next rs
@@ -81,11 +114,19 @@ set_made name made next (r ∷ rs) = if is_named name r then record r { made = m
 unfoldable pub with_made : List ℕ → ℤ → Tables → Tables
 with_made name made t = record t { repos = set_made name made (next_key (λ x. x.rowid) t.repos) t.repos }
 
--- a lock that is asked for, as it is kept, but for its rowid and id
+-- the lock of a request, as stored, except for its rowid and id
 abbrev pub asked_lock : NewLock → Lock
-asked_lock l = record { rowid = pos 0; repo = l.repo.now; id = pos 0; ref_name = l.ref_name.now; path = l.path.now; owner = l.owner.now; moment = l.moment }
+asked_lock l = record {
+  rowid = pos 0;
+  repo = l.repo.now;
+  id = pos 0;
+  ref_name = l.ref_name.now;
+  path = l.path.now;
+  owner = l.owner.now;
+  moment = l.moment;
+}
 
--- what comes of a lock that is asked for: the one that stands there, no more ids, or a lock with this id
+-- the result of a lock request: the lock that holds the path, no more ids, or a new lock with this id
 pub data Outcome : Type 0 where
   held : LockFields → Outcome
   used_up : Outcome
@@ -109,7 +150,7 @@ read_creation (creation.Created id) = created (pos id)
 read_creation (creation.Held row) = held (read_lock row)
 read_creation creation.UsedUp = used_up
 
--- the lock is there, and counted
+-- the lock is added, and counted
 unfoldable pub with_new_lock : Lock → ℤ → Tables → Tables
 with_new_lock l id t = with_made l.repo id (with_lock (record l { id = id }) t)
 
@@ -124,12 +165,19 @@ after_create l t = after_outcome l (outcome_of l t) t
 -- ---- tokens
 
 abbrev pub asked_token : NewToken → Token
-asked_token t = record { rowid = pos 0; digest = t.digest.now; user = t.user.now; repo = t.repo.now; op = code_of t.operation; expires = t.expires }
+asked_token t = record {
+  rowid = pos 0;
+  digest = t.digest.now;
+  user = t.user.now;
+  repo = t.repo.now;
+  op = code_of t.operation;
+  expires = t.expires;
+}
 
--- a token with this digest is there
+-- a token with this digest is stored
 abbrev pub has_token : List ℕ → Tables → Bool
 has_token digest t = is_some (find (has_digest digest) t.tokens)
 
--- the token is there, unless one with its digest was
+-- the token is added, unless one with its digest is stored
 unfoldable pub after_add : Token → Tables → Tables
 after_add k t = if has_token k.digest t then t else with_token k t

@@ -5,16 +5,16 @@ ghost use Rattle.tables.specs.declared.fault.StoreFault.TheVariants.{Memory as W
 use sqlite::{Error, ErrorCode};
 use std::alloc::AllocError;
 
-/// Why a call of this crate failed. The tables are then as before the call.
+/// Why a call of this crate failed. The tables are unchanged.
 #[derive(Clone, Copy, Debug, PartialEq, Eq, thiserror::Error)]
 pub enum StoreFault {
-    /// The database is not of this program's schema. It is left as it is.
+    /// The database does not have this program's schema. It is left unchanged.
     #[error("store G1")]
     UnknownSchema,
-    /// The store refused: the disk failed, the file is no database or is in use, or a value does not fit its table.
+    /// The store refused: the disk failed, the file is not a database or is in use, or a value does not fit its table.
     #[error("store G2")]
     Refused,
-    /// No memory was left.
+    /// Memory ran out.
     #[error("no memory")]
     Memory,
 }

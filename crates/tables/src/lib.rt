@@ -1,6 +1,9 @@
 //! The database of a custody server: its six tables, and the typed calls on them.
 //!
-//! A studio keeps one file, `custody.db`, which sqlite3 reads too. It has the large files that the studio pushed, the locks that keep two artists off one file, and the tokens that let a client in. This crate is the only one that sees SQL. A call takes and answers rows with named fields, and each change is one transaction: after a stop, at whatever moment, the next open finds the rows before the call or those after it, and nothing between.
+//! A studio keeps one file, `custody.db`, which sqlite3 reads too. It has the large files that the studio pushed, the
+//! locks that keep two artists off one file, and the tokens that let a client in. This crate is the only one that uses
+//! SQL. A call takes and returns rows with named fields, and each change is one transaction: after a stop, at whatever
+//! moment, the next open finds the rows before the call or those after it, and nothing between.
 #![tactic(auto)]
 
 use sqlite::Connection;
@@ -17,7 +20,7 @@ mod write;
 
 pub use fault::StoreFault;
 pub use rows::{Creation, LockRow, NewLock, NewToken, Operation, TokenRow};
-pub use sqlite::Alter;
+pub use sqlite::{Alter, Start, Unknown};
 pub use storage::Storage;
 
 /// The tables, over a connection to memory or to a file.

@@ -1,12 +1,13 @@
-//! The calls on locks, and on the count of those that a repository ever made.
+//! The calls on locks, and on the number of locks that a repository ever made.
 
-ghost use Rattle.std.specs.Prelude.{◌≡◌, length, pos, option_map, find, filter, map, take, slice_get, IfOk, OnErr, OnOk, IsTrue, IsSome};
-ghost use Rattle.sqlite.specs.State.{HasCleanDisk, Survives, KeepsCommit};
+ghost use Rattle.std.specs.Prelude.{◌≡◌, ◌≢◌, length, pos, find, filter, map, take, slice_get, IfOk};
 ghost use Rattle.sqlite.specs.Held.{state};
 ghost use Rattle.tables.specs.Statements.{is_named, is_at, has_id, is_in, is_from, by_id, show_made, with_lock, without_lock};
-ghost use Rattle.tables.specs.Runs.{IsReady, Steps, Keeps, IsAfter, Leads, tables_in};
-ghost use Rattle.tables.specs.Steps.{lock_fields, read_lock, repo_count, read_count, IsCountOf, made_in, made_of, with_made, asked_lock, outcome_of, read_creation, with_new_lock, after_create};
-ghost use Rattle.tables.specs.Shown.{IsHonest, IsOpen, IsSafe, Stands, shown, Moves, Adds, AddsNothing, IsDurable};
+ghost use Rattle.tables.specs.Runs.{tables_in};
+ghost use Rattle.typed_rows.specs.Transactions.{Inside};
+ghost use Rattle.tables.specs.Calls.{MakesStep, Says, Does, Transacts};
+ghost use Rattle.tables.specs.Steps.{IsLockOf, AreLocksOf, repo_count, read_count, IsCountOf, made_in, made_of, with_made, asked_lock, outcome_of, read_creation, with_new_lock, after_create};
+ghost use Rattle.tables.specs.Shown.{Reads, Changes};
 
 use crate::Store;
 use crate::fault::StoreFault;
@@ -16,7 +17,7 @@ use crate::write::{change, finish_with};
 use sqlite::{Alter, Connection, Error, Row, Transaction, params};
 use std::alloc::Global;
 
-/// A repository's row: its rowid, and how many locks the repository ever made.
+/// A repository's row: its rowid, and the number of locks that the repository ever made.
 #[derive(Clone, Copy, Debug)]
 pub(crate) struct Count {
     rowid: i64,
@@ -24,7 +25,9 @@ pub(crate) struct Count {
 }
 
 fn count_from(row: &Row) -> Result<Count, StoreFault>
-    ensures { (r : _) → row.now ≡ show_made r → IfOk result (λ found. read_count found ≡ repo_count r) }
+    ensures value { (r : _) → row.now ≡ show_made r → IfOk result
+        (λ found. read_count found ≡ repo_count r) }
+    ensures known { result ≢ Err StoreFault.UnknownSchema }
 {
     Ok(Count {
         rowid: row.get(0)?,
@@ -34,7 +37,9 @@ fn count_from(row: &Row) -> Result<Count, StoreFault>
 
 /// The count in the first of the rows.
 fn first_count(rows: &[Row]) -> Result<Option<Count>, StoreFault>
-    ensures { (repos : _) → rows.now ≡ map show_made repos → IfOk result (λ found. IsCountOf found (slice_get repos 0)) }
+    ensures value { (repos : _) → rows.now ≡ map show_made repos → IfOk result
+        (λ found. IsCountOf found (slice_get repos 0)) }
+    ensures known { result ≢ Err StoreFault.UnknownSchema }
 {
     match rows.first() {
         None => Ok(None),
@@ -42,7 +47,7 @@ fn first_count(rows: &[Row]) -> Result<Option<Count>, StoreFault>
     }
 }
 
-/// How many locks were made, where there may be no row yet.
+/// The number of locks made; 0 if the repository has no row yet.
 fn made_so_far(count: Option<Count>) -> u32
     ensures { (repo : _) → IsCountOf count repo → pos result ≡ made_in repo }
 {
@@ -58,11 +63,10 @@ fn held_in<S: Alter>(
     lock: &NewLock<'_>,
 ) -> Result<Option<LockRow>, StoreFault>
     ensures same_reference { tx.new.conn.ghost_name ≡ tx.old.conn.ghost_name }
-    ensures value { HasCleanDisk (state S.Store tx.new.conn.now) → IsReady (state S.Store tx.old.conn.now) → IfOk result (λ found. option_map read_lock found ≡ option_map lock_fields (find (is_at lock.now.repo.now lock.now.ref_name.now lock.now.path.now) (tables_in (state S.Store tx.old.conn.now)).locks)) }
-    ensures ok { HasCleanDisk (state S.Store tx.new.conn.now) → IsTrue tx.old.conn.now.in_transaction → IsReady (state S.Store tx.old.conn.now) → OnOk result (Steps (λ t. t) (state S.Store tx.old.conn.now) (state S.Store tx.new.conn.now)) }
-    ensures kept { HasCleanDisk (state S.Store tx.new.conn.now) → IsTrue tx.old.conn.now.in_transaction → KeepsCommit (state S.Store tx.old.conn.now) (state S.Store tx.new.conn.now) }
-    ensures inside { HasCleanDisk (state S.Store tx.new.conn.now) → IsTrue tx.old.conn.now.in_transaction → OnOk result (IsTrue tx.new.conn.now.in_transaction) }
-    ensures survives { Survives (state S.Store tx.old.conn.now) (state S.Store tx.new.conn.now) (λ _. ⊥) }
+    ensures value { Says S.Store tx.old.conn.now tx.new.conn.now result
+        (λ t found. IsLockOf found (find (is_at lock.now.repo.now lock.now.ref_name.now lock.now.path.now) t.locks)) }
+    ensures does { Does S.Store tx.old.conn.now tx.new.conn.now result (λ t. t) }
+    ensures known { result ≢ Err StoreFault.UnknownSchema }
 {
     let rows = select(
         tx,
@@ -74,11 +78,10 @@ fn held_in<S: Alter>(
 
 fn count_in<S: Alter>(tx: &mut Transaction<'_, S>, repo: &str) -> Result<Option<Count>, StoreFault>
     ensures same_reference { tx.new.conn.ghost_name ≡ tx.old.conn.ghost_name }
-    ensures value { HasCleanDisk (state S.Store tx.new.conn.now) → IsReady (state S.Store tx.old.conn.now) → IfOk result (λ found. IsCountOf found (find (is_named repo.now) (tables_in (state S.Store tx.old.conn.now)).repos)) }
-    ensures ok { HasCleanDisk (state S.Store tx.new.conn.now) → IsTrue tx.old.conn.now.in_transaction → IsReady (state S.Store tx.old.conn.now) → OnOk result (Steps (λ t. t) (state S.Store tx.old.conn.now) (state S.Store tx.new.conn.now)) }
-    ensures kept { HasCleanDisk (state S.Store tx.new.conn.now) → IsTrue tx.old.conn.now.in_transaction → KeepsCommit (state S.Store tx.old.conn.now) (state S.Store tx.new.conn.now) }
-    ensures inside { HasCleanDisk (state S.Store tx.new.conn.now) → IsTrue tx.old.conn.now.in_transaction → OnOk result (IsTrue tx.new.conn.now.in_transaction) }
-    ensures survives { Survives (state S.Store tx.old.conn.now) (state S.Store tx.new.conn.now) (λ _. ⊥) }
+    ensures value { Says S.Store tx.old.conn.now tx.new.conn.now result
+        (λ t found. IsCountOf found (find (is_named repo.now) t.repos)) }
+    ensures does { Does S.Store tx.old.conn.now tx.new.conn.now result (λ t. t) }
+    ensures known { result ≢ Err StoreFault.UnknownSchema }
 {
     let rows = select(
         tx,
@@ -94,10 +97,8 @@ fn lock_into<S: Alter>(
     id: u32,
 ) -> Result<usize, Error>
     ensures same_reference { tx.new.conn.ghost_name ≡ tx.old.conn.ghost_name }
-    ensures ok { HasCleanDisk (state S.Store tx.new.conn.now) → IsTrue tx.old.conn.now.in_transaction → IsReady (state S.Store tx.old.conn.now) → OnOk result (Steps (with_lock (record (asked_lock lock.now) { id = pos id })) (state S.Store tx.old.conn.now) (state S.Store tx.new.conn.now)) }
-    ensures kept { HasCleanDisk (state S.Store tx.new.conn.now) → IsTrue tx.old.conn.now.in_transaction → KeepsCommit (state S.Store tx.old.conn.now) (state S.Store tx.new.conn.now) }
-    ensures inside { HasCleanDisk (state S.Store tx.new.conn.now) → IsTrue tx.old.conn.now.in_transaction → OnOk result (IsTrue tx.new.conn.now.in_transaction) }
-    ensures survives { Survives (state S.Store tx.old.conn.now) (state S.Store tx.new.conn.now) (λ _. ⊥) }
+    ensures does { Does S.Store tx.old.conn.now tx.new.conn.now result
+        (with_lock (record (asked_lock lock.now) { id = pos id })) }
 {
     let moment = lock.moment;
     change(
@@ -107,7 +108,7 @@ fn lock_into<S: Alter>(
     )
 }
 
-/// Sets how many locks the repository ever made, in the row that was found or in a new one.
+/// Sets the number of locks that the repository ever made, in the row that was found or in a new one.
 fn set_count<S: Alter>(
     tx: &mut Transaction<'_, S>,
     repo: &str,
@@ -115,11 +116,9 @@ fn set_count<S: Alter>(
     made: u32,
 ) -> Result<usize, Error>
     ensures same_reference { tx.new.conn.ghost_name ≡ tx.old.conn.ghost_name }
-    ensures ok { HasCleanDisk (state S.Store tx.new.conn.now) → IsTrue tx.old.conn.now.in_transaction → IsReady (state S.Store tx.old.conn.now) → IsCountOf count (find (is_named repo.now) (tables_in (state S.Store tx.old.conn.now)).repos)
-        → OnOk result (Steps (with_made repo.now (pos made)) (state S.Store tx.old.conn.now) (state S.Store tx.new.conn.now)) }
-    ensures kept { HasCleanDisk (state S.Store tx.new.conn.now) → IsTrue tx.old.conn.now.in_transaction → KeepsCommit (state S.Store tx.old.conn.now) (state S.Store tx.new.conn.now) }
-    ensures inside { HasCleanDisk (state S.Store tx.new.conn.now) → IsTrue tx.old.conn.now.in_transaction → OnOk result (IsTrue tx.new.conn.now.in_transaction) }
-    ensures survives { Survives (state S.Store tx.old.conn.now) (state S.Store tx.new.conn.now) (λ _. ⊥) }
+    ensures ok { IsCountOf count (find (is_named repo.now) (tables_in (state S.Store tx.old.conn.now)).repos)
+        → MakesStep S.Store tx.old.conn.now tx.new.conn.now result (with_made repo.now (pos made)) }
+    ensures within { Inside S.Store tx.old.conn.now tx.new.conn.now result }
 {
     match count {
         None => change(
@@ -135,7 +134,7 @@ fn set_count<S: Alter>(
     }
 }
 
-/// Keeps the lock under this id, and counts it.
+/// Stores the lock under this id, and counts it.
 #[tactic(auto, unfolding(crate::specs::Steps::with_new_lock))]
 fn keep_into<S: Alter>(
     tx: &mut Transaction<'_, S>,
@@ -144,28 +143,26 @@ fn keep_into<S: Alter>(
     count: Option<Count>,
 ) -> Result<(), Error>
     ensures same_reference { tx.new.conn.ghost_name ≡ tx.old.conn.ghost_name }
-    ensures ok { HasCleanDisk (state S.Store tx.new.conn.now) → IsTrue tx.old.conn.now.in_transaction → IsReady (state S.Store tx.old.conn.now) → IsCountOf count (find (is_named lock.now.repo.now) (tables_in (state S.Store tx.old.conn.now)).repos)
-        → OnOk result (Steps (with_new_lock (asked_lock lock.now) (pos id)) (state S.Store tx.old.conn.now) (state S.Store tx.new.conn.now)) }
-    ensures kept { HasCleanDisk (state S.Store tx.new.conn.now) → IsTrue tx.old.conn.now.in_transaction → KeepsCommit (state S.Store tx.old.conn.now) (state S.Store tx.new.conn.now) }
-    ensures inside { HasCleanDisk (state S.Store tx.new.conn.now) → IsTrue tx.old.conn.now.in_transaction → OnOk result (IsTrue tx.new.conn.now.in_transaction) }
-    ensures survives { Survives (state S.Store tx.old.conn.now) (state S.Store tx.new.conn.now) (λ _. ⊥) }
+    ensures ok { IsCountOf count (find (is_named lock.now.repo.now) (tables_in (state S.Store tx.old.conn.now)).repos)
+        → MakesStep S.Store tx.old.conn.now tx.new.conn.now result (with_new_lock (asked_lock lock.now) (pos id)) }
+    ensures within { Inside S.Store tx.old.conn.now tx.new.conn.now result }
 {
     lock_into(tx, lock, id)?;
     set_count(tx, lock.repo, count, id)?;
     Ok(())
 }
 
-/// Makes the lock, unless one stands on its path or no id is left.
+/// Makes the lock, unless its path is locked or no id is left.
 fn create_into<S: Alter>(
     tx: &mut Transaction<'_, S>,
     lock: &NewLock<'_>,
 ) -> Result<Creation, StoreFault>
     ensures same_reference { tx.new.conn.ghost_name ≡ tx.old.conn.ghost_name }
-    ensures value { HasCleanDisk (state S.Store tx.new.conn.now) → IsTrue tx.old.conn.now.in_transaction → IsReady (state S.Store tx.old.conn.now) → IfOk result (λ creation. read_creation creation ≡ outcome_of (asked_lock lock.now) (tables_in (state S.Store tx.old.conn.now))) }
-    ensures ok { HasCleanDisk (state S.Store tx.new.conn.now) → IsTrue tx.old.conn.now.in_transaction → IsReady (state S.Store tx.old.conn.now) → OnOk result (Steps (after_create (asked_lock lock.now)) (state S.Store tx.old.conn.now) (state S.Store tx.new.conn.now)) }
-    ensures kept { HasCleanDisk (state S.Store tx.new.conn.now) → IsTrue tx.old.conn.now.in_transaction → KeepsCommit (state S.Store tx.old.conn.now) (state S.Store tx.new.conn.now) }
-    ensures inside { HasCleanDisk (state S.Store tx.new.conn.now) → IsTrue tx.old.conn.now.in_transaction → OnOk result (IsTrue tx.new.conn.now.in_transaction) }
-    ensures survives { Survives (state S.Store tx.old.conn.now) (state S.Store tx.new.conn.now) (λ _. ⊥) }
+    ensures value { Says S.Store tx.old.conn.now tx.new.conn.now result
+        (λ t creation. read_creation creation ≡ outcome_of (asked_lock lock.now) t) }
+    ensures does { Does S.Store tx.old.conn.now tx.new.conn.now result
+        (after_create (asked_lock lock.now)) }
+    ensures known { result ≢ Err StoreFault.UnknownSchema }
 {
     if let Some(row) = held_in(tx, lock)? {
         return Ok(Creation::Held(row));
@@ -181,12 +178,8 @@ fn create_into<S: Alter>(
 
 #[tactic(auto, using(crate::proofs::Calls::led))]
 fn create<S: Alter>(conn: &mut Connection<S>, lock: &NewLock<'_>) -> Result<Creation, StoreFault>
-    ensures value { HasCleanDisk (state S.Store conn.new) → IsReady (state S.Store conn.old) → IfOk result (λ creation. read_creation creation ≡ outcome_of (asked_lock lock.now) (tables_in (state S.Store conn.old))) }
-    ensures ok { HasCleanDisk (state S.Store conn.new) → IsReady (state S.Store conn.old) → OnOk result (IsTrue (state S.Store conn.old).is_open × IsAfter (after_create (asked_lock lock.now)) (state S.Store conn.old).now (state S.Store conn.new).now) }
-    ensures only { HasCleanDisk (state S.Store conn.new) → OnOk result ((trees : _) → (state S.Store conn.new).may_leave trees → trees ≡ (state S.Store conn.new).now.trees) }
-    ensures err { HasCleanDisk (state S.Store conn.new) → OnErr result (Keeps (state S.Store conn.old) (state S.Store conn.new)) }
-    ensures clean { HasCleanDisk (state S.Store conn.new) → HasCleanDisk (state S.Store conn.old) }
-    ensures crash { IsReady (state S.Store conn.old) → Survives (state S.Store conn.old) (state S.Store conn.new) (Leads (after_create (asked_lock lock.now)) (state S.Store conn.old)) }
+    ensures { Transacts S.Store conn.old conn.new result (after_create (asked_lock lock.now))
+        (λ t creation. read_creation creation ≡ outcome_of (asked_lock lock.now) t) }
 {
     if !conn.is_autocommit() {
         return Err(StoreFault::Refused);
@@ -198,11 +191,10 @@ fn create<S: Alter>(conn: &mut Connection<S>, lock: &NewLock<'_>) -> Result<Crea
 
 fn remove_into<S: Alter>(tx: &mut Transaction<'_, S>, repo: &str, id: u32) -> Result<usize, Error>
     ensures same_reference { tx.new.conn.ghost_name ≡ tx.old.conn.ghost_name }
-    ensures count { HasCleanDisk (state S.Store tx.new.conn.now) → IsTrue tx.old.conn.now.in_transaction → IsReady (state S.Store tx.old.conn.now) → IfOk result (λ n. n ≡ length (filter (has_id repo.now (pos id)) (tables_in (state S.Store tx.old.conn.now)).locks)) }
-    ensures ok { HasCleanDisk (state S.Store tx.new.conn.now) → IsTrue tx.old.conn.now.in_transaction → IsReady (state S.Store tx.old.conn.now) → OnOk result (Steps (without_lock repo.now (pos id)) (state S.Store tx.old.conn.now) (state S.Store tx.new.conn.now)) }
-    ensures kept { HasCleanDisk (state S.Store tx.new.conn.now) → IsTrue tx.old.conn.now.in_transaction → KeepsCommit (state S.Store tx.old.conn.now) (state S.Store tx.new.conn.now) }
-    ensures inside { HasCleanDisk (state S.Store tx.new.conn.now) → IsTrue tx.old.conn.now.in_transaction → OnOk result (IsTrue tx.new.conn.now.in_transaction) }
-    ensures survives { Survives (state S.Store tx.old.conn.now) (state S.Store tx.new.conn.now) (λ _. ⊥) }
+    ensures count { Says S.Store tx.old.conn.now tx.new.conn.now result
+        (λ t n. n ≡ length (filter (has_id repo.now (pos id)) t.locks)) }
+    ensures does { Does S.Store tx.old.conn.now tx.new.conn.now result
+        (without_lock repo.now (pos id)) }
 {
     change(
         tx,
@@ -213,12 +205,8 @@ fn remove_into<S: Alter>(tx: &mut Transaction<'_, S>, repo: &str, id: u32) -> Re
 
 #[tactic(auto, using(crate::proofs::Calls::led))]
 fn remove<S: Alter>(conn: &mut Connection<S>, repo: &str, id: u32) -> Result<usize, StoreFault>
-    ensures count { HasCleanDisk (state S.Store conn.new) → IsReady (state S.Store conn.old) → IfOk result (λ n. n ≡ length (filter (has_id repo.now (pos id)) (tables_in (state S.Store conn.old)).locks)) }
-    ensures ok { HasCleanDisk (state S.Store conn.new) → IsReady (state S.Store conn.old) → OnOk result (IsTrue (state S.Store conn.old).is_open × IsAfter (without_lock repo.now (pos id)) (state S.Store conn.old).now (state S.Store conn.new).now) }
-    ensures only { HasCleanDisk (state S.Store conn.new) → OnOk result ((trees : _) → (state S.Store conn.new).may_leave trees → trees ≡ (state S.Store conn.new).now.trees) }
-    ensures err { HasCleanDisk (state S.Store conn.new) → OnErr result (Keeps (state S.Store conn.old) (state S.Store conn.new)) }
-    ensures clean { HasCleanDisk (state S.Store conn.new) → HasCleanDisk (state S.Store conn.old) }
-    ensures crash { IsReady (state S.Store conn.old) → Survives (state S.Store conn.old) (state S.Store conn.new) (Leads (without_lock repo.now (pos id)) (state S.Store conn.old)) }
+    ensures { Transacts S.Store conn.old conn.new result (without_lock repo.now (pos id))
+        (λ t n. n ≡ length (filter (has_id repo.now (pos id)) t.locks)) }
 {
     if !conn.is_autocommit() {
         return Err(StoreFault::Refused);
@@ -229,12 +217,13 @@ fn remove<S: Alter>(conn: &mut Connection<S>, repo: &str, id: u32) -> Result<usi
 }
 
 impl<S: Alter> Store<S> {
-    /// How many locks the repository ever made.
+    /// Returns the number of locks that the repository ever made.
+    ///
+    /// # Errors
+    ///
+    /// `Refused` or `Memory`. The tables are unchanged in any case.
     pub fn made(&mut self, repo: &str) -> Result<u32, StoreFault>
-        ensures open { IsHonest S.Store self.new → Stands S.Store self.old → OnOk result (IsOpen S.Store self.old) }
-        ensures answer { IsHonest S.Store self.new → Stands S.Store self.old → IfOk result (λ n. pos n ≡ made_of repo.now (shown S.Store self.old)) }
-        ensures same { Moves S.Store (λ t. t) self.old self.new }
-        ensures stop { AddsNothing S.Store self.old self.new }
+        ensures { Reads S.Store self.old self.new result (λ t n. pos n ≡ made_of repo.now t) }
     {
         let rows = read(
             &mut self.conn,
@@ -244,17 +233,19 @@ impl<S: Alter> Store<S> {
         Ok(made_so_far(first_count(rows.as_slice())?))
     }
 
-    /// The lock on this path of this ref.
+    /// Returns the lock on this path of this ref, if the path is locked.
+    ///
+    /// # Errors
+    ///
+    /// `Refused` or `Memory`. The tables are unchanged in any case.
     pub fn lock_at(
         &mut self,
         repo: &str,
         ref_name: &str,
         path: &str,
     ) -> Result<Option<LockRow>, StoreFault>
-        ensures open { IsHonest S.Store self.new → Stands S.Store self.old → OnOk result (IsOpen S.Store self.old) }
-        ensures answer { IsHonest S.Store self.new → Stands S.Store self.old → IfOk result (λ found. option_map read_lock found ≡ option_map lock_fields (find (is_at repo.now ref_name.now path.now) (shown S.Store self.old).locks)) }
-        ensures same { Moves S.Store (λ t. t) self.old self.new }
-        ensures stop { AddsNothing S.Store self.old self.new }
+        ensures { Reads S.Store self.old self.new result
+            (λ t found. IsLockOf found (find (is_at repo.now ref_name.now path.now) t.locks)) }
     {
         let rows = read(
             &mut self.conn,
@@ -264,12 +255,14 @@ impl<S: Alter> Store<S> {
         first_lock(rows.as_slice())
     }
 
-    /// The lock with this id.
+    /// Returns the lock with this id, if there is one.
+    ///
+    /// # Errors
+    ///
+    /// `Refused` or `Memory`. The tables are unchanged in any case.
     pub fn lock_with_id(&mut self, repo: &str, id: u32) -> Result<Option<LockRow>, StoreFault>
-        ensures open { IsHonest S.Store self.new → Stands S.Store self.old → OnOk result (IsOpen S.Store self.old) }
-        ensures answer { IsHonest S.Store self.new → Stands S.Store self.old → IfOk result (λ found. option_map read_lock found ≡ option_map lock_fields (find (has_id repo.now (pos id)) (shown S.Store self.old).locks)) }
-        ensures same { Moves S.Store (λ t. t) self.old self.new }
-        ensures stop { AddsNothing S.Store self.old self.new }
+        ensures { Reads S.Store self.old self.new result
+            (λ t found. IsLockOf found (find (has_id repo.now (pos id)) t.locks)) }
     {
         let rows = read(
             &mut self.conn,
@@ -279,12 +272,14 @@ impl<S: Alter> Store<S> {
         first_lock(rows.as_slice())
     }
 
-    /// All locks of the repository, in rising ids.
+    /// Returns all locks of the repository, in rising ids.
+    ///
+    /// # Errors
+    ///
+    /// `Refused` or `Memory`. The tables are unchanged in any case.
     pub fn locks_in(&mut self, alloc: Global, repo: &str) -> Result<Vec<LockRow>, StoreFault>
-        ensures open { IsHonest S.Store self.new → Stands S.Store self.old → OnOk result (IsOpen S.Store self.old) }
-        ensures answer { IsHonest S.Store self.new → Stands S.Store self.old → IfOk result (λ found. map read_lock found.items ≡ map lock_fields (by_id (filter (is_in repo.now) (shown S.Store self.old).locks))) }
-        ensures same { Moves S.Store (λ t. t) self.old self.new }
-        ensures stop { AddsNothing S.Store self.old self.new }
+        ensures { Reads S.Store self.old self.new result
+            (λ t found. AreLocksOf found.items (by_id (filter (is_in repo.now) t.locks))) }
     {
         let rows = read(
             &mut self.conn,
@@ -294,17 +289,19 @@ impl<S: Alter> Store<S> {
         all_locks(alloc, rows.as_slice())
     }
 
-    /// The first 64 locks of the repository whose ids are this one or later, in rising ids.
+    /// Returns the first 64 locks of the repository whose ids are this one or later, in rising ids.
+    ///
+    /// # Errors
+    ///
+    /// `Refused` or `Memory`. The tables are unchanged in any case.
     pub fn locks_from(
         &mut self,
         alloc: Global,
         repo: &str,
         id: u32,
     ) -> Result<Vec<LockRow>, StoreFault>
-        ensures open { IsHonest S.Store self.new → Stands S.Store self.old → OnOk result (IsOpen S.Store self.old) }
-        ensures answer { IsHonest S.Store self.new → Stands S.Store self.old → IfOk result (λ found. map read_lock found.items ≡ map lock_fields (take 64 (by_id (filter (is_from repo.now (pos id)) (shown S.Store self.old).locks)))) }
-        ensures same { Moves S.Store (λ t. t) self.old self.new }
-        ensures stop { AddsNothing S.Store self.old self.new }
+        ensures { Reads S.Store self.old self.new result
+            (λ t found. AreLocksOf found.items (take 64 (by_id (filter (is_from repo.now (pos id)) t.locks)))) }
     {
         let rows = read(
             &mut self.conn,
@@ -314,26 +311,27 @@ impl<S: Alter> Store<S> {
         all_locks(alloc, rows.as_slice())
     }
 
-    /// Makes a lock under the repository's next id and counts it, both or neither. Nothing changes where one stands on its path, or no id is left.
+    /// Makes a lock under the repository's next id and counts it, both or neither. Nothing changes if the path is
+    /// already locked, or no id is left.
+    ///
+    /// # Errors
+    ///
+    /// `Refused` or `Memory`. The tables are unchanged, but a stop may still leave the change.
     pub fn create_lock(&mut self, lock: &NewLock<'_>) -> Result<Creation, StoreFault>
-        ensures open { IsHonest S.Store self.new → Stands S.Store self.old → OnOk result (IsOpen S.Store self.old) }
-        ensures answer { IsHonest S.Store self.new → Stands S.Store self.old → IfOk result (λ creation. read_creation creation ≡ outcome_of (asked_lock lock.now) (shown S.Store self.old)) }
-        ensures ok { OnOk result (Moves S.Store (after_create (asked_lock lock.now)) self.old self.new) }
-        ensures durable { Stands S.Store self.old → OnOk result (IsDurable S.Store self.new) }
-        ensures err { OnErr result (Moves S.Store (λ t. t) self.old self.new) }
-        ensures stop { Stands S.Store self.old → Adds S.Store (after_create (asked_lock lock.now)) self.old self.new }
+        ensures { Changes S.Store self.old self.new result (after_create (asked_lock lock.now))
+            (λ t creation. read_creation creation ≡ outcome_of (asked_lock lock.now) t) }
     {
         create(&mut self.conn, lock)
     }
 
-    /// Removes the lock with this id, and says how many there were: one or none.
+    /// Removes the lock with this id, and returns the number of locks removed: 0 or 1.
+    ///
+    /// # Errors
+    ///
+    /// `Refused` or `Memory`. The tables are unchanged, but a stop may still leave the change.
     pub fn remove_lock(&mut self, repo: &str, id: u32) -> Result<usize, StoreFault>
-        ensures open { IsHonest S.Store self.new → Stands S.Store self.old → OnOk result (IsOpen S.Store self.old) }
-        ensures answer { IsHonest S.Store self.new → Stands S.Store self.old → IfOk result (λ n. n ≡ length (filter (has_id repo.now (pos id)) (shown S.Store self.old).locks)) }
-        ensures ok { OnOk result (Moves S.Store (without_lock repo.now (pos id)) self.old self.new) }
-        ensures durable { Stands S.Store self.old → OnOk result (IsDurable S.Store self.new) }
-        ensures err { OnErr result (Moves S.Store (λ t. t) self.old self.new) }
-        ensures stop { Stands S.Store self.old → Adds S.Store (without_lock repo.now (pos id)) self.old self.new }
+        ensures { Changes S.Store self.old self.new result (without_lock repo.now (pos id))
+            (λ t n. n ≡ length (filter (has_id repo.now (pos id)) t.locks)) }
     {
         remove(&mut self.conn, repo, id)
     }

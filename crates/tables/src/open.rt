@@ -1,12 +1,15 @@
-//! How a store is opened, and what an open finds.
+//! Opens stores.
 
 ghost use Rattle.std.specs.Prelude.{◌≡◌, ◌⊎◌, [], ◌∷◌, codes, IfOk, IsErr, OnErr, OnOk};
 ghost use Rattle.sqlite_wal.specs.Files.{image_at};
 ghost use Rattle.sqlite.specs.Start.{FindsIn};
 ghost use Rattle.sqlite.specs.Steps.{over_memory};
-ghost use Rattle.sqlite.specs.Files.{over_files, file_state};
+ghost use Rattle.sqlite.specs.Files.{over_files, file_state, IsNothing};
+ghost use Rattle.sqlite_catalog.specs.Listing.{IsSound};
+ghost use Rattle.sqlite_trees.specs.Objects.{catalog_tree};
+ghost use Rattle.tables.specs.Layout.{custody};
 ghost use Rattle.tables.specs.Runs.{first_meta, fresh};
-ghost use Rattle.tables.specs.Shown.{connection, IsHonest, IsOpen, HasNoTable, IsForeign, Stands, shown, Leaves, IsSafe, Rests, AddsFresh};
+ghost use Rattle.tables.specs.Shown.{connection, committed, IsHonest, IsOpen, HasNoTable, HasOurs, IsForeign, Stands, shown, Leaves, IsSafe, Rests, AddsFresh};
 
 use crate::fault::StoreFault;
 use crate::storage::Storage;
@@ -17,6 +20,10 @@ use std::rt::HostRuntime;
 
 impl Store<MemStore> {
     /// Opens an empty database in memory.
+    ///
+    /// # Errors
+    ///
+    /// `Memory` if memory runs out.
     pub fn open_memory(alloc: Global) -> Result<Store<MemStore>, StoreFault>
         ensures { IfOk result (λ store. IsOpen over_memory store × HasNoTable over_memory store) }
     {
@@ -28,25 +35,42 @@ impl Store<MemStore> {
 }
 
 impl Store<FileStore<File>> {
-    /// Opens the file at the path, or makes it. It refuses `:memory:` and URIs. Of what a file that is not empty holds, no clause says anything: a program that states a theorem opens by `open_from`.
+    /// Opens the file at the path, or creates it. No clause says what a nonempty file holds: a program that states
+    /// a theorem opens by `open_from`.
+    ///
+    /// # Errors
+    ///
+    /// `Refused` or `Memory`; `:memory:` and URIs are refused.
     pub fn open(rt: &HostRuntime, path: &str) -> Result<Store<FileStore<File>>, StoreFault>
         ensures memory { path.now ≡ codes ":memory:" → IsErr result }
-        ensures opened { IfOk result (λ store. IsHonest over_files store → IsOpen over_files store) }
+        ensures opened { IfOk result
+            (λ store. IsHonest over_files store → IsOpen over_files store) }
     {
         Ok(Store::adopt(Connection::open(rt, path)?))
     }
 }
 
 impl<S: Start> Store<FileStore<FileFrom<S>>> {
-    /// The same, where `start` stands for what the file and its log hold, as what a stop left of them. It finds the database that they hold.
+    /// The same, with `start` for the contents of the file and its log, as a stop may have left them. It finds the
+    /// database that they hold, and no table if they hold nothing.
+    ///
+    /// # Errors
+    ///
+    /// Those of `open`.
     pub fn open_from(
         rt: &HostRuntime,
         path: &str,
         start: S,
     ) -> Result<Store<FileStore<FileFrom<S>>>, StoreFault>
         ensures memory { path.now ≡ codes ":memory:" → IsErr result }
-        ensures opened { IfOk result (λ store. IsHonest over_files store → IsOpen over_files store) }
-        ensures found { IfOk result (λ store. IsHonest over_files store → FindsIn (image_at S.Start) (file_state (connection store))) }
+        ensures opened { IfOk result
+            (λ store. IsHonest over_files store → IsOpen over_files store) }
+        ensures found { IfOk result
+            (λ store. IsHonest over_files store
+            → FindsIn (image_at S.Start) (file_state (connection store))) }
+        ensures empty { IfOk result
+            (λ store. IsHonest over_files store → IsNothing (image_at S.Start)
+            → HasNoTable over_files store) }
     {
         match Connection::open_from(rt, path, false, start) {
             Ok(conn) => Ok(Store::adopt(conn)),
@@ -56,24 +80,49 @@ impl<S: Start> Store<FileStore<FileFrom<S>>> {
 }
 
 impl<S: Alter> Store<S> {
-    /// Takes a connection that the caller opened.
+    /// Makes a store of a connection that the caller opened.
     pub fn adopt(conn: Connection<S>) -> Store<S>
         ensures { connection result ≡ conn }
     {
         Store { conn }
     }
+
+    /// Returns the connection.
+    pub fn into_connection(self) -> Connection<S>
+        ensures { result ≡ connection self }
+    {
+        self.conn
+    }
 }
 
 impl<S: Storage> Store<S> {
-    /// Gives a database with no table the six tables of version 1, all or none, and leaves one that has them. Any other is `UnknownSchema`, and is left as it is. What stands afterwards stands whatever the file held before.
+    /// Gives a database with no table the six tables of version 1, all or none, and leaves one that has them. The
+    /// result holds whatever the file held before.
+    ///
+    /// # Errors
+    ///
+    /// `UnknownSchema` for any other database; `Refused`; `Memory`. The database is unchanged, but if it had no
+    /// table, a stop may still leave the six tables.
     pub fn create_or_check(&mut self, alloc: Global) -> Result<(), StoreFault>
         ensures stands { OnOk result (Stands S.Store self.new) }
-        ensures version { IsHonest S.Store self.new → OnOk result (IsOpen S.Store self.new → (shown S.Store self.new).meta ≡ first_meta ∷ []) }
-        ensures ok { IsHonest S.Store self.new → OnOk result ((HasNoTable S.Store self.old × (shown S.Store self.new ≡ fresh)) ⊎ Rests S.Store self.old self.new) }
+        ensures version { IsHonest S.Store self.new
+            → OnOk result (IsOpen S.Store self.new
+            → (shown S.Store self.new).meta ≡ first_meta ∷ []) }
+        ensures ok { IsHonest S.Store self.new
+            → OnOk result ((HasNoTable S.Store self.old × (shown S.Store self.new ≡ fresh))
+            ⊎ Rests S.Store self.old self.new) }
         ensures safe { IsHonest S.Store self.new → OnOk result (IsSafe S.Store self.new) }
-        ensures only { IsHonest S.Store self.new → OnOk result ((t : _) → Leaves S.Store self.new t → (HasNoTable S.Store self.old × (t ≡ fresh)) ⊎ (t ≡ shown S.Store self.old)) }
+        ensures only { IsHonest S.Store self.new
+            → OnOk result ((t : _) → Leaves S.Store self.new t
+            → (HasNoTable S.Store self.old × (t ≡ fresh))
+            ⊎ (HasOurs S.Store self.old × (t ≡ shown S.Store self.old))) }
+        ensures ours { IsHonest S.Store self.new → IsSound custody (committed S.Store self.old)
+            → OnOk result (HasOurs S.Store self.old) }
+        ensures empty { IsHonest S.Store self.new → committed S.Store self.old catalog_tree ≡ []
+            → OnOk result (HasNoTable S.Store self.old) }
         ensures err { IsHonest S.Store self.new → OnErr result (Rests S.Store self.old self.new) }
-        ensures unknown { IsHonest S.Store self.new → result ≡ Err StoreFault.UnknownSchema → IsForeign S.Store self.old }
+        ensures unknown { IsHonest S.Store self.new → result ≡ Err StoreFault.UnknownSchema
+            → IsForeign S.Store self.old }
         ensures stop { AddsFresh S.Store self.old self.new }
     {
         schema::create_or_check(alloc, &mut self.conn)

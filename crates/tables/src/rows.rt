@@ -1,15 +1,15 @@
-//! The rows that the calls take and answer.
+//! The rows that the calls take and return.
 
-ghost use Rattle.std.specs.Prelude.{◌≡◌, ◌<◌, IfOk, map, filter, [], slice_get, option_map, MatchOption};
+ghost use Rattle.std.specs.Prelude.{◌≡◌, ◌≢◌, ◌<◌, IfOk, map, slice_get};
 ghost use Rattle.tables.specs.Rows.{Lock, Token};
 ghost use Rattle.tables.specs.Statements.{show_lock, show_token};
-ghost use Rattle.tables.specs.Steps.{lock_fields, read_lock, token_fields, read_token, code_of};
+ghost use Rattle.tables.specs.Steps.{IsLockOf, AreLocksOf, lock_fields, read_lock, IsTokenOf, AreTokensOf, token_fields, read_token, code_of};
 
 use crate::fault::StoreFault;
 use sqlite::Row;
 use std::alloc::{AllocError, Global};
 
-/// A lock that is asked for.
+/// A lock to be made.
 #[derive(Clone, Copy, Debug)]
 pub struct NewLock<'a> {
     pub repo: &'a str,
@@ -20,10 +20,10 @@ pub struct NewLock<'a> {
     pub moment: i64,
 }
 
-/// A lock of a repository that the caller knows.
+/// A lock, without its repository, which the caller knows.
 #[derive(Debug, Drop)]
 pub struct LockRow {
-    /// Counted from 1 in the repository, and never used again.
+    /// Counted from 1 in the repository, and never reused.
     pub id: u32,
     pub ref_name: String,
     pub path: String,
@@ -32,18 +32,18 @@ pub struct LockRow {
     pub moment: i64,
 }
 
-/// What comes of a lock that is asked for.
+/// The result of a lock request.
 #[derive(Debug, Drop)]
 pub enum Creation {
-    /// It is made, under this id.
+    /// The lock was made, under this id.
     Created(u32),
-    /// This one stands on its path.
+    /// This lock holds the path.
     Held(LockRow),
     /// The repository has made 4,294,967,295 locks.
     UsedUp,
 }
 
-/// What a token lets its user do.
+/// What a token allows its user to do.
 #[derive(Clone, Copy, Debug, PartialEq, Eq)]
 pub enum Operation {
     Download,
@@ -51,7 +51,7 @@ pub enum Operation {
 }
 
 impl Operation {
-    /// The number that stands for it in the database.
+    /// The number that represents it in the database.
     pub(crate) fn code(self) -> i64
         ensures { result ≡ code_of self }
     {
@@ -62,7 +62,8 @@ impl Operation {
     }
 
     fn from_code(code: i64) -> Result<Operation, StoreFault>
-        ensures { IfOk result (λ operation. code_of operation ≡ code) }
+        ensures value { IfOk result (λ operation. code_of operation ≡ code) }
+        ensures known { result ≢ Err StoreFault.UnknownSchema }
     {
         match code {
             1 => Ok(Operation::Download),
@@ -72,7 +73,7 @@ impl Operation {
     }
 }
 
-/// A token that is to be kept.
+/// A token to be stored.
 #[derive(Clone, Copy, Debug)]
 pub struct NewToken<'a> {
     /// The SHA-256 of the token's text.
@@ -80,7 +81,7 @@ pub struct NewToken<'a> {
     pub user: &'a str,
     pub repo: &'a str,
     pub operation: Operation,
-    /// The first moment at which it is of no use, in seconds since 1970.
+    /// The first moment at which it is no longer valid, in seconds since 1970.
     pub expires: i64,
 }
 
@@ -95,7 +96,9 @@ pub struct TokenRow {
 }
 
 fn lock_from(row: &Row) -> Result<LockRow, StoreFault>
-    ensures { (l : Lock) → row.now ≡ show_lock l → IfOk result (λ found. read_lock found ≡ lock_fields l) }
+    ensures value { (l : Lock) → row.now ≡ show_lock l → IfOk result
+        (λ found. read_lock found ≡ lock_fields l) }
+    ensures known { result ≢ Err StoreFault.UnknownSchema }
 {
     Ok(LockRow {
         id: row.get(0)?,
@@ -107,7 +110,9 @@ fn lock_from(row: &Row) -> Result<LockRow, StoreFault>
 }
 
 fn token_from(row: &Row) -> Result<TokenRow, StoreFault>
-    ensures { (t : Token) → row.now ≡ show_token t → IfOk result (λ found. read_token found ≡ token_fields t) }
+    ensures value { (t : Token) → row.now ≡ show_token t → IfOk result
+        (λ found. read_token found ≡ token_fields t) }
+    ensures known { result ≢ Err StoreFault.UnknownSchema }
 {
     let code: i64 = row.get(3)?;
     Ok(TokenRow {
@@ -121,7 +126,9 @@ fn token_from(row: &Row) -> Result<TokenRow, StoreFault>
 
 /// The lock in the first of the rows.
 pub(crate) fn first_lock(rows: &[Row]) -> Result<Option<LockRow>, StoreFault>
-    ensures { (locks : _) → rows.now ≡ map show_lock locks → IfOk result (λ found. option_map read_lock found ≡ option_map lock_fields (slice_get locks 0)) }
+    ensures value { (locks : _) → rows.now ≡ map show_lock locks → IfOk result
+        (λ found. IsLockOf found (slice_get locks 0)) }
+    ensures known { result ≢ Err StoreFault.UnknownSchema }
 {
     match rows.first() {
         None => Ok(None),
@@ -131,7 +138,9 @@ pub(crate) fn first_lock(rows: &[Row]) -> Result<Option<LockRow>, StoreFault>
 
 /// The token in the first of the rows.
 pub(crate) fn first_token(rows: &[Row]) -> Result<Option<TokenRow>, StoreFault>
-    ensures { (tokens : _) → rows.now ≡ map show_token tokens → IfOk result (λ found. option_map read_token found ≡ option_map token_fields (slice_get tokens 0)) }
+    ensures value { (tokens : _) → rows.now ≡ map show_token tokens → IfOk result
+        (λ found. IsTokenOf found (slice_get tokens 0)) }
+    ensures known { result ≢ Err StoreFault.UnknownSchema }
 {
     match rows.first() {
         None => Ok(None),
@@ -140,7 +149,9 @@ pub(crate) fn first_token(rows: &[Row]) -> Result<Option<TokenRow>, StoreFault>
 }
 
 pub(crate) fn all_locks(alloc: Global, rows: &[Row]) -> Result<Vec<LockRow>, StoreFault>
-    ensures { (locks : _) → rows.now ≡ map show_lock locks → IfOk result (λ found. map read_lock found.items ≡ map lock_fields locks) }
+    ensures value { (locks : _) → rows.now ≡ map show_lock locks → IfOk result
+        (λ found. AreLocksOf found.items locks) }
+    ensures known { result ≢ Err StoreFault.UnknownSchema }
 {
     let mut found = Vec::with_capacity(alloc, rows.len())?;
     for row in rows {
@@ -151,7 +162,9 @@ pub(crate) fn all_locks(alloc: Global, rows: &[Row]) -> Result<Vec<LockRow>, Sto
 }
 
 pub(crate) fn all_tokens(alloc: Global, rows: &[Row]) -> Result<Vec<TokenRow>, StoreFault>
-    ensures { (tokens : _) → rows.now ≡ map show_token tokens → IfOk result (λ found. map read_token found.items ≡ map token_fields tokens) }
+    ensures value { (tokens : _) → rows.now ≡ map show_token tokens → IfOk result
+        (λ found. AreTokensOf found.items tokens) }
+    ensures known { result ≢ Err StoreFault.UnknownSchema }
 {
     let mut found = Vec::with_capacity(alloc, rows.len())?;
     for row in rows {

@@ -1,13 +1,17 @@
-//! The six tables: how an empty database gets them, and how another is told apart.
+//! The six tables: creates them in an empty database, and detects any other schema.
 
-ghost use Rattle.std.specs.Prelude.{◌≡◌, ◌≢◌, ◌↔◌, ◌⊎◌, [], ◌∷◌, map, IfOk, OnErr, OnOk, IsTrue};
-ghost use Rattle.sqlite.specs.State.{HasCleanDisk, Survives, KeepsCommit};
+ghost use Rattle.std.specs.Prelude.{◌≡◌, ◌≢◌, ◌↔◌, [], ◌∷◌, map, IfOk, OnErr, OnOk, IsTrue};
+ghost use Rattle.sqlite.specs.State.{HasCleanDisk, Survives};
 ghost use Rattle.sqlite.specs.Held.{state};
-ghost use Rattle.tables.specs.Rows.{Meta};
+ghost use Rattle.sqlite_catalog.specs.Listing.{IsSound};
+ghost use Rattle.sqlite_trees.specs.Objects.{catalog_tree};
+ghost use Rattle.tables.specs.Rows.{Part};
 ghost use Rattle.tables.specs.Layout.{custody};
-ghost use Rattle.tables.specs.Making.{Part, text_for, before, after, no_schema, with_tokens, with_locks, IsBlank};
+ghost use Rattle.tables.specs.Making.{text_for, before, after, no_schema, with_tokens, with_locks, IsBlank};
 ghost use Rattle.tables.specs.Statements.{show_meta};
-ghost use Rattle.tables.specs.Runs.{IsForeign, HasNoTable, IsReady, IsKept, Keeps, Blanks, Steps, with_fresh, first_meta, tables_in, IsAfter, Leads, LeadsIfBlank, LeavesOurs, LeavesOnly, MakesOrKeeps};
+ghost use Rattle.tables.specs.Runs.{HasNoTable, IsForeign, HasOurs, IsReady, with_fresh, first_meta, tables_in, LeadsIfBlank, LeavesOurs, LeavesOnly, MakesOrKeeps};
+ghost use Rattle.typed_rows.specs.Transactions.{Inside, Keeps};
+ghost use Rattle.tables.specs.Calls.{MakesBlank, MakesFresh, Commits, Looks};
 
 use crate::fault::StoreFault;
 use crate::read::read;
@@ -18,23 +22,20 @@ use sqlite::{Alter, Connection, Error, Row, Transaction};
 use sqlite_schema::schema::Schema;
 use std::alloc::Global;
 
-/// Makes one table of a database that has those before it.
+/// Creates one table in a database that has the tables before it.
 fn table_into<S: Alter>(tx: &mut Transaction<'_, S>, sql: &str) -> Result<usize, Error>
     ensures same_reference { tx.new.conn.ghost_name ≡ tx.old.conn.ghost_name }
-    ensures ok { HasCleanDisk (state S.Store tx.new.conn.now) → IsTrue tx.old.conn.now.in_transaction → (part : Part) → sql.now ≡ text_for part → OnOk result (Blanks (before part) (after part) (state S.Store tx.old.conn.now) (state S.Store tx.new.conn.now)) }
-    ensures kept { HasCleanDisk (state S.Store tx.new.conn.now) → IsTrue tx.old.conn.now.in_transaction → KeepsCommit (state S.Store tx.old.conn.now) (state S.Store tx.new.conn.now) }
-    ensures inside { HasCleanDisk (state S.Store tx.new.conn.now) → IsTrue tx.old.conn.now.in_transaction → OnOk result (IsTrue tx.new.conn.now.in_transaction) }
-    ensures survives { Survives (state S.Store tx.old.conn.now) (state S.Store tx.new.conn.now) (λ _. ⊥) }
+    ensures ok { (part : Part) → sql.now ≡ text_for part
+        → MakesBlank S.Store tx.old.conn.now tx.new.conn.now result (before part) (after part) }
+    ensures within { Inside S.Store tx.old.conn.now tx.new.conn.now result }
 {
     tx.execute(sql, &[])
 }
 
 fn first_tables_into<S: Alter>(tx: &mut Transaction<'_, S>) -> Result<(), Error>
     ensures same_reference { tx.new.conn.ghost_name ≡ tx.old.conn.ghost_name }
-    ensures ok { HasCleanDisk (state S.Store tx.new.conn.now) → IsTrue tx.old.conn.now.in_transaction → OnOk result (Blanks no_schema with_tokens (state S.Store tx.old.conn.now) (state S.Store tx.new.conn.now)) }
-    ensures kept { HasCleanDisk (state S.Store tx.new.conn.now) → IsTrue tx.old.conn.now.in_transaction → KeepsCommit (state S.Store tx.old.conn.now) (state S.Store tx.new.conn.now) }
-    ensures inside { HasCleanDisk (state S.Store tx.new.conn.now) → IsTrue tx.old.conn.now.in_transaction → OnOk result (IsTrue tx.new.conn.now.in_transaction) }
-    ensures survives { Survives (state S.Store tx.old.conn.now) (state S.Store tx.new.conn.now) (λ _. ⊥) }
+    ensures ok { MakesBlank S.Store tx.old.conn.now tx.new.conn.now result no_schema with_tokens }
+    ensures within { Inside S.Store tx.old.conn.now tx.new.conn.now result }
 {
     table_into(
         tx,
@@ -53,10 +54,8 @@ fn first_tables_into<S: Alter>(tx: &mut Transaction<'_, S>) -> Result<(), Error>
 
 fn last_tables_into<S: Alter>(tx: &mut Transaction<'_, S>) -> Result<(), Error>
     ensures same_reference { tx.new.conn.ghost_name ≡ tx.old.conn.ghost_name }
-    ensures ok { HasCleanDisk (state S.Store tx.new.conn.now) → IsTrue tx.old.conn.now.in_transaction → OnOk result (Blanks with_tokens with_locks (state S.Store tx.old.conn.now) (state S.Store tx.new.conn.now)) }
-    ensures kept { HasCleanDisk (state S.Store tx.new.conn.now) → IsTrue tx.old.conn.now.in_transaction → KeepsCommit (state S.Store tx.old.conn.now) (state S.Store tx.new.conn.now) }
-    ensures inside { HasCleanDisk (state S.Store tx.new.conn.now) → IsTrue tx.old.conn.now.in_transaction → OnOk result (IsTrue tx.new.conn.now.in_transaction) }
-    ensures survives { Survives (state S.Store tx.old.conn.now) (state S.Store tx.new.conn.now) (λ _. ⊥) }
+    ensures ok { MakesBlank S.Store tx.old.conn.now tx.new.conn.now result with_tokens with_locks }
+    ensures within { Inside S.Store tx.old.conn.now tx.new.conn.now result }
 {
     table_into(
         tx,
@@ -75,20 +74,16 @@ fn last_tables_into<S: Alter>(tx: &mut Transaction<'_, S>) -> Result<(), Error>
 
 fn version_into<S: Alter>(tx: &mut Transaction<'_, S>) -> Result<usize, Error>
     ensures same_reference { tx.new.conn.ghost_name ≡ tx.old.conn.ghost_name }
-    ensures ok { HasCleanDisk (state S.Store tx.new.conn.now) → IsTrue tx.old.conn.now.in_transaction → IsBlank with_locks (state S.Store tx.old.conn.now).now → OnOk result (Steps with_fresh (state S.Store tx.old.conn.now) (state S.Store tx.new.conn.now)) }
-    ensures kept { HasCleanDisk (state S.Store tx.new.conn.now) → IsTrue tx.old.conn.now.in_transaction → KeepsCommit (state S.Store tx.old.conn.now) (state S.Store tx.new.conn.now) }
-    ensures inside { HasCleanDisk (state S.Store tx.new.conn.now) → IsTrue tx.old.conn.now.in_transaction → OnOk result (IsTrue tx.new.conn.now.in_transaction) }
-    ensures survives { Survives (state S.Store tx.old.conn.now) (state S.Store tx.new.conn.now) (λ _. ⊥) }
+    ensures ok { MakesFresh S.Store tx.old.conn.now tx.new.conn.now result with_locks }
+    ensures within { Inside S.Store tx.old.conn.now tx.new.conn.now result }
 {
     tx.execute("INSERT INTO meta (one, version) VALUES (1, 1)", &[])
 }
 
 fn fresh_into<S: Alter>(tx: &mut Transaction<'_, S>) -> Result<(), Error>
     ensures same_reference { tx.new.conn.ghost_name ≡ tx.old.conn.ghost_name }
-    ensures ok { HasCleanDisk (state S.Store tx.new.conn.now) → IsTrue tx.old.conn.now.in_transaction → IsBlank no_schema (state S.Store tx.old.conn.now).now → OnOk result (Steps with_fresh (state S.Store tx.old.conn.now) (state S.Store tx.new.conn.now)) }
-    ensures kept { HasCleanDisk (state S.Store tx.new.conn.now) → IsTrue tx.old.conn.now.in_transaction → KeepsCommit (state S.Store tx.old.conn.now) (state S.Store tx.new.conn.now) }
-    ensures inside { HasCleanDisk (state S.Store tx.new.conn.now) → IsTrue tx.old.conn.now.in_transaction → OnOk result (IsTrue tx.new.conn.now.in_transaction) }
-    ensures survives { Survives (state S.Store tx.old.conn.now) (state S.Store tx.new.conn.now) (λ _. ⊥) }
+    ensures ok { MakesFresh S.Store tx.old.conn.now tx.new.conn.now result no_schema }
+    ensures within { Inside S.Store tx.old.conn.now tx.new.conn.now result }
 {
     first_tables_into(tx)?;
     last_tables_into(tx)?;
@@ -99,12 +94,7 @@ fn fresh_into<S: Alter>(tx: &mut Transaction<'_, S>) -> Result<(), Error>
 /// Gives a database with no table the six tables and their version, all or none.
 #[tactic(auto, using(crate::proofs::Calls::led))]
 fn create<S: Alter>(conn: &mut Connection<S>) -> Result<(), StoreFault>
-    ensures ok { HasCleanDisk (state S.Store conn.new) → IsBlank no_schema (state S.Store conn.old).now → OnOk result (IsTrue (state S.Store conn.old).is_open × IsAfter with_fresh (state S.Store conn.old).now (state S.Store conn.new).now) }
-    ensures only { HasCleanDisk (state S.Store conn.new) → OnOk result ((trees : _) → (state S.Store conn.new).may_leave trees → trees ≡ (state S.Store conn.new).now.trees) }
-    ensures err { HasCleanDisk (state S.Store conn.new) → OnErr result (Keeps (state S.Store conn.old) (state S.Store conn.new)) }
-    ensures known { result ≢ Err StoreFault.UnknownSchema }
-    ensures clean { HasCleanDisk (state S.Store conn.new) → HasCleanDisk (state S.Store conn.old) }
-    ensures crash { IsBlank no_schema (state S.Store conn.old).now → Survives (state S.Store conn.old) (state S.Store conn.new) (Leads with_fresh (state S.Store conn.old)) }
+    ensures { Commits S.Store (IsBlank no_schema (state S.Store conn.old).now) conn.old conn.new result with_fresh }
 {
     if !conn.is_autocommit() {
         return Err(StoreFault::Refused);
@@ -132,9 +122,10 @@ fn is_ours(alloc: Global, schema: &Schema) -> Result<bool, StoreFault>
     Ok(same_schema(schema, ours.schema()))
 }
 
-/// Whether the rows of `meta` are the one of version 1.
+/// Whether `meta` has exactly the row of version 1.
 fn is_version_one(rows: &[Row]) -> Result<bool, StoreFault>
-    ensures one { (metas : _) → rows.now ≡ map show_meta metas → IfOk result (λ is. IsTrue is ↔ (metas ≡ first_meta ∷ [])) }
+    ensures one { (metas : _) → rows.now ≡ map show_meta metas → IfOk result
+        (λ is. IsTrue is ↔ (metas ≡ first_meta ∷ [])) }
     ensures known { result ≢ Err StoreFault.UnknownSchema }
 {
     let [row] = rows else {
@@ -146,11 +137,8 @@ fn is_version_one(rows: &[Row]) -> Result<bool, StoreFault>
 }
 
 fn has_version_one<S: Alter>(conn: &mut Connection<S>) -> Result<bool, StoreFault>
-    ensures ok { HasCleanDisk (state S.Store conn.new) → IsReady (state S.Store conn.old) → IfOk result (λ is. IsTrue is ↔ ((tables_in (state S.Store conn.old)).meta ≡ first_meta ∷ [])) }
-    ensures known { result ≢ Err StoreFault.UnknownSchema }
-    ensures open { HasCleanDisk (state S.Store conn.new) → IsReady (state S.Store conn.old) → OnOk result (IsTrue (state S.Store conn.old).is_open) }
-    ensures same { HasCleanDisk (state S.Store conn.new) → Keeps (state S.Store conn.old) (state S.Store conn.new) }
-    ensures survives { Survives (state S.Store conn.old) (state S.Store conn.new) (λ _. ⊥) }
+    ensures { Looks S.Store conn.old conn.new result
+        (λ t is. IsTrue is ↔ (t.meta ≡ first_meta ∷ [])) }
 {
     let rows = read(conn, "SELECT one, version FROM meta ORDER BY rowid", &[])?;
     is_version_one(rows.as_slice())
@@ -158,9 +146,11 @@ fn has_version_one<S: Alter>(conn: &mut Connection<S>) -> Result<bool, StoreFaul
 
 /// Whether the tables are those that `create` makes.
 fn has_our_tables<S: Storage>(alloc: Global, conn: &Connection<S>) -> Result<bool, StoreFault>
-    requires { IsTrue (state S.Store conn.now).is_open → (state S.Store conn.now).now ≡ (state S.Store conn.now).committed }
+    requires { IsTrue (state S.Store conn.now).is_open
+        → (state S.Store conn.now).now ≡ (state S.Store conn.now).committed }
     ensures ready { IfOk result (λ found. IsTrue found → IsReady (state S.Store conn.now)) }
-    ensures same { IfOk result (λ found. IsTrue found ↔ ((state S.Store conn.now).now.schema ≡ custody)) }
+    ensures same { IfOk result
+        (λ found. IsTrue found ↔ ((state S.Store conn.now).now.schema ≡ custody)) }
     ensures known { result ≢ Err StoreFault.UnknownSchema }
 {
     is_ours(alloc, conn.schema())
@@ -172,12 +162,25 @@ pub(crate) fn create_or_check<S: Storage>(
     conn: &mut Connection<S>,
 ) -> Result<(), StoreFault>
     ensures stands { OnOk result (IsReady (state S.Store conn.new)) }
-    ensures version { HasCleanDisk (state S.Store conn.new) → OnOk result (IsTrue (state S.Store conn.new).is_open → (tables_in (state S.Store conn.new)).meta ≡ first_meta ∷ []) }
-    ensures ok { HasCleanDisk (state S.Store conn.new) → OnOk result (MakesOrKeeps (state S.Store conn.old) (state S.Store conn.new)) }
-    ensures err { HasCleanDisk (state S.Store conn.new) → OnErr result (Keeps (state S.Store conn.old) (state S.Store conn.new)) }
-    ensures unknown { HasCleanDisk (state S.Store conn.new) → result ≡ Err StoreFault.UnknownSchema → IsForeign (state S.Store conn.old) }
-    ensures safe { HasCleanDisk (state S.Store conn.new) → OnOk result (LeavesOurs (state S.Store conn.new)) }
-    ensures only { HasCleanDisk (state S.Store conn.new) → OnOk result (LeavesOnly (state S.Store conn.old) (state S.Store conn.new)) }
+    ensures version { HasCleanDisk (state S.Store conn.new)
+        → OnOk result (IsTrue (state S.Store conn.new).is_open
+        → (tables_in (state S.Store conn.new)).meta ≡ first_meta ∷ []) }
+    ensures ok { HasCleanDisk (state S.Store conn.new)
+        → OnOk result (MakesOrKeeps (state S.Store conn.old) (state S.Store conn.new)) }
+    ensures err { HasCleanDisk (state S.Store conn.new)
+        → OnErr result (Keeps (state S.Store conn.old) (state S.Store conn.new)) }
+    ensures unknown { HasCleanDisk (state S.Store conn.new) → result ≡ Err StoreFault.UnknownSchema
+        → IsForeign (state S.Store conn.old) }
+    ensures safe { HasCleanDisk (state S.Store conn.new)
+        → OnOk result (LeavesOurs (state S.Store conn.new)) }
+    ensures only { HasCleanDisk (state S.Store conn.new)
+        → OnOk result (LeavesOnly (state S.Store conn.old) (state S.Store conn.new)) }
+    ensures ours { HasCleanDisk (state S.Store conn.new)
+        → IsSound custody (state S.Store conn.old).committed.trees
+        → OnOk result (HasOurs (state S.Store conn.old)) }
+    ensures empty { HasCleanDisk (state S.Store conn.new)
+        → (state S.Store conn.old).committed.trees catalog_tree ≡ []
+        → OnOk result (HasNoTable (state S.Store conn.old)) }
     ensures survives { Survives (state S.Store conn.old) (state S.Store conn.new) (LeadsIfBlank (state S.Store conn.old)) }
 {
     if !conn.is_autocommit() {

@@ -6,9 +6,9 @@ use sqlite_disk::Disk;
 use sqlite_store::FileStore;
 use sqlite_trees::memory::MemStore;
 
-/// What keeps the tables of a database that may hold some already: memory, or a file and its log.
+/// Storage for the tables of a database that may already hold some: memory, or a file and its log.
 pub trait Storage: Alter {
-    // The rows of each table that was committed are in the order of their rowids.
+    // The rows of each committed table are in the order of their rowids.
     ghost in_order: { (s : Self) → IsTrue (Self.Store.view s).is_open → (Self.Store.view s).trees ≡ (Self.Store.view s).committed → IsInOrder (Self.Store.view s) };
 }
 

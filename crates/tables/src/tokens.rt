@@ -1,12 +1,10 @@
-//! The calls on the tokens that let a client in.
+//! The calls on tokens.
 
-ghost use Rattle.std.specs.Prelude.{◌≡◌, not, length, option_map, find, filter, map, IfOk, OnErr, OnOk, IsTrue};
-ghost use Rattle.sqlite.specs.State.{HasCleanDisk, Survives, KeepsCommit};
-ghost use Rattle.sqlite.specs.Held.{state};
+ghost use Rattle.std.specs.Prelude.{◌≡◌, not, length, find, filter};
 ghost use Rattle.tables.specs.Statements.{has_digest, is_held_by, has_expired, with_token, without_expired};
-ghost use Rattle.tables.specs.Runs.{IsReady, Steps, Keeps, IsAfter, Leads, tables_in};
-ghost use Rattle.tables.specs.Steps.{token_fields, read_token, asked_token, has_token, after_add};
-ghost use Rattle.tables.specs.Shown.{IsHonest, IsOpen, Stands, shown, Moves, Adds, AddsNothing, IsDurable};
+ghost use Rattle.tables.specs.Calls.{Says, Does, Transacts};
+ghost use Rattle.tables.specs.Steps.{IsTokenOf, AreTokensOf, asked_token, has_token, after_add};
+ghost use Rattle.tables.specs.Shown.{Reads, Changes};
 
 use crate::Store;
 use crate::fault::StoreFault;
@@ -19,11 +17,9 @@ use std::alloc::Global;
 /// Whether no token has this digest.
 fn is_free<S: Alter>(tx: &mut Transaction<'_, S>, digest: &[u8]) -> Result<bool, Error>
     ensures same_reference { tx.new.conn.ghost_name ≡ tx.old.conn.ghost_name }
-    ensures value { HasCleanDisk (state S.Store tx.new.conn.now) → IsReady (state S.Store tx.old.conn.now) → IfOk result (λ free. has_token digest.now (tables_in (state S.Store tx.old.conn.now)) ≡ not free) }
-    ensures ok { HasCleanDisk (state S.Store tx.new.conn.now) → IsTrue tx.old.conn.now.in_transaction → IsReady (state S.Store tx.old.conn.now) → OnOk result (Steps (λ t. t) (state S.Store tx.old.conn.now) (state S.Store tx.new.conn.now)) }
-    ensures kept { HasCleanDisk (state S.Store tx.new.conn.now) → IsTrue tx.old.conn.now.in_transaction → KeepsCommit (state S.Store tx.old.conn.now) (state S.Store tx.new.conn.now) }
-    ensures inside { HasCleanDisk (state S.Store tx.new.conn.now) → IsTrue tx.old.conn.now.in_transaction → OnOk result (IsTrue tx.new.conn.now.in_transaction) }
-    ensures survives { Survives (state S.Store tx.old.conn.now) (state S.Store tx.new.conn.now) (λ _. ⊥) }
+    ensures value { Says S.Store tx.old.conn.now tx.new.conn.now result
+        (λ t free. has_token digest.now t ≡ not free) }
+    ensures does { Does S.Store tx.old.conn.now tx.new.conn.now result (λ t. t) }
 {
     let rows = select(
         tx,
@@ -35,10 +31,8 @@ fn is_free<S: Alter>(tx: &mut Transaction<'_, S>, digest: &[u8]) -> Result<bool,
 
 fn token_into<S: Alter>(tx: &mut Transaction<'_, S>, token: &NewToken<'_>) -> Result<usize, Error>
     ensures same_reference { tx.new.conn.ghost_name ≡ tx.old.conn.ghost_name }
-    ensures ok { HasCleanDisk (state S.Store tx.new.conn.now) → IsTrue tx.old.conn.now.in_transaction → IsReady (state S.Store tx.old.conn.now) → OnOk result (Steps (with_token (asked_token token.now)) (state S.Store tx.old.conn.now) (state S.Store tx.new.conn.now)) }
-    ensures kept { HasCleanDisk (state S.Store tx.new.conn.now) → IsTrue tx.old.conn.now.in_transaction → KeepsCommit (state S.Store tx.old.conn.now) (state S.Store tx.new.conn.now) }
-    ensures inside { HasCleanDisk (state S.Store tx.new.conn.now) → IsTrue tx.old.conn.now.in_transaction → OnOk result (IsTrue tx.new.conn.now.in_transaction) }
-    ensures survives { Survives (state S.Store tx.old.conn.now) (state S.Store tx.new.conn.now) (λ _. ⊥) }
+    ensures does { Does S.Store tx.old.conn.now tx.new.conn.now result
+        (with_token (asked_token token.now)) }
 {
     let expires = token.expires;
     change(
@@ -54,14 +48,13 @@ fn token_into<S: Alter>(tx: &mut Transaction<'_, S>, token: &NewToken<'_>) -> Re
     )
 }
 
-/// Keeps the token, unless one with its digest is there.
+/// Stores the token, unless one with its digest is stored.
 fn add_into<S: Alter>(tx: &mut Transaction<'_, S>, token: &NewToken<'_>) -> Result<bool, Error>
     ensures same_reference { tx.new.conn.ghost_name ≡ tx.old.conn.ghost_name }
-    ensures value { HasCleanDisk (state S.Store tx.new.conn.now) → IsReady (state S.Store tx.old.conn.now) → IfOk result (λ added. has_token token.now.digest.now (tables_in (state S.Store tx.old.conn.now)) ≡ not added) }
-    ensures ok { HasCleanDisk (state S.Store tx.new.conn.now) → IsTrue tx.old.conn.now.in_transaction → IsReady (state S.Store tx.old.conn.now) → OnOk result (Steps (after_add (asked_token token.now)) (state S.Store tx.old.conn.now) (state S.Store tx.new.conn.now)) }
-    ensures kept { HasCleanDisk (state S.Store tx.new.conn.now) → IsTrue tx.old.conn.now.in_transaction → KeepsCommit (state S.Store tx.old.conn.now) (state S.Store tx.new.conn.now) }
-    ensures inside { HasCleanDisk (state S.Store tx.new.conn.now) → IsTrue tx.old.conn.now.in_transaction → OnOk result (IsTrue tx.new.conn.now.in_transaction) }
-    ensures survives { Survives (state S.Store tx.old.conn.now) (state S.Store tx.new.conn.now) (λ _. ⊥) }
+    ensures value { Says S.Store tx.old.conn.now tx.new.conn.now result
+        (λ t added. has_token token.now.digest.now t ≡ not added) }
+    ensures does { Does S.Store tx.old.conn.now tx.new.conn.now result
+        (after_add (asked_token token.now)) }
 {
     if !is_free(tx, token.digest.as_slice())? {
         return Ok(false);
@@ -72,12 +65,8 @@ fn add_into<S: Alter>(tx: &mut Transaction<'_, S>, token: &NewToken<'_>) -> Resu
 
 #[tactic(auto, using(crate::proofs::Calls::led))]
 fn add<S: Alter>(conn: &mut Connection<S>, token: &NewToken<'_>) -> Result<bool, StoreFault>
-    ensures value { HasCleanDisk (state S.Store conn.new) → IsReady (state S.Store conn.old) → IfOk result (λ added. has_token token.now.digest.now (tables_in (state S.Store conn.old)) ≡ not added) }
-    ensures ok { HasCleanDisk (state S.Store conn.new) → IsReady (state S.Store conn.old) → OnOk result (IsTrue (state S.Store conn.old).is_open × IsAfter (after_add (asked_token token.now)) (state S.Store conn.old).now (state S.Store conn.new).now) }
-    ensures only { HasCleanDisk (state S.Store conn.new) → OnOk result ((trees : _) → (state S.Store conn.new).may_leave trees → trees ≡ (state S.Store conn.new).now.trees) }
-    ensures err { HasCleanDisk (state S.Store conn.new) → OnErr result (Keeps (state S.Store conn.old) (state S.Store conn.new)) }
-    ensures clean { HasCleanDisk (state S.Store conn.new) → HasCleanDisk (state S.Store conn.old) }
-    ensures crash { IsReady (state S.Store conn.old) → Survives (state S.Store conn.old) (state S.Store conn.new) (Leads (after_add (asked_token token.now)) (state S.Store conn.old)) }
+    ensures { Transacts S.Store conn.old conn.new result (after_add (asked_token token.now))
+        (λ t added. has_token token.now.digest.now t ≡ not added) }
 {
     if !conn.is_autocommit() {
         return Err(StoreFault::Refused);
@@ -89,11 +78,9 @@ fn add<S: Alter>(conn: &mut Connection<S>, token: &NewToken<'_>) -> Result<bool,
 
 fn remove_expired_into<S: Alter>(tx: &mut Transaction<'_, S>, moment: i64) -> Result<usize, Error>
     ensures same_reference { tx.new.conn.ghost_name ≡ tx.old.conn.ghost_name }
-    ensures count { HasCleanDisk (state S.Store tx.new.conn.now) → IsTrue tx.old.conn.now.in_transaction → IsReady (state S.Store tx.old.conn.now) → IfOk result (λ n. n ≡ length (filter (has_expired moment) (tables_in (state S.Store tx.old.conn.now)).tokens)) }
-    ensures ok { HasCleanDisk (state S.Store tx.new.conn.now) → IsTrue tx.old.conn.now.in_transaction → IsReady (state S.Store tx.old.conn.now) → OnOk result (Steps (without_expired moment) (state S.Store tx.old.conn.now) (state S.Store tx.new.conn.now)) }
-    ensures kept { HasCleanDisk (state S.Store tx.new.conn.now) → IsTrue tx.old.conn.now.in_transaction → KeepsCommit (state S.Store tx.old.conn.now) (state S.Store tx.new.conn.now) }
-    ensures inside { HasCleanDisk (state S.Store tx.new.conn.now) → IsTrue tx.old.conn.now.in_transaction → OnOk result (IsTrue tx.new.conn.now.in_transaction) }
-    ensures survives { Survives (state S.Store tx.old.conn.now) (state S.Store tx.new.conn.now) (λ _. ⊥) }
+    ensures count { Says S.Store tx.old.conn.now tx.new.conn.now result
+        (λ t n. n ≡ length (filter (has_expired moment) t.tokens)) }
+    ensures does { Does S.Store tx.old.conn.now tx.new.conn.now result (without_expired moment) }
 {
     change(
         tx,
@@ -104,12 +91,8 @@ fn remove_expired_into<S: Alter>(tx: &mut Transaction<'_, S>, moment: i64) -> Re
 
 #[tactic(auto, using(crate::proofs::Calls::led))]
 fn remove_expired<S: Alter>(conn: &mut Connection<S>, moment: i64) -> Result<usize, StoreFault>
-    ensures count { HasCleanDisk (state S.Store conn.new) → IsReady (state S.Store conn.old) → IfOk result (λ n. n ≡ length (filter (has_expired moment) (tables_in (state S.Store conn.old)).tokens)) }
-    ensures ok { HasCleanDisk (state S.Store conn.new) → IsReady (state S.Store conn.old) → OnOk result (IsTrue (state S.Store conn.old).is_open × IsAfter (without_expired moment) (state S.Store conn.old).now (state S.Store conn.new).now) }
-    ensures only { HasCleanDisk (state S.Store conn.new) → OnOk result ((trees : _) → (state S.Store conn.new).may_leave trees → trees ≡ (state S.Store conn.new).now.trees) }
-    ensures err { HasCleanDisk (state S.Store conn.new) → OnErr result (Keeps (state S.Store conn.old) (state S.Store conn.new)) }
-    ensures clean { HasCleanDisk (state S.Store conn.new) → HasCleanDisk (state S.Store conn.old) }
-    ensures crash { IsReady (state S.Store conn.old) → Survives (state S.Store conn.old) (state S.Store conn.new) (Leads (without_expired moment) (state S.Store conn.old)) }
+    ensures { Transacts S.Store conn.old conn.new result (without_expired moment)
+        (λ t n. n ≡ length (filter (has_expired moment) t.tokens)) }
 {
     if !conn.is_autocommit() {
         return Err(StoreFault::Refused);
@@ -120,12 +103,14 @@ fn remove_expired<S: Alter>(conn: &mut Connection<S>, moment: i64) -> Result<usi
 }
 
 impl<S: Alter> Store<S> {
-    /// The token with this digest.
+    /// Returns the token with this digest, if one is stored.
+    ///
+    /// # Errors
+    ///
+    /// `Refused` or `Memory`. The tables are unchanged in any case.
     pub fn token(&mut self, digest: &[u8; 32]) -> Result<Option<TokenRow>, StoreFault>
-        ensures open { IsHonest S.Store self.new → Stands S.Store self.old → OnOk result (IsOpen S.Store self.old) }
-        ensures answer { IsHonest S.Store self.new → Stands S.Store self.old → IfOk result (λ found. option_map read_token found ≡ option_map token_fields (find (has_digest digest.now) (shown S.Store self.old).tokens)) }
-        ensures same { Moves S.Store (λ t. t) self.old self.new }
-        ensures stop { AddsNothing S.Store self.old self.new }
+        ensures { Reads S.Store self.old self.new result
+            (λ t found. IsTokenOf found (find (has_digest digest.now) t.tokens)) }
     {
         let rows = read(
             &mut self.conn,
@@ -135,17 +120,19 @@ impl<S: Alter> Store<S> {
         first_token(rows.as_slice())
     }
 
-    /// All tokens of the user in the repository, in the order in which they were added.
+    /// Returns all tokens of the user in the repository, in the order in which they were added.
+    ///
+    /// # Errors
+    ///
+    /// `Refused` or `Memory`. The tables are unchanged in any case.
     pub fn tokens_of(
         &mut self,
         alloc: Global,
         user: &str,
         repo: &str,
     ) -> Result<Vec<TokenRow>, StoreFault>
-        ensures open { IsHonest S.Store self.new → Stands S.Store self.old → OnOk result (IsOpen S.Store self.old) }
-        ensures answer { IsHonest S.Store self.new → Stands S.Store self.old → IfOk result (λ found. map read_token found.items ≡ map token_fields (filter (is_held_by user.now repo.now) (shown S.Store self.old).tokens)) }
-        ensures same { Moves S.Store (λ t. t) self.old self.new }
-        ensures stop { AddsNothing S.Store self.old self.new }
+        ensures { Reads S.Store self.old self.new result
+            (λ t found. AreTokensOf found.items (filter (is_held_by user.now repo.now) t.tokens)) }
     {
         let rows = read(
             &mut self.conn,
@@ -155,26 +142,26 @@ impl<S: Alter> Store<S> {
         all_tokens(alloc, rows.as_slice())
     }
 
-    /// Adds a token, unless one with its digest is there. It says whether it did.
+    /// Adds a token, unless one with its digest is stored. Returns whether it was added.
+    ///
+    /// # Errors
+    ///
+    /// `Refused` or `Memory`. The tables are unchanged, but a stop may still leave the change.
     pub fn add_token(&mut self, token: &NewToken<'_>) -> Result<bool, StoreFault>
-        ensures open { IsHonest S.Store self.new → Stands S.Store self.old → OnOk result (IsOpen S.Store self.old) }
-        ensures answer { IsHonest S.Store self.new → Stands S.Store self.old → IfOk result (λ added. has_token token.now.digest.now (shown S.Store self.old) ≡ not added) }
-        ensures ok { OnOk result (Moves S.Store (after_add (asked_token token.now)) self.old self.new) }
-        ensures durable { Stands S.Store self.old → OnOk result (IsDurable S.Store self.new) }
-        ensures err { OnErr result (Moves S.Store (λ t. t) self.old self.new) }
-        ensures stop { Stands S.Store self.old → Adds S.Store (after_add (asked_token token.now)) self.old self.new }
+        ensures { Changes S.Store self.old self.new result (after_add (asked_token token.now))
+            (λ t added. has_token token.now.digest.now t ≡ not added) }
     {
         add(&mut self.conn, token)
     }
 
-    /// Removes the tokens that have expired at this moment, and says how many there were.
+    /// Removes the tokens that have expired at this moment, in seconds since 1970, and returns their number.
+    ///
+    /// # Errors
+    ///
+    /// `Refused` or `Memory`. The tables are unchanged, but a stop may still leave the change.
     pub fn remove_expired(&mut self, moment: i64) -> Result<usize, StoreFault>
-        ensures open { IsHonest S.Store self.new → Stands S.Store self.old → OnOk result (IsOpen S.Store self.old) }
-        ensures answer { IsHonest S.Store self.new → Stands S.Store self.old → IfOk result (λ n. n ≡ length (filter (has_expired moment) (shown S.Store self.old).tokens)) }
-        ensures ok { OnOk result (Moves S.Store (without_expired moment) self.old self.new) }
-        ensures durable { Stands S.Store self.old → OnOk result (IsDurable S.Store self.new) }
-        ensures err { OnErr result (Moves S.Store (λ t. t) self.old self.new) }
-        ensures stop { Stands S.Store self.old → Adds S.Store (without_expired moment) self.old self.new }
+        ensures { Changes S.Store self.old self.new result (without_expired moment)
+            (λ t n. n ≡ length (filter (has_expired moment) t.tokens)) }
     {
         remove_expired(&mut self.conn, moment)
     }

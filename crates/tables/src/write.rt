@@ -1,52 +1,46 @@
-//! Writing statements, inside a transaction, and its commit.
+//! Runs writing statements inside a transaction, and commits it.
 
-ghost use Rattle.std.specs.Prelude.{◌≡◌, ◌≢◌, false, IfOk, OnOk, OnErr, IsTrue};
+ghost use Rattle.std.specs.Prelude.{◌≡◌, IfOk};
 ghost use Rattle.sqlite.specs.Values.{bound};
-ghost use Rattle.sqlite.specs.State.{HasCleanDisk, Survives, KeepsCommit, Shows, IsRolledBack};
-ghost use Rattle.sqlite.specs.Held.{state};
-ghost use Rattle.tables.specs.Statements.{Write, write_text, write_params};
-ghost use Rattle.tables.specs.Runs.{IsReady, IsWritten};
+ghost use Rattle.tables.specs.Statements.{Write, HasRemoved, write_text, write_params, after};
+ghost use Rattle.typed_rows.specs.Transactions.{Inside};
+ghost use Rattle.tables.specs.Calls.{MakesStep, Says, Finishes};
 
 use crate::fault::StoreFault;
 use sqlite::{Alter, Error, Transaction};
 use sqlite_value::value::ValueRef;
 
-/// Runs one writing statement, and says how many rows it wrote or took away.
+/// Runs one writing statement, and returns the number of rows written or removed.
 pub(crate) fn change<S: Alter>(
     tx: &mut Transaction<'_, S>,
     sql: &str,
     params: &[ValueRef<'_>],
 ) -> Result<usize, Error>
     ensures same_reference { tx.new.conn.ghost_name ≡ tx.old.conn.ghost_name }
-    ensures ok { HasCleanDisk (state S.Store tx.new.conn.now) → IsTrue tx.old.conn.now.in_transaction → IsReady (state S.Store tx.old.conn.now) → (w : Write) → sql.now ≡ write_text w → bound params.now ≡ write_params w
-        → IfOk result (λ count. IsWritten w count (state S.Store tx.old.conn.now) (state S.Store tx.new.conn.now)) }
-    ensures kept { HasCleanDisk (state S.Store tx.new.conn.now) → IsTrue tx.old.conn.now.in_transaction → KeepsCommit (state S.Store tx.old.conn.now) (state S.Store tx.new.conn.now) }
-    ensures inside { HasCleanDisk (state S.Store tx.new.conn.now) → IsTrue tx.old.conn.now.in_transaction → OnOk result (IsTrue tx.new.conn.now.in_transaction) }
-    ensures survives { Survives (state S.Store tx.old.conn.now) (state S.Store tx.new.conn.now) (λ _. ⊥) }
+    ensures ok { (w : Write) → sql.now ≡ write_text w → bound params.now ≡ write_params w
+        → MakesStep S.Store tx.old.conn.now tx.new.conn.now result (after w) }
+    ensures count { (w : Write) → sql.now ≡ write_text w → bound params.now ≡ write_params w
+        → Says S.Store tx.old.conn.now tx.new.conn.now result (HasRemoved w) }
+    ensures within { Inside S.Store tx.old.conn.now tx.new.conn.now result }
 {
     tx.execute(sql, params)
 }
 
-/// Commits, and tells a failure in this crate's words.
+/// Commits, and reports a failure as a fault of this crate.
 pub(crate) fn finish<S: Alter>(tx: Transaction<'_, S>) -> Result<(), StoreFault>
-    ensures ok { HasCleanDisk (state S.Store tx.exit.0.now) → OnOk result (Shows (state S.Store tx.entry.conn.now) (state S.Store tx.exit.0.now) (state S.Store tx.entry.conn.now).now (state S.Store tx.entry.conn.now).now false) }
-    ensures err { HasCleanDisk (state S.Store tx.exit.0.now) → IsTrue (state S.Store tx.entry.conn.now).in_transaction → OnErr result (IsRolledBack (state S.Store tx.entry.conn.now) (state S.Store tx.exit.0.now)) }
-    ensures known { result ≢ Err StoreFault.UnknownSchema }
-    ensures survives { Survives (state S.Store tx.entry.conn.now) (state S.Store tx.exit.0.now) (λ db. db ≡ (state S.Store tx.entry.conn.now).now.trees) }
+    ensures { Finishes S.Store tx.entry.conn.now tx.exit.0.now result }
 {
     tx.commit()?;
     Ok(())
 }
 
-/// The same, and answers the value.
+/// The same, and returns the value.
 pub(crate) fn finish_with<S: Alter, T: Drop>(
     tx: Transaction<'_, S>,
     answer: T,
 ) -> Result<T, StoreFault>
     ensures answer { IfOk result (λ x. x ≡ answer) }
-    ensures ok { HasCleanDisk (state S.Store tx.exit.0.now) → OnOk result (Shows (state S.Store tx.entry.conn.now) (state S.Store tx.exit.0.now) (state S.Store tx.entry.conn.now).now (state S.Store tx.entry.conn.now).now false) }
-    ensures err { HasCleanDisk (state S.Store tx.exit.0.now) → IsTrue (state S.Store tx.entry.conn.now).in_transaction → OnErr result (IsRolledBack (state S.Store tx.entry.conn.now) (state S.Store tx.exit.0.now)) }
-    ensures survives { Survives (state S.Store tx.entry.conn.now) (state S.Store tx.exit.0.now) (λ db. db ≡ (state S.Store tx.entry.conn.now).now.trees) }
+    ensures finishes { Finishes S.Store tx.entry.conn.now tx.exit.0.now result }
 {
     finish(tx)?;
     Ok(answer)

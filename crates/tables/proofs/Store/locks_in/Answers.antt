@@ -1,14 +1,14 @@
 use Rattle.std.proofs.Common.{filter, refl, ◌∙◌}
-use Rattle.tables.specs.Statements.{locks_in, read_text, read_params, answer, is_in, by_id}
+use Rattle.tables.specs.Statements.{locks_in, is_in, by_id, reading}
 use Rattle.tables.specs.Shown.{shown}
-use Rattle.tables.proofs.Found.{always}
+use Rattle.typed_rows.proofs.Found.{with_fact}
+use Rattle.tables.proofs.Stores.{looks_reads}
 use Rattle.tables.proofs.Store.locks_in.Goals as goal
 
-pub returns-clause-answer : goal.returns-clause-answer
-unfolding read_text read_params answer
-returns-clause-answer g c clean stands =
-    c.all_locks.ensures (by_id (filter (is_in c.args.repo.now) (shown g.S.Store c.args.self.now).locks)) (c.as_slice.ensures.value ∙ c.in_ok-rows.ensures.rows clean stands (locks_in c.args.repo.now) refl (rw c.params-to_sql.ensures))
-
-pub returns-clause-open : goal.returns-clause-open
-unfolding read_text
-returns-clause-open g c clean stands = always _ (c.in_ok-rows.ensures.open clean stands (locks_in c.args.repo.now) refl) c.all_locks.result
+pub returns : goal.returns
+unfolding reading
+returns g c =
+    looks_reads g.S.Store _ _ _ c.all_locks.result _ _ c.in_ok-rows.ensures
+    (λ clean stands.
+    let it = c.in_ok-rows.ensures.answers clean stands in
+    with_fact _ _ c.all_locks.result it.0 (c.all_locks.ensures.value (by_id (filter (is_in c.args.repo.now) (shown g.S.Store c.args.self.now).locks)) (c.as_slice.ensures.value ∙ it.1 (locks_in c.args.repo.now) refl (rw c.params-to_sql.ensures)))) c.all_locks.ensures.known

@@ -1,19 +1,21 @@
-use Rattle.std.proofs.Common.{filter, slice_get, refl, ap, ◌∙◌}
+use Rattle.std.proofs.Common.{filter, slice_get, refl, ap, ◌∙◌, rules}
 use Rattle.sqlite_keyed.proofs.ListLemmas.{slice_get-filter}
-use Rattle.tables.specs.Statements.{made_by, read_text, read_params, answer, is_named}
+use Rattle.tables.specs.Statements.{made_by, is_named, reading}
 use Rattle.tables.specs.Steps.{made_in}
 use Rattle.tables.specs.Shown.{shown}
+use Rattle.tables.proofs.Stores.{looks_reads}
 use Rattle.tables.proofs.Store.made.Goals as goal
 
-pub returns-clause-answer : goal.returns-clause-answer
-unfolding read_text read_params answer
-returns-clause-answer g c clean stands =
+pub returns : goal.returns
+unfolding reading
+returns g c =
     let passes = is_named c.args.repo.now in
     let repos = (shown g.S.Store c.args.self.now).repos in
-    c.made_so_far.ensures (slice_get (filter passes repos) 0)
-    (c.in_ok-first_count.ensures (filter passes repos) (c.as_slice.ensures.value ∙ c.in_ok-rows.ensures.rows clean stands (made_by c.args.repo.now) refl (rw c.params-to_sql.ensures)))
-    ∙ ap made_in (slice_get-filter passes repos)
-
-pub returns-clause-open : goal.returns-clause-open
-unfolding read_text
-returns-clause-open g c clean stands = c.in_ok-rows.ensures.open clean stands (made_by c.args.repo.now) refl
+    looks_reads g.S.Store _ _ _ _ _ _ c.in_ok-rows.ensures
+    (λ clean stands.
+    let it = c.in_ok-rows.ensures.answers clean stands in (
+      it.0,
+      c.made_so_far.ensures (slice_get (filter passes repos) 0)
+          (c.in_ok-first_count.ensures.value (filter passes repos) (c.as_slice.ensures.value ∙ it.1 (made_by c.args.repo.now) refl (rw c.params-to_sql.ensures)))
+          ∙ ap made_in (slice_get-filter passes repos),
+    )) (search rules)

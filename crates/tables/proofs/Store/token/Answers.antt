@@ -1,18 +1,17 @@
 use Rattle.std.proofs.Common.{filter, refl, ◌∙◌}
-use Rattle.tables.specs.Statements.{token, read_text, read_params, answer, has_digest}
+use Rattle.tables.specs.Statements.{token, has_digest, reading}
 use Rattle.tables.specs.Steps.{read_token, token_fields}
 use Rattle.tables.specs.Shown.{shown}
-use Rattle.tables.proofs.Found.{always, first_found}
+use Rattle.typed_rows.proofs.Found.{with_fact, first_found}
+use Rattle.tables.proofs.Stores.{looks_reads}
 use Rattle.tables.proofs.Store.token.Goals as goal
 
-pub returns-clause-answer : goal.returns-clause-answer
-unfolding read_text read_params answer
-returns-clause-answer g c clean stands =
+pub returns : goal.returns
+unfolding reading
+returns g c =
     let passes = has_digest c.args.digest.now in
     let tokens = (shown g.S.Store c.args.self.now).tokens in
-    first_found read_token token_fields passes tokens c.first_token.result
-    (c.first_token.ensures (filter passes tokens) (c.as_slice-2.ensures.value ∙ c.in_ok-rows.ensures.rows clean stands (token c.args.digest.now) refl (rw (c.params-to_sql.ensures, c.as_slice.ensures))))
-
-pub returns-clause-open : goal.returns-clause-open
-unfolding read_text
-returns-clause-open g c clean stands = always _ (c.in_ok-rows.ensures.open clean stands (token c.args.digest.now) refl) c.first_token.result
+    looks_reads g.S.Store _ _ _ c.first_token.result _ _ c.in_ok-rows.ensures
+    (λ clean stands.
+    let it = c.in_ok-rows.ensures.answers clean stands in
+    with_fact _ _ c.first_token.result it.0 (first_found read_token token_fields passes tokens c.first_token.result (c.first_token.ensures.value (filter passes tokens) (c.as_slice-2.ensures.value ∙ it.1 (token c.args.digest.now) refl (rw (c.params-to_sql.ensures, c.as_slice.ensures)))))) c.first_token.ensures.known

@@ -1,20 +1,24 @@
 use Rattle.std.proofs.Common.{filter, refl, ◌∙◌}
 use Rattle.sqlite.specs.Held.{state}
-use Rattle.tables.specs.Statements.{lock_at, read_text, read_params, answer, is_at}
+use Rattle.tables.specs.Statements.{lock_at, is_at, reading}
 use Rattle.tables.specs.Steps.{read_lock, lock_fields}
 use Rattle.tables.specs.Runs.{tables_in}
-use Rattle.tables.proofs.Found.{always, first_found}
+use Rattle.typed_rows.proofs.Found.{with_fact, first_found}
+use Rattle.tables.proofs.Calls.{does_on}
 use Rattle.tables.proofs.locks.held_in.Goals as goal
 
 pub returns-clause-value : goal.returns-clause-value
-unfolding read_text read_params answer
-returns-clause-value g c clean ready =
+unfolding reading
+returns-clause-value g c clean inside ready =
     let lock = c.args.lock.now in
     let passes = is_at lock.repo.now lock.ref_name.now lock.path.now in
     let locks = (tables_in (state g.S.Store c.args.tx.now.conn.now)).locks in
-    first_found read_lock lock_fields passes locks c.first_lock.result
-    (c.first_lock.ensures (filter passes locks) (c.as_slice.ensures.value ∙ c.in_ok-rows.ensures.rows clean ready (lock_at lock.repo.now lock.ref_name.now lock.path.now) refl (rw (c.params-to_sql.ensures, c.params-to_sql-2.ensures, c.params-to_sql-3.ensures))))
+    let it = c.in_ok-rows.ensures.rows clean inside ready in
+    with_fact _ _ c.first_lock.result it.0 (first_found read_lock lock_fields passes locks c.first_lock.result
+    (c.first_lock.ensures.value (filter passes locks) (c.as_slice.ensures.value ∙ it.1 (lock_at lock.repo.now lock.ref_name.now lock.path.now) refl (rw (c.params-to_sql.ensures, c.params-to_sql-2.ensures, c.params-to_sql-3.ensures)))))
 
-pub returns-clause-ok : goal.returns-clause-ok
-unfolding read_text
-returns-clause-ok g c clean inside ready = always _ (c.in_ok-rows.ensures.ok clean inside ready (lock_at c.args.lock.now.repo.now c.args.lock.now.ref_name.now c.args.lock.now.path.now) refl) c.first_lock.result
+pub returns-clause-does : goal.returns-clause-does
+unfolding reading
+returns-clause-does g c =
+    let lock = c.args.lock.now in
+    does_on g.S.Store c.args.tx.now.conn.now c.select.new.tx.conn.now c.first_lock.result (λ t. t) record { within = c.in_ok-rows.ensures.within; ok = c.in_ok-rows.ensures.same (lock_at lock.repo.now lock.ref_name.now lock.path.now) refl }

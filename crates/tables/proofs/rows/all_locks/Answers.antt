@@ -1,10 +1,10 @@
 use Rattle.std.proofs.Common.{rules}
 use Rattle.tables.specs.Statements.{show_lock}
 use Rattle.tables.specs.Steps.{lock_fields, read_lock}
-use Rattle.tables.proofs.Decoded.{one_more}
+use Rattle.typed_rows.proofs.Found.{one_more}
 use Rattle.tables.proofs.rows.all_locks.Goals as goal
 
 pub loop-row-preserved : goal.loop-row-preserved
 loop-row-preserved c locks all =
-    one_more show_lock lock_fields read_lock c.args.rows.now locks c.loop-row.row-index c.row-item.result c.in_ok-lock.lock c.loop-row.found.items c.push.new.self.items all c.loop-row-test.true c.row-item.is c.in_ok-lock.ensures
+    one_more show_lock lock_fields read_lock c.args.rows.now locks c.loop-row.row-index c.row-item.result c.in_ok-lock.lock c.loop-row.found.items c.push.new.self.items all c.loop-row-test.true c.row-item.is c.in_ok-lock.ensures.value
     (c.loop-row.invariant locks all) (search rules)

@@ -1,10 +1,10 @@
 use Rattle.std.proofs.Common.{rules}
 use Rattle.tables.specs.Statements.{show_token}
 use Rattle.tables.specs.Steps.{token_fields, read_token}
-use Rattle.tables.proofs.Decoded.{one_more}
+use Rattle.typed_rows.proofs.Found.{one_more}
 use Rattle.tables.proofs.rows.all_tokens.Goals as goal
 
 pub loop-row-preserved : goal.loop-row-preserved
 loop-row-preserved c tokens all =
-    one_more show_token token_fields read_token c.args.rows.now tokens c.loop-row.row-index c.row-item.result c.in_ok-token.token c.loop-row.found.items c.push.new.self.items all c.loop-row-test.true c.row-item.is c.in_ok-token.ensures
+    one_more show_token token_fields read_token c.args.rows.now tokens c.loop-row.row-index c.row-item.result c.in_ok-token.token c.loop-row.found.items c.push.new.self.items all c.loop-row-test.true c.row-item.is c.in_ok-token.ensures.value
     (c.loop-row.invariant tokens all) (search rules)

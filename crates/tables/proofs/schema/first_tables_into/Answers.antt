@@ -1,15 +1,15 @@
 use Rattle.std.proofs.Common.{arith, refl}
 use Rattle.sqlite.specs.Held.{state}
 use Rattle.sqlite.specs.State.{HasCleanDisk}
-use Rattle.tables.specs.Making.{meta, repos, tokens}
+use Rattle.tables.specs.Rows.{meta, repos, tokens}
 use Rattle.tables.proofs.Stages.{first_three}
 use Rattle.tables.proofs.schema.first_tables_into.Goals as goal
 
 pub returns-clause-ok : goal.returns-clause-ok
 returns-clause-ok g c clean inside =
-    let third : HasCleanDisk (state g.S.Store c.table_into-2.new.tx.conn.now) = omega (arith, clean, c.table_into-3.ensures.survives.clean) in
-    let second : HasCleanDisk (state g.S.Store c.table_into.new.tx.conn.now) = omega (arith, clean, c.table_into-3.ensures.survives.clean, c.table_into-2.ensures.survives.clean) in
-    let in_second = c.in_ok-table_into.ensures.inside second inside in
-    let in_third = c.in_ok-table_into-2.ensures.inside third in_second in
+    let third : HasCleanDisk (state g.S.Store c.table_into-2.new.tx.conn.now) = omega (arith, clean, c.table_into-3.ensures.within.survives.clean) in
+    let second : HasCleanDisk (state g.S.Store c.table_into.new.tx.conn.now) = omega (arith, clean, c.table_into-3.ensures.within.survives.clean, c.table_into-2.ensures.within.survives.clean) in
+    let in_second = c.in_ok-table_into.ensures.within.inside second inside in
+    let in_third = c.in_ok-table_into-2.ensures.within.inside third in_second in
     first_three (state g.S.Store c.args.tx.now.conn.now) (state g.S.Store c.table_into.new.tx.conn.now) (state g.S.Store c.table_into-2.new.tx.conn.now) (state g.S.Store c.table_into-3.new.tx.conn.now)
-    (c.in_ok-table_into.ensures.ok second inside meta refl) (c.in_ok-table_into-2.ensures.ok third in_second repos refl) (c.in_ok-table_into-3.ensures.ok clean in_third tokens refl)
+    (c.in_ok-table_into.ensures.ok meta refl second inside) (c.in_ok-table_into-2.ensures.ok repos refl third in_second) (c.in_ok-table_into-3.ensures.ok tokens refl clean in_third)

@@ -4,7 +4,7 @@ use Rattle.schemas.specs.Plain.{is_plain}
 use Rattle.tables.proofs.Stages.{custody_is_plain}
 use Rattle.tables.proofs.schema.is_ours.Goals as goal
 
--- memory is always clean
+-- the disk of a memory store is always clean
 clean : doubt true ≡ 0
 unfolding doubt
 clean = refl

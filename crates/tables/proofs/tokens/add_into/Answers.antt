@@ -1,20 +1,30 @@
-use Rattle.std.proofs.Common.{arith, ap, not, ◌∙◌}
+use Rattle.std.proofs.Common.{ap, not, ◌∙◌}
 use Rattle.sqlite.specs.Held.{state}
-use Rattle.sqlite.specs.State.{HasCleanDisk}
-use Rattle.tables.specs.Steps.{asked_token}
-use Rattle.tables.proofs.Calls.{ready_after}
-use Rattle.tables.proofs.Creating.{step_if_there, step_if_new}
+use Rattle.tables.specs.Statements.{with_token}
+use Rattle.tables.specs.Steps.{asked_token, after_add}
+use Rattle.tables.specs.Runs.{tables_in}
+use Rattle.typed_rows.proofs.Transactions.{clean_before}
+use Rattle.tables.proofs.Calls.{does_on, does_then, does_as}
+use Rattle.tables.proofs.Creating.{kept_if_there, added_if_new}
 use Rattle.tables.proofs.tokens.add_into.Goals as goal
 
-pub returns-then-not-branch-clause-ok : goal.returns-then-not-branch-clause-ok
-returns-then-not-branch-clause-ok g c clean inside ready =
-    step_if_there (asked_token c.args.token.now) (state g.S.Store c.args.tx.now.conn.now) (state g.S.Store c.is_free.new.tx.conn.now) (rw c.as_slice.ensures at (c.in_ok-is_free.ensures.value clean ready) ∙ ap not c.if-not-branch.true) (c.in_ok-is_free.ensures.ok clean inside ready)
+pub returns-then-not-branch-clause-does : goal.returns-then-not-branch-clause-does
+returns-then-not-branch-clause-does g c =
+    let token = asked_token c.args.token.now in
+    let begun = c.args.tx.now.conn.now in
+    let last = c.is_free.new.tx.conn.now in
+    does_as g.S.Store begun last _ (λ t. t) (after_add token)
+    (λ clean inside ready. kept_if_there token (tables_in (state g.S.Store begun)) (rw c.as_slice.ensures at ((c.in_ok-is_free.ensures.value clean inside ready).1) ∙ ap not c.if-not-branch.true))
+    (does_on g.S.Store begun last _ (λ t. t) c.in_ok-is_free.ensures.does)
 
-pub returns-clause-ok : goal.returns-clause-ok
-returns-clause-ok g c clean inside ready =
-    let old = state g.S.Store c.args.tx.now.conn.now in
-    let mid = state g.S.Store c.is_free.new.tx.conn.now in
-    let new = state g.S.Store c.token_into.new.tx.conn.now in
-    let clean_mid : HasCleanDisk mid = omega (arith, clean, c.token_into.ensures.survives.clean) in
-    let first = c.in_ok-is_free.ensures.ok clean_mid inside ready in
-    step_if_new (asked_token c.args.token.now) old mid new (rw c.as_slice.ensures at (c.in_ok-is_free.ensures.value clean_mid ready) ∙ ap not c.if-not-branch.false) first (c.in_ok-token_into.ensures.ok clean (c.in_ok-is_free.ensures.inside clean_mid inside) (ready_after (λ t. t) old mid first))
+pub returns-clause-does : goal.returns-clause-does
+returns-clause-does g c =
+    let token = asked_token c.args.token.now in
+    let begun = c.args.tx.now.conn.now in
+    let after = c.is_free.new.tx.conn.now in
+    let last = c.token_into.new.tx.conn.now in
+    does_as g.S.Store begun last _ (with_token token) (after_add token)
+    (λ clean inside ready.
+    let before = clean_before g.S.Store after last _ c.in_ok-token_into.ensures.does.within clean in
+    added_if_new token (tables_in (state g.S.Store begun)) (rw c.as_slice.ensures at ((c.in_ok-is_free.ensures.value before inside ready).1) ∙ ap not c.if-not-branch.false))
+    (does_then g.S.Store begun after last _ (λ t. t) (with_token token) c.in_ok-is_free.ensures.does (does_on g.S.Store after last _ (with_token token) c.in_ok-token_into.ensures.does))

@@ -1,16 +1,21 @@
 use Rattle.std.proofs.Common.{refl, rules}
 use Rattle.sqlite.specs.Held.{state}
-use Rattle.tables.specs.Statements.{token, read_text, read_params, answer, has_digest, show_token}
+use Rattle.tables.specs.Statements.{token, has_digest, show_token, reading}
 use Rattle.tables.specs.Runs.{tables_in}
-use Rattle.tables.proofs.Found.{none_shown}
+use Rattle.typed_rows.proofs.Found.{none_shown}
+use Rattle.tables.proofs.Calls.{does_on}
 use Rattle.tables.proofs.tokens.is_free.Goals as goal
 
 pub returns-clause-value : goal.returns-clause-value
-unfolding read_text read_params answer
-returns-clause-value g c clean ready =
-    none_shown show_token (has_digest c.args.digest.now) (tables_in (state g.S.Store c.args.tx.now.conn.now)).tokens c.in_ok-rows.rows.items c.is_empty.result
-    (c.in_ok-rows.ensures.rows clean ready (token c.args.digest.now) refl (rw c.params-to_sql.ensures)) (search rules)
+unfolding reading
+returns-clause-value g c clean inside ready =
+    let it = c.in_ok-rows.ensures.rows clean inside ready in (
+      it.0,
+      none_shown show_token (has_digest c.args.digest.now) (tables_in (state g.S.Store c.args.tx.now.conn.now)).tokens c.in_ok-rows.rows.items c.is_empty.result
+          (it.1 (token c.args.digest.now) refl (rw c.params-to_sql.ensures)) (search rules),
+    )
 
-pub returns-clause-ok : goal.returns-clause-ok
-unfolding read_text
-returns-clause-ok g c clean inside ready = c.in_ok-rows.ensures.ok clean inside ready (token c.args.digest.now) refl
+pub returns-clause-does : goal.returns-clause-does
+unfolding reading
+returns-clause-does g c =
+    does_on g.S.Store c.args.tx.now.conn.now c.select.new.tx.conn.now _ (λ t. t) record { within = c.in_ok-rows.ensures.within; ok = c.in_ok-rows.ensures.same (token c.args.digest.now) refl }

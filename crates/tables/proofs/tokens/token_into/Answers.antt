@@ -1,13 +1,13 @@
 use Rattle.std.proofs.Common.{refl, rules, w64}
 use Rattle.std.proofs.lemmas.Int.{to_z-of_z}
-use Rattle.std.proofs.lemmas.Result.{IfOk-weaker}
-use Rattle.tables.specs.Statements.{add_token, write_text, write_params, after}
+use Rattle.tables.specs.Statements.{add_token, writing}
 use Rattle.tables.specs.Steps.{asked_token}
 use Rattle.tables.proofs.tokens.token_into.Goals as goal
 
-pub returns-clause-ok : goal.returns-clause-ok
-unfolding write_text write_params after
-returns-clause-ok g c clean inside ready =
-    IfOk-weaker c.change.result _ _ (λ _ h. h.step)
-    (c.change.ensures.ok clean inside ready (add_token (asked_token c.args.token.now)) refl
-    (rw (c.params-to_sql.ensures, c.as_slice.ensures, c.params-to_sql-2.ensures, c.params-to_sql-3.ensures, c.params-to_sql-4.ensures, c.params-to_sql-5.ensures, to_z-of_z w64 c.code.result record { sfits = c.code.type_inv }, c.code.ensures, to_z-of_z w64 c.args.token.now.expires (search rules))))
+pub returns-clause-does : goal.returns-clause-does
+unfolding writing
+returns-clause-does g c = record {
+  within = c.change.ensures.within;
+  ok = c.change.ensures.ok (add_token (asked_token c.args.token.now)) refl
+      (rw (c.params-to_sql.ensures, c.as_slice.ensures, c.params-to_sql-2.ensures, c.params-to_sql-3.ensures, c.params-to_sql-4.ensures, c.params-to_sql-5.ensures, to_z-of_z w64 c.code.result record { sfits = c.code.type_inv }, c.code.ensures, to_z-of_z w64 c.args.token.now.expires (search rules)));
+}

@@ -1,0 +1,5 @@
+use Rattle.tables.proofs.Stores.{transacts_changes}
+use Rattle.tables.proofs.Store.create_lock.Goals as goal
+
+pub returns : goal.returns
+returns g c = transacts_changes g.S.Store _ _ _ c.create.result _ c.create.ensures

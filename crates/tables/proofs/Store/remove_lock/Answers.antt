@@ -1,0 +1,5 @@
+use Rattle.tables.proofs.Stores.{transacts_changes}
+use Rattle.tables.proofs.Store.remove_lock.Goals as goal
+
+pub returns : goal.returns
+returns g c = transacts_changes g.S.Store _ _ _ c.remove.result _ c.remove.ensures

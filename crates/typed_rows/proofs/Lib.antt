@@ -1,0 +1,10 @@
+pub mod Typed
+pub mod Casts
+pub mod Inserts
+pub mod Writes
+pub mod Creates
+pub mod Selects
+pub mod Columns
+pub mod Found
+pub mod Transactions
+pub mod Nothing
