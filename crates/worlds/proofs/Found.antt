@@ -1,4 +1,4 @@
--- What is found in a list, whatever its order.
+-- Lookups in a list, whatever its order.
 use Rattle.std.proofs.Common.{◌≡◌, suc, Bool, true, false, List, [], ◌∷◌, map, find, cond, Option, Some, None, option_map, IfSome, refl, sym, ap, ◌∙◌, All, AllPairs, IsPermutation, arith}
 use Rattle.std.specs.List.{AllByRecursion}
 use Rattle.std.proofs.lemmas.Bool.{true≢false, cond_both}
@@ -52,7 +52,7 @@ one_permuted {A = A} p x xs ys same only e =
     let only' : IsOnly p x ys = recursion_from_All P ys (All-permutation P xs ys same (All-from_recursion P xs only)) in
     some_found x (find p ys) (λ none. none-some x (sym (none_permuted p ys xs (IsPermutation-sym xs ys same) none) ∙ e)) (found_only p x ys only')
 
--- ---- at most one passes
+-- ---- at most one element passes
 
 pairs_tail : {A : Type 0} (R : A → A → Type 0) (x : A) (xs : List A) → AllPairs R (x ∷ xs) → AllPairs R xs
 pairs_tail R x xs all i j d below within = all (suc i) (suc j) d (omega arith) (omega arith)
@@ -60,7 +60,7 @@ pairs_tail R x xs all i j d below within = all (suc i) (suc j) d (omega arith) (
 pairs_head : {A : Type 0} (R : A → A → Type 0) (x : A) (xs : List A) → AllPairs R (x ∷ xs) → All (R x) xs
 pairs_head R x xs all k d within = all 0 (suc k) d (omega arith) (omega arith)
 
--- two that differ by R do not both pass
+-- two elements related by R do not both pass
 abbrev pub Excludes : {A : Type 0} → (A → Bool) → (A → A → Type 0) → Type 0
 Excludes {A} p R = (x y : A) → R x y → p x ≡ true → p y ≡ true → ⊥
 
@@ -95,7 +95,7 @@ found_as f g p xs ys (Some y) same e only =
     sym (find_map p f xs)
     ∙ one_permuted p (g y) (map g ys) (map f xs) (IsPermutation-sym (map f xs) (map g ys) same) (only_map g p y ys only) (find_map p g ys ∙ ap (option_map g) e)
 
--- what is found is the same, seen by f on one side and by g on the other
+-- lookups in two lists find the same, mapped by f on one side and by g on the other
 pub same_found : {A B C : Type 0} (f : A → C) (g : B → C) (p : C → Bool) (R : B → B → Type 0) (xs : List A) (ys : List B)
     → IsPermutation (map f xs) (map g ys) → Excludes (λ y. p (g y)) R → AllPairs R ys
     → option_map f (find (λ x. p (f x)) xs) ≡ option_map g (find (λ y. p (g y)) ys)

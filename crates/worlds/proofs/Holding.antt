@@ -1,4 +1,4 @@
--- What a store holds after a call.
+-- The world that a store holds after a call.
 use Rattle.std.proofs.Common.{◌≡◌, ℕ, pos, ◌+◌, sym, subst, ap, ◌∙◌, refl}
 use Rattle.sqlite_trees.specs.declared.store.Store.{Ghosts}
 use Rattle.model.specs.World.{World, Lock, with_lock}
@@ -12,7 +12,7 @@ use Rattle.worlds.specs.Standing.{StandsFor, Holds, lock_kept, lock_row}
 use Rattle.worlds.proofs.Changes.{new_lock_stands}
 
 module _ {S : Type 0} (g : Ghosts S) (old new : Store S) where
-  -- a call that leaves the tables leaves the world
+  -- a call that leaves the tables unchanged leaves the world unchanged
   pub holds_still : (world : World) → Moves g (λ t. t) old new → Holds g old world → Holds g new world
   holds_still world moves h = record {
     stands = moves.stands h.stands;
@@ -25,7 +25,7 @@ module _ {S : Type 0} (g : Ghosts S) (old new : Store S) where
   unfolding after_create
   unchanged asked t o e same = ap (λ p. after_outcome asked p t) (sym e) ∙ same
 
-  -- nor does a lock that is not made change it
+  -- a lock request on a locked path leaves the world unchanged
   pub holds_if_held : (world : World) (asked : row.Lock) (f : LockFields) → Moves g (after_create asked) old new
       → (IsHonest g new → held f ≡ outcome_of asked (shown g old)) → Holds g old world → Holds g new world
   holds_if_held world asked f moves e h = record {
@@ -50,7 +50,7 @@ module _ {S : Type 0} (g : Ghosts S) (old new : Store S) where
   unfolding after_create
   as_created asked t n e = ap (λ p. after_outcome asked p t) (sym e)
 
-  -- a lock that was made is there
+  -- the world has the lock that was made
   pub holds_created : (world : World) (asked : row.Lock) (n : ℕ) (l : Lock) → Moves g (after_create asked) old new
       → created (pos n) ≡ outcome_of asked (shown g old) → lock_kept (record asked { id = pos n }) ≡ lock_row l → asked.repo ≡ l.repo
       → n ≡ world.made l.repo + 1 → IsNewLock world l → Holds g old world → Holds g new (with_lock l world)

@@ -4,3 +4,6 @@ pub mod Changes
 pub mod Outcomes
 pub mod Holding
 pub mod Tokens
+pub mod Leading
+pub mod Same
+pub mod TakenUp

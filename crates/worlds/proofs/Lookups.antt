@@ -1,5 +1,5 @@
--- What the calls read of the tables, the world has.
-use Rattle.std.proofs.Common.{◌≡◌, ℕ, Bool, true, false, ◌&&◌, List, [], ◌∷◌, find, filter, cond, nat_lt, Option, Some, option_map, bytes_eq, refl, sym, ap, ◌∙◌}
+-- What the calls read from the tables is what the world has.
+use Rattle.std.proofs.Common.{◌≡◌, ℕ, Bool, true, ◌&&◌, List, [], ◌∷◌, find, filter, cond, nat_lt, Option, Some, option_map, bytes_eq, refl, sym, ap, ◌∙◌}
 use Rattle.std.proofs.lemmas.Map.Text.{is_eq-slice_cmp}
 use Rattle.std.proofs.lemmas.Slice.Eq.{bytes_eq-Decides}
 use Rattle.sha2.specs.Sha256.{sha256}
@@ -36,7 +36,7 @@ one_place repo ref path x y differ a b =
 abbrev pub lock_in : List ℕ → List ℕ → List ℕ → World → Option Lock
 lock_in repo ref path world = find (λ l. bytes_eq l.ref ref && bytes_eq l.path path) (locks_of repo world)
 
--- it is the one among all locks, in whatever order they are
+-- it is the same lock among all locks, whatever their order
 found_in : (world : World) (repo ref path : List ℕ) → IsWorld world → lock_in repo ref path world ≡ find (is_on repo ref path) world.locks
 found_in world repo ref path w =
     let on_place : Lock → Bool = λ l. bytes_eq l.ref ref && bytes_eq l.path path in

@@ -1,4 +1,4 @@
--- What comes of a lock that is asked for, in the tables and in the world.
+-- The result of a lock request, in the tables and in the world.
 use Rattle.std.proofs.Common.{◌≡◌, ◌+ℤ◌, ℕ, ◌+◌, ◌<◌, ◌≤◌, ℤ, pos, Bool, true, false, find, cond, Option, Some, None, option_map, refl, sym, ap, ◌∙◌, arith, ◌⊎◌, inl, inr, ◌≢◌, nat_lt}
 use Rattle.std.specs.Ordering.{int_eq}
 use Rattle.std.proofs.lemmas.Bool.{true≢false, cases_eq}
@@ -51,7 +51,7 @@ some_there o (Some k) l e same = (k, refl, some_same (sym (ap (option_map lock_k
     some_same e = cc
 some_there o None l e same = absurd (none-some (lock_kept l) (sym (sym (ap (option_map lock_kept) e) ∙ same)))
 
--- the greatest id is told from a lesser count
+-- a count below the greatest id
 below_last : (made : ℤ) (n : ℕ) → made ≡ pos n → n ≤ last_lock_id → int_eq made greatest_id ≡ false → n < last_lock_id
 below_last made n e within differ = at (cases_eq n last_lock_id)
   where
@@ -88,3 +88,9 @@ outcome_used t world asked s w e =
       none_there _ (lock_in asked.repo asked.ref_name asked.path world) by.0 (lock_found t world asked.repo asked.ref_name asked.path s w),
       all_made (made_of asked.repo t) (world.made asked.repo) (s.made asked.repo) by.1,
     )
+
+-- the id of the lock to be made
+pub outcome_number : (t : Tables) (world : World) (asked : row.Lock) (n : ℤ) → StandsFor t world → created n ≡ outcome_of asked t → n ≡ pos (world.made asked.repo + 1)
+outcome_number t world asked n s e =
+    let by = created_by (find (is_at asked.repo asked.ref_name asked.path) t.locks) (made_of asked.repo t) n e in
+    let count : n ≡ pos (world.made asked.repo) +ℤ pos 1 = by.2 ∙ ap (λ m. m +ℤ pos 1) (s.made asked.repo) in omega (arith, ints, count)

@@ -1,5 +1,5 @@
--- What a change of the tokens makes of the world.
-use Rattle.std.proofs.Common.{◌≡◌, ◌∙◌, ℕ, ℤ, pos, Bool, true, false, not, nat_lt, List, [], ◌∷◌, ◌++◌, map, find, filter, cond, Option, Some, None, option_map, is_some, length, refl, sym, ap, subst, IsPermutation, arith, ◌<◌, ◌≤◌, ◌<ℤ◌, ◌≤ℤ◌}
+-- The effect of a change of the tokens on the world.
+use Rattle.std.proofs.Common.{◌≡◌, ◌∙◌, ℕ, pos, Bool, true, false, not, nat_lt, List, [], ◌∷◌, map, find, filter, cond, Option, Some, None, option_map, is_some, length, refl, sym, ap, subst, IsPermutation, arith}
 use Rattle.std.specs.Prelude.{int_le}
 use Rattle.std.proofs.lemmas.Bool.Decides.{nat_tests}
 use Rattle.std.proofs.lemmas.List.{length-map}
@@ -14,24 +14,30 @@ use Rattle.tables.specs.Rows.{Tables}
 use Rattle.tables.specs.Statements.{has_digest, has_expired}
 use Rattle.tables.specs.Statements as tables
 use Rattle.tables.specs.Steps.{has_token, after_add}
-use Rattle.tables.specs.Shown.{IsHonest, IsOpen, shown, Moves}
+use Rattle.tables.specs.Shown.{shown, Moves}
 use Rattle.tables.specs.declared.Store.{Store}
 use Rattle.worlds.specs.Standing.{token_kept, token_row, StandsFor, Holds}
 use Rattle.worlds.proofs.Changes.{one_item_more}
 use Rattle.worlds.proofs.Lookups.{token_found}
 
--- ---- a token more
+-- ---- one more token
 
 new_token_stands : (t : Tables) (world : World) (k : row.Token) (i : Token) → StandsFor t world → token_kept k ≡ token_row i → StandsFor (tables.with_token k t) (with_token i world)
 unfolding tables.with_token
 new_token_stands t world k i s kept = record {
+  meta = s.meta;
   locks = s.locks;
   made = s.made;
+  used = s.used;
   tokens = one_item_more token_kept token_row t.tokens world.tokens _ i s.tokens kept;
   uploads = s.uploads;
   chunks = s.chunks;
   objects = s.objects;
 }
+
+after_adding : (k : row.Token) (t : Tables) → has_token k.digest t ≡ false → after_add k t ≡ tables.with_token k t
+unfolding after_add
+after_adding k t e = rw e refl
 
 pub some_alike : {A B C : Type 0} (f : A → C) (g : B → C) (o : Option A) (p : Option B) → option_map f o ≡ option_map g p → is_some o ≡ is_some p
 some_alike f g None None e = refl
@@ -39,7 +45,7 @@ some_alike f g (Some x) (Some y) e = refl
 some_alike f g None (Some y) e = absurd (cc)
 some_alike f g (Some x) None e = absurd (cc)
 
--- a token with the digest is in the tables where one was issued under it
+-- a token with the digest is in the tables if and only if one was issued under it
 pub token_known : (t : Tables) (world : World) (text : List ℕ) → StandsFor t world → IsWorld world → has_token (sha256 text) t ≡ is_some (find_token text world)
 token_known t world text s w = some_alike token_kept token_row (find (has_digest (sha256 text)) t.tokens) (find_token text world) (token_found t world text s w)
 
@@ -51,9 +57,16 @@ pub some_is : {A : Type 0} (o : Option A) → is_some o ≡ true → (x : A) × 
 some_is (Some x) e = (x, refl)
 some_is None e = absurd (cc)
 
--- ---- fewer tokens
+-- the world with a token to be issued is a world, and the tables with the row of that token represent it
+pub would_add : (t : Tables) (world : World) (k : row.Token) (i : Token) → StandsFor t world → IsWorld world → token_kept k ≡ token_row i → IsToken i → find_token i.text world ≡ None
+    → IsWorld (with_token i world) × StandsFor (after_add k t) (with_token i world)
+would_add t world k i s w kept is none =
+    let free : has_token k.digest t ≡ false = ap (λ (r : row.Token). has_token r.digest t) kept ∙ token_known t world i.text s w ∙ ap is_some none in
+    (keeps_with_token world i is none w, subst (λ (u : Tables). StandsFor u (with_token i world)) (sym (after_adding k t free)) (new_token_stands t world k i s kept))
 
--- tests that agree keep the same items
+-- ---- expired tokens removed
+
+-- equivalent tests keep the same items
 pub filter_alike : {A : Type 0} (p q : A → Bool) (xs : List A) → ((x : A) → p x ≡ q x) → filter p xs ≡ filter q xs
 filter_alike p q [] same = refl
 filter_alike p q (x ∷ xs) same = rw (same x) (ap (λ rest. cond (q x) (x ∷ rest) rest) (filter_alike p q xs same))
@@ -67,14 +80,16 @@ is_good now expires = grind (arith, nat_tests)
 is_gone : (now expires : ℕ) → int_le (pos expires) (pos now) ≡ not (nat_lt now expires)
 is_gone now expires = grind (arith, nat_tests)
 
-expired_gone : (t : Tables) (world : World) (now : ℕ) → StandsFor t world → StandsFor (tables.without_expired (pos now) t) (without_expired now world)
+pub expired_gone : (t : Tables) (world : World) (now : ℕ) → StandsFor t world → StandsFor (tables.without_expired (pos now) t) (without_expired now world)
 unfolding tables.without_expired stays
 expired_gone t world now s =
     let P : List row.Token → Type 0 = λ ks. IsPermutation ks (map token_row (filter (λ i. nat_lt now i.expires) world.tokens)) in
     let Q : List row.Token → Type 0 = λ ks. IsPermutation (filter (stays now) (map token_kept t.tokens)) ks in
     record {
+      meta = s.meta;
       locks = s.locks;
       made = s.made;
+      used = s.used;
       tokens = subst P (filter-map (stays now) token_kept t.tokens)
           (subst Q (filter-map (stays now) token_row world.tokens ∙ ap (map token_row) (filter_alike (λ i. stays now (token_row i)) (λ i. nat_lt now i.expires) world.tokens (λ i. is_good now i.expires)))
           (IsPermutation-filter (stays now) (map token_kept t.tokens) (map token_row world.tokens) s.tokens));
@@ -83,7 +98,7 @@ expired_gone t world now s =
       objects = s.objects;
     }
 
--- as many tokens have expired in the tables as in the world
+-- the tables have as many expired tokens as the world
 pub expired_counted : (t : Tables) (world : World) (now : ℕ) → StandsFor t world → length (filter (has_expired (pos now)) t.tokens) ≡ length (filter (λ i. not (nat_lt now i.expires)) world.tokens)
 expired_counted t world now s =
     let gone : row.Token → Bool = has_expired (pos now) in
@@ -94,7 +109,7 @@ expired_counted t world now s =
     ∙ ap length (filter-map gone token_row world.tokens) ∙ length-map (filter (λ i. gone (token_row i)) world.tokens) token_row
     ∙ ap length (filter_alike (λ i. gone (token_row i)) (λ i. not (nat_lt now i.expires)) world.tokens (λ i. is_gone now i.expires))
 
--- ---- what a store holds after a call
+-- ---- the world that a store holds after a call
 
 module _ {S : Type 0} (g : Ghosts S) (old new : Store S) (world : World) where
   added : (k : row.Token) (t : Tables) → has_token k.digest t ≡ false → after_add k t ≡ tables.with_token k t
@@ -116,7 +131,7 @@ module _ {S : Type 0} (g : Ghosts S) (old new : Store S) (world : World) where
         (new_token_stands (shown g old) world k i (h.shows (moves.was_honest honest) (moves.was_open honest open_now)) kept);
   }
 
-  -- one that is there already changes nothing
+  -- a token that is already stored changes nothing
   pub holds_if_known : (k : row.Token) → Moves g (after_add k) old new → has_token k.digest (shown g old) ≡ true → Holds g old world → Holds g new world
   holds_if_known k moves there h = record {
     stands = moves.stands h.stands;
@@ -126,7 +141,7 @@ module _ {S : Type 0} (g : Ghosts S) (old new : Store S) (world : World) where
         (h.shows (moves.was_honest honest) (moves.was_open honest open_now));
   }
 
-  -- tokens that have expired are gone
+  -- expired tokens are removed
   pub holds_pruned : (now : ℕ) → Moves g (tables.without_expired (pos now)) old new → Holds g old world → Holds g new (without_expired now world)
   holds_pruned now moves h = record {
     stands = moves.stands h.stands;

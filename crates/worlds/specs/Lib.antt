@@ -1,1 +1,3 @@
 pub mod Standing
+pub mod Left
+pub mod Opening

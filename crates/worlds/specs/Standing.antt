@@ -1,17 +1,18 @@
--- Which worlds the tables stand for.
-use Rattle.std.specs.Prelude.{◌≡◌, ℕ, ℤ, pos, List, [], map, IsPermutation}
+-- The worlds that tables represent.
+use Rattle.std.specs.Prelude.{◌≡◌, ℕ, ℤ, pos, List, [], ◌∷◌, map, IsPermutation}
 use Rattle.sha2.specs.Sha256.{sha256}
 use Rattle.sqlite_trees.specs.declared.store.Store.{Ghosts}
 use Rattle.model.specs.declared.Operation.{Operation}
 use Rattle.model.specs.declared.Operation.TheVariants.{Download, Upload}
-use Rattle.model.specs.World.{World, IsWorld, Lock, Token}
+use Rattle.model.specs.World.{World, IsWorld, Lock, Token, total}
 use Rattle.tables.specs.Rows as row
 use Rattle.tables.specs.Rows.{Tables}
-use Rattle.tables.specs.Steps.{made_of}
+use Rattle.tables.specs.Runs.{first_meta}
+use Rattle.tables.specs.Steps.{made_of, used_of}
 use Rattle.tables.specs.Shown.{IsHonest, IsOpen, Stands, shown}
 use Rattle.tables.specs.declared.Store.{Store}
 
--- a row of the table, wherever it stands there
+-- a row of the table, without its place in the table
 abbrev pub lock_kept : row.Lock → row.Lock
 lock_kept l = record l { rowid = pos 0 }
 
@@ -26,20 +27,23 @@ abbrev pub operation_code : Operation → ℤ
 operation_code Download = pos 1
 operation_code Upload = pos 2
 
--- the row of an issued token, of which the digest alone is kept
+-- the row of an issued token, which stores only the digest
 abbrev pub token_row : Token → row.Token
 token_row t = record { rowid = pos 0; digest = sha256 t.text; user = t.user; repo = t.repo; op = operation_code t.operation; expires = pos t.expires }
 
--- the rows are those of the world's locks and tokens, in any order, and of no object
+-- the rows are those of the world's locks and tokens, in any order; there are no objects, uploads or chunks; each
+-- repository has its counts
 pub record StandsFor (t : Tables) (world : World) : Type 0 where
+  pub meta : t.meta ≡ first_meta ∷ []
   pub locks : IsPermutation (map lock_kept t.locks) (map lock_row world.locks)
   pub made : (repo : List ℕ) → made_of repo t ≡ pos (world.made repo)
+  pub used : (repo : List ℕ) → used_of repo t ≡ pos (total repo world)
   pub tokens : IsPermutation (map token_kept t.tokens) (map token_row world.tokens)
   pub uploads : t.uploads ≡ []
   pub chunks : t.chunks ≡ []
   pub objects : world.objects ≡ []
 
--- the store holds the world: while the disk is honest and the store open, its tables stand for it
+-- the store holds the world: while the disk is honest and the store open, its tables represent it
 pub record Holds {S : Type 0} (g : Ghosts S) (s : Store S) (world : World) : Type 0 where
   pub stands : Stands g s
   pub laws : IsWorld world

@@ -1,0 +1,15 @@
+use Rattle.std.proofs.Common.{sym, subst}
+use Rattle.std.proofs.Math.Logic.{∥∥₁_map}
+use Rattle.sqlite_trees.specs.Tree.{Trees}
+use Rattle.worlds.specs.Opening.{AreAmong}
+use Rattle.worlds.proofs.TakenUp.{finds_nothing}
+use Rattle.worlds.proofs.opening.open_from.Goals as goal
+
+pub returns-clause-empty : goal.returns-clause-empty
+returns-clause-empty g c none honest =
+    c.in_ok-start.ensures.empty honest (finds_nothing _ _ none (c.in_ok-store.ensures.found (c.in_ok-start.ensures.honest honest)).reads)
+
+pub returns-clause-again : goal.returns-clause-again
+returns-clause-again g c bound held honest =
+    let was = c.in_ok-start.ensures.honest honest in
+    ∥∥₁_map held (λ db. c.in_ok-start.ensures.again honest bound (subst (λ (t : Trees). AreAmong t bound) (sym ((c.in_ok-store.ensures.found was).holds db.0 db.1)) db.2))
