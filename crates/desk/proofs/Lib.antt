@@ -2,3 +2,4 @@ pub mod Placing
 pub mod Making
 pub mod Admitting
 pub mod Verdicts
+pub mod Apart

@@ -1,5 +1,6 @@
--- The way of a request through the definitions.
-use Rattle.std.proofs.Common.{◌≡◌, ◌∙◌, ℕ, not, ◌||◌, List, Result, Ok, Err, bytes_eq, string_bytes, refl, sym, ap, ap₂, subst}
+-- How the model decides a request, step by step.
+use Rattle.std.proofs.Common.{◌≡◌, ◌∙◌, ℕ, not, ◌||◌, List, Some, Result, Ok, Err, bytes_eq, string_bytes, refl, sym, ap, ap₂, subst}
+use Rattle.std.specs.Prelude.{IsErrAnd}
 use Rattle.std.specs.Bool.{⊤}
 use Rattle.sqlite_trees.specs.declared.store.Store.{Ghosts}
 use Rattle.names.specs.declared.rules.Rule.{Rule}
@@ -12,15 +13,17 @@ use Rattle.model.specs.declared.Right.TheVariants as right
 use Rattle.model.specs.Reading.{◌>>=◌, check, ok_or}
 use Rattle.model.specs.World as kept
 use Rattle.model.specs.World.{World}
-use Rattle.model.specs.Policy.{Policy, Repo, Question, repo_named}
+use Rattle.model.specs.Policy.{Policy, Repo, Question, allowed, denied, decide, repo_named}
 use Rattle.model.specs.Forms.{Request, needs_upload, is_upload}
 use Rattle.model.specs.Callers as model
 use Rattle.model.specs.Callers.{caller_by, lock_question}
 use Rattle.model.specs.Cases.{Setting, DeskRequest, case_in}
-use Rattle.model.specs.Answers.{Answer, Denial, Plan, by_rule, by_rules, permit}
+use Rattle.model.specs.Answers.{Answer, Denial, Plan, by_rule, by_row, by_rules, permit, store_refusal}
 use Rattle.model.specs.Locks.{lock_verdict, new_lock}
 use Rattle.model.specs.Objects.{finish}
 use Rattle.model.specs.Verdict.{plan_to, plan_for, caller_plan, desk_verdict}
+use Rattle.model.specs.Steps.{after}
+use Rattle.model.specs.Bounds.{failed, left_by, answer_ending}
 use Rattle.policy.specs.Values.{repo_view}
 use Rattle.policy.specs.declared.repos.Repo as policy_repo
 use Rattle.forms.specs.Requests.{lock_asked}
@@ -29,17 +32,20 @@ use Rattle.tables.specs.Steps.{code_of}
 use Rattle.tables.specs.declared.rows.Operation as row_operation
 use Rattle.tables.specs.declared.rows.Operation.TheVariants.{Download, Upload}
 use Rattle.tables.specs.declared.Store.{Store}
-use Rattle.worlds.specs.Standing.{Holds, operation_code}
+use Rattle.tables.specs.declared.fault.StoreFault.{StoreFault}
+use Rattle.worlds.specs.Standing.{operation_code}
+use Rattle.worlds.specs.Left.{Leads, Gives}
+use Rattle.worlds.proofs.Leading.{ends_still, denial_changes_none, still_then}
 use Rattle.tokens.specs.Callers.{IsHolder}
 use Rattle.tokens.specs.declared.callers.Caller.{Caller}
-use Rattle.desk.specs.Done.{IsDone}
+use Rattle.desk.specs.Done.{Answers, given_by}
 use Rattle.desk.specs.Told.{IsReplyOf}
 use Rattle.desk.specs.declared.replies.Reply.{Reply}
 use Rattle.desk.specs.Admission.{admitted, case_verdict, caller_verdict, is_for_upload}
 use Rattle.desk.specs.Locking.{IsWantedBy, lock_wanted, question_on, placed_verdict, allowed_verdict}
 use Rattle.desk.specs.declared.locking.Wanted.{Wanted}
 
--- checks by rules, one after the other, are a check by the first of them that fails
+-- successive checks by rules are one check by the first of them that fails
 checks_joined : (own : Result ⊤ Rule) (repo : Result Repo Rule) (asked : Result Request Rule) (covered : Request → Result ⊤ Rule) (f : Repo → Request → Result Plan Denial)
     → (by_rules own >>= λ _. by_rules repo >>= λ r. by_rules asked >>= λ q. by_rules (covered q) >>= λ _. f r q)
     ≡ (by_rules (own >>= λ _. repo >>= λ r. asked >>= λ q. covered q >>= λ _. Ok (r, q)) >>= λ (taken : Repo × Request). f taken.0 taken.1)
@@ -53,11 +59,11 @@ checks_joined (Ok x) (Ok r) (Ok q) covered f = at (covered q)
     at (Ok y) = refl
 
 module _ (world : World) (setting : Setting) (asked : DeskRequest) (body : List ℕ) where
-  -- the verdict where a token bears a caller
+  -- the verdict if a token identifies a caller
   pub held_by : (who : model.Caller) → caller_by world setting.now asked.bearers ≡ Ok who → desk_verdict world setting asked body ≡ caller_verdict world setting who asked body
   held_by who is = rw is refl
 
-  -- and where it bears none
+  -- the verdict if no token does
   pub held_by_none : (r : Rule) → caller_by world setting.now asked.bearers ≡ Err r → desk_verdict world setting asked body ≡ Err (by_rule r)
   held_by_none r is = rw is refl
 
@@ -73,7 +79,7 @@ module _ (world : World) (setting : Setting) (asked : DeskRequest) (body : List 
         checks_joined (check (bytes_eq who.repo asked.repo) rule.A4) (ok_or (repo_named asked.repo setting.policy) rule.R1) asked.request
         (λ request. check (not (needs_upload request) || is_upload who.operation) rule.A5) (λ repo request. plan_for (case_in world setting who repo) asked.left request)
 
-    -- the verdict on a request that is refused before the state is asked
+    -- the verdict on a request that is refused before the state is read
     pub not_taken : (r : Rule) → admits ≡ Err r → caller_verdict world setting who asked body ≡ Err (by_rule r)
     unfolding finished
     not_taken r is = ap finished by_admission ∙ rw is refl
@@ -88,12 +94,12 @@ covers Upload model_operation.Upload e = refl
 covers Download model_operation.Upload e = absurd (cc)
 covers Upload model_operation.Download e = absurd (cc)
 
--- what is admitted for the caller is what is admitted for the caller of the definitions
+-- for a caller, the code and the model admit the same requests
 pub admitted_alike : (policy : Policy) (c : Caller) (who : model.Caller) (repo_asked : List ℕ) (asked : Result Request Rule) → IsHolder c who
     → admitted policy (string_bytes c.repo) (is_for_upload c.operation) repo_asked asked ≡ admitted policy who.repo (is_upload who.operation) repo_asked asked
 admitted_alike policy c who repo_asked asked h = ap₂ (λ own covered. admitted policy own covered repo_asked asked) h.repo (covers c.operation who.operation h.operation)
 
--- what is wanted is what the definitions have of the request
+-- the attempt that the code makes is the lock that the model's request asks for
 pub verdict_alike : (world : World) (setting : Setting) (who : model.Caller) (r : policy_repo.Repo) (user : UserName) (asked : LockRequest) (w : Wanted)
     → user_text user ≡ who.user → IsWantedBy r user setting.now asked w
     → allowed_verdict world setting.policy w ≡ lock_verdict (case_in world setting who (repo_view r)) (lock_asked asked)
@@ -105,11 +111,46 @@ verdict_alike world setting who r user asked w is_user is = ap₂ (λ (q : Quest
     question : question_on w ≡ lock_question right.Lock who.user (new_lock (case_in world setting who (repo_view r)) (lock_asked asked))
     question = rw (is.repo, is.ref, is.path, is.owner, is_user) refl
 
--- the answer to a lock that is allowed needs no content
+-- the answer to an allowed lock needs no content
 pub lock_finished : (world : World) (repo body : List ℕ) (answer : Answer) → (plan_to answer >>= λ plan. finish world repo body plan) ≡ answer
 lock_finished world repo body (Ok grant) = refl
 lock_finished world repo body (Err denial) = refl
 
--- a request that a rule refuses leaves the world
-pub refused_done : {S : Type 0} (g : Ghosts S) (new : Store S) (world : World) (given : Answer) (r : Rule) (reply : Reply) → given ≡ Err (by_rule r) → IsReplyOf reply (Err (by_rule r)) → Holds g new world → IsDone g new world given reply
-refused_done g new world given r reply is told holds = subst (λ (v : Answer). IsDone g new world v reply) (sym is) (record { tells = told; holds = holds })
+-- ---- answers, as they are given
+
+module _ {S : Type 0} (g : Ghosts S) (old new : Store S) (world : World) (given : Answer) where
+  -- a denied request leaves the world unchanged
+  pub denied_done : (denial : Denial) (reply : Reply) → given ≡ Err denial → IsReplyOf reply (Err denial) → Leads g old new world (λ bound. bound) → Answers g old new world given (Ok reply)
+  denied_done denial reply is shows p = subst (λ (v : Answer). Answers g old new world v (Ok reply)) (sym is) (record {
+    shows = shows;
+    gives = ends_still g old new (answer_ending world (Some (Err denial))) world world (denial_changes_none g world denial) p;
+  })
+
+  -- a refusal of the inner call is passed on as a refusal
+  pub passed_on : (P : StoreFault → Type 0) (r : Result Reply StoreFault) → IsErrAnd r P → Gives g old new world given store_refusal → Answers g old new world given r
+  passed_on P (Ok reply) is p = absurd is
+  passed_on P (Err fault) is p = record { shows = tt; gives = p }
+
+  -- the store refused or memory ran out before anything was tried
+  pub refused_done : (fault : StoreFault) → Leads g old new world (λ bound. bound) → Answers g old new world given (Err fault)
+  refused_done fault p = record { shows = tt; gives = ends_still g old new failed world (after world (Some given)) refl p }
+
+  pub refused_early : (P : StoreFault → Type 0) (r : Result Reply StoreFault) → IsErrAnd r P → Leads g old new world (λ bound. bound) → Answers g old new world given r
+  refused_early P r is p = passed_on P r is (ends_still g old new failed world (after world (Some given)) refl p)
+
+-- the result after calls that only read
+pub done_then : {S : Type 0} (g : Ghosts S) (old mid new : Store S) (world : World) (given : Answer) (r : Result Reply StoreFault) → Leads g old mid world (λ bound. bound)
+    → Answers g mid new world given r → Answers g old new world given r
+done_then g old mid new world given r p done = record {
+  shows = done.shows;
+  gives = still_then g old mid new world (after world (Some (given_by given r))) (left_by (answer_ending world (Some (given_by given r))) world (after world (Some given))) p done.gives;
+}
+
+-- ---- what the policy says of a lock
+
+-- if the policy allows the lock, its place decides
+pub allowed_is : (world : World) (policy : Policy) (w : Wanted) (n : ℕ) → allowed n ≡ decide policy (question_on w) → allowed_verdict world policy w ≡ placed_verdict world (lock_wanted world w)
+allowed_is world policy w n is = rw (← is) refl
+
+pub denied_is : (world : World) (policy : Policy) (w : Wanted) (n : ℕ) → denied n ≡ decide policy (question_on w) → allowed_verdict world policy w ≡ Err (by_row n right.Lock 403)
+denied_is world policy w n is = rw (← is) refl

@@ -1,4 +1,4 @@
--- Which requests are taken up.
+-- Which requests are admitted.
 use Rattle.std.specs.Prelude.{◌≡◌, ℕ, Bool, true, false, not, ◌||◌, List, Result, Ok, Err, bytes_eq}
 use Rattle.std.specs.Borrow.{Bor}
 use Rattle.names.specs.declared.rules.Rule.{Rule}
@@ -26,7 +26,7 @@ abbrev pub is_for_upload : Operation → Bool
 is_for_upload Upload = true
 is_for_upload Download = false
 
--- the repository and what is asked of it, for a token of this repository that covers uploads or not
+-- the repository and the request, for a token of this repository that covers uploads or not
 abbrev pub admitted : Policy → List ℕ → Bool → List ℕ → Result form.Request Rule → Result (model.Repo × form.Request) Rule
 admitted policy own covers_upload repo_asked asked = do
   is_own ← check (bytes_eq own repo_asked) A4
@@ -35,16 +35,16 @@ admitted policy own covers_upload repo_asked asked = do
   covered ← check (not (needs_upload request) || covers_upload) A5
   Ok (repo, request)
 
--- this is what is admitted, or the rule that refuses it
+-- the admitted request, or the rule that refuses it, as in the model
 abbrev pub Admits : Result (model.Repo × form.Request) Rule → Result (Bor Repo × Request) Rule → Type 0
 Admits given (Ok (repo, request)) = given ≡ Ok (repo_view repo.now, request_asked request)
 Admits given (Err rule) = given ≡ Err rule
 
--- the verdict on a request that is taken up
+-- the verdict on an admitted request
 abbrev pub case_verdict : World → Case → form.Request → DeskRequest → List ℕ → Answer
 case_verdict world c request asked body = plan_for c asked.left request >>= λ plan. finish world asked.repo body plan
 
--- the verdict on what a caller asks
+-- the verdict on a caller's request
 abbrev pub caller_verdict : World → Setting → caller.Caller → DeskRequest → List ℕ → Answer
 caller_verdict world setting who asked body =
     caller_plan world setting who asked >>= λ plan. finish world asked.repo body plan

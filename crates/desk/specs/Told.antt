@@ -1,4 +1,4 @@
--- A reply as the definitions see it.
+-- A reply, in the model's terms.
 use Rattle.std.specs.Prelude.{◌≡◌, ℕ, List, string_bytes}
 use Rattle.model.specs.Answers.{Answer, is_store_refusal}
 use Rattle.model.specs.Replies.{reply_of, json}
@@ -11,7 +11,7 @@ abbrev pub body_text : Body → List ℕ
 body_text (Made text) = string_bytes text
 body_text (Fixed text) = text.now
 
--- the reply tells this answer
+-- the reply shows this answer
 pub record IsReplyOf (reply : Reply) (given : Answer) : Type 0 where
   pub status : reply.status ≡ (reply_of given).status
   pub body : (reply_of given).body ≡ json (body_text reply.body)

@@ -1,4 +1,4 @@
-//! Which requests are taken up: by a token for the repository, in a repository that is there.
+//! Which requests are admitted: by a token for the repository, in a repository that exists.
 
 ghost use Rattle.std.specs.Prelude.{◌≡◌, not, IfOk, string_bytes};
 ghost use Rattle.model.specs.Forms.{needs_upload};
@@ -15,18 +15,18 @@ use std::alloc::{AllocError, Global};
 use tables::Operation;
 use tokens::Caller;
 
-/// A request in a repository, as its head and its body have it.
+/// A request in a repository, from its head and its body.
 #[derive(Clone, Copy, Debug)]
 pub struct Asked<'a> {
-    /// The value of `Authorization`, where the head has one.
+    /// The value of `Authorization`, if the head has that field.
     pub authorization: Option<&'a [u8]>,
     /// The repository's text in the target.
     pub repo: &'a str,
-    /// What the route and the method ask.
+    /// The request that the route and the method make.
     pub form: ServedForm,
-    /// The route's parameter, and empty where it has none.
+    /// The route's parameter; empty if the route has none.
     pub parameter: &'a str,
-    /// What stands behind the target's first question mark.
+    /// The part of the target after its first question mark.
     pub query: &'a str,
     /// The body.
     pub body: &'a [u8],
@@ -49,19 +49,21 @@ fn is_for_upload(operation: Operation) -> bool
     }
 }
 
-/// The repository and what is asked of it, or the first rule that refuses it: A4, R1, the J rules,
+/// Returns the repository and the request, or the first rule that refuses them: A4, R1, the J rules,
 /// A5.
 ///
 /// # Errors
 ///
-/// Only where memory refused.
+/// Fails only if memory runs out.
 pub(crate) fn admit<'a>(
     alloc: Global,
     policy: &'a Policy,
     caller: &Caller,
     asked: &Asked<'_>,
 ) -> Result<Result<(&'a Repo, Request), Rule>, AllocError>
-    ensures { IfOk result (Admits (admitted (policy_view policy.entry.now) (string_bytes caller.entry.now.repo) (is_for_upload caller.entry.now.operation) asked.entry.now.repo.now (request_seen asked.entry.now).request)) }
+    ensures { IfOk result (Admits (admitted (policy_view policy.entry.now)
+        (string_bytes caller.entry.now.repo) (is_for_upload caller.entry.now.operation)
+        asked.entry.now.repo.now (request_seen asked.entry.now).request)) }
 {
     if caller.repo.as_str() != asked.repo {
         return Ok(Err(Rule::A4));

@@ -1,19 +1,18 @@
-//! The way of a request: who calls, whether it is taken up, and what comes of it.
-ghost use Rattle.std.specs.Prelude.{◌≡◌, ℕ, List, IfOk, OnErr, Err};
+//! The way of a request: identify the caller, admit the request, carry it out.
+ghost use Rattle.std.specs.Prelude.{◌≡◌, ℕ, List, IfOk, Some, Err};
 ghost use Rattle.model.specs.World.{World};
 ghost use Rattle.model.specs.Forms.{asks_lock};
 ghost use Rattle.model.specs.Callers as model;
 ghost use Rattle.model.specs.Cases.{DeskRequest, case_in};
 ghost use Rattle.model.specs.Answers.{by_rule};
-ghost use Rattle.model.specs.Verdict.{desk_verdict};
+ghost use Rattle.model.specs.Steps.{after};
 ghost use Rattle.policy.specs.Values.{repo_view};
 ghost use Rattle.forms.specs.Requests.{request_asked, lock_asked};
-ghost use Rattle.tables.specs.Shown.{IsHonest};
-ghost use Rattle.worlds.specs.Standing.{Holds};
+ghost use Rattle.worlds.specs.Left.{From};
 ghost use Rattle.tokens.specs.Callers.{IsHolder};
 ghost use Rattle.desk.specs.Told.{IsReplyOf};
-ghost use Rattle.desk.specs.Done.{IsDone};
-ghost use Rattle.desk.specs.Asking.{setting_of, request_seen};
+ghost use Rattle.desk.specs.Done.{Answers, LeavesOthers, given_by};
+ghost use Rattle.desk.specs.Asking.{setting_of, request_seen, verdict_seen};
 ghost use Rattle.desk.specs.Admission.{case_verdict, caller_verdict};
 
 use crate::admission::{Asked, admit};
@@ -26,15 +25,15 @@ use std::alloc::{AllocError, Global};
 use tables::{Alter, Store, StoreFault};
 use tokens::Caller;
 
-/// Answers a request in a repository, and does what the answer says.
+/// Answers a request in a repository, and makes the change that the answer reports.
 ///
-/// The reply tells the first rule that refuses: A1 to A3 of the token, A4 and R1 of the
-/// repository, the J rules of the body, A5, the policy's row, and then what stands in the way; or
-/// it tells what was done.
+/// The reply reports the first rule that refuses: A1 to A3 for the token, A4 and R1 for the
+/// repository, the J rules for the body, A5, the policy's row, and then the conflict; or it reports
+/// what was done.
 ///
 /// # Errors
 ///
-/// A [`StoreFault`] where the store or memory refused. What the store holds is then as it was.
+/// A [`StoreFault`] if the store refused or memory ran out. The contents of the store are then unchanged.
 pub fn answer<S: Alter>(
     alloc: Global,
     store: &mut Store<S>,
@@ -42,10 +41,11 @@ pub fn answer<S: Alter>(
     now: Moment,
     asked: &Asked<'_>,
 ) -> Result<Reply, StoreFault>
-    ensures told { IsHonest S.Store store.new → (world : World) → Holds S.Store store.old world
-        → IfOk result (IsDone S.Store store.new world (desk_verdict world (setting_of policy.entry.now now) (request_seen asked.entry.now) asked.entry.now.body.now)) }
-    ensures honest { IsHonest S.Store store.new → IsHonest S.Store store.old }
-    ensures refused { IsHonest S.Store store.new → (world : World) → Holds S.Store store.old world → OnErr result (Holds S.Store store.new world) }
+    ensures answered { From S.Store store.old store.new (λ world.
+        Answers S.Store store.old store.new world
+        (verdict_seen world policy.entry.now now asked.entry.now) result) }
+    ensures apart { (world : World) → LeavesOthers asked.entry.now.repo.now world (after world
+        (Some (given_by (verdict_seen world policy.entry.now now asked.entry.now) result))) }
 {
     match tokens::caller(store, asked.authorization, now)? {
         Ok(caller) => answer_caller(alloc, store, policy, now, &caller, asked),
@@ -53,7 +53,7 @@ pub fn answer<S: Alter>(
     }
 }
 
-/// The reply where a rule refuses.
+/// The reply to a request that a rule refuses.
 fn refusal(alloc: Global, rule: Rule) -> Result<Reply, AllocError>
     ensures { IfOk result (λ reply. IsReplyOf reply (Err (by_rule rule))) }
 {
@@ -64,7 +64,7 @@ fn refusal(alloc: Global, rule: Rule) -> Result<Reply, AllocError>
 ///
 /// # Errors
 ///
-/// As of [`answer`].
+/// The errors of [`answer`].
 fn answer_caller<S: Alter>(
     alloc: Global,
     store: &mut Store<S>,
@@ -73,10 +73,11 @@ fn answer_caller<S: Alter>(
     caller: &Caller,
     asked: &Asked<'_>,
 ) -> Result<Reply, StoreFault>
-    ensures told { IsHonest S.Store store.new → (world : World) → Holds S.Store store.old world → (who : model.Caller) → IsHolder caller.entry.now who
-        → IfOk result (IsDone S.Store store.new world (caller_verdict world (setting_of policy.entry.now now) who (request_seen asked.entry.now) asked.entry.now.body.now)) }
-    ensures honest { IsHonest S.Store store.new → IsHonest S.Store store.old }
-    ensures refused { IsHonest S.Store store.new → (world : World) → Holds S.Store store.old world → OnErr result (Holds S.Store store.new world) }
+    ensures { From S.Store store.old store.new (λ world.
+        (who : model.Caller) → IsHolder caller.entry.now who → Answers S.Store store.old store.new world
+        (caller_verdict world (setting_of policy.entry.now now) who
+        (request_seen asked.entry.now) asked.entry.now.body.now)
+        result) }
 {
     match admit(alloc, policy, caller, asked)? {
         Ok((repo, request)) => { answer_request(alloc, store, policy, now, caller, repo, &request) }
@@ -84,7 +85,7 @@ fn answer_caller<S: Alter>(
     }
 }
 
-/// The lock that the request asks for.
+/// The lock request in the request.
 fn lock_in(request: &Request) -> &LockRequest
     ensures { request_asked request.now ≡ asks_lock (lock_asked result.now) }
 {
@@ -93,11 +94,11 @@ fn lock_in(request: &Request) -> &LockRequest
     }
 }
 
-/// Answers a request that is taken up.
+/// Answers an admitted request.
 ///
 /// # Errors
 ///
-/// As of [`answer`].
+/// The errors of [`answer`].
 fn answer_request<S: Alter>(
     alloc: Global,
     store: &mut Store<S>,
@@ -107,10 +108,13 @@ fn answer_request<S: Alter>(
     repo: &Repo,
     request: &Request,
 ) -> Result<Reply, StoreFault>
-    ensures told { IsHonest S.Store store.new → (world : World) → Holds S.Store store.old world → (who : model.Caller) → IsHolder caller.entry.now who
-        → (asked : DeskRequest) (body : List ℕ) → IfOk result (IsDone S.Store store.new world (case_verdict world (case_in world (setting_of policy.entry.now now) who (repo_view repo.entry.now)) (request_asked request.entry.now) asked body)) }
-    ensures honest { IsHonest S.Store store.new → IsHonest S.Store store.old }
-    ensures refused { IsHonest S.Store store.new → (world : World) → Holds S.Store store.old world → OnErr result (Holds S.Store store.new world) }
+    ensures { From S.Store store.old store.new (λ world.
+        (who : model.Caller) → IsHolder caller.entry.now who → (asked : DeskRequest) (body : List ℕ)
+        → Answers S.Store store.old store.new world
+        (case_verdict world
+        (case_in world (setting_of policy.entry.now now) who (repo_view repo.entry.now))
+        (request_asked request.entry.now) asked body)
+        result) }
 {
     let Some(user) = UserName::read(caller.user.as_str()) else {
         return Err(StoreFault::Refused);

@@ -1,4 +1,4 @@
-//! The desk: one request comes in, one answer goes out, and what the server keeps takes one step.
+//! The desk: takes one request, returns one reply, and changes the store in one step.
 #![tactic(auto)]
 
 mod admission;

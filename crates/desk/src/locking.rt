@@ -2,17 +2,15 @@
 
 ghost use Rattle.std.specs.Prelude.{◌≡◌, ◌↔◌, ◌⊎◌, IfOk, IfErr, IsErrOf, OnErr, IfSome, IsSome, Err};
 ghost use Rattle.names.specs.declared.rules.Rule.TheVariants.{L5};
-ghost use Rattle.model.specs.World.{World};
 ghost use Rattle.model.specs.Answers.{by_rule, by_row};
 ghost use Rattle.model.specs.declared.Right.TheVariants as right;
 ghost use Rattle.model.specs.Policy.{decide};
 ghost use Rattle.policy.specs.Values.{policy_view, decision_view};
-ghost use Rattle.tables.specs.Shown.{IsHonest};
 ghost use Rattle.tables.specs.declared.fault.StoreFault.TheVariants.{Refused, Memory};
-ghost use Rattle.worlds.specs.Standing.{Holds};
+ghost use Rattle.worlds.specs.Left.{From};
 ghost use Rattle.desk.specs.Told.{IsReplyOf};
 ghost use Rattle.desk.specs.Locking.{ShowsRow, IsShowable, IsReadyAfter, TellsHeld, IsAskedFor, TellsCreation, IsUntold, IsWantedBy, lock_wanted, question_on, placed_verdict, allowed_verdict};
-ghost use Rattle.desk.specs.Done.{IsDone};
+ghost use Rattle.desk.specs.Done.{Answers};
 
 use crate::replies::Reply;
 use forms::{Answer, DenialStatus, LockRequest, ShownLock};
@@ -22,7 +20,7 @@ use policy::{Policy, Question, Repo, Verdict, decide};
 use std::alloc::{AllocError, Global};
 use tables::{Alter, Creation, LockRow, NewLock, Store, StoreFault};
 
-/// The place of a lock, who asks for it, and when.
+/// A lock to be made: its place, who asks for it, and when.
 #[derive(Clone, Copy)]
 pub(crate) struct Wanted<'a> {
     pub repo: RepoName<'a>,
@@ -32,7 +30,7 @@ pub(crate) struct Wanted<'a> {
     pub now: Moment,
 }
 
-/// What is shown of a row; `None` exactly where a part of it is out of range.
+/// The part of a row that a client sees; `None` exactly if a part of the row is out of range.
 fn shown(row: &LockRow) -> Option<ShownLock<'_>>
     ensures value { IfSome result (ShowsRow row.now) }
     ensures all { IsSome result ↔ IsShowable row.now }
@@ -46,7 +44,7 @@ fn shown(row: &LockRow) -> Option<ShownLock<'_>>
     })
 }
 
-/// The reply to the lock that is made next, where an id is left for it.
+/// The reply to the lock that is made next; `None` if no id is left for it.
 pub(crate) fn next_reply(
     alloc: Global,
     made: u32,
@@ -72,8 +70,8 @@ pub(crate) fn next_reply(
     }
 }
 
-/// The reply to a lock that another stands in the way of. The store refuses exactly where a part
-/// of the row is out of range; any other fault is want of memory.
+/// The 409 reply for a path that is already locked. The store refuses exactly if a part of the row is
+/// out of range; the only other fault is that memory runs out.
 pub(crate) fn held_reply(alloc: Global, row: &LockRow) -> Result<Reply, StoreFault>
     ensures told { IfOk result (TellsHeld row.now) }
     ensures refused { IsErrOf result Refused ↔ ¬ (IsShowable row.now) }
@@ -88,14 +86,14 @@ pub(crate) fn held_reply(alloc: Global, row: &LockRow) -> Result<Reply, StoreFau
     }
 }
 
-/// The reply where the repository's ids are used up.
+/// The reply if the repository's ids are used up.
 fn used_up_reply(alloc: Global) -> Result<Reply, AllocError>
     ensures { IfOk result (λ reply. IsReplyOf reply (Err (by_rule L5))) }
 {
     Reply::telling(alloc, &Answer::Denied(Rule::L5))
 }
 
-/// The reply to what came of it, where this one is ready for a lock that was made.
+/// The reply for a `Creation`; `ready` is the pre-rendered 201.
 fn reply_to(alloc: Global, creation: &Creation, ready: Option<Reply>) -> Result<Reply, StoreFault>
     ensures told { IfOk result (TellsCreation creation.entry.now ready) }
     ensures refused { OnErr result (IsUntold creation.entry.now ready) }
@@ -110,7 +108,7 @@ fn reply_to(alloc: Global, creation: &Creation, ready: Option<Reply>) -> Result<
     }
 }
 
-/// What the tables are asked for.
+/// The lock to ask the tables for.
 fn row_of<'a>(wanted: &Wanted<'a>) -> NewLock<'a>
     ensures { IsAskedFor wanted.entry.now result }
 {
@@ -123,21 +121,21 @@ fn row_of<'a>(wanted: &Wanted<'a>) -> NewLock<'a>
     }
 }
 
-/// Makes the lock where its place is free and an id is left for it, and tells what came of it.
+/// Makes the lock if its path is free and an id is left for it, and returns the reply.
 ///
-/// The text that tells of the lock is ready before it is made, so no lock is made untold.
+/// Renders the reply before creating the lock: running out of memory cannot leave an unreported lock.
 ///
 /// # Errors
 ///
-/// A [`StoreFault`], which leaves what the store holds.
+/// A [`StoreFault`], which leaves the contents of the store unchanged.
 pub(crate) fn make_lock<S: Alter>(
     store: &mut Store<S>,
     alloc: Global,
     wanted: &Wanted<'_>,
 ) -> Result<Reply, StoreFault>
-    ensures told { IsHonest S.Store store.new → (world : World) → Holds S.Store store.old world → IfOk result (IsDone S.Store store.new world (placed_verdict world (lock_wanted world wanted.entry.now))) }
-    ensures honest { IsHonest S.Store store.new → IsHonest S.Store store.old }
-    ensures refused { IsHonest S.Store store.new → (world : World) → Holds S.Store store.old world → OnErr result (Holds S.Store store.new world) }
+    ensures { From S.Store store.old store.new (λ world.
+        Answers S.Store store.old store.new world
+        (placed_verdict world (lock_wanted world wanted.entry.now)) result) }
 {
     let made = store.made(wanted.repo.as_str())?;
     let ready = next_reply(alloc, made, wanted)?;
@@ -145,7 +143,7 @@ pub(crate) fn make_lock<S: Alter>(
     reply_to(alloc, &creation, ready)
 }
 
-/// The lock that the request asks for, of this repository and for this user.
+/// The lock that the request asks for, in this repository and for this user.
 pub(crate) fn wanted_by<'a>(
     repo: &'a Repo,
     owner: UserName<'a>,
@@ -167,9 +165,10 @@ pub(crate) fn wanted_by<'a>(
     }
 }
 
-/// What the policy says to the lock.
+/// The policy's verdict on the lock.
 fn verdict_on(policy: &Policy, wanted: &Wanted<'_>) -> Verdict
-    ensures { decision_view result ≡ decide (policy_view policy.entry.now) (question_on wanted.entry.now) }
+    ensures { decision_view result
+        ≡ decide (policy_view policy.entry.now) (question_on wanted.entry.now) }
 {
     decide(
         policy,
@@ -183,7 +182,7 @@ fn verdict_on(policy: &Policy, wanted: &Wanted<'_>) -> Verdict
     )
 }
 
-/// The reply where the policy denies the lock.
+/// The reply to a lock that the policy denies.
 fn denied_reply(alloc: Global, row: u32) -> Result<Reply, AllocError>
     ensures { IfOk result (λ reply. IsReplyOf reply (Err (by_row row right.Lock 403))) }
 {
@@ -195,20 +194,20 @@ fn denied_reply(alloc: Global, row: u32) -> Result<Reply, AllocError>
     Reply::telling(alloc, &denial)
 }
 
-/// Answers the wish for a lock: the policy's denial, or what comes of it.
+/// Handles a lock request: 403 if the policy denies it, else the result of `make_lock`.
 ///
 /// # Errors
 ///
-/// A [`StoreFault`], which leaves what the store holds.
+/// A [`StoreFault`], which leaves the contents of the store unchanged.
 pub(crate) fn lock<S: Alter>(
     store: &mut Store<S>,
     alloc: Global,
     policy: &Policy,
     wanted: &Wanted<'_>,
 ) -> Result<Reply, StoreFault>
-    ensures told { IsHonest S.Store store.new → (world : World) → Holds S.Store store.old world → IfOk result (IsDone S.Store store.new world (allowed_verdict world (policy_view policy.entry.now) wanted.entry.now)) }
-    ensures honest { IsHonest S.Store store.new → IsHonest S.Store store.old }
-    ensures refused { IsHonest S.Store store.new → (world : World) → Holds S.Store store.old world → OnErr result (Holds S.Store store.new world) }
+    ensures { From S.Store store.old store.new (λ world.
+        Answers S.Store store.old store.new world
+        (allowed_verdict world (policy_view policy.entry.now) wanted.entry.now) result) }
 {
     match verdict_on(policy, wanted) {
         Verdict::Allow(_) => make_lock(store, alloc, wanted),

@@ -1,4 +1,4 @@
-//! What the desk answers, before the connection adds its lines.
+//! The desk's replies, without the lines that the connection adds.
 
 ghost use Rattle.std.specs.Prelude.{◌≡◌, IfSome, IsSome, IsNone, true, false};
 ghost use Rattle.names.specs.declared.rules.Rule.TheVariants.{S1};
@@ -16,9 +16,9 @@ use std::alloc::{AllocError, Global};
 /// The JSON body of a reply.
 #[derive(Debug, Drop)]
 pub enum Body {
-    /// A text of its own.
+    /// A text built for this reply.
     Made(String),
-    /// A constant text, which takes no memory.
+    /// A constant text, which needs no memory.
     Fixed(&'static str),
 }
 
@@ -29,13 +29,14 @@ pub struct Reply {
     pub status: StatusCode,
     /// The body.
     pub body: Body,
-    /// Whether the store or memory refused (S1), after which the connection closes.
+    /// Whether this is a store refusal (S1): the store refused or memory ran out, and the connection closes after it.
     pub is_store_refusal: bool,
 }
 
-/// The body of a refusal that takes no memory: of a head, or by the store.
+/// The body of a refusal that needs no memory: of a head, or by the store.
 fn fixed_body(rule: Rule) -> Option<&'static str>
-    ensures text { IfSome result (λ text. text.now ≡ compact_text (message_json (rule_message rule))) }
+    ensures text { IfSome result
+        (λ text. text.now ≡ compact_text (message_json (rule_message rule))) }
     ensures all { is_of_head rule ≡ true → IsSome result }
     ensures other { is_of_head rule ≡ false → IsNone result }
 {
@@ -51,13 +52,13 @@ fn fixed_body(rule: Rule) -> Option<&'static str>
         _ => None,
     }
 }
-/// The body of the refusal by the store.
+/// The body of the store refusal.
 fn refusal_body() -> &'static str
     ensures { result.now ≡ compact_text (message_json (rule_message S1)) }
 {
     "{\"message\":\"S1: the store refused\"}"
 }
-/// Whether the store refused.
+/// Whether the answer is a store refusal.
 fn is_store_refusal(answer: &Answer<'_>) -> bool
     ensures { (given : _) → Tells answer.now given → result ≡ is_store_refusal given }
 {
@@ -73,7 +74,7 @@ impl Reply {
     ghost use Rattle.model.specs.Steps.{is_of_head};
     ghost use Rattle.forms.specs.Told.{Tells};
     ghost use Rattle.desk.specs.Told.{IsReplyOf};
-    /// The store or memory refused. It takes no memory.
+    /// The store refusal (S1): the store refused or memory ran out. It needs no memory.
     pub fn store_refused() -> Reply
         ensures { IsReplyOf result store_refusal }
     {
@@ -83,8 +84,8 @@ impl Reply {
             is_store_refusal: true,
         }
     }
-    /// The refusal of a head, by one of the rules H1 to H8. It takes no memory. Any other rule is
-    /// told as a refusal by the store.
+    /// The refusal of a head by one of the rules H1 to H8. It needs no memory. For any other rule this is
+    /// the store refusal.
     pub fn head_refused(rule: Rule) -> Reply
         ensures told { is_of_head rule ≡ true → IsReplyOf result (Err (by_rule rule)) }
         ensures other { is_of_head rule ≡ false → IsReplyOf result store_refusal }
@@ -98,13 +99,14 @@ impl Reply {
             None => Reply::store_refused(),
         }
     }
-    /// The reply that tells the answer.
+    /// Builds the reply for the answer.
     ///
     /// # Errors
     ///
-    /// Only where memory refused.
+    /// Fails only if memory runs out.
     pub fn telling(alloc: Global, answer: &Answer<'_>) -> Result<Reply, AllocError>
-        ensures { IfOk result (λ reply. (given : _) → Tells answer.now given → IsReplyOf reply given) }
+        ensures { IfOk result
+            (λ reply. (given : _) → Tells answer.now given → IsReplyOf reply given) }
     {
         let status = answer.status();
         let text = answer.body(alloc)?;

@@ -1,4 +1,4 @@
--- Who calls, from the row of a token to the world.
+-- The caller, from the row of a token to the world.
 use Rattle.std.proofs.Common.{◌≡◌, ◌<ℤ◌, ◌≤ℤ◌, ℕ, ◌<◌, ◌≤◌, ℤ, pos, true, false, nat_lt, List, find, Option, Some, None, option_map, Result, Ok, Err, string_bytes, refl, sym, ap, ◌∙◌, subst, arith}
 use Rattle.std.proofs.lemmas.Bool.Decides.{nat_tests}
 use Rattle.std.proofs.lemmas.Int.{ints}
@@ -33,7 +33,7 @@ some_of_map f g x (Some y) e = (y, refl, same e)
 refused_unknown : (world : World) (now : ℕ) (values : List (List ℕ)) (text : List ℕ) → bearer values ≡ Some text → find_token text world ≡ None → caller_by world now values ≡ Err A2
 refused_unknown world now values text bears none = rw (bears, none) refl
 
--- the caller who presents this text, by the token that was issued under its digest
+-- the caller with this text, by the token that was issued under its digest
 abbrev presented_by : List ℕ → Token → model.Caller
 presented_by text t = record { token = text; user = t.user; repo = t.repo; operation = t.operation; expires = t.expires }
 
@@ -51,7 +51,7 @@ unknown_token t world now values text digest s w bears is e =
     let none : find (has_digest (sha256 text)) t.tokens ≡ None = ap (λ d. find (has_digest d) t.tokens) (sym is) ∙ none_of_map read_token token_fields (find (has_digest digest) t.tokens) e in
     refused_unknown world now values text bears (none_of_map token_kept token_row (find_token text world) (ap (option_map token_kept) (sym none) ∙ token_found t world text s w))
 
--- a row and the token that it keeps agree
+-- a row and the token that it stores agree
 record Keeps (found : TokenRow) (i : Token) : Type 0 where
   user : string_bytes found.user ≡ i.user
   repo : string_bytes found.repo ≡ i.repo

@@ -1,4 +1,4 @@
--- The text of 32 bytes is 64 hexadecimal digits.
+-- The text of 32 bytes has 64 hexadecimal digits.
 use Rattle.std.proofs.Common.{◌≡◌, ℕ, ◌*◌, ◌/◌, ◌%◌, ◌<◌, Bool, true, false, List, [], ◌∷◌, length, get_or, refl, arith, IsTrue, suc}
 use Rattle.std.specs.List.{list_all}
 use Rattle.std.proofs.lemmas.Bool.{true≢false}
@@ -6,7 +6,7 @@ use Rattle.std.proofs.lemmas.List.Folds.{list_all_at}
 use Rattle.hex.specs.Hex.{encode_with, encode_lower, lower_digits}
 use Rattle.names.specs.Texts.{is_hex_digit, is_hex_64}
 
--- each of the first sixteen digits is one
+-- each of the first sixteen digits is a hexadecimal digit
 digit : (k : ℕ) → k < 16 → is_hex_digit (get_or lower_digits k 0) ≡ true
 digit k less = at (is_hex_digit (get_or lower_digits k 0)) refl
   where

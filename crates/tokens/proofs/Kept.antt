@@ -1,27 +1,35 @@
--- A token that is asked for, in the tables and in the definitions.
-use Rattle.std.proofs.Common.{◌≡◌, ◌∙◌, ◌+◌, ℕ, ℤ, pos, Bool, true, false, not, nat_le, List, Option, Some, None, is_some, Result, Ok, Err, refl, sym, ap, subst, IsTrue, IfOk, OnOk, MatchResult}
+-- A requested token, in the tables and in the model.
+use Rattle.std.proofs.Common.{◌≡◌, ◌∙◌, ◌+◌, ℕ, ℤ, pos, Bool, true, false, not, nat_le, List, length, filter, Option, Some, None, is_some, Result, Ok, Err, refl, sym, ap, subst, IsTrue, IfOk, OnOk, OnErr}
+use Rattle.std.specs.Prelude.{IsErrAnd, MatchResult}
 use Rattle.std.proofs.lemmas.Bool.{leb-true}
 use Rattle.sqlite_trees.specs.declared.store.Store.{Ghosts}
 use Rattle.sha2.specs.Sha256.{sha256}
 use Rattle.names.specs.Texts.{last_moment, is_hex_64}
-use Rattle.model.specs.World.{World, Token, IsToken, find_token, without_expired, expired_count}
+use Rattle.model.specs.World.{World, Token, IsToken, find_token, with_token, without_expired}
 use Rattle.model.specs.Reading.{◌>>=◌, check, none_or}
 use Rattle.model.specs.Operator.{token_verdict, already_issued, expires_too_late, after_token, IsTokenRequest, by_success, by_fault}
 use Rattle.model.specs.Steps.{IsStep, issues, prunes}
+use Rattle.model.specs.Bounds.{changed, unchanged, failed, is_changed, left_by, ending_of}
+use Rattle.model.proofs.Keeping.{keeps_without_expired}
 use Rattle.tables.specs.Rows as row
+use Rattle.tables.specs.Statements.{has_expired}
+use Rattle.tables.specs.Statements as tables
 use Rattle.tables.specs.Steps.{code_of, has_token, after_add}
-use Rattle.tables.specs.Shown.{shown, Moves}
+use Rattle.tables.specs.Shown.{IsHonest, IsOpen, shown, Makes, Fails}
 use Rattle.tables.specs.declared.Store.{Store}
 use Rattle.tables.specs.declared.fault.StoreFault.{StoreFault}
 use Rattle.tables.specs.declared.rows.Operation.{Operation}
 use Rattle.tables.specs.declared.rows.Operation.TheVariants.{Download, Upload}
-use Rattle.worlds.specs.Standing.{Holds, StandsFor, token_kept, token_row, operation_code}
-use Rattle.worlds.proofs.Tokens.{token_known, none_is, some_is, holds_token, holds_if_known}
+use Rattle.worlds.specs.Standing.{Holds, token_kept, token_row, operation_code}
+use Rattle.worlds.specs.Left.{Leads, Ends}
+use Rattle.worlds.proofs.Leading.{still_then, ends_made, ends_failed, takes_made, takes_failed, takes_still}
+use Rattle.worlds.proofs.Tokens.{token_known, none_is, some_is, would_add, holds_token, holds_if_known, holds_pruned, expired_counted, expired_gone}
 use Rattle.tokens.specs.Issuing.{Keeps, Issues, Refuses, denial_of, report_of, operation_of, token_asked, token_until}
+use Rattle.tokens.specs.Pruning.{Prunes}
 use Rattle.tokens.specs.declared.issuing.TokenFault.{TokenFault}
 use Rattle.tokens.specs.declared.issuing.TokenFault.TheVariants.{AlreadyIssued, ExpiresTooLate}
 use Rattle.tokens.specs.declared.issuing.TokenFault.TheVariants as fault
-use Rattle.tokens.specs.declared.issuing.TokenRequest.{TokenRequest}
+use Rattle.tokens.specs.declared.requests.TokenRequest.{TokenRequest}
 
 pub code_alike : (op : Operation) → code_of op ≡ operation_code (operation_of op)
 code_alike Download = refl
@@ -31,33 +39,37 @@ pub row_alike : (digest user repo : List ℕ) (op expires : ℤ) (i : Token) →
     → ◌≡◌ {A = row.Token} (record { rowid = pos 0; digest = digest; user = user; repo = repo; op = op; expires = expires }) (token_row i)
 row_alike digest user repo op expires i a b c d e = rw (a, b, c, d, e) refl
 
--- what the tables answer, where they were asked for the row of the token
-pub kept_by : {S : Type 0} (g : Ghosts S) (old new : Store S) (world : World) (asked : TokenRequest) (text : List ℕ) (expires : ℕ) (k : row.Token) (added : Bool)
-    → k.digest ≡ sha256 text → token_kept k ≡ token_row (token_until asked text expires)
-    → StandsFor (shown g old) world → Holds g old world → has_token k.digest (shown g old) ≡ not added → Moves g (after_add k) old new → Keeps g world asked text expires new added
-kept_by g old new world asked text expires k true digest kept s h free moves = λ in_range.
-    let known = token_known (shown g old) world text s h.laws in
-    let none = none_is (find_token text world) (sym known ∙ ap (λ d. has_token d (shown g old)) (sym digest) ∙ free) in
-    (none, holds_token g old new world k (token_until asked text expires) moves free kept in_range none h)
-kept_by g old new world asked text expires k false digest kept s h there moves = (
-  sym (token_known (shown g old) world text s h.laws) ∙ ap (λ d. has_token d (shown g old)) (sym digest) ∙ there,
-  holds_if_known g old new world k moves there h,
-)
+-- ---- what the tables did
 
--- what is known of an answer, and what is known where there is one
-pub both : {T E : Type 0} (A K : T → Type 0) (M N : Type 0) (r : Result T E) → ((x : T) → A x → M → N → K x) → IfOk r A → OnOk r M → OnOk r N → IfOk r K
-both A K M N (Ok x) then is moves on = then x is moves on
-both A K M N (Err e) then is moves on = tt
+module _ {S : Type 0} (g : Ghosts S) (old new : Store S) (world : World) (h : Holds g old world) (honest : IsHonest g new) where
+  -- the case in which they were asked for the row of the token
+  pub keeps_by : (asked : TokenRequest) (text : List ℕ) (expires : ℕ) (k : row.Token) (r : Result Bool StoreFault) → token_kept k ≡ token_row (token_until asked text expires)
+      → IfOk r (λ added. IsOpen g old × (has_token k.digest (shown g old) ≡ not added)) → OnOk r (Makes g (after_add k) old new) → OnErr r (Fails g (after_add k) old new) → Keeps g world asked text expires old new r
+  keeps_by asked text expires k (Ok true) kept free made miss = λ in_range.
+      let i = token_until asked text expires in
+      let s = h.shows (made.moves.was_honest honest) (made.was_open honest) in
+      let none = none_is (find_token text world) (sym (token_known (shown g old) world text s h.laws) ∙ ap (λ (r : row.Token). has_token r.digest (shown g old)) (sym kept) ∙ free.1) in
+      (none, ends_made g old new changed world (with_token i world) (after_add k) h.stands made (holds_token g old new world k i made.moves free.1 kept in_range none h))
+  keeps_by asked text expires k (Ok false) kept there made miss =
+      let s = h.shows (made.moves.was_honest honest) (made.was_open honest) in (
+        sym (token_known (shown g old) world text s h.laws) ∙ ap (λ (r : row.Token). has_token r.digest (shown g old)) (sym kept) ∙ there.1,
+        ends_made g old new unchanged world world (after_add k) h.stands made (holds_if_known g old new world k made.moves there.1 h),
+      )
+  keeps_by asked text expires k (Err fault) kept there made miss = λ in_range none.
+      ends_failed g old new world (with_token (token_until asked text expires) world) (after_add k) miss (λ s. would_add (shown g old) world k (token_until asked text expires) s h.laws kept in_range none) h
 
--- what a removal of tokens reports
-pub prune_step : (world : World) (now : ℕ) (r : Result ℕ StoreFault) → IfOk r (λ n. n ≡ expired_count now world)
-    → MatchResult r (λ n. IsStep world (prunes now (Some n)) (without_expired now world)) (λ _. IsStep world (prunes now None) world)
-prune_step world now (Ok n) is = by_success (ap Some is) refl
-prune_step world now (Err f) is = by_fault refl refl
+  -- the case in which they were asked to remove what has expired
+  pub prunes_by : (now : ℕ) (r : Result ℕ StoreFault) → IfOk r (λ n. IsOpen g old × (n ≡ length (filter (has_expired (pos now)) (shown g old).tokens)))
+      → OnOk r (Makes g (tables.without_expired (pos now)) old new) → OnErr r (Fails g (tables.without_expired (pos now)) old new) → Prunes g world now old new r
+  prunes_by now (Ok n) is made miss =
+      let counted = is.1 ∙ expired_counted (shown g old) world now (h.shows (made.moves.was_honest honest) (made.was_open honest)) in
+      takes_made g old new world (without_expired now world) (prunes now (Some n)) (tables.without_expired (pos now)) h.stands made (by_success (ap Some counted) refl) (holds_pruned g old new world now made.moves h)
+  prunes_by now (Err fault) is made miss =
+      takes_failed g old new world (prunes now None) (tables.without_expired (pos now)) refl (by_fault refl refl) miss (λ s. (keeps_without_expired now world h.laws, expired_gone (shown g old) world now s)) h
 
--- ---- the answer of the definitions
+-- ---- the model's answer
 
--- what is granted passed both checks
+-- a granted token passed both checks
 passed : (there : Option Token) (in_time : Bool) (asked granted : Token) → (none_or there (λ _. already_issued) >>= λ _. check in_time expires_too_late >>= λ _. Ok asked) ≡ Ok granted
     → (there ≡ None) × (in_time ≡ true) × (asked ≡ granted)
 passed None true asked granted e = (refl, refl, cc)
@@ -69,25 +81,17 @@ module _ (world : World) (asked : TokenRequest) where
   is_there known = let there = some_is (find_token (token_asked asked).text world) known in rw there.1 refl
 
   pub is_request : IsTrue (is_hex_64 (token_asked asked).text) → IsTokenRequest (token_asked asked)
-  is_request text = record { text = text; user = asked.user.in_range; repo = asked.repo.in_range }
+  is_request text = record { text = text; user = asked.user.in_range; repo = asked.repo.in_range; now = asked.in_range }
 
   in_range : IsTokenRequest (token_asked asked) → nat_le (asked.now + asked.seconds) last_moment ≡ true → IsToken (token_until asked (token_asked asked).text (asked.now + asked.seconds))
   in_range is in_time = record { text = is.text; user = is.user; repo = is.repo; expires = leb-true (asked.now + asked.seconds) last_moment in_time }
 
-  -- a token that may be issued and was kept is issued
-  pub issues_by : {S : Type 0} (g : Ghosts S) (new : Store S) (text handed : List ℕ) (expires : ℕ) → handed ≡ (token_asked asked).text → text ≡ (token_asked asked).text → IsTrue (is_hex_64 text)
-      → token_verdict world (token_asked asked) ≡ Ok (token_until asked handed expires) → Keeps g world asked handed expires new true → Issues g world new asked text
-  issues_by g new text handed expires same is hex verdict kept =
-      let request = is_request (subst (λ (t : List ℕ). IsTrue (is_hex_64 t)) is hex) in
+  -- a token that may be issued is a new one, in range
+  is_new : (handed : List ℕ) (expires : ℕ) → handed ≡ (token_asked asked).text → IsTrue (is_hex_64 (token_asked asked).text) → token_verdict world (token_asked asked) ≡ Ok (token_until asked handed expires)
+      → IsToken (token_until asked handed expires) × (find_token handed world ≡ None)
+  is_new handed expires same hex verdict =
       let granted = passed (find_token (token_asked asked).text world) (nat_le (asked.now + asked.seconds) last_moment) (token_until asked (token_asked asked).text (asked.now + asked.seconds)) (token_until asked handed expires) verdict in
-      let there = kept (subst IsToken granted.2 (in_range request granted.1)) in
-      record {
-        token = token_until asked handed expires;
-        verdict = verdict;
-        text_is = same ∙ sym is;
-        step = (request, by_success (ap Some (sym verdict)) (sym (ap (after_token world) verdict)));
-        holds = there.1;
-      }
+      (subst IsToken granted.2 (in_range (is_request hex) granted.1), ap (λ (t : List ℕ). find_token t world) same ∙ granted.0)
 
   refused_step : (f : TokenFault) → IsTokenRequest (token_asked asked) → denial_of f (token_verdict world (token_asked asked))
       → IsStep world (issues (token_asked asked) (report_of f)) world
@@ -95,13 +99,61 @@ module _ (world : World) (asked : TokenRequest) where
   refused_step ExpiresTooLate is e = (is, by_success (ap Some (sym e)) (sym (ap (after_token world) e)))
   refused_step (fault.Store f) is e = (is, by_fault refl refl)
 
-  -- none is issued, for a cause that the definitions have, or since the store refused
-  pub refused : {S : Type 0} (g : Ghosts S) (new : Store S) (f : TokenFault) → IsTrue (is_hex_64 (token_asked asked).text)
-      → denial_of f (token_verdict world (token_asked asked)) → Holds g new world → Refuses g world new asked f
-  refused g new f text verdict holds = record { verdict = verdict; step = refused_step f (is_request text) verdict; holds = holds }
+  refusal_changes_none : (f : TokenFault) → is_changed (ending_of world (issues (token_asked asked) (report_of f))) ≡ false
+  refusal_changes_none AlreadyIssued = refl
+  refusal_changes_none ExpiresTooLate = refl
+  refusal_changes_none (fault.Store f) = refl
 
-  -- one that was not is issued already
-  pub refuses_by : {S : Type 0} (g : Ghosts S) (new : Store S) (handed : List ℕ) (expires : ℕ) → IsTrue (is_hex_64 (token_asked asked).text)
-      → handed ≡ (token_asked asked).text → Keeps g world asked handed expires new false → Refuses g world new asked AlreadyIssued
-  refuses_by g new handed expires text same kept =
-      refused g new AlreadyIssued text (is_there (ap (λ t. is_some (find_token t world)) (sym same) ∙ kept.0)) kept.1
+  module _ {S : Type 0} (g : Ghosts S) (old mid new : Store S) where
+    -- a token that may be issued and was stored is issued
+    pub issues_by : (text handed : List ℕ) (expires : ℕ) → handed ≡ (token_asked asked).text → text ≡ (token_asked asked).text → IsTrue (is_hex_64 (token_asked asked).text)
+        → token_verdict world (token_asked asked) ≡ Ok (token_until asked handed expires) → Leads g old mid world (λ bound. bound) → Keeps g world asked handed expires mid new (Ok true) → Issues g world old new asked text
+    issues_by text handed expires same is hex verdict still kept =
+        let token = token_until asked handed expires in
+        let made = with_token token world in
+        let there = kept (is_new handed expires same hex verdict).0 in
+        record {
+          token = token;
+          verdict = verdict;
+          text_is = same ∙ sym is;
+          takes = record {
+            step = (is_request hex, by_success (ap Some (sym verdict)) (sym (ap (after_token world) verdict)));
+            leads = subst (λ (w : World). Ends g old new changed world w made) (sym (ap (after_token world) verdict)) (still_then g old mid new world made (left_by changed world made) still there.1);
+          };
+        }
+
+    -- a token that was not stored is issued already
+    pub refuses_by : (handed : List ℕ) (expires : ℕ) → IsTrue (is_hex_64 (token_asked asked).text) → handed ≡ (token_asked asked).text → Leads g old mid world (λ bound. bound)
+        → Keeps g world asked handed expires mid new (Ok false) → Refuses g world old new asked AlreadyIssued
+    refuses_by handed expires hex same still kept =
+        let verdict = is_there (ap (λ t. is_some (find_token t world)) (sym same) ∙ kept.0) in
+        record {
+          verdict = verdict;
+          takes = record { step = refused_step AlreadyIssued (is_request hex) verdict; leads = still_then g old mid new world world (left_by unchanged world world) still kept.1 };
+        }
+
+    -- a token that the store refused is not issued
+    pub fails_by : (handed : List ℕ) (expires : ℕ) (f : StoreFault) → handed ≡ (token_asked asked).text → IsTrue (is_hex_64 (token_asked asked).text)
+        → token_verdict world (token_asked asked) ≡ Ok (token_until asked handed expires) → Leads g old mid world (λ bound. bound) → Keeps g world asked handed expires mid new (Err f)
+        → Refuses g world old new asked (fault.Store f)
+    fails_by handed expires f same hex verdict still kept =
+        let new_one = is_new handed expires same hex verdict in
+        let made = with_token (token_until asked handed expires) world in
+        record {
+          verdict = tt;
+          takes = record {
+            step = refused_step (fault.Store f) (is_request hex) tt;
+            leads = subst (λ (w : World). Ends g old new failed world w world) (sym (ap (after_token world) verdict))
+                (still_then g old mid new world world (left_by failed world made) still (kept new_one.0 new_one.1));
+          };
+        }
+
+  -- a refusal before the store is asked to add the token is passed on
+  pub refused_early : {S T : Type 0} (g : Ghosts S) (old new : Store S) (P : T → Type 0) (r : Result T TokenFault) (f : TokenFault) → IsErrAnd r (λ e. e ≡ f) → IsTrue (is_hex_64 (token_asked asked).text)
+      → denial_of f (token_verdict world (token_asked asked)) → Leads g old new world (λ bound. bound) → MatchResult r P (λ e. Refuses g world old new asked e)
+  refused_early g old new P (Ok text) f is hex verdict p = absurd is
+  refused_early g old new P (Err e) f is hex verdict p =
+      subst (λ (x : TokenFault). Refuses g world old new asked x) (sym is) (record {
+        verdict = verdict;
+        takes = takes_still g old new world (issues (token_asked asked) (report_of f)) (refusal_changes_none f) (refused_step f (is_request hex) verdict) p;
+      })

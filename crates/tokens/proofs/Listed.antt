@@ -19,7 +19,7 @@ twice f g (x ∷ xs) = ap (λ rest. f (g x) ∷ rest) (twice f g xs)
 held_alike : (user repo : List ℕ) (i : Token) → is_held_by user repo (token_row i) ≡ is_of user repo i
 held_alike user repo i = rw (is_eq-slice_cmp i.user user, is_eq-slice_cmp i.repo repo) refl
 
--- the rows of the user's tokens tell the user's tokens, in any order
+-- the rows of the user's tokens represent the user's tokens, in any order
 pub held_told : (t : Tables) (world : World) (user repo : List ℕ) → StandsFor t world
     → IsPermutation (map token_fields (filter (is_held_by user repo) t.tokens)) (map told_of (filter (is_of user repo) world.tokens))
 held_told t world user repo s =

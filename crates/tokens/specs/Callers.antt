@@ -1,4 +1,4 @@
--- Who calls, as the store tells it.
+-- The caller, as the store reports it.
 use Rattle.std.specs.Prelude.{◌≡◌, ◌<ℤ◌, ◌≤ℤ◌, ℕ, pos, List, Result, Ok, Err, string_bytes}
 use Rattle.names.specs.declared.rules.Rule.{Rule}
 use Rattle.names.specs.declared.rules.Rule.TheVariants.{A3}
@@ -10,18 +10,18 @@ use Rattle.tables.specs.declared.rows.TokenRow.{TokenRow}
 use Rattle.worlds.specs.Standing.{operation_code}
 use Rattle.tokens.specs.declared.callers.Caller.{Caller}
 
--- the caller is this one of the definitions
+-- the caller, as in the model
 pub record IsHolder (c : Caller) (who : model.Caller) : Type 0 where
   pub user : string_bytes c.user ≡ who.user
   pub repo : string_bytes c.repo ≡ who.repo
   pub operation : code_of c.operation ≡ operation_code who.operation
 
--- it is the caller, or the refusal, that the world gives for these values of Authorization
+-- the result is the caller, or the rule, that the world gives for these values of Authorization
 abbrev pub IsCalling : World → ℕ → List (List ℕ) → Result Caller Rule → Type 0
 IsCalling world now values (Ok c) = (who : model.Caller) × (caller_by world now values ≡ Ok who) × IsHolder c who
 IsCalling world now values (Err rule) = caller_by world now values ≡ Err rule
 
--- the caller of a row that is good at the moment, or A3
+-- the caller of a row that is valid at the moment, or A3
 abbrev pub IsGoodAt : TokenRow → ℕ → Result Caller Rule → Type 0
 IsGoodAt row now (Ok c) = (pos now <ℤ row.expires) × (string_bytes c.user ≡ string_bytes row.user) × (string_bytes c.repo ≡ string_bytes row.repo) × (c.operation ≡ row.operation)
 IsGoodAt row now (Err rule) = (row.expires ≤ℤ pos now) × (rule ≡ A3)

@@ -9,6 +9,6 @@ use Rattle.worlds.specs.Standing.{operation_code}
 abbrev pub is_of : List ℕ → List ℕ → Token → Bool
 is_of user repo t = bytes_eq t.user user && bytes_eq t.repo repo
 
--- what is told of a token: its digest in the place of its text
+-- the reported fields of a token: its digest replaces its text
 abbrev pub told_of : Token → TokenFields
 told_of t = record { digest = sha256 t.text; user = t.user; repo = t.repo; op = operation_code t.operation; expires = pos t.expires }

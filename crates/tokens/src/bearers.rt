@@ -1,12 +1,10 @@
-//! Who calls: the token that a request bears, and what the store knows of it (RFC 6750).
+//! Finds the caller: the token in a request, and its row in the store (RFC 6750).
 
 ghost use Rattle.std.specs.Prelude.{◌≡◌, option_map, Some, IfOk};
 ghost use Rattle.std.specs.List.{list_all};
 ghost use Rattle.sha2.specs.Sha256.{sha256};
-ghost use Rattle.model.specs.World.{World};
 ghost use Rattle.model.specs.Callers.{bearer, is_visible};
-ghost use Rattle.tables.specs.Shown.{IsHonest, Moves};
-ghost use Rattle.worlds.specs.Standing.{Holds};
+ghost use Rattle.worlds.specs.Left.{Reads};
 ghost use Rattle.tokens.specs.Bearers.{the_one};
 ghost use Rattle.tokens.specs.Callers.{IsCalling};
 
@@ -46,20 +44,19 @@ fn digest_of(text: &[u8]) -> [u8; 32]
     Sha256::digest(text)
 }
 
-/// Who calls, by the value of the `Authorization` field: A1 where it bears no token, A2 where the
-/// store has no such token, A3 where it has expired. The store is left as it is.
+/// Returns the caller for the value of the `Authorization` field: A1 if it has no token, A2 if the store
+/// has no such token, A3 if the token has expired. The store is only read.
 ///
 /// # Errors
 ///
-/// A [`StoreFault`], which leaves the store as it is too.
+/// A [`StoreFault`], which leaves the store unchanged too.
 pub fn caller<S: Alter>(
     store: &mut Store<S>,
     authorization: Option<&[u8]>,
     now: Moment,
 ) -> Result<Result<Caller, Rule>, StoreFault>
-    ensures answer { IsHonest S.Store store.new → (world : World) → Holds S.Store store.old world
-        → IfOk result (IsCalling world now (the_one (option_map (λ v. v.now) authorization.entry))) }
-    ensures same { Moves S.Store (λ t. t) store.old store.new }
+    ensures { Reads S.Store store.old store.new (λ world.
+        IfOk result (IsCalling world now (the_one (option_map (λ v. v.now) authorization.entry)))) }
 {
     let Some(value) = authorization else {
         return Ok(Err(Rule::A1));

@@ -1,49 +1,32 @@
-//! How a token is issued.
+//! Issues tokens.
 
-ghost use Rattle.std.specs.Prelude.{◌≡◌, ◌+◌, true, false, is_some, nat_le, Ok, IfOk, OnErr, IsTrue, MatchOption, MatchResult, string_bytes};
+ghost use Rattle.std.specs.Prelude.{◌≡◌, ◌+◌, true, false, is_some, nat_le, Ok, IfOk, IsTrue, MatchOption, MatchResult, string_bytes};
 ghost use Rattle.hex.specs.Hex.{encode_lower};
 ghost use Rattle.names.specs.Texts.{last_moment, is_hex_64};
-ghost use Rattle.model.specs.World.{World, find_token};
+ghost use Rattle.model.specs.World.{find_token};
 ghost use Rattle.model.specs.Operator.{token_verdict};
-ghost use Rattle.tables.specs.Shown.{IsHonest, Moves};
-ghost use Rattle.worlds.specs.Standing.{Holds};
+ghost use Rattle.worlds.specs.Left.{From, Reads};
 ghost use Rattle.tokens.specs.Issuing.{Issues, Refuses, Keeps, Offers, denial_of, token_asked, token_until};
 ghost use Rattle.tokens.specs.declared.issuing.TokenFault.TheVariants.{Store as by_store};
 
 use crate::moments::second_of;
-use names::{Moment, RepoName, UserName};
+use crate::requests::TokenRequest;
+use names::Moment;
 use sha2::{Digest, Sha256};
 use std::alloc::Global;
-use tables::{Alter, NewToken, Operation, Store, StoreFault};
+use tables::{Alter, NewToken, Store, StoreFault};
 use thiserror::Error;
 
-/// A token that the operator asks for.
-#[derive(Clone, Copy, Debug)]
-pub struct TokenRequest<'a> {
-    /// Whose it is.
-    pub user: UserName<'a>,
-    /// The repository that it is for.
-    pub repo: RepoName<'a>,
-    /// What it is for.
-    pub operation: Operation,
-    /// When it is asked for.
-    pub now: Moment,
-    /// How many seconds it is good for.
-    pub seconds: u64,
-    /// Random bytes, which its text tells.
-    pub random: &'a [u8; 32],
-}
-
-/// Why no token was issued. What the store holds is as it was.
+/// Why no token was issued. The contents of the store are unchanged.
 #[derive(Clone, Copy, Debug, PartialEq, Eq, Error)]
 pub enum TokenFault {
-    /// A token of these random bytes is kept.
+    /// A token of these random bytes is already stored.
     #[error("K1: token already issued")]
     AlreadyIssued,
     /// It would expire after the last moment.
     #[error("K2: expiry out of range")]
     ExpiresTooLate,
-    /// The store or memory refused.
+    /// The store refused or memory ran out.
     #[error("{0}")]
     Store(StoreFault),
 }
@@ -56,7 +39,7 @@ impl From<StoreFault> for TokenFault {
     }
 }
 
-/// The text that tells the bytes: two hexadecimal digits for each.
+/// The text of the bytes: two hexadecimal digits for each.
 fn text_of(alloc: Global, random: &[u8; 32]) -> Result<String, StoreFault>
     ensures text { IfOk result (λ text. string_bytes text ≡ encode_lower random.now) }
     ensures digits { IsTrue (is_hex_64 (encode_lower random.now)) }
@@ -66,30 +49,31 @@ fn text_of(alloc: Global, random: &[u8; 32]) -> Result<String, StoreFault>
 
 /// Whether a token of this text was issued.
 fn is_known<S: Alter>(store: &mut Store<S>, text: &str) -> Result<bool, StoreFault>
-    ensures answer { IsHonest S.Store store.new → (world : World) → Holds S.Store store.old world → IfOk result (λ known. known ≡ is_some (find_token text.now world)) }
-    ensures same { Moves S.Store (λ t. t) store.old store.new }
+    ensures { Reads S.Store store.old store.new (λ world.
+        IfOk result (λ known. known ≡ is_some (find_token text.now world))) }
 {
     let digest = Sha256::digest(text.as_bytes());
     Ok(store.token(&digest)?.is_some())
 }
 
-/// When the token expires; `None` after the last moment.
+/// When the token expires; `None` if that is after the last moment.
 fn expiry(now: Moment, seconds: u64) -> Option<Moment>
-    ensures { MatchOption result (nat_le (now + seconds) last_moment ≡ false) (λ expires. (nat_le (now + seconds) last_moment ≡ true) × (expires ≡ now + seconds)) }
+    ensures { MatchOption result
+        (nat_le (now + seconds) last_moment ≡ false)
+        (λ expires. (nat_le (now + seconds) last_moment ≡ true) × (expires ≡ now + seconds)) }
 {
     Moment::read(now.get().checked_add(seconds)?)
 }
 
-/// Keeps the token, unless one of its text is kept; says whether it did.
+/// Stores the token, unless one with its text is stored; returns whether it was stored.
 fn keep<S: Alter>(
     store: &mut Store<S>,
     asked: &TokenRequest<'_>,
     text: &str,
     expires: Moment,
 ) -> Result<bool, StoreFault>
-    ensures honest { IsHonest S.Store store.new → IsHonest S.Store store.old }
-    ensures kept { IsHonest S.Store store.new → (world : World) → Holds S.Store store.old world → IfOk result (Keeps S.Store world asked.entry.now text.now expires store.new) }
-    ensures refused { IsHonest S.Store store.new → (world : World) → Holds S.Store store.old world → OnErr result (Holds S.Store store.new world) }
+    ensures { From S.Store store.old store.new (λ world.
+        Keeps S.Store world asked.entry.now text.now expires store.old store.new result) }
 {
     let digest = Sha256::digest(text.as_bytes());
     store.add_token(&NewToken {
@@ -101,14 +85,17 @@ fn keep<S: Alter>(
     })
 }
 
-/// When a token of the text, that of the random bytes, would expire; or why none may be issued.
+/// When a token with this text, that of the random bytes, would expire; or why none may be issued.
 fn judge<S: Alter>(
     store: &mut Store<S>,
     asked: &TokenRequest<'_>,
     text: &str,
 ) -> Result<Moment, TokenFault>
-    ensures judged { IsHonest S.Store store.new → (world : World) → Holds S.Store store.old world → text.now ≡ (token_asked asked.entry.now).text → MatchResult result (λ expires. token_verdict world (token_asked asked.entry.now) ≡ Ok (token_until asked.entry.now text.now expires)) (λ fault. denial_of fault (token_verdict world (token_asked asked.entry.now))) }
-    ensures same { Moves S.Store (λ t. t) store.old store.new }
+    ensures { Reads S.Store store.old store.new (λ world.
+        text.now ≡ (token_asked asked.entry.now).text → MatchResult result
+        (λ expires. token_verdict world (token_asked asked.entry.now)
+        ≡ Ok (token_until asked.entry.now text.now expires))
+        (λ fault. denial_of fault (token_verdict world (token_asked asked.entry.now)))) }
 {
     if is_known(store, text)? {
         return Err(TokenFault::AlreadyIssued);
@@ -116,8 +103,8 @@ fn judge<S: Alter>(
     expiry(asked.now, asked.seconds).ok_or(TokenFault::ExpiresTooLate)
 }
 
-/// The text of the token that [`issue`] would give now. No token is kept, so that whoever asked can
-/// be told the text before there is a token that nobody knows.
+/// Returns the text of the token that [`issue`] would issue now, without storing it: the caller can
+/// print the text before the token exists, so no token exists whose text nobody knows.
 ///
 /// # Errors
 ///
@@ -127,28 +114,32 @@ pub fn offer<S: Alter>(
     store: &mut Store<S>,
     asked: &TokenRequest<'_>,
 ) -> Result<String, TokenFault>
-    ensures offered { IsHonest S.Store store.new → (world : World) → Holds S.Store store.old world → MatchResult result (λ text. Offers world asked.entry.now (string_bytes text)) (λ fault. denial_of fault (token_verdict world (token_asked asked.entry.now))) }
-    ensures same { Moves S.Store (λ t. t) store.old store.new }
+    ensures { Reads S.Store store.old store.new (λ world.
+        MatchResult result
+        (λ text. Offers world asked.entry.now (string_bytes text))
+        (λ fault. denial_of fault (token_verdict world (token_asked asked.entry.now)))) }
 {
     let text = text_of(alloc, asked.random)?;
     judge(store, asked, text.as_str())?;
     Ok(text)
 }
 
-/// Issues a token: its text, of which the store keeps the SHA-256. The text is made before the
-/// token is kept.
+/// Issues a token and returns its text. The store keeps only the SHA-256 of it. The text is made
+/// before the token is stored.
 ///
 /// # Errors
 ///
-/// `AlreadyIssued` (K1) where a token of these random bytes is kept; `ExpiresTooLate` (K2) where it
-/// would expire after the last moment; `Store`. None of them changes what the store holds.
+/// `AlreadyIssued` (K1) if a token of these random bytes is stored; `ExpiresTooLate` (K2) if it would
+/// expire after the last moment; `Store`. None of them changes the contents of the store.
 pub fn issue<S: Alter>(
     alloc: Global,
     store: &mut Store<S>,
     asked: &TokenRequest<'_>,
 ) -> Result<String, TokenFault>
-    ensures honest { IsHonest S.Store store.new → IsHonest S.Store store.old }
-    ensures issued { IsHonest S.Store store.new → (world : World) → Holds S.Store store.old world → MatchResult result (λ text. Issues S.Store world store.new asked.entry.now (string_bytes text)) (λ fault. Refuses S.Store world store.new asked.entry.now fault) }
+    ensures { From S.Store store.old store.new (λ world.
+        MatchResult result
+        (λ text. Issues S.Store world store.old store.new asked.entry.now (string_bytes text))
+        (λ fault. Refuses S.Store world store.old store.new asked.entry.now fault)) }
 {
     let text = text_of(alloc, asked.random)?;
     let expires = judge(store, asked, text.as_str())?;

@@ -1,9 +1,8 @@
-//! The tokens of a server: its operator issues them, and removes those that have expired.
+//! The tokens of a server: its operator issues them, and removes the expired ones.
 //!
-//! A client shows the text of its token with each request (RFC 6750). [`issue`] makes that text from
-//! random bytes and keeps its SHA-256 alone; [`offer`] tells the text and keeps nothing. [`caller`]
-//! says whose token a request bears, and [`of`] which tokens a user has. [`prune`] removes those
-//! that are good no longer.
+//! A client sends the text of its token with each request (RFC 6750). [`issue`] makes that text from
+//! random bytes and stores only its SHA-256; [`offer`] returns the text and stores nothing. [`caller`]
+//! returns the caller of a request, and [`of`] a user's tokens. [`prune`] removes the expired tokens.
 #![tactic(auto)]
 
 mod bearers;
@@ -12,9 +11,11 @@ mod holding;
 mod issuing;
 mod moments;
 mod pruning;
+mod requests;
 
 pub use bearers::caller;
 pub use callers::Caller;
 pub use holding::of;
-pub use issuing::{TokenFault, TokenRequest, issue, offer};
+pub use issuing::{TokenFault, issue, offer};
 pub use pruning::prune;
+pub use requests::TokenRequest;

@@ -1,4 +1,4 @@
-//! Moments, as the tables keep them.
+//! Moments, as the tables store them.
 
 ghost use Rattle.std.specs.Prelude.{◌≡◌, pos};
 

@@ -1,13 +1,14 @@
 use Rattle.std.proofs.Common.{◌≡◌, subst}
-use Rattle.std.proofs.lemmas.Result.{IfOk-weaker, on_err_weaker}
 use Rattle.model.specs.World.{World}
 use Rattle.tables.specs.Rows as row
-use Rattle.tables.specs.Shown.{IsHonest, Moves, shown}
+use Rattle.tables.specs.Shown.{IsHonest, Makes, Fails, shown}
 use Rattle.tables.specs.Steps.{after_create, outcome_of, read_creation}
 use Rattle.worlds.specs.Standing.{Holds}
 use Rattle.worlds.proofs.Holding.{holds_still}
+use Rattle.worlds.proofs.Leading.{leads_still}
 use Rattle.desk.specs.Locking.{IsReadyAfter}
-use Rattle.desk.proofs.Making.{WasAsked, placed, untold, counts}
+use Rattle.desk.proofs.Making.{WasAsked, told_by, refused_by, counts}
+use Rattle.desk.proofs.Verdicts.{done_then, passed_on, refused_early}
 use Rattle.desk.proofs.locking.make_lock.Given.{Over}
 use Rattle.desk.proofs.locking.make_lock.Goals as goal
 
@@ -15,27 +16,50 @@ asked : (g : Over) (c : goal.Joined-creation g) → IsHonest g.S.Store c.create_
     → WasAsked g.S.Store c.made.new.self c.create_lock.new.self world c.args.wanted.now c.in_ok-creation.creation c.in_ok-ready.ready
 asked g c honest world h =
     let w = c.args.wanted.now in
+    let e = c.in_ok-creation.ensures in
     let still = holds_still g.S.Store c.args.store.now c.made.new.self world c.in_ok-made.ensures.same h in
-    let was_honest = c.in_ok-creation.ensures.ok.was_honest honest in
+    let was_honest = e.made.moves.was_honest honest in
     let count = counts g.S.Store c.args.store.now world w c.as_str.result.now c.in_ok-made.made (c.in_ok-made.ensures.same.was_honest was_honest)
-    (c.in_ok-made.ensures.open was_honest h.stands) h c.as_str.ensures.value (c.in_ok-made.ensures.answer was_honest h.stands) in
+    (c.in_ok-made.ensures.answers was_honest h.stands).0 h c.as_str.ensures.value (c.in_ok-made.ensures.answers was_honest h.stands).1 in
     record {
       range = c.row_of.ensures.range;
       honest = honest;
-      is_open = c.in_ok-creation.ensures.open honest still.stands;
-      moves = subst (λ (l : row.Lock). Moves g.S.Store (after_create l) c.made.new.self c.create_lock.new.self) c.row_of.ensures.row c.in_ok-creation.ensures.ok;
+      makes = subst (λ (l : row.Lock). Makes g.S.Store (after_create l) c.made.new.self c.create_lock.new.self) c.row_of.ensures.row e.made;
       outcome = subst (λ (l : row.Lock). read_creation c.in_ok-creation.creation ≡ outcome_of l (shown g.S.Store c.made.new.self)) c.row_of.ensures.row
-          (c.in_ok-creation.ensures.answer honest still.stands);
+          (e.answers honest still.stands).1;
       ready_for = subst (λ n. IsReadyAfter n w c.in_ok-ready.ready) count c.in_ok-ready.ensures;
       holds = still;
     }
 
-pub returns-clause-told : goal.returns-clause-told
-returns-clause-told g c honest world h =
-    IfOk-weaker c.reply_to.result _ _
-    (λ reply. placed g.S.Store c.made.new.self c.create_lock.new.self world c.args.wanted.now c.in_ok-creation.creation c.in_ok-ready.ready reply (asked g c honest world h)) c.reply_to.ensures.told
+pub returns : goal.returns
+returns g c = record {
+  honest = λ k. c.in_ok-made.ensures.same.was_honest (c.in_ok-creation.ensures.made.moves.was_honest k);
+  each = λ honest world h.
+      done_then g.S.Store c.args.store.now c.made.new.self c.create_lock.new.self world _ c.reply_to.result
+      (leads_still g.S.Store c.args.store.now c.made.new.self world c.in_ok-made.ensures.same c.in_ok-made.ensures.adds h)
+      (told_by g.S.Store c.made.new.self c.create_lock.new.self world c.args.wanted.now c.in_ok-creation.creation c.in_ok-ready.ready c.reply_to.result (asked g c honest world h) c.reply_to.ensures.told c.reply_to.ensures.refused);
+}
 
-pub returns-clause-refused : goal.returns-clause-refused
-returns-clause-refused g c honest world h =
-    on_err_weaker c.reply_to.result
-    (untold g.S.Store c.made.new.self c.create_lock.new.self world c.args.wanted.now c.in_ok-creation.creation c.in_ok-ready.ready (asked g c honest world h)) c.reply_to.ensures.refused
+pub returns-in_err-creation : goal.returns-in_err-creation
+returns-in_err-creation g c = record {
+  honest = λ k. c.in_ok-made.ensures.same.was_honest (c.in_err-creation.ensures.failed.moves.was_honest k);
+  each = λ honest world h.
+      let lead = leads_still g.S.Store c.args.store.now c.made.new.self world c.in_ok-made.ensures.same c.in_ok-made.ensures.adds h in
+      let e = c.in_err-creation.ensures in
+      done_then g.S.Store c.args.store.now c.made.new.self c.create_lock.new.self world _ c.from_residual-in_err-creation.result lead
+      (passed_on g.S.Store c.made.new.self c.create_lock.new.self world _ _ c.from_residual-in_err-creation.result c.from_residual-in_err-creation.ensures.1
+      (refused_by g.S.Store c.made.new.self c.create_lock.new.self world c.args.wanted.now c.row_of.ensures.range
+      (subst (λ (l : row.Lock). Fails g.S.Store (after_create l) c.made.new.self c.create_lock.new.self) c.row_of.ensures.row e.failed) lead.holds));
+}
+
+pub returns-in_err-ready : goal.returns-in_err-ready
+returns-in_err-ready g c = record {
+  honest = λ k. c.in_ok-made.ensures.same.was_honest k;
+  each = λ honest world h. refused_early g.S.Store c.args.store.now c.made.new.self world _ _ c.from_residual-in_err-ready.result c.from_residual-in_err-ready.ensures.1 (leads_still g.S.Store c.args.store.now c.made.new.self world c.in_ok-made.ensures.same c.in_ok-made.ensures.adds h);
+}
+
+pub returns-in_err-made : goal.returns-in_err-made
+returns-in_err-made g c = record {
+  honest = λ k. c.in_err-made.ensures.same.was_honest k;
+  each = λ honest world h. refused_early g.S.Store c.args.store.now c.made.new.self world _ _ c.from_residual.result c.from_residual.ensures.1 (leads_still g.S.Store c.args.store.now c.made.new.self world c.in_err-made.ensures.same c.in_err-made.ensures.adds h);
+}
