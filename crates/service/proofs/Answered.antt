@@ -12,10 +12,11 @@ use Rattle.model.specs.Forms.{request_of}
 use Rattle.model.specs.Cases.{Setting, DeskRequest}
 use Rattle.model.specs.Answers.{Answer, by_rule, by_row, by_lock, is_rule, is_store_refusal, store_refusal}
 use Rattle.model.specs.Verdict.{verdict, desk_verdict, desk_request, early_verdict}
-use Rattle.model.specs.Steps.{Message, Exchange, by_verdict, by_refusal, denial_alone, message, is_early, is_of_head, is_h7, is_denial, is_x2, is_sure, denies_put, closes, closes_after, allow, after}
+use Rattle.model.specs.Steps.{Message, Exchange, verdict_on, by_verdict, by_refusal, denial_alone, message, is_early, is_of_head, is_h7, is_denial, is_x2, is_sure, denies_put, closes, closes_after, allow, after}
 use Rattle.model.specs.Replies as model
-use Rattle.model.specs.Replies.{reply_of, content_of, head_text, head_lines, type_line, body_size, json, reply_text}
+use Rattle.model.specs.Replies.{content_of, head_text, head_lines, type_line, body_size, reply_text}
 use Rattle.model.specs.Sessions.{text_of}
+use Rattle.model.specs.Bounds.{unchanged, answer_ending}
 use Rattle.model.proofs.Refusals.{IsLate, desk_fails, request_fails, verdict_at}
 use Rattle.model.proofs.Firsts.{begins_with_message}
 use Rattle.wire.specs.Replies.{head_of}
@@ -23,8 +24,9 @@ use Rattle.wire.specs.Writes.{IsBeginning}
 use Rattle.wire.specs.declared.reply.ReplyHead as wire
 use Rattle.wire.specs.declared.reply.Content.TheVariants.{Json}
 use Rattle.tables.specs.declared.Store.{Store}
-use Rattle.worlds.specs.Standing.{Holds}
-use Rattle.desk.specs.Done.{IsDone}
+use Rattle.worlds.specs.Left.{Leads, Gives}
+use Rattle.worlds.proofs.Leading.{ends_still, denial_changes_none}
+use Rattle.desk.specs.Done.{Answers}
 use Rattle.desk.specs.Told.{IsReplyOf, body_text}
 use Rattle.desk.specs.declared.replies.Reply.{Reply}
 use Rattle.service.specs.Judging.{Asks, target_seen}
@@ -39,7 +41,7 @@ use Rattle.service.specs.declared.turn.Turn.TheVariants.{Unfinished, CutOff, Ans
 
 -- ---- the verdict on a head that is not refused
 
--- what the head and the body ask of the desk
+-- the request that the head and the body make to the desk
 abbrev pub request_made : RequestHead → judging.Target → List ℕ → DeskRequest
 request_made h t body = desk_request h (target_seen t) body
 
@@ -47,13 +49,13 @@ pub verdict_is : (world : World) (setting : Setting) (h : RequestHead) (t : judg
     → verdict world setting h body ≡ desk_verdict world setting (request_made h t body) body
 verdict_is world setting h t body is = verdict_at world setting h body (target_seen t) is.target
 
--- what is handed to the desk is what the head and the body ask of it
+-- the request passed to the desk equals the one in the model
 pub made_as : (h : RequestHead) (t : judging.Target) (bearers : List (List ℕ)) (repo body : List ℕ) → Asks h t → values (codes "authorization") h ≡ bearers
     → repo ≡ (target_seen t).repo → length body ≡ t.size
     → ◌≡◌ {A = DeskRequest} (record { bearers = bearers; repo = repo; left = length body; request = request_of (form_of_served t.form) [] t.query.now body }) (request_made h t body)
 made_as h t bearers repo body is bearer same size = rw (← bearer, same, size ∙ is.size, is.query) refl
 
--- no rule of the head, and not the store
+-- an answer by a rule other than the head's rules, and other than a store refusal
 pub record IsLateAnswer (given : Answer) : Type 0 where
   pub early : is_rule is_early given ≡ false
   pub of_head : is_rule is_of_head given ≡ false
@@ -68,7 +70,7 @@ late_verdict world setting h t body is =
     subst IsLateAnswer (sym (verdict_is world setting h t body is))
     (late_answer _ (desk_fails world setting (request_made h t body) body (request_fails (form_of_served t.form) [] (query_of h.target) body)))
 
--- a late answer is not a sure one
+-- a late answer is not a certain one
 not_sure : (given : Answer) → is_rule is_early given ≡ false → is_sure (Some given) ≡ false
 not_sure (Ok grant) early = refl
 not_sure (Err (by_rule r)) early = early
@@ -77,27 +79,28 @@ not_sure (Err (by_lock l)) early = refl
 
 -- ---- a message that is answered
 
-module _ {S : Type 0} (g : Ghosts S) (world : World) (setting : Setting) (head : RequestHead) (body : List ℕ) (new : Store S) (reply : Reply) where
-  pub answered_by : IsLateAnswer (verdict world setting head body) → IsDone g new world (verdict world setting head body) reply
-      → IsAnswered g world setting (whole_message head body) new reply
+module _ {S : Type 0} (g : Ghosts S) (world : World) (setting : Setting) (head : RequestHead) (body : List ℕ) (old new : Store S) (reply : Reply) where
+  pub answered_by : IsLateAnswer (verdict world setting head body) → Answers g old new world (verdict world setting head body) (Ok reply)
+      → IsAnswered g world setting (whole_message head body) old new reply
   answered_by late done = record {
     given = verdict world setting head body;
     kept = after world (Some (verdict world setting head body));
-    tells = done.tells;
+    tells = done.shows;
     carries = by_verdict refl refl;
-    holds = done.holds;
+    leads = done.gives;
     of_head = late.of_head;
     method = late.method;
   }
 
-  pub answered_none : IsLateAnswer (verdict world setting head body) → IsReplyOf reply store_refusal → Holds g new world
-      → IsAnswered g world setting (whole_message head body) new reply
-  answered_none late tells holds = record {
+  pub answered_none : IsLateAnswer (verdict world setting head body) → IsReplyOf reply store_refusal
+      → Gives g old new world (verdict world setting head body) store_refusal
+      → IsAnswered g world setting (whole_message head body) old new reply
+  answered_none late tells gives = record {
     given = store_refusal;
     kept = world;
     tells = tells;
     carries = by_refusal refl (not_sure (verdict world setting head body) late.early) refl;
-    holds = holds;
+    leads = gives;
     of_head = refl;
     method = refl;
   }
@@ -111,7 +114,7 @@ text_is reply given allow close tells =
     head_lines (record { status = status; type = type_line body; size = body_size body; allow = allow; close = close }) ++ model.body_text body (content_of given))
     tells.status (sym tells.body)
 
--- what is written is the text of the head of such a reply, and its body
+-- the written text: the head for such a reply, then its body
 pub sent_is : (h : wire.ReplyHead) (reply : Reply) (body : List ℕ) → h.content ≡ Json → h.status ≡ reply.status → h.size ≡ length body → body ≡ body_text reply.body
     → (head_of h ++ body) ≡ sent_text reply h.allow.now h.close
 unfolding head_text
@@ -124,16 +127,16 @@ reply_is reply given methods allowed close shut tells named closed =
 
 -- ---- a turn, and what was sent
 
-module _ {S : Type 0} (g : Ghosts S) (setting : Setting) (bytes : List ℕ) (world : World) (new : Store S) where
+module _ {S : Type 0} (g : Ghosts S) (setting : Setting) (bytes : List ℕ) (world : World) (old new : Store S) where
   pub sent : (was is : Option (List ℕ)) (e : Exchange) (next : List ℕ) (kept : World) (text : List ℕ) (close : Bool) (len : ℕ) (turn : Turn)
-      → IsTurn g setting bytes world new e next kept → text ≡ text_of e → is_some e.given ≡ true → closes e ≡ close
-      → (close ≡ false → next ≡ drop len bytes) → IsSent was is text close len turn → Takes g setting bytes world new was is turn
+      → IsTurn g setting bytes world old new e next kept → text ≡ text_of e → is_some e.given ≡ true → closes e ≡ close
+      → (close ≡ false → next ≡ drop len bytes) → IsSent was is text close len turn → Takes g setting bytes world old new was is turn
   sent was is e next kept text close len Unfinished turn reads some shuts goes s = absurd s
   sent was is e next kept text close len CutOff turn reads some shuts goes s = absurd s
   sent was is e next kept text close len (Answered n) turn reads some shuts goes s = (
     e,
     kept,
-    subst (λ (rest : List ℕ). IsTurn g setting bytes world new e rest kept) (goes s.0 ∙ ap (λ m. drop m bytes) (sym s.1)) turn,
+    subst (λ (rest : List ℕ). IsTurn g setting bytes world old new e rest kept) (goes s.0 ∙ ap (λ m. drop m bytes) (sym s.1)) turn,
     some,
     shuts ∙ s.0,
     subst (λ (t : List ℕ). Appends was is t) reads s.2,
@@ -143,10 +146,10 @@ module _ {S : Type 0} (g : Ghosts S) (setting : Setting) (bytes : List ℕ) (wor
   sent was is e next kept text close len WriteFailed turn reads some shuts goes s =
       (e, next, kept, turn, (s.0, subst (λ (t : List ℕ). IsBeginning was is t s.0) reads s.1))
 
-  -- a head that is refused
-  pub refused_turn : (asked : Message) (d : refusing.Denied) → IsPolicy setting.policy → setting.now ≤ last_moment → (is : IsRefused bytes asked d) → Holds g new world
-      → IsTurn g setting bytes world new (exchange setting asked (Some (Err (by_rule d.rule)))) is.next world
-  refused_turn asked d in_range at is holds = record {
+  -- a refused head
+  pub refused_turn : (asked : Message) (d : refusing.Denied) → IsPolicy setting.policy → setting.now ≤ last_moment → (is : IsRefused bytes asked d) → Leads g old new world (λ bound. bound)
+      → IsTurn g setting bytes world old new (exchange setting asked (Some (Err (by_rule d.rule)))) is.next world
+  refused_turn asked d in_range at is p = record {
     begins = is.begins;
     under = refl;
     step = record {
@@ -155,13 +158,13 @@ module _ {S : Type 0} (g : Ghosts S) (setting : Setting) (bytes : List ℕ) (wor
       asked = begins_with_message bytes asked is.next is.begins;
       carries = by_verdict (sym (is.verdict world setting)) (sym (ap (after world) (is.verdict world setting)));
     };
-    holds = holds;
+    leads = ends_still g old new (answer_ending world (Some (Err (by_rule d.rule)))) world (after world (verdict_on world setting asked)) (denial_changes_none g world (by_rule d.rule)) p;
   }
 
-  -- a message that is answered
+  -- an answered message
   pub whole_turn : (h : RequestHead) (m : whole.Message) (reply : Reply) → IsPolicy setting.policy → setting.now ≤ last_moment → IsWhole bytes h m
-      → (a : IsAnswered g world setting (whole_message h m.body.now) new reply)
-      → IsTurn g setting bytes world new (exchange setting (whole_message h m.body.now) (Some a.given)) (drop m.len bytes) a.kept
+      → (a : IsAnswered g world setting (whole_message h m.body.now) old new reply)
+      → IsTurn g setting bytes world old new (exchange setting (whole_message h m.body.now) (Some a.given)) (drop m.len bytes) a.kept
   whole_turn h m reply in_range at is a = record {
     begins = is.begins;
     under = refl;
@@ -171,13 +174,13 @@ module _ {S : Type 0} (g : Ghosts S) (setting : Setting) (bytes : List ℕ) (wor
       asked = begins_with_message bytes (whole_message h m.body.now) (drop m.len bytes) is.begins;
       carries = a.carries;
     };
-    holds = a.holds;
+    leads = a.leads;
   }
 
-  -- a message that is cut off
-  pub cut_turn : (was is : Option (List ℕ)) (h : RequestHead) → IsPolicy setting.policy → setting.now ≤ last_moment → IsCutOff bytes h → Holds g new world → is ≡ was
-      → Takes g setting bytes world new was is CutOff
-  cut_turn was is h in_range at cut holds same =
+  -- a message cut off in its body
+  pub cut_turn : (was is : Option (List ℕ)) (h : RequestHead) → IsPolicy setting.policy → setting.now ≤ last_moment → IsCutOff bytes h → Leads g old new world (λ bound. bound) → is ≡ was
+      → Takes g setting bytes world old new was is CutOff
+  cut_turn was is h in_range at cut p same =
       let asked : Message = message h cut.body false in
       let none : ◌≡◌ {A = Option Answer} (denial_alone (early_verdict world setting h)) None = ap denial_alone (cut.passes world setting) in (
         exchange setting asked None,
@@ -191,7 +194,7 @@ module _ {S : Type 0} (g : Ghosts S) (setting : Setting) (bytes : List ℕ) (wor
             asked = begins_with_message bytes asked [] cut.begins;
             carries = by_verdict (sym none) (sym (ap (after world) none));
           };
-          holds = holds;
+          leads = ends_still g old new unchanged world (after world (denial_alone (early_verdict world setting h))) refl p;
         },
         refl,
         same,

@@ -1,4 +1,4 @@
--- What is judged of a head, check by check.
+-- The verdict on a head, check by check.
 use Rattle.std.proofs.Common.{◌≡◌, ℕ, Bool, true, false, not, ◌||◌, List, [], Some, None, Result, Ok, Err, codes, refl, ap, subst, ◌≤◌, length, lit≤, bytes_eq, cond}
 use Rattle.std.specs.Bool.{⊤}
 use Rattle.std.specs.Result.{IfErr}
@@ -43,7 +43,7 @@ pub asked : (h : RequestHead) (route : Route) (form : Form) → check_framing h 
 unfolding head_verdict_in
 asked h route form whole there served wanted = rw (whole, there, served, wanted) refl
 
--- none of the routes has PUT
+-- no route has PUT
 pub no_put : (h : RequestHead) (r : Resource) (f : Form) → form_of h.method (row_of r).requests ≡ Some f → is_method (codes "PUT") h ≡ false
 no_put h Locks f served = at (bytes_eq h.method (codes "POST")) refl served
   where
@@ -53,7 +53,7 @@ no_put h Locks f served = at (bytes_eq h.method (codes "POST")) refl served
 
 -- ---- targets
 
--- bytes that are no text lead nowhere
+-- bytes that are not valid UTF-8 match no route
 pub no_text : (target : List ℕ) → (IsUtf8 target → ⊥) → route_at target ≡ Err H6
 no_text target other = rw (at (is_utf8 target) refl) refl
   where
@@ -66,7 +66,7 @@ no_text target other = rw (at (is_utf8 target) refl) refl
 abbrev IsOther : Rule → Type 0
 IsOther r = is_h7 r ≡ false
 
--- a check before others
+-- a check followed by other checks
 check_then : {B : Type 0} (test : Bool) (e : Rule) (f : ⊤ → Result B Rule) → IsOther e → IfErr (f tt) IsOther → IfErr (check test e >>= f) IsOther
 check_then true e f is then = then
 check_then false e f is then = is
@@ -78,7 +78,7 @@ check_last false e is = is
 framing_fails : (h : RequestHead) → IfErr (check_framing h) IsOther
 framing_fails h = search (check_then, check_last) depth 8
 
--- what says how long the body is refuses for no method
+-- the checks of the body length never refuse by H7
 pub framing_rule : (h : RequestHead) (r : Rule) → check_framing h ≡ Err r → IsOther r
 framing_rule h r is = subst (λ (f : Result ⊤ Rule). IfErr f IsOther) is (framing_fails h)
 
@@ -92,7 +92,7 @@ refused h d r same none is other = record {
   short = rw none (lit≤ tt);
 }
 
--- a refusal that names those of the route
+-- a refusal that names the methods of the route
 pub unserved : (h : RequestHead) (d : Denied) (route : Route) → d.rule ≡ H7 → route_at h.target ≡ Ok route → d.allow.now ≡ methods_of (Ok route) → length d.allow.now ≤ 128 → head_verdict h ≡ Err H7 → IsDenied h d
 unserved h d route same there methods short is = record {
   rule = rw same is;

@@ -1,24 +1,24 @@
 -- The message at the front of a stream.
-use Rattle.std.proofs.Common.{◌≡◌, ◌∙◌, ◌+◌, ◌<◌, ◌≤◌, ℕ, suc, Bool, true, false, ◌||◌, nat_le, List, [], ◌∷◌, length, take, drop, codes, Some, Result, Ok, Err, refl, sym, ap, ap₂, arith, cond, length-append, length-take, length-drop, drop-drop, is_err, option_map, lit<}
+use Rattle.std.proofs.Common.{inl, append-nil, ◌≡◌, ◌∙◌, ◌+◌, ◌<◌, ◌≤◌, ℕ, suc, Bool, true, false, ◌||◌, nat_le, List, [], ◌∷◌, length, take, drop, codes, Some, Result, Ok, Err, refl, sym, ap, ap₂, arith, cond, length-append, length-take, length-drop, drop-drop, is_err, option_map, lit<}
 use Rattle.std.proofs.lemmas.Bool.{true≢false}
 use Rattle.std.proofs.lemmas.Bool.Decides.{nat_tests}
 use Rattle.std.proofs.lemmas.List.{drop_all}
 use Rattle.std.proofs.lemmas.Result.{IfErr-at_err}
 use Rattle.std.specs.Bool.{⊤}
-use Rattle.httparse.specs.Grammar.{RequestHead, print_request, ReadsRequest}
+use Rattle.httparse.specs.Grammar.{RequestHead, print_request, ReadsRequest, MayBecomeRequest}
 use Rattle.names.specs.declared.rules.Rule.{Rule}
 use Rattle.names.specs.declared.rules.Rule.TheVariants as rule
 use Rattle.model.specs.declared.ServedForm.{ServedForm}
 use Rattle.model.specs.declared.ServedForm.TheVariants as served
 use Rattle.model.specs.Reading.{◌>>=◌, check}
 use Rattle.model.specs.Orders.{first}
-use Rattle.model.specs.World.{World}
 use Rattle.model.specs.Heads.{Target, head_verdict, form_of_served, check_framing, body_length, values, at_most, asks_close, content_length, is_measured, is_clear, is_small}
-use Rattle.model.specs.Cases.{Setting}
-use Rattle.model.specs.Verdict.{early_check}
+use Rattle.model.specs.Answers.{Denial, Plan}
+use Rattle.model.specs.Verdict.{early_check, desk_plan, desk_request}
 use Rattle.model.specs.Steps.{message, is_of_head}
-use Rattle.model.specs.Stream.{BeginsWithHead, with_message, message_with, IsUnfinished}
+use Rattle.model.specs.Stream.{BeginsWithHead, BeginsWith, with_message, with_bad_head, message_with, IsUnfinished}
 use Rattle.model.proofs.Refusals.{IsHeadRule, head_fails, verdict_refused, early_at}
+use Rattle.model.proofs.Streamed.{first_is_first}
 use Rattle.model.proofs.Tests.{both_true}
 use Rattle.tokens.specs.Bearers.{the_one}
 use Rattle.service.proofs.Judged.{not_framed}
@@ -30,7 +30,7 @@ use Rattle.service.specs.declared.message.Message as whole
 
 -- ---- a head that is refused
 
--- it has no body
+-- a refused head has no body
 no_body : (h : RequestHead) (r : Rule) → head_verdict h ≡ Err r → body_length h ≡ 0
 no_body h r is = ap (λ (v : Result Target Rule). cond (is_err v) 0 (content_length h)) is
 
@@ -113,7 +113,7 @@ le_true n m h = grind (arith, nat_tests)
 le_false : (n m : ℕ) → m < n → nat_le n m ≡ false
 le_false n m h = grind (arith, nat_tests)
 
--- the bytes of a message that is there, with what is told of it
+-- a complete message, and the facts about its bytes
 pub is_whole : (bytes : List ℕ) (len : ℕ) (h : RequestHead) (m : whole.Message) → BeginsWithHead bytes h (drop len bytes) → len ≤ length bytes → Asks h m.target
     → m.body.now ≡ take m.target.size (drop len bytes) → m.target.size ≤ length (drop len bytes) → m.len ≡ len + length m.body.now
     → option_map (λ v. v.now) m.authorization ≡ first (values (codes "authorization") h) → m.is_last ≡ asks_close h → IsWhole bytes h m
@@ -141,7 +141,7 @@ is_whole bytes len h m b within is body fits total bearer last =
 passes_early : (form : ServedForm) (plan : Result Plan Denial) → early_check (form_of_served form) plan ≡ Ok tt
 passes_early served.Lock plan = refl
 
--- the bytes of a head that is there, and less than its body
+-- a complete head with an incomplete body
 pub is_cut_off : (bytes after : List ℕ) (h : RequestHead) (t : code.Target) → BeginsWithHead bytes h after → Asks h t → length after < t.size → IsCutOff bytes h
 is_cut_off bytes after h t b is less =
     let wanted : body_length h ≡ t.size = body_is h t is in
@@ -150,12 +150,21 @@ is_cut_off bytes after h t b is less =
       body = take (body_length h) after;
       begins = with_message h after b (ap (λ (v : Bool). message h (take (body_length h) after) v) (sym all))
           (sym (drop_all (body_length h) after (omega (arith, wanted, less))));
-      passes = λ world setting. early_at world setting h (target_seen t) is.target ∙ passes_early t.form _;
+      passes = λ world setting. early_at world setting h (target_seen t) is.target ∙ passes_early t.form (desk_plan world setting (desk_request h (target_seen t) []));
     }
 
--- no bytes are left after it, so less than a head is
+-- no bytes are left after it, and no bytes are less than a head
 pub none_unfinished : IsUnfinished []
 none_unfinished = record { none = λ head rest reads. absurd (omega (arith, shorter [] head rest reads.reads)); short = lit< tt }
+
+-- and they can be continued to a head
+may_become : (bytes : List ℕ) (head : RequestHead) (body : List ℕ) (whole : Bool) (rest : List ℕ) → BeginsWith bytes (message head body whole) rest → MayBecomeRequest []
+may_become bytes head body whole rest (with_message h next begins is after) =
+    inl (print_request h, h, (begins.reads.reads.0, sym (append-nil (print_request h))))
+may_become bytes head body whole rest (with_bad_head bad is after) = absurd (cc)
+
+pub none_may_become : MayBecomeRequest []
+none_may_become = may_become _ _ _ _ _ (first_is_first [])
 
 pub fits_front : (bytes : List ℕ) (len n : ℕ) → len ≤ length (take n bytes) → len ≤ length bytes
 fits_front bytes len n h = omega (arith, length-take n bytes)

@@ -1,4 +1,4 @@
--- What a head asks for, or the refusal of it, as the service tells it.
+-- What the service reports of a head: what it asks for, or the rule that refuses it.
 use Rattle.std.specs.Prelude.{◌≡◌, ◌≤◌, true, false, length, [], codes, Result, Ok, Err}
 use Rattle.httparse.specs.Grammar.{RequestHead}
 use Rattle.model.specs.Heads as model
@@ -9,24 +9,24 @@ use Rattle.routes.specs.Routes.{route_seen}
 use Rattle.service.specs.declared.judging.Target.{Target}
 use Rattle.service.specs.declared.judging.Denied.{Denied}
 
--- the definitions' target: none of the routes has a parameter
+-- the target in the model's terms: no route has a parameter
 abbrev pub target_seen : Target → model.Target
 target_seen t = record { repo = (route_seen t.route).repo; parameter = []; form = form_of_served t.form }
 
--- the head asks for this target, with this query and so many bytes of body; it uploads nothing
+-- the head asks for this target, with this query and `size` bytes of body; it uploads nothing
 pub record Asks (h : RequestHead) (t : Target) : Type 0 where
   pub target : head_verdict h ≡ Ok (target_seen t)
   pub query : t.query.now ≡ query_of h.target
   pub size : t.size ≡ content_length h
   pub no_put : is_method (codes "PUT") h ≡ false
 
--- the head is refused by this rule, and these are the methods that the reply names
+-- this rule refuses the head, and the reply names these methods
 pub record IsDenied (h : RequestHead) (d : Denied) : Type 0 where
   pub rule : head_verdict h ≡ Err d.rule
   pub methods : d.allow.now ≡ allow (message h [] true) (Err (by_rule d.rule))
   pub short : length d.allow.now ≤ 128
 
--- what is told of the head is so
+-- `judge`'s result is correct for this head
 abbrev pub IsJudged : RequestHead → Result Target Denied → Type 0
 IsJudged h (Ok t) = Asks h t
 IsJudged h (Err d) = IsDenied h d

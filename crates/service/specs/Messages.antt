@@ -1,6 +1,6 @@
--- The message at the front of a stream, as the service tells it.
+-- The message at the front of a stream, as the service reports it.
 use Rattle.std.specs.Prelude.{◌≡◌, ◌<◌, ◌≤◌, true, false, List, ℕ, [], length, drop, codes, option_map, Some, Ok, Err}
-use Rattle.httparse.specs.Grammar.{RequestHead}
+use Rattle.httparse.specs.Grammar.{RequestHead, MayBecomeRequest}
 use Rattle.model.specs.World.{World}
 use Rattle.model.specs.Heads.{values, asks_close}
 use Rattle.model.specs.Cases.{Setting}
@@ -16,7 +16,7 @@ use Rattle.service.specs.declared.message.Message.{Message}
 use Rattle.service.specs.declared.message.Next.{Next}
 use Rattle.service.specs.declared.message.Next.TheVariants.{Unfinished, CutOff, Refused, Whole}
 
--- a message that the head's rule refuses, whatever the server keeps
+-- a message that a head rule refuses in every world
 pub record IsRefused (bytes : List ℕ) (asked : model.Message) (d : Denied) : Type 0 where
   pub next : List ℕ
   pub begins : BeginsWith bytes asked next
@@ -30,7 +30,7 @@ pub record IsRefused (bytes : List ℕ) (asked : model.Message) (d : Denied) : T
 abbrev pub whole_message : RequestHead → List ℕ → model.Message
 whole_message head body = model.message head body true
 
--- a head that is not refused, its body, and what is told of both
+-- an accepted head, its body, and the facts about both
 pub record IsWhole (bytes : List ℕ) (head : RequestHead) (m : Message) : Type 0 where
   pub begins : BeginsWith bytes (whole_message head m.body.now) (drop m.len bytes)
   pub asks : Asks head m.target
@@ -40,15 +40,15 @@ pub record IsWhole (bytes : List ℕ) (head : RequestHead) (m : Message) : Type 
   pub some : 0 < m.len
   pub within : m.len ≤ length bytes
 
--- a head that is not refused, and less than its body; nothing denies it before its body
+-- an accepted head and less than its body; nothing denies it before its body
 pub record IsCutOff (bytes : List ℕ) (head : RequestHead) : Type 0 where
   pub body : List ℕ
   pub begins : BeginsWith bytes (model.message head body false) []
   pub passes : (world : World) (setting : Setting) → early_verdict world setting head ≡ Ok tt
 
--- this is what the bytes begin with
+-- the bytes begin with this; `Unfinished` only if the parser may still read the bytes as the start of a head
 abbrev pub IsNext : List ℕ → Next → Type 0
-IsNext bytes Unfinished = IsUnfinished bytes
+IsNext bytes Unfinished = IsUnfinished bytes × MayBecomeRequest bytes
 IsNext bytes CutOff = (head : RequestHead) × IsCutOff bytes head
 IsNext bytes (Refused d) = (asked : model.Message) × IsRefused bytes asked d
 IsNext bytes (Whole m) = (head : RequestHead) × IsWhole bytes head m

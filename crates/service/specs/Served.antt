@@ -1,6 +1,7 @@
--- What a connection is served, from one world to another.
-use Rattle.std.specs.Prelude.{◌≡◌, ◌⊎◌, ℕ, Bool, true, List, [], ◌++◌, map, Option}
+-- The result of serving a connection, from one world to another.
+use Rattle.std.specs.Prelude.{◌≡◌, ◌⊎◌, ℕ, Bool, true, List, [], ◌++◌, map, Option, ⊤}
 use Rattle.std.specs.Io.KnownBytes.{Appends, Consumes}
+use Rattle.httparse.specs.Grammar.{MayBecomeRequest}
 use Rattle.sqlite_trees.specs.declared.store.Store.{Ghosts}
 use Rattle.names.specs.Streams.{HasGrown}
 use Rattle.model.specs.World.{World}
@@ -8,91 +9,118 @@ use Rattle.model.specs.Cases.{Setting}
 use Rattle.model.specs.Steps.{Exchange, Event, exchanged, Run}
 use Rattle.model.specs.Sessions as model
 use Rattle.model.specs.Sessions.{IsSession, IsUnread, WritesRefusal}
-use Rattle.model.specs.Progress.{IsProgress}
+use Rattle.model.specs.Progress.{IsProgress, LeadsTo}
+use Rattle.model.specs.Views.{SameViews}
+use Rattle.model.specs.Bounds.{bound_of_run}
+use Rattle.model.specs.Laws.{NoneAsks}
 use Rattle.tables.specs.declared.Store.{Store}
-use Rattle.worlds.specs.Standing.{Holds}
+use Rattle.worlds.specs.Left.{Leads}
 use Rattle.service.specs.declared.session.End.{End}
 use Rattle.service.specs.declared.session.End.TheVariants.{InputEnded, Closed, ReadFailed, WriteFailed}
 use Rattle.service.specs.declared.session.Served.{Served}
 
--- why the connection ended, as the definitions see it
+-- why the connection ended, in the model's terms
 abbrev pub end_seen : End → model.End
 end_seen InputEnded = model.InputEnded
 end_seen Closed = model.Closed
 end_seen ReadFailed = model.ReadFailed
 end_seen WriteFailed = model.WriteFailed
 
--- the exchanges of the connection, what it was written, and the world after them; whatever run led to the world before
--- leads on
+-- the bytes after the last message may still become a head
+abbrev pub IsLeftOpen : List ℕ → List Exchange → Type 0
+IsLeftOpen bytes exchanges = (rest : List ℕ) × LeadsTo bytes exchanges rest × MayBecomeRequest rest
+
+-- if the server did not close the connection, no bad head is left without a reply
+abbrev pub HasNoBadHead : List ℕ → List Exchange → End → Type 0
+HasNoBadHead bytes exchanges InputEnded = IsLeftOpen bytes exchanges
+HasNoBadHead bytes exchanges ReadFailed = IsLeftOpen bytes exchanges
+HasNoBadHead bytes exchanges Closed = ⊤
+HasNoBadHead bytes exchanges WriteFailed = ⊤
+
+-- the connection's exchanges, the bytes written, the world that they led the store to, and what a stop leaves;
+-- any run that ends in the old world can be continued by them, and views of other repositories do not change
 pub record IsServed
     {S : Type 0} (g : Ghosts S) (setting : Setting) (bytes : List ℕ) (world : World)
-    (new : Store S) (was is : Option (List ℕ)) (served : Served) : Type 0 where
+    (old new : Store S) (was is : Option (List ℕ)) (served : Served) : Type 0 where
   pub exchanges : List Exchange
   pub written : List ℕ
   pub kept : World
   pub session : IsSession
       (record { setting = setting; bytes = bytes; exchanges = exchanges; written = written; answered = served.answered })
       (end_seen served.end) world kept
+  pub bad_head : HasNoBadHead bytes exchanges served.end
   pub taken : Appends was is written
-  pub holds : Holds g new kept
-  pub leads : (start : World) (before : List Event) → Run start before world → Run start (before ++ map exchanged exchanges) kept
+  pub leads : Leads g old new kept (bound_of_run world (map exchanged exchanges))
+  pub run : (start : World) (before : List Event) → Run start before world → Run start (before ++ map exchanged exchanges) kept
+  pub apart : (repo : List ℕ) → NoneAsks repo exchanges → SameViews repo world kept
 
--- ---- where there was no memory to read with
+-- ---- no memory to read the input
 
 -- a session that read nothing
 abbrev pub unread : Setting → List ℕ → ℕ → model.Session
 unread setting written answered =
     record { setting = setting; bytes = []; exchanges = []; written = written; answered = answered }
 
--- the refusal by the store alone was written, or a beginning of it
+-- only the store refusal was written, or a prefix of it
 pub record IsRefusal (was is : Option (List ℕ)) (served : Served) : Type 0 where
   pub written : List ℕ
   pub writes : (setting : Setting) → WritesRefusal (unread setting written served.answered) (end_seen served.end)
   pub taken : Appends was is written
 
--- and nothing was done
+-- a session that wrote only the store refusal and changed nothing
 pub record IsUnserved
-    {S : Type 0} (g : Ghosts S) (setting : Setting) (world : World) (new : Store S)
+    {S : Type 0} (g : Ghosts S) (setting : Setting) (world : World) (old new : Store S)
     (was is : Option (List ℕ)) (served : Served) : Type 0 where
   pub written : List ℕ
   pub session : IsUnread (unread setting written served.answered) (end_seen served.end) world world
   pub taken : Appends was is written
-  pub holds : Holds g new world
+  pub leads : Leads g old new world (λ bound. bound)
 
 -- ---- the session theorem
 
--- the connection was served what the source handed out; or there was no memory to read it with, and nothing was done
-abbrev pub Serves :
-    {S : Type 0} (g : Ghosts S) → Setting → World → Store S → Option (List ℕ) → Option (List ℕ)
-    → Option (List ℕ) → Option (List ℕ) → Served → Type 0
-Serves g setting world new left rest was is served =
-    ((bytes : List ℕ) × Consumes left rest bytes × IsServed g setting bytes world new was is served)
-    ⊎ IsUnserved g setting world new was is served
+-- one call: the bytes left in the source before and after it, the number of its failed reads before and after it, and
+-- the bytes that the sink took before and after it
+pub record Call : Type 0 where
+  pub setting : Setting
+  pub left : Option (List ℕ)
+  pub rest : Option (List ℕ)
+  pub failed_before : ℕ
+  pub failed_after : ℕ
+  pub was : Option (List ℕ)
+  pub is : Option (List ℕ)
 
--- a write failed in this call where that is told, and nowhere else
+-- the connection was served the bytes that the source returned; or no read failed, the store refusal was written, and
+-- nothing changed, as happens if there is no memory to read the input
+abbrev pub Serves : {S : Type 0} (g : Ghosts S) → Call → World → (old new : Store S) → Served → Type 0
+Serves g call world old new served =
+    ((bytes : List ℕ) × Consumes call.left call.rest bytes
+    × IsServed g call.setting bytes world old new call.was call.is served)
+    ⊎ ((call.failed_after ≡ call.failed_before) × IsUnserved g call.setting world old new call.was call.is served)
+
+-- a write failed during this call exactly if the end says so
 abbrev pub IsCountedAs : ℕ → ℕ → End → Type 0
 IsCountedAs old new WriteFailed = HasGrown old new
 IsCountedAs old new _ = new ≡ old
 
--- why a connection ended, where a read failed behind its bytes or not
+-- why a connection ended, given whether a read failed after its last byte
 abbrev pub end_by : Bool → End → End
 end_by true InputEnded = ReadFailed
 end_by _ end = end
 
--- a failed read is told where all that was read before was served
+-- a failed read is reported if everything read before it was served
 abbrev pub IsEndedBy : Served → Bool → Served → Type 0
 IsEndedBy was has_failed is = (is.answered ≡ was.answered) × (is.end ≡ end_by has_failed was.end)
 
 -- ---- a session so far
 
--- what was answered up to the rest of the bytes, from one world
+-- the exchanges and the text written so far, up to `rest`, from one world
 pub record IsServing
     {S : Type 0} (g : Ghosts S) (setting : Setting) (bytes rest : List ℕ) (world : World)
-    (store : Store S) (was is : Option (List ℕ)) (answered : ℕ) : Type 0 where
+    (old new : Store S) (was is : Option (List ℕ)) (answered : ℕ) : Type 0 where
   pub exchanges : List Exchange
   pub written : List ℕ
   pub kept : World
   pub progress : IsProgress
       (record { setting = setting; bytes = bytes; exchanges = exchanges; written = written; answered = answered }) rest world kept
   pub taken : Appends was is written
-  pub holds : Holds g store kept
+  pub leads : Leads g old new kept (bound_of_run world (map exchanged exchanges))

@@ -1,4 +1,4 @@
-//! The bytes that a source hands out, read to its end.
+//! Reads a source to its end.
 
 ghost use Rattle.std.specs.Prelude.{◌≡◌, ◌+◌, ◌<◌, ◌≤◌, ℕ, List, Option, length, IfOk, OnOk, OnErr};
 ghost use Rattle.std.specs.Bool.{OnTrue, OnFalse};
@@ -8,15 +8,15 @@ ghost use Rattle.names.specs.Streams.{HasGrown};
 use names::{DeviceFault, Source};
 use std::alloc::{AllocError, Global};
 
-/// The most bytes that one read asks for.
+/// The size of the largest read, in bytes.
 const PIECE: usize = 16_384;
 
-/// What a source handed out.
+/// The bytes read from a source.
 #[derive(Debug, Drop)]
 pub(crate) struct Input {
-    /// The bytes, in their order.
+    /// The bytes, in order.
     pub bytes: Vec<u8>,
-    /// Whether a read failed behind them. Where none did, the source ended.
+    /// Whether a read failed after these bytes. If not, the source ended.
     pub has_failed: bool,
 }
 
@@ -24,12 +24,15 @@ pub(crate) struct Input {
 ///
 /// # Errors
 ///
-/// Only where memory refused. What was read until then is lost.
+/// Fails only if memory runs out. The bytes read so far are lost.
 pub(crate) fn read_all<R: Source>(alloc: Global, source: &mut R) -> Result<Input, AllocError>
-    ensures bytes { IfOk result (λ input. Consumes (R.left source.old) (R.left source.new) input.bytes.items) }
+    ensures bytes { IfOk result
+        (λ input. Consumes (R.left source.old) (R.left source.new) input.bytes.items) }
     ensures end { IfOk result (λ input. OnFalse input.has_failed (IsAtEnd (R.left source.new))) }
-    ensures good { IfOk result (λ input. OnFalse input.has_failed (R.failed source.new ≡ R.failed source.old)) }
-    ensures fault { IfOk result (λ input. OnTrue input.has_failed (HasGrown (R.failed source.old) (R.failed source.new))) }
+    ensures good { IfOk result
+        (λ input. OnFalse input.has_failed (R.failed source.new ≡ R.failed source.old)) }
+    ensures fault { IfOk result
+        (λ input. OnTrue input.has_failed (HasGrown (R.failed source.old) (R.failed source.new))) }
     ensures refused { OnErr result (R.failed source.new ≡ R.failed source.old) }
     ensures same_reference { R.reference source.new ≡ R.reference source.old }
 {
@@ -54,23 +57,26 @@ pub(crate) fn read_all<R: Source>(alloc: Global, source: &mut R) -> Result<Input
     }
 }
 
-/// Reads once, by way of `piece`, and appends what was read; says how many bytes that are, which is
-/// 0 at the end.
+/// Reads once into `piece` and appends the bytes read. Returns how many they are; 0 is the end.
 ///
 /// # Errors
 ///
-/// Only where memory refused. A read that failed is an answer, and nothing is appended.
+/// Fails only if memory runs out. A failed read is an inner `Err`, and appends nothing.
 fn append_read<R: Source>(
     source: &mut R,
     piece: &mut [u8],
     bytes: &mut Vec<u8>,
 ) -> Result<Result<usize, DeviceFault>, AllocError>
     requires { 0 < length piece.old }
-    ensures bytes { OnOk result ((first : Option (List ℕ)) → Consumes first (R.left source.old) bytes.old.items → Consumes first (R.left source.new) bytes.new.items) }
+    ensures bytes { OnOk result ((first : Option (List ℕ))
+        → Consumes first (R.left source.old) bytes.old.items
+        → Consumes first (R.left source.new) bytes.new.items) }
     ensures end { IfOk result (λ read. IfOk read (λ n. n ≡ 0 → IsAtEnd (R.left source.new))) }
-    ensures budget { IfOk result (λ read. IfOk read (λ n. n + R.budget source.new ≤ R.budget source.old)) }
+    ensures budget { IfOk result
+        (λ read. IfOk read (λ n. n + R.budget source.new ≤ R.budget source.old)) }
     ensures good { IfOk result (λ read. OnOk read (R.failed source.new ≡ R.failed source.old)) }
-    ensures fault { IfOk result (λ read. OnErr read (HasGrown (R.failed source.old) (R.failed source.new))) }
+    ensures fault { IfOk result
+        (λ read. OnErr read (HasGrown (R.failed source.old) (R.failed source.new))) }
     ensures refused { OnErr result (R.failed source.new ≡ R.failed source.old) }
     ensures same_reference { R.reference source.new ≡ R.reference source.old }
 {

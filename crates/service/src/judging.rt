@@ -14,38 +14,38 @@ use names::Rule;
 use routes::{Resource, Route, Routes, query_of};
 use wire::Head;
 
-/// What a head that is not refused asks for.
+/// What an accepted head asks for.
 #[derive(Clone, Copy, Debug, PartialEq, Eq)]
 pub struct Target<'t> {
-    /// The repository, and what of it.
+    /// The repository and the resource in it.
     pub route: Route<'t>,
-    /// What the method asks for there.
+    /// What the method asks of the resource.
     pub form: ServedForm,
-    /// What stands behind the target's first question mark.
+    /// The part of the target after its first question mark.
     pub query: &'t str,
-    /// How many bytes of body follow the head.
+    /// The size of the body that follows the head, in bytes.
     pub size: u64,
 }
 
-/// A head that is refused.
+/// A refused head.
 #[derive(Clone, Copy, Debug, PartialEq, Eq)]
 pub struct Denied {
     /// The first rule that refuses it: H2 to H8.
     pub rule: Rule,
-    /// The methods that the route serves, where the rule is H7; else empty.
+    /// If the rule is H7, the methods that the route serves; else empty.
     pub allow: &'static str,
 }
 
-/// What the head asks for.
+/// Returns what the head asks for.
 ///
 /// # Errors
 ///
-/// The first of these rules that holds.
+/// The first of these rules that applies.
 ///
 /// - H2 to H5: [`Head::body_length`] refuses it.
-/// - H6: no route has its target, or the target is not UTF-8.
+/// - H6: no route matches its target, or the target is not UTF-8.
 /// - H7: the route does not serve its method.
-/// - H8: replies of the route are JSON, and it does not accept them.
+/// - H8: the route replies in JSON, and the head does not accept JSON.
 pub fn judge<'t>(routes: &Routes, head: &Head<'t>) -> Result<Target<'t>, Denied>
     ensures { (h : RequestHead) → Shows head.now h → IsJudged h result }
 {
@@ -70,10 +70,11 @@ pub fn judge<'t>(routes: &Routes, head: &Head<'t>) -> Result<Target<'t>, Denied>
     })
 }
 
-/// Where the head's target leads, and its query; `None` where it leads nowhere (H6).
+/// The route of the head's target, and the target's query; `None` if no route matches (H6).
 fn place_of<'t>(routes: &Routes, head: &Head<'t>) -> Option<(Route<'t>, &'t str)>
     ensures { (h : RequestHead) → Shows head.now h → MatchOption result (route_at h.target ≡ Err H6)
-        (λ place. (route_at h.target ≡ Ok (route_seen place.0)) × (place.1.now ≡ query_of h.target)) }
+        (λ place. (route_at h.target ≡ Ok (route_seen place.0))
+        × (place.1.now ≡ query_of h.target)) }
 {
     let Ok(target) = str::from_utf8(head.target()) else {
         return None;
@@ -84,14 +85,15 @@ fn place_of<'t>(routes: &Routes, head: &Head<'t>) -> Option<(Route<'t>, &'t str)
     }
 }
 
-/// Whether the client accepts what the resource replies.
+/// Whether the client accepts the content type of the resource's replies.
 fn accepts(head: &Head<'_>, resource: Resource) -> bool
-    ensures { (h : RequestHead) → Shows head.now h → result ≡ (not (row_of resource).is_json || accepts (values (codes "accept") h)) }
+    ensures { (h : RequestHead) → Shows head.now h → result
+        ≡ (not (row_of resource).is_json || accepts (values (codes "accept") h)) }
 {
     !resource.is_json() || head.accepts_json()
 }
 
-/// Refused by a rule that names no methods.
+/// A refusal by a rule that names no methods.
 fn refused_by(rule: Rule) -> Denied
     ensures rule { result.rule ≡ rule }
     ensures allow { result.allow.now ≡ [] }
@@ -99,7 +101,7 @@ fn refused_by(rule: Rule) -> Denied
     Denied { rule, allow: "" }
 }
 
-/// Refused since the resource serves other methods.
+/// The refusal by H7, with the methods that the resource serves.
 fn not_served(resource: Resource) -> Denied
     ensures rule { result.rule ≡ H7 }
     ensures allow { result.allow.now ≡ comma_list (map (λ r. r.0) (row_of resource).requests) }

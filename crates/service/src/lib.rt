@@ -1,7 +1,7 @@
-//! The service: a connection's bytes come in, replies go out, and what the server keeps takes the
-//! steps that the replies tell.
+//! The service reads requests from a connection, writes the replies, and makes the changes to the
+//! store that the replies report.
 //!
-//! [`serve`] reads what a client sent to its end, cuts it into messages, answers them in order, and
+//! [`serve`] reads a client's input to its end, splits it into messages and answers them in order. It
 //! writes each reply before it looks at the next message.
 #![tactic(auto)]
 

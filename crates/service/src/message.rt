@@ -12,35 +12,35 @@ use names::Rule;
 use routes::Routes;
 use wire::{Cut, FIELD_ROOM, Head, first_head, front_of};
 
-/// A head that is not refused, and its body.
+/// An accepted head and its body.
 #[derive(Clone, Copy, Debug)]
 pub(crate) struct Message<'m> {
     /// What the head asks for.
     pub target: Target<'m>,
-    /// The value of `Authorization`, where there is one.
+    /// The value of the first `Authorization` field, if any.
     pub authorization: Option<&'m [u8]>,
     /// The body.
     pub body: &'m [u8],
-    /// Whether the head asks that the connection ends behind the message.
+    /// Whether the head asks to close the connection after this message.
     pub is_last: bool,
-    /// How many bytes head and body have.
+    /// The size of head and body, in bytes.
     pub len: usize,
 }
 
-/// What a stream goes on with.
+/// What the rest of a stream begins with.
 #[derive(Clone, Copy, Debug)]
 pub(crate) enum Next<'m> {
-    /// Less than a head.
+    /// An incomplete head.
     Unfinished,
-    /// A head that is not refused, and less than its body.
+    /// An accepted head and an incomplete body.
     CutOff,
-    /// A head that is none, or one that is refused: nothing behind it is looked at.
+    /// Malformed or rejected head; the rest of the input is ignored.
     Refused(Denied),
-    /// A message.
+    /// A complete message.
     Whole(Message<'m>),
 }
 
-/// The message at the front of the bytes.
+/// Returns the message at the front of the bytes.
 pub(crate) fn next_message<'m>(
     routes: &Routes,
     bytes: &'m [u8],
@@ -62,10 +62,11 @@ pub(crate) fn next_message<'m>(
     }
 }
 
-/// The message whose head was found, of so many bytes.
+/// The message with this head, which takes `len` bytes.
 fn message_of<'m>(routes: &Routes, bytes: &'m [u8], head: &Head<'m>, len: usize) -> Next<'m>
     requires { len ≤ length bytes.now }
-    ensures { (h : RequestHead) → Shows head.now h → BeginsWithHead bytes.now h (drop len bytes.now) → IsNext bytes.now result }
+    ensures { (h : RequestHead) → Shows head.now h → BeginsWithHead bytes.now h (drop len bytes.now)
+        → IsNext bytes.now result }
 {
     let target = match judge(routes, head) {
         Ok(target) => target,
@@ -83,10 +84,12 @@ fn message_of<'m>(routes: &Routes, bytes: &'m [u8], head: &Head<'m>, len: usize)
     })
 }
 
-/// The body behind so many bytes of head; `None` where there is less of it.
+/// The body of `size` bytes after a head of `len` bytes; `None` if it is incomplete.
 fn body_at(bytes: &[u8], len: usize, size: u64) -> Option<&[u8]>
     requires { len ≤ length bytes.now }
-    ensures { MatchOption result (length (drop len bytes.now) < size) (λ body. (body.now ≡ take size (drop len bytes.now)) × (size ≤ length (drop len bytes.now))) }
+    ensures { MatchOption result (length (drop len bytes.now) < size)
+        (λ body. (body.now ≡ take size (drop len bytes.now))
+        × (size ≤ length (drop len bytes.now))) }
 {
     let (_, after) = bytes.split_at(len);
     if (after.len() as u64) < size {

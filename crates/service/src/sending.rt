@@ -1,4 +1,4 @@
-//! A reply, written to a connection (RFC 9112, Message Format).
+//! Writes a reply to a connection (RFC 9112, Message Format).
 
 ghost use Rattle.std.specs.Prelude.{◌≡◌, ◌≤◌, length, OnOk, IfErr};
 ghost use Rattle.std.specs.Io.KnownBytes.{Appends};
@@ -21,11 +21,12 @@ fn body_of(body: &Body) -> &str
     }
 }
 
-/// Writes a reply, with the methods that it names, and with what the server does behind it.
+/// Writes a reply. `allow` is the list of methods to name; `close` says whether the server closes the
+/// connection after it.
 ///
 /// # Errors
 ///
-/// A [`WriteFault`] at the first write that fails: a beginning of the text was taken.
+/// A [`WriteFault`] at the first failed write: the sink took a prefix of the text.
 pub(crate) fn send<K: Sink>(
     sink: &mut K,
     reply: &Reply,

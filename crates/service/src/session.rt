@@ -1,11 +1,9 @@
-//! A connection, message after message.
+//! A connection, message by message.
 
 ghost use Rattle.std.specs.Prelude.{◌≡◌, ◌≢◌, ◌≤◌, IfOk, length};
 ghost use Rattle.std.specs.Io.KnownBytes.{IsAtEnd};
 ghost use Rattle.names.specs.Streams.{HasGrown};
-ghost use Rattle.model.specs.World.{World};
-ghost use Rattle.tables.specs.Shown.{IsHonest};
-ghost use Rattle.worlds.specs.Standing.{Holds};
+ghost use Rattle.worlds.specs.Left.{From};
 ghost use Rattle.desk.specs.Asking.{setting_of};
 ghost use Rattle.service.specs.Served.{IsServed, IsRefusal, IsCountedAs, IsEndedBy, Serves};
 
@@ -24,22 +22,22 @@ use wire::FIELD_ROOM;
 /// Why a connection ended.
 #[derive(Clone, Copy, Debug, PartialEq, Eq, Hash)]
 pub enum End {
-    /// The client's bytes ended, and every whole message was answered.
+    /// The client's input ended, and every complete message was answered.
     InputEnded,
-    /// The server closed it behind a reply.
+    /// The server closed it after a reply.
     Closed,
-    /// A read failed, and every whole message that was read before was answered.
+    /// A read failed, and every complete message read before was answered.
     ReadFailed,
     /// A write failed.
     WriteFailed,
 }
 
-/// What a connection was served.
+/// The result of serving a connection.
 #[derive(Clone, Copy, Debug, PartialEq, Eq, Hash)]
 pub struct Served {
-    /// How many replies were wholly written.
+    /// The number of replies that were written completely.
     pub answered: usize,
-    /// Why it ended.
+    /// Why the connection ended.
     pub end: End,
 }
 
@@ -55,7 +53,7 @@ fn field_room(alloc: Global) -> Result<Vec<HeaderSpan>, AllocError>
     vec![in alloc; span; FIELD_ROOM]
 }
 
-/// Answers the messages of the bytes in order, up to their end or to a reply that closes.
+/// Answers the messages in order, up to the end of the bytes or to a reply that closes.
 fn answer_all<S: Alter, K: Sink>(
     alloc: Global,
     store: &mut Store<S>,
@@ -65,11 +63,11 @@ fn answer_all<S: Alter, K: Sink>(
     sink: &mut K,
 ) -> Served
     requires { FIELD_ROOM ≤ length fields.old }
-    ensures honest { IsHonest S.Store store.new → IsHonest S.Store store.old }
     ensures counted { IsCountedAs (K.failed sink.old) (K.failed sink.new) result.end }
     ensures known { result.end ≢ End.ReadFailed }
-    ensures served { IsHonest S.Store store.new → (world : World) → Holds S.Store store.old world
-        → IsServed S.Store (setting_of setting.entry.now.policy.now setting.entry.now.now) bytes.now world store.new (K.taken sink.old) (K.taken sink.new) result }
+    ensures served { From S.Store store.old store.new (λ world.
+        IsServed S.Store (setting_of setting.entry.now.policy.now setting.entry.now.now) bytes.now world
+        store.old store.new (K.taken sink.old) (K.taken sink.new) result) }
 {
     let mut rest = bytes;
     let mut answered = 0;
@@ -101,7 +99,7 @@ fn answer_all<S: Alter, K: Sink>(
     }
 }
 
-/// Tells the refusal by the store, where there was no memory to read with.
+/// Writes the store refusal; used if there is no memory to read the input.
 fn refuse_all<K: Sink>(sink: &mut K) -> Served
     ensures counted { IsCountedAs (K.failed sink.old) (K.failed sink.new) result.end }
     ensures known { result.end ≢ End.ReadFailed }
@@ -119,16 +117,18 @@ fn refuse_all<K: Sink>(sink: &mut K) -> Served
     }
 }
 
-/// Serves a connection: reads what the source hands out to its end, answers its messages in order
-/// at one moment, and writes each reply before it looks at the next message.
+/// Serves a connection: reads the source to its end, answers the messages in order, all at the moment
+/// `now`, and writes each reply before it looks at the next message.
 ///
-/// The connection is closed behind the refusal of a head, behind a refusal by the store, and where
-/// the client asks it. Where a read fails, what was read before is answered all the same. Where
-/// there is no memory to read with, the refusal by the store is all that is written, and nothing is
-/// done.
+/// The connection closes after a refused head, after a store refusal, and after a message that asks
+/// for it. If a read fails, the messages read before it are still answered, and no read is tried
+/// again. If there is no memory to read the input, only the store refusal is written, and nothing
+/// changes.
 ///
-/// What the store holds afterwards, and what was written, is what the messages ask, step by step;
-/// whatever went before.
+/// The new contents of the store and the text written follow from the messages, step by step, whatever
+/// came before. What a stop leaves follows from the same steps: after a reply to a change, only the
+/// world with that change is left. A user's view of a repository changes only if a message asks about
+/// that repository.
 pub fn serve<S: Alter, R: Source, K: Sink>(
     alloc: Global,
     store: &mut Store<S>,
@@ -138,11 +138,20 @@ pub fn serve<S: Alter, R: Source, K: Sink>(
     source: &mut R,
     sink: &mut K,
 ) -> Served
-    ensures honest { IsHonest S.Store store.new → IsHonest S.Store store.old }
-    ensures session { IsHonest S.Store store.new → (world : World) → Holds S.Store store.old world
-        → Serves S.Store (setting_of policy.entry.now now) world store.new (R.left source.old) (R.left source.new) (K.taken sink.old) (K.taken sink.new) result }
+    ensures session { From S.Store store.old store.new (λ world. Serves S.Store
+        (record {
+          setting = setting_of policy.entry.now now;
+          left = R.left source.old;
+          rest = R.left source.new;
+          failed_before = R.failed source.old;
+          failed_after = R.failed source.new;
+          was = K.taken sink.old;
+          is = K.taken sink.new;
+        }) world store.old store.new result) }
     ensures input_ended { result.end ≡ End.InputEnded → IsAtEnd (R.left source.new) }
-    ensures read_failed { result.end ≡ End.ReadFailed → HasGrown (R.failed source.old) (R.failed source.new) }
+    ensures no_fault { result.end ≡ End.InputEnded → R.failed source.new ≡ R.failed source.old }
+    ensures read_failed { result.end ≡ End.ReadFailed
+        → HasGrown (R.failed source.old) (R.failed source.new) }
     ensures counted { IsCountedAs (K.failed sink.old) (K.failed sink.new) result.end }
 {
     let Ok(mut fields) = field_room(alloc) else {
@@ -160,7 +169,7 @@ pub fn serve<S: Alter, R: Source, K: Sink>(
     ended(served, input.has_failed)
 }
 
-/// The same, where a read failed behind the bytes that were served.
+/// Turns `InputEnded` into `ReadFailed` if the input ended in an error.
 fn ended(served: Served, has_failed: bool) -> Served
     ensures { IsEndedBy served has_failed result }
 {

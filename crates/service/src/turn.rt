@@ -1,12 +1,10 @@
-//! One message: it is cut from the stream, answered, and the reply is written.
+//! One message: cuts it from the stream, answers it, and writes the reply.
 
 ghost use Rattle.std.specs.Prelude.{◌≡◌, ◌≤◌, ◌||◌, length, codes, option_map};
 ghost use Rattle.httparse.specs.Grammar.{RequestHead};
 ghost use Rattle.names.specs.Texts.{last_moment};
-ghost use Rattle.model.specs.World.{World};
 ghost use Rattle.model.specs.Heads.{values};
-ghost use Rattle.tables.specs.Shown.{IsHonest};
-ghost use Rattle.worlds.specs.Standing.{Holds};
+ghost use Rattle.worlds.specs.Left.{From};
 ghost use Rattle.tokens.specs.Bearers.{the_one};
 ghost use Rattle.desk.specs.Asking.{setting_of};
 ghost use Rattle.service.specs.Judging.{Asks};
@@ -25,7 +23,7 @@ use std::alloc::Global;
 use tables::{Alter, Store};
 use wire::{ALLOW_LIMIT, FIELD_ROOM};
 
-/// What a connection is served by: the policy, the routes, and the moment at which it came.
+/// What serves a connection: the policy, the routes, and the moment at which it came.
 #[derive(Clone, Copy)]
 pub(crate) struct Setting<'a> {
     pub policy: &'a Policy,
@@ -34,34 +32,36 @@ pub(crate) struct Setting<'a> {
     pub ghost in_range: { now ≤ last_moment },
 }
 
-/// What became of the next message.
+/// The result of one turn.
 #[derive(Clone, Copy, Debug, PartialEq, Eq)]
 pub(crate) enum Turn {
-    /// There is less than a head.
+    /// The bytes hold less than a head.
     Unfinished,
-    /// There is a message whose body is cut off. It has no answer, and nothing follows it.
+    /// The body of the message is cut off. It gets no reply, and nothing follows it.
     CutOff,
-    /// It was answered. What follows it begins behind so many bytes.
+    /// Answered; the next message starts this many bytes on.
     Answered(usize),
-    /// It was answered, and the connection is closed behind the reply.
+    /// Answered, and the connection closes after the reply.
     Closed,
-    /// A beginning of the reply was written, and then a write failed.
+    /// A write failed: the sink took a prefix of the reply.
     WriteFailed,
 }
 
-/// Answers a message, and does what the answer says; tells the refusal by the store where the
-/// store or memory refused.
+/// Answers a message and carries out the answer. The reply is the store refusal if the store fails or
+/// memory runs out.
 fn answer_message<S: Alter>(
     alloc: Global,
     store: &mut Store<S>,
     setting: &Setting<'_>,
     message: &Message<'_>,
 ) -> Reply
-    ensures honest { IsHonest S.Store store.new → IsHonest S.Store store.old }
-    ensures answered { IsHonest S.Store store.new → (world : World) → Holds S.Store store.old world → (head : RequestHead) → Asks head message.entry.now.target
-        → values (codes "authorization") head ≡ the_one (option_map (λ v. v.now) message.entry.now.authorization)
+    ensures { From S.Store store.old store.new (λ world. (head : RequestHead)
+        → Asks head message.entry.now.target
+        → values (codes "authorization") head
+        ≡ the_one (option_map (λ v. v.now) message.entry.now.authorization)
         → length message.entry.now.body.now ≡ message.entry.now.target.size
-        → IsAnswered S.Store world (setting_of setting.entry.now.policy.now setting.entry.now.now) (whole_message head message.entry.now.body.now) store.new result }
+        → IsAnswered S.Store world (setting_of setting.entry.now.policy.now setting.entry.now.now)
+        (whole_message head message.entry.now.body.now) store.old store.new result) }
 {
     let Ok(repo) = message.target.route.repo_text(alloc) else {
         return Reply::store_refused();
@@ -80,14 +80,14 @@ fn answer_message<S: Alter>(
     }
 }
 
-/// Whether the connection is closed behind the reply.
+/// Whether the connection closes after the reply.
 fn closes(message: &Message<'_>, reply: &Reply) -> bool
     ensures { result ≡ (message.entry.now.is_last || reply.now.is_store_refusal) }
 {
     message.is_last || reply.is_store_refusal
 }
 
-/// Writes the reply to a message of so many bytes.
+/// Writes the reply to a message of `len` bytes.
 fn deliver<K: Sink>(sink: &mut K, reply: &Reply, allow: &str, close: bool, len: usize) -> Turn
     requires { length allow.now ≤ ALLOW_LIMIT }
     ensures sent { IsSent (K.taken sink.old) (K.taken sink.new) (sent_text reply.now allow.now close) close len result }
@@ -105,7 +105,7 @@ fn deliver<K: Sink>(sink: &mut K, reply: &Reply, allow: &str, close: bool, len: 
     }
 }
 
-/// Answers the message at the front of the bytes.
+/// Answers the message at the front of the bytes and writes the reply.
 pub(crate) fn take_turn<S: Alter, K: Sink>(
     alloc: Global,
     store: &mut Store<S>,
@@ -115,12 +115,12 @@ pub(crate) fn take_turn<S: Alter, K: Sink>(
     sink: &mut K,
 ) -> Turn
     requires { FIELD_ROOM ≤ length fields.old }
-    ensures honest { IsHonest S.Store store.new → IsHonest S.Store store.old }
     ensures room { length fields.new ≡ length fields.old }
     ensures within { IsWithin bytes.now result }
     ensures counted { IsCounted (K.failed sink.old) (K.failed sink.new) result }
-    ensures turn { IsHonest S.Store store.new → (world : World) → Holds S.Store store.old world
-        → Takes S.Store (setting_of setting.entry.now.policy.now setting.entry.now.now) bytes.now world store.new (K.taken sink.old) (K.taken sink.new) result }
+    ensures turn { From S.Store store.old store.new (λ world.
+        Takes S.Store (setting_of setting.entry.now.policy.now setting.entry.now.now) bytes.now world
+        store.old store.new (K.taken sink.old) (K.taken sink.new) result) }
 {
     match next_message(setting.routes, bytes, fields) {
         Next::Unfinished => Turn::Unfinished,
