@@ -1,4 +1,4 @@
--- The number that 1 to 18 digits write.
+-- The number written with 1 to 18 digits.
 use Rattle.std.proofs.Common.{◌≡◌, ℕ, ◌≤◌, ◌&&◌, true, false, List, length, Option, Some, None, Result, Ok, refl, ap, ◌∙◌, arith, rules, if◌then◌else◌}
 use Rattle.std.specs.Char.{is_ascii_digit}
 use Rattle.std.specs.List.{list_all}
@@ -23,7 +23,7 @@ parsed : (E : Type 0) (text : List ℕ) (r : Result ℕ E) → ParsesUnsigned {E
 parsed E text r parses some short digits =
     parse_gives model {E = E} 64 text r parses digits some (omega (arith, digits_value_short model text 18 digits short))
 
--- what the parse of such a text answers is its number
+-- the parse of such a text returns its number
 pub number_parsed : (E : Type 0) (text : List ℕ) (r : Result ℕ E) (o : Option ℕ) → ParsesUnsigned {E = E} 64 10 text r → o ≡ result_ok r
     → 1 ≤ length text → length text ≤ 18 → AreDigits text → o ≡ number_in text
 number_parsed E text r o parses read some short digits =

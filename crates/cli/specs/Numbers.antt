@@ -1,4 +1,4 @@
--- Which words are numbers, and which moment a clock tells. A text is the list of its bytes.
+-- Which arguments are numbers, and the moment of a clock. A text is the list of its bytes.
 use Rattle.std.specs.Prelude.{◌≡◌, ℕ, ◌/◌, Bool, ◌&&◌, nat_le, List, length, Option, Some, None, if◌then◌else◌}
 use Rattle.std.specs.Char.{is_ascii_digit}
 use Rattle.std.specs.List.{list_all}
@@ -9,14 +9,14 @@ use Rattle.names.specs.Texts.{between, last_moment}
 abbrev pub is_number : List ℕ → Bool
 is_number text = between 1 18 (length text) && list_all is_ascii_digit text
 
--- the number that they write
+-- the number that the digits write
 abbrev pub number_in : List ℕ → Option ℕ
 number_in text = if is_number text then Some (digits_value 10 text) else None
 
--- the moment that they write
+-- the moment that the digits write
 abbrev pub moment_in : List ℕ → Option ℕ
 moment_in text = if is_number text && nat_le (digits_value 10 text) last_moment then Some (digits_value 10 text) else None
 
--- the moment that a clock tells, so many nanoseconds after 1970: its whole seconds
+-- the moment of a clock that shows this many nanoseconds after 1970: its whole seconds
 abbrev pub moment_at : ℕ → Option ℕ
 moment_at nanos = if nat_le (nanos / 1000000000) last_moment then Some (nanos / 1000000000) else None

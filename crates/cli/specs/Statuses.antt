@@ -1,4 +1,4 @@
--- What the program answers to the machine, and which fault it tells.
+-- The program's exit status, and the fault that it reports.
 use Rattle.std.specs.Prelude.{ℕ, Bool}
 use Rattle.service.specs.declared.session.End.{End}
 use Rattle.service.specs.declared.session.End.TheVariants.{InputEnded, Closed, ReadFailed, WriteFailed}
@@ -11,7 +11,7 @@ use Rattle.tokens.specs.declared.issuing.TokenFault.TheVariants as tokens
 use Rattle.cli.specs.declared.faults.Fault.{Fault}
 use Rattle.cli.specs.declared.faults.Fault.TheVariants.{Words, Value, Clock, PolicyFile, Policy, Repository, Random, Store, Token, Memory, Output, Session}
 
--- 2 where the words are to blame, else 1
+-- 2 for a fault of the arguments, else 1
 abbrev pub status_of : Fault → ℕ
 status_of (Words _) = 2
 status_of (Value _) = 2
@@ -26,31 +26,31 @@ status_of Memory = 1
 status_of Output = 1
 status_of (Session _) = 1
 
--- a refusal by the database, or by memory
+-- a refusal by the database, or memory ran out
 abbrev pub of_store : StoreFault → Fault
 of_store tables.UnknownSchema = Store tables.UnknownSchema
 of_store tables.Refused = Store tables.Refused
 of_store tables.Memory = Memory
 
--- a text that spells no policy, or a refusal by memory
+-- a text that is not a policy, or memory ran out
 abbrev pub of_policy : PolicyFault → Fault
 of_policy (policy.Refused fault) = Policy fault
 of_policy policy.Memory = Memory
 
--- a token that was not issued, or a refusal by the database or by memory
+-- a token that was not issued, or a refusal by the database, or memory ran out
 abbrev pub of_token : TokenFault → Fault
 of_token tokens.AlreadyIssued = Token tokens.AlreadyIssued
 of_token tokens.ExpiresTooLate = Token tokens.ExpiresTooLate
 of_token (tokens.Store refused) = of_store refused
 
--- a session ends well where the input ended or the server closed the connection
+-- a session ends well if the input ended or the server closed the connection
 abbrev pub is_good : End → Bool
 is_good InputEnded = Bool.true
 is_good Closed = Bool.true
 is_good ReadFailed = Bool.false
 is_good WriteFailed = Bool.false
 
--- an end that was good is not, where the last bytes could not be written
+-- a good end becomes a failed write if the last bytes could not be written
 abbrev pub end_after : End → Bool → End
 end_after InputEnded Bool.false = WriteFailed
 end_after Closed Bool.false = WriteFailed

@@ -1,4 +1,4 @@
-//! The commands, as `clap` reads and tells them.
+//! The commands, as `clap` parses and documents them.
 
 use clap::{Arg, Command};
 use std::alloc::{AllocError, Global};
@@ -68,7 +68,7 @@ const PATH_HELP: &str =
 
 const OPERATION_HELP: &str = "What the token is for";
 
-/// The words for what a token is for.
+/// The arguments that name the operation of a token.
 pub(crate) const DOWNLOAD: &str = "download";
 
 pub(crate) const UPLOAD: &str = "upload";

@@ -1,4 +1,4 @@
-//! Why the program ends with another status than 0, and what it says then.
+//! Why the program ends with a status other than 0, and what it then prints.
 
 ghost use Rattle.std.specs.Prelude.{◌≡◌};
 ghost use Rattle.cli.specs.Statuses.{status_of};
@@ -10,28 +10,28 @@ use tables::StoreFault;
 use thiserror::Error;
 use tokens::TokenFault;
 
-/// Why the program ends with another status than 0. Each is one line, but for the first.
+/// Why the program ends with a status other than 0. Each prints one line, except the first.
 #[derive(Debug, Drop, Error)]
 pub(crate) enum Fault {
-    /// The words are no command. The text is that of `clap`, and has its own line ends.
+    /// The arguments are not a command. The text is `clap`'s, with its own line ends.
     #[error("{0}")]
     Words(clap::Error),
-    /// A value that its reader refuses: the name of its option.
+    /// A value is not valid for its option; this is the option's name.
     #[error("custody: bad value for {0}")]
     Value(&'static str),
-    /// The machine's clock tells no moment that this program knows.
+    /// The machine's clock is out of range.
     #[error("custody: no moment")]
     Clock,
     /// The policy file could not be read.
     #[error("custody: policy not read")]
     PolicyFile,
-    /// The file spells no policy.
+    /// The file is not a policy.
     #[error("custody: policy {0}")]
     Policy(policy::Fault),
     /// The policy has no such repository.
     #[error("custody: R1: no such repository")]
     Repository,
-    /// There were not as many random bytes as a token wants.
+    /// The file has fewer random bytes than a token needs, or could not be read.
     #[error("custody: random bytes not read")]
     Random,
     /// The database refused.
@@ -40,10 +40,10 @@ pub(crate) enum Fault {
     /// No token was issued.
     #[error("custody: {0}")]
     Token(TokenFault),
-    /// Memory was refused.
+    /// Memory ran out.
     #[error("custody: no memory")]
     Memory,
-    /// What there was to print could not be written to its end.
+    /// The output could not be written completely.
     #[error("custody: input or output")]
     Output,
     /// The session failed.
@@ -52,7 +52,7 @@ pub(crate) enum Fault {
 }
 
 impl Fault {
-    /// The exit status: 2 for words and their values, else 1.
+    /// The exit status: 2 for arguments and their values, else 1.
     pub fn status(&self) -> u8
         ensures { result ≡ status_of self.now }
     {

@@ -1,4 +1,4 @@
-//! What the program reads from files besides its database: the policy, and random bytes.
+//! Reads files other than the database: the policy, and random bytes.
 
 use crate::faults::Fault;
 use policy::Policy;
@@ -6,7 +6,7 @@ use std::fs::File;
 use std::io::{self, ErrorKind, Read};
 use std::rt::HostRuntime;
 
-/// One byte more than a policy file may have, so that a longer one is seen.
+/// One byte more than the longest policy file, so that a longer one is noticed.
 const MOST_READ: u64 = 1_048_577;
 
 /// The bytes of a file, at most [`MOST_READ`] of them.
@@ -18,11 +18,11 @@ fn read_file(rt: &HostRuntime, path: &str) -> io::Result<Vec<u8>> {
     Ok(bytes)
 }
 
-/// The policy that the file spells.
+/// Reads the policy in the file.
 ///
 /// # Errors
 ///
-/// `PolicyFile` where the file could not be read, `Policy` with the first fault of its text,
+/// `PolicyFile` if the file could not be read, `Policy` with the first fault of its text, and
 /// `Memory`.
 pub(crate) fn read_policy(rt: &HostRuntime, path: &str) -> Result<Policy, Fault> {
     match read_file(rt, path) {
@@ -32,11 +32,11 @@ pub(crate) fn read_policy(rt: &HostRuntime, path: &str) -> Result<Policy, Fault>
     }
 }
 
-/// The first 32 bytes of the file.
+/// Reads the first 32 bytes of the file.
 ///
 /// # Errors
 ///
-/// `Random` where it could not be opened or read, or has fewer.
+/// `Random` if it could not be opened or read, or is shorter.
 pub(crate) fn read_random(rt: &HostRuntime, path: &str) -> Result<[u8; 32], Fault> {
     let mut bytes = [0; 32];
     let Ok(mut file) = File::open(rt, path) else {

@@ -1,9 +1,7 @@
-//! The commands of `custody`: what a person may type, what the program then does, and what it says
-//! where it cannot.
+//! The commands of `custody`: their arguments, what they do, and what they print if they fail.
 //!
-//! [`run`] is the whole program over its words and its streams, and answers its exit status: 0 where
-//! all went well, 1 where something was refused, 2 where the words were none that it knows. `main`
-//! hands in the machine's.
+//! [`run`] is the whole program over its arguments and its streams. It returns the exit status: 0 for
+//! success, 1 for a refusal, 2 for invalid arguments. `main` passes the machine's arguments and streams.
 #![tactic(auto)]
 
 mod authenticate;

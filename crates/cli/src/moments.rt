@@ -1,4 +1,4 @@
-//! At which moment a command works.
+//! The moment at which a command works.
 
 ghost use Rattle.std.specs.Prelude.{◌≡◌};
 ghost use Rattle.std.specs.Time.{system_time_nanos};
@@ -9,18 +9,18 @@ use names::Moment;
 use std::rt::Clock;
 use std::time::{SystemTime, UNIX_EPOCH};
 
-/// The last moment that is not after the time; `None` where it is past the last moment.
+/// The time, rounded down to whole seconds; `None` if it is past the last moment.
 fn moment_at(time: SystemTime) -> Option<Moment>
     ensures { result ≡ moment_at (system_time_nanos time) }
 {
     Moment::read(time.duration_since(UNIX_EPOCH).ok()?.as_secs())
 }
 
-/// The moment that was given, else the clock's.
+/// The given moment, else the clock's.
 ///
 /// # Errors
 ///
-/// `Clock` where none was given and the clock's is out of range.
+/// `Clock` if none was given and the clock's is out of range.
 pub(crate) fn moment(clock: &impl Clock, given: Option<Moment>) -> Result<Moment, Fault> {
     match given {
         Some(moment) => Ok(moment),

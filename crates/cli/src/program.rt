@@ -11,6 +11,7 @@ use crate::session::session;
 use crate::words::{Asked, read_words};
 use std::io::{self, ErrorKind, Read, Write};
 use std::rt::HostRuntime;
+use tables::Start;
 
 /// Writes the help or the version.
 fn write_text<W: Write>(text: &clap::Error, output: &mut W) -> io::Result<()> {
@@ -18,22 +19,23 @@ fn write_text<W: Write>(text: &clap::Error, output: &mut W) -> io::Result<()> {
     output.flush()
 }
 
-/// Does what the words ask for.
-fn obey<R: Read, W: Write>(
+/// Runs the command that the arguments name.
+fn obey<S: Start, R: Read, W: Write>(
     rt: &HostRuntime,
     words: &[String],
     input: &mut R,
     output: &mut W,
+    start: S,
 ) -> Result<(), Fault> {
     match read_words(rt.alloc(), words)? {
         Asked::Text(text) => write_text(&text, output).map_err(|_| Fault::Output),
-        Asked::Session(asked) => session(rt, &asked, input, output),
-        Asked::Authenticate(asked) => authenticate(rt, &asked, output),
-        Asked::Prune(asked) => prune(rt, &asked, output),
+        Asked::Session(asked) => session(rt, &asked, input, output, start),
+        Asked::Authenticate(asked) => authenticate(rt, &asked, output, start),
+        Asked::Prune(asked) => prune(rt, &asked, output, start),
     }
 }
 
-/// Says why the program ends.
+/// Prints why the program ends.
 fn tell<E: Write>(fault: &Fault, errors: &mut E) -> io::Result<()> {
     match fault {
         Fault::Words(text) => write!(errors, "{text}")?,
@@ -42,7 +44,7 @@ fn tell<E: Write>(fault: &Fault, errors: &mut E) -> io::Result<()> {
     errors.flush()
 }
 
-/// The status of a fault, which is told; it stands where nobody can be told.
+/// Prints the fault and returns its exit status; a failed print does not change the status.
 fn refuse<E: Write>(fault: &Fault, errors: &mut E) -> u8
     ensures { result ≡ status_of fault.now }
 {
@@ -50,27 +52,32 @@ fn refuse<E: Write>(fault: &Fault, errors: &mut E) -> u8
     fault.status()
 }
 
-/// The program: what its words ask for, over its input, its output and its error stream. It answers
-/// the exit status: 0 good, 1 refused, 2 words that it does not know.
+/// The program: runs the command that its arguments name, over its input, its output and its error
+/// stream. Returns the exit status: 0 for success, 1 for a refusal, 2 for invalid arguments.
 ///
-/// The first of the words is the program's own name. What the commands print, and each line that is
-/// told on the error stream, stands in `docs/COMMANDS.md`.
-pub fn run<R: Read, W: Write, E: Write>(
+/// The first argument is the program's own name. `docs/COMMANDS.md` lists what the commands print, and
+/// each line on the error stream.
+///
+/// `start` represents the contents of the database and its log when they are opened, which no code can
+/// read: so the proofs about the commands hold for every file. A program passes
+/// [`Unknown`](tables::Unknown).
+pub fn run<S: Start, R: Read, W: Write, E: Write>(
     rt: &HostRuntime,
     words: &[String],
     input: &mut R,
     output: &mut W,
     errors: &mut E,
+    start: S,
 ) -> u8
     ensures { result ≤ 2 }
 {
-    match obey(rt, words, input, output) {
+    match obey(rt, words, input, output, start) {
         Ok(()) => 0,
         Err(fault) => refuse(&fault, errors),
     }
 }
 
-/// Says that a word is no text.
+/// Prints that an argument is not valid UTF-8.
 fn tell_no_text<E: Write>(errors: &mut E) -> io::Result<()> {
     writeln!(
         errors,
@@ -79,8 +86,8 @@ fn tell_no_text<E: Write>(errors: &mut E) -> io::Result<()> {
     errors.flush()
 }
 
-/// The exit status of a program whose words could not be had, which is told on the error stream: 1
-/// for want of memory, and else 2, as where a word is no UTF-8.
+/// Prints why the arguments could not be read, and returns the exit status: 1 if memory ran out, else
+/// 2, as for an argument that is not UTF-8.
 pub fn refuse_words<E: Write>(error: &io::Error, errors: &mut E) -> u8
     ensures memory { error_kind error.now ≡ ErrorKind.OutOfMemory → result ≡ 1 }
     ensures other { error_kind error.now ≢ ErrorKind.OutOfMemory → result ≡ 2 }

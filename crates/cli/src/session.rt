@@ -1,6 +1,6 @@
 //! The command `session`: one connection over the program's own input and output.
 
-ghost use Rattle.std.specs.Prelude.{◌≡◌, IsOk, ◌↔◌, IsTrue};
+ghost use Rattle.std.specs.Prelude.{◌≡◌};
 ghost use Rattle.cli.specs.Statuses.{is_good, end_after};
 
 use crate::faults::Fault;
@@ -13,9 +13,10 @@ use service::{End, Routes, serve};
 use std::alloc::Global;
 use std::io::{self, BufWriter, Read, Write};
 use std::rt::HostRuntime;
-use tables::{Storage, Store};
+use tables::{Start, Storage, Store};
+use worlds::open_from;
 
-/// What a session is served by.
+/// What a session is served with.
 #[derive(Clone, Copy)]
 struct Setting<'a> {
     policy: &'a Policy,
@@ -23,7 +24,7 @@ struct Setting<'a> {
     now: Moment,
 }
 
-/// Serves the connection, and writes out what is still buffered.
+/// Serves the connection, and flushes the output.
 fn serve_streams<S: Storage, R: Read, W: Write>(
     alloc: Global,
     store: &mut Store<S>,
@@ -46,7 +47,7 @@ fn serve_streams<S: Storage, R: Read, W: Write>(
     Ok(end_after(served.end, is_written))
 }
 
-/// How the session ended, where the last bytes could be written or not.
+/// The end of the session, given whether the last bytes could be written.
 fn end_after(end: End, is_written: bool) -> End
     ensures { result ≡ end_after end is_written }
 {
@@ -70,21 +71,21 @@ fn is_good(end: End) -> bool
 ///
 /// # Errors
 ///
-/// `Clock`, `PolicyFile` and `Policy`, which leave the database unopened; `Store` and `Memory`
-/// where it could not be opened; and `Session` where reading or writing failed: what was answered
-/// before stands.
-pub(crate) fn session<R: Read, W: Write>(
+/// `Clock`, `PolicyFile` and `Policy`, which leave the database unopened; `Store` and `Memory` if it
+/// could not be opened; and `Session` if reading or writing failed: what was answered before remains
+/// valid.
+pub(crate) fn session<S: Start, R: Read, W: Write>(
     rt: &HostRuntime,
     words: &SessionWords<'_>,
     input: &mut R,
     output: &mut W,
+    start: S,
 ) -> Result<(), Fault> {
     let alloc = rt.alloc();
     let now = moment(rt, words.now)?;
     let policy = read_policy(rt, words.policy)?;
     let routes = Routes::new(alloc)?;
-    let mut store = Store::open(rt, words.db)?;
-    store.create_or_check(alloc)?;
+    let mut store = open_from(rt, words.db, start)?;
     let setting = Setting {
         policy: &policy,
         routes: &routes,

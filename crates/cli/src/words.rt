@@ -1,4 +1,4 @@
-//! The words of a command line, and what they ask for.
+//! Parses the arguments of the program.
 
 ghost use Rattle.std.specs.Prelude.{◌≡◌};
 ghost use Rattle.std.specs.Char.{is_ascii_digit};
@@ -13,10 +13,10 @@ use names::{Moment, UserName};
 use std::alloc::Global;
 use tables::Operation;
 
-/// What the words ask for.
+/// The command that the arguments name.
 #[derive(Debug, Drop)]
 pub(crate) enum Asked<'a> {
-    /// The help or the version, for standard output.
+    /// Print the help or the version on standard output.
     Text(clap::Error),
     /// The command `session`.
     Session(SessionWords<'a>),
@@ -26,7 +26,7 @@ pub(crate) enum Asked<'a> {
     Prune(PruneWords<'a>),
 }
 
-/// The words of `session`.
+/// The arguments of `session`.
 #[derive(Clone, Copy, Debug)]
 pub(crate) struct SessionWords<'a> {
     /// The database file.
@@ -37,31 +37,31 @@ pub(crate) struct SessionWords<'a> {
     pub now: Option<Moment>,
 }
 
-/// The words of `authenticate`.
+/// The arguments of `authenticate`.
 #[derive(Clone, Copy, Debug)]
 pub(crate) struct AuthenticateWords<'a> {
     /// The database file.
     pub db: &'a str,
     /// The policy file.
     pub policy: &'a str,
-    /// Who gets the token.
+    /// The user who gets the token.
     pub user: UserName<'a>,
-    /// The moment at which it is issued; `None` for the clock's.
+    /// The moment at which the token is issued; `None` for the clock's.
     pub now: Option<Moment>,
     /// The file of random bytes.
     pub random: &'a str,
-    /// Which repository it is for, as the client wrote it.
+    /// The repository that the token is for, as the client wrote it.
     pub path: &'a str,
-    /// What it is for.
+    /// The operation that the token is for.
     pub operation: Operation,
 }
 
-/// The words of `prune`.
+/// The arguments of `prune`.
 #[derive(Clone, Copy, Debug)]
 pub(crate) struct PruneWords<'a> {
     /// The database file.
     pub db: &'a str,
-    /// The moment at which tokens have to be good; `None` for the clock's.
+    /// Tokens that are not valid at this moment are removed; `None` for the clock's.
     pub now: Option<Moment>,
 }
 
@@ -89,12 +89,12 @@ fn moment_in(text: &str) -> Option<Moment>
     Moment::read(number_in(text)?)
 }
 
-/// The value of an option that `clap` has seen to be there.
+/// The value of an option that `clap` has required.
 fn value_of<'a>(matches: &ArgMatches<'a>, name: &str) -> &'a str {
     matches.get_str(name).unwrap_or("")
 }
 
-/// The moment that was given, where one was.
+/// The moment given with `--now`; `None` if the option is absent.
 fn now_of(matches: &ArgMatches<'_>) -> Result<Option<Moment>, Fault> {
     match matches.get_str("now") {
         None => Ok(None),
@@ -110,7 +110,7 @@ fn session_words<'a>(matches: &ArgMatches<'a>) -> Result<SessionWords<'a>, Fault
     })
 }
 
-/// What the token is for, in a word that `clap` let through.
+/// The operation of an argument that `clap` accepted.
 fn operation_of(matches: &ArgMatches<'_>) -> Operation {
     if value_of(matches, "operation") == UPLOAD {
         Operation::Upload
@@ -138,7 +138,7 @@ fn prune_words<'a>(matches: &ArgMatches<'a>) -> Result<PruneWords<'a>, Fault> {
     })
 }
 
-/// What the words of a command ask for; `None` where `clap` knows a command that this does not.
+/// Parses the arguments of a command; `None` if `clap` knows a command that this function does not.
 fn command_words<'a>(name: &str, matches: &ArgMatches<'a>) -> Result<Option<Asked<'a>>, Fault> {
     Ok(match name {
         "session" => Some(Asked::Session(session_words(matches)?)),
@@ -148,16 +148,16 @@ fn command_words<'a>(name: &str, matches: &ArgMatches<'a>) -> Result<Option<Aske
     })
 }
 
-/// Whether `clap` reports `--help` or `--version` by this kind of error.
+/// Whether `clap` reports a request for `--help` or `--version` with this kind of error.
 fn is_text_asked_for(kind: ErrorKind) -> bool {
     matches!(kind, ErrorKind::DisplayHelp | ErrorKind::DisplayVersion)
 }
 
-/// What the words ask for. The first is the program's name.
+/// Parses the arguments. The first is the program's name.
 ///
 /// # Errors
 ///
-/// `Words` where `clap` refuses them, `Value` where a value is out of range, `Memory`.
+/// `Words` if `clap` rejects them, `Value` if a value is out of range, `Memory`.
 pub(crate) fn read_words<'a>(alloc: Global, words: &'a [String]) -> Result<Asked<'a>, Fault> {
     let mut program = program(alloc)?;
     let matches = match program.try_get_matches_from_mut(words) {

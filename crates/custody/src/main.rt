@@ -1,10 +1,11 @@
-//! The program `custody`: the machine's words, streams and files, handed to the crate `cli`.
+//! The program `custody`: passes the machine's arguments, streams and files to the crate `cli`.
 #![tactic(auto)]
 
 use std::process::ExitCode;
 use std::{env, io};
+use tables::Unknown;
 
-/// The words of the command line, of which the first is the program's name.
+/// The arguments of the command line. The first is the program's name.
 fn words(rt: &HostRuntime) -> io::Result<Vec<String>> {
     Ok(env::args(rt)?.collect(rt.alloc())?)
 }
@@ -18,6 +19,7 @@ fn main(rt: HostRuntime) -> ExitCode {
             &mut rt.stdin(),
             &mut rt.stdout(),
             &mut errors,
+            Unknown,
         ),
         Err(error) => cli::refuse_words(&error, &mut errors),
     };
