@@ -1,9 +1,9 @@
-//! Words, values and databases that the program refuses, in their order, and its help.
+//! Arguments, values and databases that the program refuses, in their order, and its help.
 
 use crate::program::{Tester, prepare, read, remove, run, sure, write};
 use crate::transcript::{POLICY, perform, play};
 
-/// The version; words that are no command, and values out of range. No database is made by them.
+/// The version; arguments that are not a command, and values out of range. They create no database.
 const WORDS: &str = r#"
 # the second line is that of `rt version`
 $ --version
@@ -83,7 +83,7 @@ fn words_and_values_are_refused(rt: HostRuntime) {
 }
 
 /// Commands that have two faults, next to each other in the order of docs/COMMANDS.md: the first
-/// one is told.
+/// one is reported.
 const FAULTS: &str = r#"
 # the words before the user
 $ authenticate --db @/db --policy @/policy --user Ann --now 5 --random @/a studio/film push
@@ -181,8 +181,8 @@ $ prune --db @/db --now 5
 = 1
 "#;
 
-/// The file that `sqlite3` writes, with pages of 512 bytes, where `meta` is made with version 2:
-/// its pieces, each with the number of zeros behind it.
+/// The file that `sqlite3` writes, with pages of 512 bytes, if `meta` is created with version 2:
+/// its pieces, each with the number of zeros after it.
 const VERSION_2: &[(&[u8], usize)] = &[
     (
         b"SQLite format 3\x00\x02\x00\x01\x01\x00@  \x00\x00\x00\x02\x00\x00\x00\x02",
@@ -198,7 +198,7 @@ const VERSION_2: &[(&[u8], usize)] = &[
     (b"\x04\x01\x03\x00\x01\x02", 0),
 ];
 
-/// That file.
+/// The bytes of that file.
 fn version_2(rt: &impl Tester) -> Vec<u8> {
     let mut file = Vec::new(rt.alloc());
     for (piece, count) in VERSION_2 {
@@ -222,26 +222,55 @@ fn another_database_is_left(rt: HostRuntime) {
     remove(&rt, "closed");
 }
 
-const HELPS: &[&str] = &[
-    "--help",
-    "session --help",
-    "authenticate --help",
-    "prune --help",
+/// Arguments that ask for help, and what the help names: each command, or each argument and value that
+/// the command takes, as docs/COMMANDS.md has them.
+const HELPS: &[(&str, &[&str])] = &[
+    ("--help", &["session", "authenticate", "prune"]),
+    (
+        "session --help",
+        &["--db <FILE>", "--policy <FILE>", "--now <N>"],
+    ),
+    (
+        "authenticate --help",
+        &[
+            "--db <FILE>",
+            "--policy <FILE>",
+            "--user <U>",
+            "--now <N>",
+            "--random <FILE>",
+            "<PATH>",
+            "<OPERATION>",
+            "download",
+            "upload",
+        ],
+    ),
+    ("prune --help", &["--db <FILE>", "--now <N>"]),
 ];
+
+/// Asserts that the text has each of the parts.
+fn expect_parts(rt: &impl Tester, text: &[u8], parts: &[&str]) {
+    let text = sure(rt, str::from_utf8(text));
+    for part in parts {
+        assert!(rt; text.contains(*part), "{part}");
+    }
+}
 
 #[test]
 fn help_is_printed(rt: HostRuntime) {
-    for line in HELPS {
+    for (line, parts) in HELPS {
         let ran = run(&rt, &rt, "help", line, "");
-        assert!(rt;
-            ran.status == 0 && ran.output.len() > 100 && ran.errors.is_empty(),
-            "{line}"
-        );
+        assert!(rt; ran.status == 0 && ran.errors.is_empty(), "{line}");
+        expect_parts(&rt, ran.output.as_slice(), parts);
     }
 }
 
 #[test]
 fn no_words_are_answered_by_help(rt: HostRuntime) {
     let ran = run(&rt, &rt, "help", "", "");
-    assert!(rt; ran.status == 2 && ran.output.is_empty() && ran.errors.len() > 100);
+    assert!(rt; ran.status == 2 && ran.output.is_empty());
+    expect_parts(
+        &rt,
+        ran.errors.as_slice(),
+        &["session", "authenticate", "prune"],
+    );
 }

@@ -1,8 +1,8 @@
-//! Tests of the whole program, over its words and its streams, with what it has to print written
-//! out: each crate below is proved once for all of them.
+//! Tests of the whole program, over its arguments and its streams, with the expected output written
+//! out: each crate that it uses is proved once for all of them.
 //!
 //! Most of them are transcripts, which one function plays, since each line of code in a test is
-//! proved and a line of a text is not.
+//! proved, and a line of a text is not.
 #![tactic(auto)]
 
 #[cfg(test)]

@@ -1,4 +1,4 @@
-//! Policy files: what they decide, and their faults.
+//! Policy files: their verdicts, and their faults.
 
 use crate::transcript::{POLICY, perform};
 
@@ -252,7 +252,7 @@ $ session --db @/db --policy @/policy --now 1463500146
 : 201 {"lock":{"id":"1","locked_at":"2016-05-17T15:49:06Z","owner":{"name":"bob"},"path":"art/hero.psd"}}
 "#;
 
-/// A folder in which nobody locks, and which others only begin like.
+/// A folder in which nobody may lock, and paths that only have its name as a prefix.
 const FROZEN: &str = r#"
 + a ann studio/film
 $ session --db @/db --policy @/policy --now 1463500146
@@ -265,7 +265,7 @@ $ session --db @/db --policy @/policy --now 1463500146
 : 201 {"lock":{"id":"1","locked_at":"2016-05-17T15:49:06Z","owner":{"name":"ann"},"path":"artx"}}
 "#;
 
-/// Folders, the policy of each, and what is asked of it.
+/// Folders, the policy of each, and the requests to it.
 const DECISIONS: &[(&str, &str, &str)] = &[
     ("vendor", VENDOR, ASKED_OF_VENDOR),
     ("folders", FOLDERS, ASKED_OF_FOLDERS),
@@ -282,7 +282,7 @@ fn a_policy_decides(rt: HostRuntime) {
     }
 }
 
-/// Files that spell no policy, each with its first fault, which leaves no database behind.
+/// Files that are not a policy, each with its first fault. They leave no database.
 const FAULTS: &str = r#"
 # a file that is not there, and a folder
 $ session --db @/db --policy @/nowhere --now 5

@@ -1,18 +1,19 @@
-//! The program, run over memory and the files of a test.
-// The helpers have no clause, so that a test's proof does not carry those of each call.
+//! Runs the program over memory and the files of a test.
+// The helpers have no clause, so a test's proof does not include those of each call.
 
 use std::alloc::{Alloc, Global};
 use std::io::{Read, Write};
 use std::process::Abort;
 use std::rt::{Files, HostRuntime};
 use std::{fs, str};
+use tables::Unknown;
 
-/// What a helper takes of a test's runtime beside the machine: memory, and a stop.
+/// What a helper needs of a test's runtime besides the machine: memory, and a way to abort.
 pub(crate) trait Tester: Abort + Alloc<A = Global> {}
 
 impl<R: Abort + Alloc<A = Global>> Tester for R {}
 
-/// The value of an answer that has to be `Ok`.
+/// Unwraps a result that has to be `Ok`.
 pub(crate) fn sure<T, E>(rt: &impl Tester, answer: Result<T, E>) -> T {
     match answer {
         Ok(value) => value,
@@ -20,7 +21,7 @@ pub(crate) fn sure<T, E>(rt: &impl Tester, answer: Result<T, E>) -> T {
     }
 }
 
-/// What a run of the program printed, and its status.
+/// The output of a run of the program, and its exit status.
 #[derive(Drop)]
 pub(crate) struct Ran {
     pub status: u8,
@@ -29,7 +30,7 @@ pub(crate) struct Ran {
 }
 
 impl Ran {
-    /// Whether it ended so, and printed just this.
+    /// Whether the run ended with this status, and printed exactly this.
     pub fn is(&self, status: u8, output: &str, errors: &str) -> bool {
         self.status == status
             && self.output.as_slice() == output.as_bytes()
@@ -48,8 +49,8 @@ impl Ran {
     }
 }
 
-/// The words of a line, behind the program's own name, as the machine would hand them in. `@`
-/// stands for the folder, `~` for a space, and `''` for the empty word.
+/// The arguments in a line, after the program's own name, as the machine would pass them. `@` is the
+/// folder, `~` a space, and `''` the empty argument.
 fn words(rt: &impl Tester, folder: &str, line: &str) -> Vec<String> {
     let mut all = Vec::new(rt.alloc());
     let name = sure(rt, String::from_str(rt.alloc(), "custody"));
@@ -63,7 +64,7 @@ fn words(rt: &impl Tester, folder: &str, line: &str) -> Vec<String> {
     all
 }
 
-/// The status of a run over any streams.
+/// The exit status of a run over any streams.
 pub(crate) fn status_over<R: Read, W: Write>(
     rt: &impl Tester,
     host: &HostRuntime,
@@ -74,7 +75,7 @@ pub(crate) fn status_over<R: Read, W: Write>(
     errors: &mut Vec<u8>,
 ) -> u8 {
     let words = words(rt, folder, line);
-    cli::run(host, words.as_slice(), input, output, errors)
+    cli::run(host, words.as_slice(), input, output, errors, Unknown)
 }
 
 /// Runs the program over the input.
@@ -113,8 +114,8 @@ pub(crate) fn read(rt: &impl Tester, host: &HostRuntime, folder: &str, name: &st
     sure(rt, fs::read(host, path.as_str()))
 }
 
-/// Makes a folder for a test: with the policy, and with random bytes of which the tokens of 64
-/// times `a`, `b`, `c` and `d` are made.
+/// Makes a folder for a test, with the policy, and with the random bytes of the tokens of 64 times
+/// `a`, `b`, `c` and `d`.
 pub(crate) fn prepare(rt: &impl Tester, host: &HostRuntime, folder: &str, policy: &str) {
     remove(host, folder);
     sure(rt, fs::create_dir(host, folder));
@@ -124,7 +125,7 @@ pub(crate) fn prepare(rt: &impl Tester, host: &HostRuntime, folder: &str, policy
     }
 }
 
-/// Removes the folder with all that is in it, where it is there.
+/// Removes the folder and its contents, if it exists.
 pub(crate) fn remove(host: &HostRuntime, folder: &str) {
     let _ = host.remove_dir_all(host.alloc(), folder);
 }

@@ -1,4 +1,4 @@
-//! Sessions: what a client sends, and the replies.
+//! Sessions: the client's bytes, and the replies.
 
 use crate::transcript::{POLICY, perform};
 
@@ -60,7 +60,7 @@ fn a_path_is_locked_once(rt: HostRuntime) {
     perform(&rt, &rt, "locks", POLICY, LOCKS);
 }
 
-/// Requests that are refused, and then one that is the first to be granted.
+/// Requests that are refused, and then the first one that is granted.
 const REFUSED: &str = r#"
 + a ann studio/film
 # a transfer coding

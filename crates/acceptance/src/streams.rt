@@ -1,11 +1,11 @@
-//! Streams that fail, and words that could not be had.
+//! Streams that fail, and arguments that could not be read.
 
 use crate::program::{Tester, prepare, remove, status_over};
 use crate::transcript::{POLICY, play};
 use std::io::{self, ErrorKind, Read};
 use std::rt::HostRuntime;
 
-/// Hands out its bytes, and then fails.
+/// Returns its bytes, and then fails.
 #[derive(Drop)]
 struct Broken<'a>(&'a [u8]);
 
@@ -61,7 +61,7 @@ fn a_read_that_fails_is_told_behind_the_replies(rt: HostRuntime) {
     remove(&rt, "read");
 }
 
-/// That a command whose output takes no more than 10 bytes ends with this on the error stream.
+/// Asserts the error stream of a command whose output takes at most 10 bytes.
 fn expect_cut(rt: &impl Tester, host: &HostRuntime, line: &str, input: &str, want: &str) {
     let mut rest = input.as_bytes();
     let mut room = [0u8; 10];
@@ -74,7 +74,7 @@ fn expect_cut(rt: &impl Tester, host: &HostRuntime, line: &str, input: &str, wan
     );
 }
 
-/// Commands, their inputs, and what each ends with.
+/// Commands, their inputs, and the text on the error stream.
 const CUT: &[(&str, &str, &str)] = &[
     ("--help", "", "custody: input or output\n"),
     (AUTHENTICATE, "", "custody: input or output\n"),
@@ -107,7 +107,7 @@ fn a_write_that_fails_is_told(rt: HostRuntime) {
     remove(&rt, "write");
 }
 
-/// Why the words could not be had; the status and the line on the error stream.
+/// Why the arguments could not be read; the exit status and the line on the error stream.
 const REFUSED: &[(ErrorKind, u8, &str)] = &[
     (
         ErrorKind::InvalidData,

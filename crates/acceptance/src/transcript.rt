@@ -1,24 +1,24 @@
-//! Transcripts: commands one after the other, and all that each has to print.
+//! Transcripts: successive commands, with the whole expected output of each.
 //!
 //! A line is a mark, a space and a text, or empty.
 //!
 //! | Mark | Its text |
 //! |---|---|
 //! | `#` | what is tried, for the reader |
-//! | `$` | a command: its words, as [`run`] reads them |
-//! | `+` | the command that issues an upload token, with the line that it prints: the token's letter, the user, the repository |
-//! | `=` | the status of the command; 0 where none is told |
+//! | `$` | a command: its arguments, as [`run`] reads them |
+//! | `+` | the command that issues an upload token, and its line: the token's letter, the user, the repository |
+//! | `=` | the exit status of the command; 0 if none is given |
 //! | `>`, `>>` | a line of its input, which ends in CR LF; input without a line end |
 //! | `<`, `<<` | the same of its output |
 //! | `\|` | a line of its output, which ends in LF |
 //! | `!` | a line on the error stream |
-//! | `-` | a file that is not there once the command has ended |
+//! | `-` | a file that does not exist after the command |
 //! | `?` | input: a request for a lock: the token's letter, the repository, the body |
 //! | `:` | output: a reply of JSON: the status, the body |
 //! | `%` | a file is written: its name, how many bytes, which byte |
-//! | `*` | a change of [`POLICY`] from this command on: `OLD => NEW`, in which `\n` stands for a line end |
-//! | `&` | more of it, which comes so many times, as `*` writes it and with `@` for its number |
-//! | `^` | how many bytes it has, which a comment fills up |
+//! | `*` | a change of [`POLICY`] from this command on: `OLD => NEW`, in which `\n` is a line end |
+//! | `&` | text added to the policy, after the number of copies; `\n` is a line end, and `@` the number of the copy |
+//! | `^` | the size of the policy in bytes, which a comment fills up |
 
 use crate::program::{Tester, path_of, prepare, remove, run, sure, write};
 use std::alloc::Global;
@@ -44,7 +44,7 @@ paths = ["*"]
 rights = ["pull", "push", "list", "lock"]
 "#;
 
-/// A command, and what has to come of it.
+/// A command, and its expected result.
 #[derive(Drop)]
 struct Step {
     command: String,
@@ -56,14 +56,14 @@ struct Step {
     policy: String,
 }
 
-/// Three words that a space stands between; the last may hold more.
+/// Three words separated by spaces; the last may contain spaces.
 fn three(text: &str) -> (&str, &str, &str) {
     let (first, rest) = text.split_once(' ').unwrap_or((text, ""));
     let (second, third) = rest.split_once(' ').unwrap_or((rest, ""));
     (first, second, third)
 }
 
-/// Adds a text to another, with a line end or none.
+/// Adds a text to another, with a line end or without.
 fn push(rt: &impl Tester, text: &mut String, line: &str, end: &str) {
     sure(rt, text.push_str(line));
     sure(rt, text.push_str(end));
@@ -112,7 +112,7 @@ fn reply(rt: &impl Tester, text: &str) -> String {
     )
 }
 
-/// So many times the text, with `@` for the number of each.
+/// The text, repeated, with `@` for the number of each copy.
 fn many(rt: &impl Tester, text: &str) -> String {
     let (count, piece) = text.split_once(' ').unwrap_or((text, ""));
     let piece = sure(rt, piece.replace(rt.alloc(), "\\n", "\n"));
@@ -125,7 +125,7 @@ fn many(rt: &impl Tester, text: &str) -> String {
     all
 }
 
-/// Writes the file that the text tells.
+/// Writes the file that the text describes.
 fn write_bytes(rt: &impl Tester, host: &HostRuntime, folder: &str, text: &str) {
     let (name, count, byte) = three(text);
     let count = sure(rt, count.parse::<usize>());
@@ -165,7 +165,7 @@ impl Step {
         );
     }
 
-    /// Changes the policy, which begins as the plain one.
+    /// Changes the policy, which starts as [`POLICY`].
     fn change_policy(&mut self, rt: &impl Tester, mark: &str, text: &str) {
         if self.policy.is_empty() {
             sure(rt, self.policy.push_str(POLICY));
@@ -177,14 +177,14 @@ impl Step {
         }
     }
 
-    /// Writes another text into the policy.
+    /// Replaces a text in the policy.
     fn replace(&mut self, rt: &impl Tester, text: &str) {
         let (old, new) = text.split_once(" => ").unwrap_or((text, ""));
         let new = sure(rt, new.replace(rt.alloc(), "\\n", "\n"));
         self.policy = sure(rt, self.policy.replace(rt.alloc(), old, new.as_str()));
     }
 
-    /// Fills the policy up with a comment.
+    /// Fills up the policy with a comment.
     fn pad(&mut self, rt: &impl Tester, text: &str) {
         let size = sure(rt, text.parse::<usize>());
         let left = size.saturating_sub(self.policy.len());
@@ -212,13 +212,13 @@ impl Step {
         }
     }
 
-    /// Whether the file that has to be missing is there.
+    /// Whether the file that must not exist exists.
     fn leaves_file(&self, rt: &impl Tester, host: &HostRuntime, folder: &str) -> bool {
         let path = path_of(rt, folder, self.missing.as_str());
         !self.missing.is_empty() && fs::metadata(host, path.as_str()).is_ok()
     }
 
-    /// Runs the command, if there is one, and compares what it did with the step.
+    /// Runs the command, if there is one, and compares its result with the step.
     fn run(&self, rt: &impl Tester, host: &HostRuntime, folder: &str) {
         if self.command.is_empty() {
             return;

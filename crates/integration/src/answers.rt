@@ -1,11 +1,11 @@
-//! What the desk answers to a request, before a connection adds its lines.
+//! The desk's replies to requests, without the lines that a connection adds.
 
 use crate::harness::{NOW, Server, Tester, sure};
 use desk::{Asked, Body, Reply, answer};
 use model::ServedForm;
 use names::Moment;
 
-/// Ann's upload token, her download token, and hers for a repository that the policy does not have.
+/// Ann's upload token, her download token, and her token for a repository that the policy does not have.
 const ANN: &[u8] = b"Bearer aaaaaaaaaaaaaaaaaaaaaaaaaaaaaaaaaaaaaaaaaaaaaaaaaaaaaaaaaaaaaaaa";
 
 const READER: &[u8] = b"Bearer cccccccccccccccccccccccccccccccccccccccccccccccccccccccccccccccc";
@@ -76,7 +76,7 @@ const ANSWERS: &[Case] = &[
     ),
 ];
 
-/// That the server answers a request for a lock so.
+/// Asserts that the server answers a request for a lock this way.
 fn expect_answer(rt: &impl Tester, server: &mut Server, case: &Case) {
     let &(bearer, repo, body, status, want) = case;
     let asked = Asked {

@@ -1,4 +1,4 @@
-//! Bodies that ask for a lock: of the right shape or not, in range or not.
+//! Bodies of lock requests: of the right shape or not, in range or not.
 
 use crate::harness::*;
 use std::process::Abort;
@@ -38,15 +38,15 @@ const SHAPES: &[(&str, &str)] = &[
     ("{\"path\":\"art\n/hero.psd\"}", "J1"),
     ("{\"path\":\"art/\\x68ero.psd\"}", "J1"),
     ("{\"path\":\"art/\\ud83d\"}", "J1"),
-    // Numbers that are none, or that a float does not hold.
+    // Not numbers, or numbers that a float does not hold.
     (r#"{"path":"art/hero.psd","x":1e400}"#, "J1"),
     (r#"{"path":"art/hero.psd","x":[-1e400]}"#, "J1"),
     (r#"{"path":"art/hero.psd","x":NaN}"#, "J1"),
     (r#"{"path":"art/hero.psd","x":01}"#, "J1"),
-    // Of a key that stands twice the last counts, for its kind too.
+    // The last of repeated keys counts, for its kind too.
     (r#"{"path":"art/hero.psd","path":1}"#, "J1"),
     (r#"{"path":"art/hero.psd","path":null}"#, "J1"),
-    // The worked lock, asked in other forms.
+    // The worked lock, in other spellings.
     (" {\t\"path\" :\r\n\"art/hero.psd\" } \n", "201"),
     (
         r#"{"x":1,"path":"art/hero.psd","y":{"path":"a","ref":1},"z":[null,true,""]}"#,
@@ -63,7 +63,7 @@ const SHAPES: &[(&str, &str)] = &[
     ),
 ];
 
-/// What stands in the place of a `ref`.
+/// Values of `ref`.
 const REFS: &[(&str, &str)] = &[
     ("null", "201"),
     (r#"{"name":"refs/heads/main"}"#, "201"),
@@ -125,7 +125,7 @@ const PATHS: &[(&str, &str)] = &[
     ("art/hero.psd\",\"path\":\"", "J2"),
 ];
 
-/// A lock needs an upload token, but the body's form is judged before.
+/// A lock needs an upload token, but the body's form is checked first.
 const READ_ONLY: &[(&str, &str)] = &[
     (r#"{"path":"art/hero.psd"}"#, "A5"),
     (
@@ -156,7 +156,7 @@ fn bodies_are_judged_before_an_upload_token_is_asked(rt: HostRuntime) {
     expect_bodies(&rt, READER, "@", READ_ONLY);
 }
 
-/// Long bodies by their parts, each so many times, and how they are answered.
+/// Long bodies, as parts with the number of copies of each, and the answers.
 const LONG: &[(&[(&str, usize)], &str)] = &[
     (
         &[
@@ -168,7 +168,7 @@ const LONG: &[(&[(&str, usize)], &str)] = &[
     ),
     (&[(r#"{"path":""#, 1), ("a", 1_025), (r#""}"#, 1)], "J2"),
     (&[(r#"{"path":""#, 1), ("\u{e9}", 513), (r#""}"#, 1)], "J2"),
-    // 127 levels, of which the outer object is one.
+    // 127 levels, including the outer object.
     (
         &[
             (r#"{"x":"#, 1),
@@ -209,7 +209,7 @@ fn long_bodies_are_judged(rt: HostRuntime) {
     }
 }
 
-/// No UTF-8, or behind a byte order mark.
+/// Not UTF-8, or text after a byte order mark.
 const NO_TEXT: &[&[u8]] = &[
     b"{\"path\":\"\xff\"}",
     b"{\"path\":\"art/hero.psd\",\"\xff\":1}",
@@ -228,7 +228,7 @@ fn bodies_that_are_no_text_are_j1(rt: HostRuntime) {
     }
 }
 
-/// Paths as a body has them between the quotes, as they are kept, and as a reply has them.
+/// Paths as written in a body between the quotes, as they are stored, and as written in a reply.
 const KEPT: &[(&str, &str, &str)] = &[
     ("a", "a", "a"),
     ("...", "...", "..."),
@@ -245,7 +245,7 @@ const KEPT: &[(&str, &str, &str)] = &[
     ("</a>&'", "</a>&'", "</a>&'"),
 ];
 
-/// That a path is kept so.
+/// Asserts that a path is stored this way.
 fn expect_kept(rt: &impl Tester, asked: &str, path: &str, shown: &str) {
     let body = filled(rt, r#"{"path":"@"}"#, asked);
     let text = asking(rt, ANN, body.as_str());

@@ -1,4 +1,4 @@
-//! Who calls, and for which repository.
+//! Callers, and the repositories of their tokens.
 
 use crate::harness::*;
 use std::process::Abort;
@@ -35,7 +35,7 @@ fn a_request_bears_a_token(rt: HostRuntime) {
     }
 }
 
-/// Fields with no token, or with one that is not kept.
+/// Fields with no token, or with one that is not stored.
 const UNKNOWN: &[(&str, &str)] = &[
     ("A: b", "A1"),
     ("Authorization:", "A1"),
@@ -73,7 +73,7 @@ const OTHERS: &[(&str, &str)] = &[
 ];
 
 const CALLERS: &[Heads] = &[
-    // Neither the repository nor the body is looked at before the token.
+    // The token is checked before the repository and the body.
     Heads {
         line: LOCKS,
         fields: &["@", LENGTH],
@@ -92,7 +92,7 @@ const CALLERS: &[Heads] = &[
         body: HERO,
         cases: UNKNOWN,
     },
-    // Nor is the body before the repository.
+    // The repository is checked before the body.
     Heads {
         line: "POST @.git/info/lfs/locks HTTP/1.1",
         fields: &[ANN, LENGTH],
@@ -138,7 +138,7 @@ fn a_token_is_kept_and_for_one_repository(rt: HostRuntime) {
     }
 }
 
-/// Lines, bearers, lengths and bodies once the tokens have expired.
+/// Request lines, bearers, lengths and bodies for requests after the tokens have expired.
 const TOO_LATE: &[(&str, &[&str], &str, &str)] = &[
     (LOCKS, &[ANN, LENGTH], HERO, "A3"),
     (LOCKS, &[ANN, "Content-Length: 0"], "", "A3"),
@@ -151,7 +151,7 @@ const TOO_LATE: &[(&str, &[&str], &str, &str)] = &[
     (LOCKS, &["Authorization: Bearer a", LENGTH], HERO, "A2"),
 ];
 
-/// That the tokens are of no use at this second.
+/// Asserts that the tokens are not valid at this second.
 fn expect_too_late(rt: &impl Tester, server: &mut Server, second: u64) {
     for (line, fields, body, want) in TOO_LATE {
         let text = message(rt, line, fields, body);
@@ -170,7 +170,7 @@ fn a_token_is_good_before_its_expiry(rt: HostRuntime) {
         expect_too_late(&rt, &mut server, *second);
     }
     assert_eq!(rt; server.made(&rt), 0);
-    // A second before, and at an earlier connection's moment, the same token is good.
+    // A second before, and at an earlier connection's moment, the same token is valid.
     for (second, want) in &[(NOW, CREATED), (EXPIRY - 1, HELD)] {
         let told = server.tell_at(&rt, *second, MESSAGE.as_bytes(), usize::MAX);
         expect_told(&rt, MESSAGE.as_bytes(), &told, want, served(1, false));

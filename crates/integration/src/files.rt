@@ -1,7 +1,7 @@
-//! Stores in memory and over files, and what becomes of a file step by step.
+//! Stores in memory and over files, and the steps that a test takes on a file.
 //!
-//! The helpers have no clause, so that a test's proof does not carry those of each call. A function
-//! that owns a store over a file takes long to prove: here one does for each kind of file.
+//! The helpers have no clause, so a test's proof does not include those of each call. A function that
+//! owns a store over a file takes long to prove: here there is one for each kind of file.
 
 use crate::databases::{fill, found, last_locks};
 use crate::harness::{Tester, sure, tell_over};
@@ -18,27 +18,27 @@ pub(crate) fn in_memory(rt: &impl Tester) -> Store<MemStore> {
     store
 }
 
-/// What is done with a file, and what has to come of it.
+/// A step on a file, with the expected result.
 pub(crate) enum Step {
-    /// It is written as this text.
+    /// The file is written with this text.
     Write(&'static str),
     /// Another program runs these statements on it.
     Run(&'static str),
-    /// A store is opened over it, and makes or checks its tables.
+    /// A store is opened over it, and creates or checks its tables.
     Check(Result<(), StoreFault>),
-    /// The same for a file of another schema, which is left as it is.
+    /// The same for a file of another schema, which is left unchanged.
     Leave,
     /// A lock and a token are added.
     Fill,
-    /// They are found, with the number of locks that were made.
+    /// They are found, with the number of locks made.
     Find(u32, u32, i64),
     /// The ids of the locks on two paths and on the first again.
     Lock(u32, u32, u32),
-    /// A server over it is sent the first, and writes the second.
+    /// A server over it reads the first text, and writes the second.
     Serve(&'static str, &'static str),
 }
 
-/// Takes a step over a store that was opened.
+/// Takes a step over an open store.
 fn work<S: Storage>(rt: &impl Tester, store: &mut Store<S>, step: &Step) -> Result<(), StoreFault> {
     match step {
         Step::Lock(first, second, again) => {
@@ -69,7 +69,7 @@ fn open(rt: &impl Tester, host: &HostRuntime, path: &str, step: &Step) -> Result
     work(rt, &mut store, step)
 }
 
-/// Takes a step over the file, opened in the other way.
+/// Takes a step over the file, opened by the other function.
 fn open_again(
     rt: &impl Tester,
     host: &HostRuntime,
@@ -91,7 +91,7 @@ fn change(host: &HostRuntime, path: &str, sql: &str) -> Result<(), Error> {
     run(&mut conn, sql)
 }
 
-/// That the file is refused for its schema, and left as it is.
+/// Asserts that the file is refused for its schema, and left unchanged.
 fn expect_left(rt: &impl Tester, host: &HostRuntime, path: &str) {
     let before = sure(rt, fs::read(host, path));
     let refused = open(rt, host, path, &Step::Leave);
@@ -114,14 +114,14 @@ fn take(rt: &impl Tester, host: &HostRuntime, path: &str, step: &Step) {
     }
 }
 
-/// Removes what a test left, with its log.
+/// Removes the files that a test left, with the log.
 fn clear(rt: &impl Tester, host: &HostRuntime, path: &str) {
     let log = sure(rt, format!(in rt.alloc(); "{path}-wal"));
     let _ = fs::remove_file(host, path);
     let _ = fs::remove_file(host, log.as_str());
 }
 
-/// Takes the steps, one after the other, from no file.
+/// Takes the steps in order, beginning without a file.
 pub(crate) fn take_steps(rt: &impl Tester, host: &HostRuntime, path: &str, steps: &[Step]) {
     clear(rt, host, path);
     for step in steps {

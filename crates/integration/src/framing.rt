@@ -1,5 +1,5 @@
-//! Heads that are refused for their framing, their target, their method or their `Accept`: the
-//! first of these rules is told, and nothing behind the head is looked at.
+//! Heads that are refused for their framing, their target, their method or their `Accept`: the reply
+//! names the first of these rules, and nothing after the head is read.
 
 use crate::harness::*;
 
@@ -160,7 +160,7 @@ const HEADS: &[Heads] = &[
         body: HERO,
         cases: LENGTHS,
     },
-    // Neither the method, nor `Accept`, nor the caller is looked at before the target.
+    // The target is checked before the method, `Accept` and the caller.
     Heads {
         line: "POST @ HTTP/1.1",
         fields: &[ANN, LENGTH],
@@ -191,7 +191,7 @@ const HEADS: &[Heads] = &[
         body: HERO,
         cases: ACCEPTS,
     },
-    // The caller is not asked first.
+    // The caller is checked later.
     Heads {
         line: LOCKS,
         fields: &[LENGTH, "@"],
@@ -221,7 +221,7 @@ const METHODS: &[(&str, &str)] = &[
     ("PUT", "Content-Length: 268435456"),
     ("post", LENGTH),
     ("post", "A: b"),
-    // Only POST has the limit of a form.
+    // Only POST has the size limit of a form.
     ("post", "Content-Length: 1048577"),
     ("Post", LENGTH),
     ("POSTS", LENGTH),

@@ -1,4 +1,4 @@
-//! A server in memory, messages to it, and the replies that its protocol promises.
+//! A server in memory, messages to it, and the replies that its protocol specifies.
 
 use names::{Moment, Sink, SliceSource, Source, VecSink};
 use policy::Policy;
@@ -9,17 +9,17 @@ use std::alloc::{Alloc, Global};
 use std::process::Abort;
 use tables::{Alter, NewToken, Operation, Storage, Store};
 
-/// The moment of a connection, where nothing else is said.
+/// The moment of a connection, unless a test gives another.
 pub(crate) const NOW: u64 = 1_463_500_146;
 
-/// The first moment at which the tokens are of no use.
+/// The first moment at which the tokens are not valid.
 pub(crate) const EXPIRY: u64 = 1_463_503_600;
 
-/// The policy but for its rows.
+/// The policy without its rows.
 const TOP: &str =
     "base = \"https://lfs.example\"\ntoken_seconds = 3600\n\n[[repo]]\nname = \"studio/film\"\ndefault_ref = \"refs/heads/main\"\nquota = 1000000\n";
 
-/// The one row of the policy, where nothing else is said.
+/// The only row of the policy, unless a test gives others.
 pub(crate) const ROW: &str =
     "[[row]]\neffect = \"allow\"\nusers = [\"ann\", \"bob\"]\nrepos = [\"studio/film\"]\nrefs = [\"*\"]\npaths = [\"*\"]\nrights = [\"pull\", \"push\", \"list\", \"lock\"]\n";
 
@@ -60,7 +60,7 @@ pub(crate) const CREATED: &str =
 pub(crate) const HELD: &str =
     "HTTP/1.1 409 Conflict\r\nContent-Type: application/vnd.git-lfs+json\r\nContent-Length: 142\r\n\r\n{\"lock\":{\"id\":\"1\",\"locked_at\":\"2016-05-17T15:49:06Z\",\"owner\":{\"name\":\"ann\"},\"path\":\"art/hero.psd\"},\"message\":\"L1: the path is already locked\"}";
 
-/// The refusal of bytes that are no head.
+/// The refusal of bytes that are not a head.
 pub(crate) const BAD_HEAD: &str =
     "HTTP/1.1 400 Bad Request\r\nContent-Type: application/vnd.git-lfs+json\r\nContent-Length: 34\r\nConnection: close\r\n\r\n{\"message\":\"H1: bad request head\"}";
 
@@ -101,19 +101,19 @@ const RULES: &[(&str, &str, &str)] = &[
     ("P0", "403 Forbidden", "no policy row allows lock"),
 ];
 
-/// What a test has: memory, and a stop.
+/// What a test needs of its runtime: memory, and a way to abort.
 pub(crate) trait Tester: Abort + Alloc<A = Global> {}
 
 impl<R: Abort + Alloc<A = Global>> Tester for R {}
 
-/// What a connection was told, and how it ended.
+/// The text that a connection was sent, and how it ended.
 #[derive(Drop)]
 pub(crate) struct Told {
     pub text: String,
     pub served: Served,
 }
 
-/// The tokens that a store keeps: 64 times the byte.
+/// The tokens in a store: the byte repeated 64 times.
 const TOKENS: &[(u8, &str, &str, Operation)] = &[
     (b'a', "ann", "studio/film", Operation::Upload),
     (b'b', "bob", "studio/film", Operation::Upload),
@@ -121,7 +121,7 @@ const TOKENS: &[(u8, &str, &str, Operation)] = &[
     (b'd', "ann", "studio/game", Operation::Upload),
 ];
 
-/// The value of an answer that has to be `Ok`.
+/// Unwraps a result that has to be `Ok`.
 pub(crate) fn sure<T, E>(rt: &impl Tester, answer: Result<T, E>) -> T {
     match answer {
         Ok(value) => value,
@@ -129,7 +129,7 @@ pub(crate) fn sure<T, E>(rt: &impl Tester, answer: Result<T, E>) -> T {
     }
 }
 
-/// Keeps the tokens.
+/// Stores the tokens.
 pub(crate) fn keep_tokens<S: Alter>(rt: &impl Tester, store: &mut Store<S>) {
     for &(byte, user, repo, operation) in TOKENS {
         let kept = store.add_token(&NewToken {
@@ -149,8 +149,8 @@ pub(crate) fn policy_of(rt: &impl Tester, rows: &str) -> Policy {
     sure(rt, Policy::read(rt.alloc(), text.as_str()))
 }
 
-/// What a client is told that sends these bytes at this second, of which each read gives at most so
-/// many.
+/// Serves a connection with these bytes at this second; each read returns at most `most` bytes, and
+/// each write takes at most `most`. Returns the text sent and the end.
 pub(crate) fn told_by<S: Alter>(
     rt: &impl Tester,
     store: &mut Store<S>,
@@ -165,14 +165,14 @@ pub(crate) fn told_by<S: Alter>(
     let mut sink = VecSink::new(rt.alloc(), most);
     let alloc = rt.alloc();
     let served = serve(alloc, store, policy, &routes, now, &mut source, &mut sink);
-    // A connection is read to its end, whatever is answered.
+    // A connection is read to its end, whatever the replies.
     assert!(rt; source.left().is_empty());
     let text = sure(rt, str::from_utf8(sink.taken()));
     let text = sure(rt, text.to_owned(alloc));
     Told { text, served }
 }
 
-/// The replies of a server over this store, which gets the tokens.
+/// Adds the tokens to the store, and returns what a server over it sends.
 pub(crate) fn tell_over<S: Storage>(rt: &impl Tester, store: &mut Store<S>, text: &str) -> Told {
     sure(rt, store.create_or_check(rt.alloc()));
     keep_tokens(rt, store);
@@ -203,7 +203,7 @@ impl Server {
         server
     }
 
-    /// Gives the server the policy with these rows.
+    /// Gives the server a policy with these rows.
     pub fn govern(&mut self, rt: &impl Tester, rows: &str) {
         self.policy = policy_of(rt, rows);
     }
@@ -228,7 +228,7 @@ impl Server {
         )
     }
 
-    /// What a client is told that sends these bytes, of which each read gives at most so many.
+    /// Serves a connection with these bytes, with at most `most` bytes per read and per write.
     pub fn tell(&mut self, rt: &impl Tester, bytes: &[u8], most: usize) -> Told {
         self.tell_at(rt, NOW, bytes, most)
     }
@@ -238,13 +238,13 @@ impl Server {
         told_by(rt, &mut self.store, &self.policy, second, bytes, most)
     }
 
-    /// The id of the lock that stands there; 0 where none does.
+    /// The id of the lock on this path; 0 if it is not locked.
     pub fn id_at(&mut self, rt: &impl Tester, ref_name: &str, path: &str) -> u32 {
         let row = sure(rt, self.store.lock_at("studio/film", ref_name, path));
         row.map_or(0, |lock| lock.id)
     }
 
-    /// How many locks were ever made.
+    /// The number of locks ever made.
     pub fn made(&mut self, rt: &impl Tester) -> u32 {
         sure(rt, self.store.made("studio/film"))
     }
@@ -262,7 +262,7 @@ pub(crate) fn message(rt: &impl Tester, line: &str, fields: &[&str], body: &str)
     text
 }
 
-/// A message that asks a lock by this body.
+/// A message that requests a lock with this body.
 pub(crate) fn asking(rt: &impl Tester, bearer: &str, body: &str) -> String {
     let size = body.len();
     sure(
@@ -271,19 +271,19 @@ pub(crate) fn asking(rt: &impl Tester, bearer: &str, body: &str) -> String {
     )
 }
 
-/// The two, one behind the other.
+/// The two, one after the other.
 pub(crate) fn joined(rt: &impl Tester, first: &[u8], second: &[u8]) -> Vec<u8> {
     let mut bytes = sure(rt, first.to_vec(rt.alloc()));
     sure(rt, bytes.extend_from_slice(second));
     bytes
 }
 
-/// The texts behind one another.
+/// The texts, one after another.
 pub(crate) fn texts(rt: &impl Tester, parts: &[&str]) -> String {
     sure(rt, parts.concat(rt.alloc()))
 }
 
-/// The texts behind one another, each so many times.
+/// The texts, one after another, each repeated.
 pub(crate) fn repeated(rt: &impl Tester, parts: &[(&str, usize)]) -> String {
     let mut text = String::new(rt.alloc());
     for (part, times) in parts {
@@ -293,12 +293,12 @@ pub(crate) fn repeated(rt: &impl Tester, parts: &[(&str, usize)]) -> String {
     text
 }
 
-/// The text with this in the place of `@`.
+/// The text with `value` in place of `@`.
 pub(crate) fn filled(rt: &impl Tester, text: &str, value: &str) -> String {
     sure(rt, text.replace(rt.alloc(), "@", value))
 }
 
-/// A JSON reply, with these lines behind its length.
+/// A JSON reply, with these lines after its length.
 pub(crate) fn reply(rt: &impl Tester, status: &str, lines: &str, body: &str) -> String {
     let size = body.len();
     sure(
@@ -309,7 +309,7 @@ pub(crate) fn reply(rt: &impl Tester, status: &str, lines: &str, body: &str) -> 
     )
 }
 
-/// The reply to a lock that is made; `path` is as JSON has it between the quotes.
+/// The reply for a lock that is made; `path` is as written in JSON between the quotes.
 pub(crate) fn created(rt: &impl Tester, id: u32, owner: &str, path: &str) -> String {
     let body = sure(
         rt,
@@ -320,7 +320,7 @@ pub(crate) fn created(rt: &impl Tester, id: u32, owner: &str, path: &str) -> Str
     reply(rt, "201 Created", "", body.as_str())
 }
 
-/// The lines of a refusal behind its length.
+/// The lines of a refusal after its length.
 fn refusal_lines(code: &str, status: &str, closes: bool) -> &'static str {
     match (code, closes) {
         ("H7", _) => "Allow: POST\r\nConnection: close\r\n",
@@ -345,16 +345,16 @@ pub(crate) fn refusal(rt: &impl Tester, code: &str, closes: bool) -> String {
     reply(rt, status, lines, body.as_str())
 }
 
-/// What is served where so many messages were answered, and the last reply closes or does not.
+/// The result if this many messages were answered, and the last reply closes or does not.
 pub(crate) fn served(answered: usize, closes: bool) -> Served {
     let end = if closes { End::Closed } else { End::InputEnded };
     Served { answered, end }
 }
 
-/// How many bytes a read gives at most, and a write takes.
+/// Limits, in bytes, of a read and of a write.
 pub(crate) const MOSTS: &[usize] = &[1, 7, usize::MAX];
 
-/// That this was told, and that the connection ended so.
+/// Asserts that this text was sent, and that the connection ended this way.
 pub(crate) fn expect_told(rt: &impl Tester, bytes: &[u8], told: &Told, text: &str, served: Served) {
     let shown = str::from_utf8(bytes).unwrap_or("bytes that are no text");
     assert_eq!(rt;
@@ -364,8 +364,8 @@ pub(crate) fn expect_told(rt: &impl Tester, bytes: &[u8], told: &Told, text: &st
     );
 }
 
-/// That a new server tells this and ends so, however many bytes a read gives, and then has made so
-/// many locks.
+/// Asserts that a new server sends this and ends this way, with each limit of [`MOSTS`], and then has
+/// made `locks` locks.
 pub(crate) fn expect_text(rt: &impl Tester, bytes: &[u8], text: &str, served: Served, locks: u32) {
     for most in MOSTS {
         let mut server = Server::new(rt);
@@ -375,11 +375,11 @@ pub(crate) fn expect_text(rt: &impl Tester, bytes: &[u8], text: &str, served: Se
     }
 }
 
-/// That a server answers the message so: by the code of the rule that refuses it, or by
-/// [`CREATED`] where `201` is wanted.
+/// Asserts that a server answers the message this way: by the code of the rule that refuses it, or by
+/// [`CREATED`] if `want` is `201`.
 ///
-/// The worked lock that follows is not looked at behind a refused head, which closes. Behind any
-/// other message it is answered, as the first lock where that message was refused.
+/// The worked lock that follows is ignored after a refused head, which closes. After any other message
+/// it is answered, as the first lock if that message was refused.
 pub(crate) fn expect(rt: &impl Tester, message: &[u8], want: &str) {
     let both = joined(rt, message, MESSAGE.as_bytes());
     if want == "201" {
@@ -397,16 +397,16 @@ pub(crate) fn expect(rt: &impl Tester, message: &[u8], want: &str) {
     expect_text(rt, &both, text, served(2, false), 1);
 }
 
-/// Messages that differ in one place of the head, which is `@`.
+/// Messages that differ in one place of the head, marked `@`.
 pub(crate) struct Heads {
     pub line: &'static str,
     pub fields: &'static [&'static str],
     pub body: &'static str,
-    /// What stands in the place, and the code of the rule that refuses the message, or `201`.
+    /// The value in this place, and the code of the rule that refuses the message, or `201`.
     pub cases: &'static [(&'static str, &'static str)],
 }
 
-/// That the messages are answered so.
+/// Asserts that the messages are answered this way.
 pub(crate) fn expect_heads(rt: &impl Tester, heads: &Heads) {
     let text = message(rt, heads.line, heads.fields, heads.body);
     for (value, want) in heads.cases {
@@ -415,8 +415,8 @@ pub(crate) fn expect_heads(rt: &impl Tester, heads: &Heads) {
     }
 }
 
-/// That messages whose bodies ask for a lock and differ in one place, which is `@`, are answered so:
-/// each case has what stands there, and the code of the rule that refuses the message, or `201`.
+/// Asserts the answers to messages whose bodies request a lock and differ in one place, marked `@`:
+/// each case has the value there, and the code of the rule that refuses the message, or `201`.
 pub(crate) fn expect_bodies(
     rt: &impl Tester,
     bearer: &str,

@@ -1,4 +1,4 @@
-//! Tokens: issued, borne, listed and removed.
+//! Tokens: issued, sent, listed and removed.
 
 use crate::files::in_memory;
 use crate::harness::{Tester, sure};
@@ -18,22 +18,22 @@ const ISSUED: &str = "K1: token already issued";
 
 const TOO_LATE: &str = "K2: expiry out of range";
 
-/// What is done with tokens.
+/// An action on tokens.
 enum Act {
     Issue,
     Offer,
     Prune,
 }
 
-/// A step: what is done, the byte of the token's text, the second, the seconds that it lives, and
-/// what comes of it.
+/// A step: the action, the byte of the token's text, the second, the lifetime in seconds, and the
+/// result.
 type Step = (Act, u8, u64, u64, &'static str);
 
 fn moment_of(rt: &impl Tester, second: u64) -> Moment {
     sure(rt, Moment::read(second).ok_or(()))
 }
 
-/// A download token of ann for studio/film, of 32 such bytes.
+/// A download token of ann for studio/film, of 32 times this byte.
 fn asked<'r>(
     rt: &impl Tester,
     random: &'r [u8; 32],
@@ -50,7 +50,7 @@ fn asked<'r>(
     }
 }
 
-/// The text of a token, or why there is none.
+/// The text of a token, or the fault.
 fn as_text(rt: &impl Tester, answer: Result<String, TokenFault>) -> String {
     match answer {
         Ok(text) => text,
@@ -58,7 +58,7 @@ fn as_text(rt: &impl Tester, answer: Result<String, TokenFault>) -> String {
     }
 }
 
-/// What comes of a step.
+/// The result of a step.
 fn told(rt: &impl Tester, store: &mut Store<MemStore>, step: &Step) -> String {
     let (act, byte, second, seconds, _) = step;
     let random = [*byte; 32];
@@ -73,7 +73,7 @@ fn told(rt: &impl Tester, store: &mut Store<MemStore>, step: &Step) -> String {
     }
 }
 
-/// That the steps come to this, one after the other, over one store.
+/// Asserts the results of the steps, in order, over one store.
 fn expect_steps(rt: &impl Tester, steps: &[Step]) {
     let mut store = in_memory(rt);
     for step in steps {
@@ -136,7 +136,7 @@ fn a_token_is_removed_at_its_expiry(rt: HostRuntime) {
     expect_steps(&rt, REMOVED);
 }
 
-/// A store that keeps the token of [`TEXT`], and that of another byte.
+/// A store with the token of [`TEXT`], and that of another byte.
 fn with_tokens(rt: &impl Tester) -> Store<MemStore> {
     let mut store = in_memory(rt);
     told(rt, &mut store, &(Act::Issue, 0xcc, 40, 60, TEXT));
@@ -153,7 +153,7 @@ fn the_digest_of_a_token_is_kept(rt: HostRuntime) {
     assert!(rt; kept.operation == Operation::Download && kept.expires == 100);
 }
 
-/// Whether a download token of ann's for studio/film is borne, or the rule that refuses.
+/// Whether the token sent is a download token of ann's for studio/film, or the rule that refuses it.
 fn borne(
     rt: &impl Tester,
     store: &mut Store<MemStore>,
@@ -170,7 +170,7 @@ fn borne(
     }
 }
 
-/// What is borne at a second, in two parts, and whether that is good.
+/// The field at a second, in two parts, and whether the token in it is valid.
 const BORNE: &[(&str, &str, u64, Result<bool, Rule>)] = &[
     ("Bearer ", TEXT, 40, Ok(true)),
     ("bEARER ", TEXT, 99, Ok(true)),

@@ -1,4 +1,4 @@
-//! What a head asks, or the rule that refuses it.
+//! What a head asks for, or the rule that refuses it.
 
 use crate::harness::{Tester, sure};
 use httparse::spans::EMPTY_HEADER_SPAN;
@@ -8,11 +8,11 @@ use routes::Routes;
 use service::judge;
 use wire::{Cut, FIELD_ROOM, Head, first_head, front_of};
 
-/// What a head asks: the owner and the name of the repository, the query, and the size of the body;
+/// What a head asks for: the owner and the name of the repository, the query, and the size of the body;
 /// or the rule that refuses it, and the methods that are reported with it.
 type Judged = Result<(&'static str, &'static str, &'static str, u64), (Rule, &'static str)>;
 
-/// That the head of the text asks this, or is refused so.
+/// Asserts that the head of the text asks for this, or is refused this way.
 fn expect_judged(rt: &impl Tester, routes: &Routes, text: &[u8], want: &Judged) {
     let mut fields = sure(rt, vec![in rt.alloc(); EMPTY_HEADER_SPAN; FIELD_ROOM]);
     assert!(rt; FIELD_ROOM <= fields.len());
@@ -36,7 +36,7 @@ fn expect_judged(rt: &impl Tester, routes: &Routes, text: &[u8], want: &Judged) 
     assert!(rt; is_wanted, "{text:?}");
 }
 
-/// Heads, and what each asks.
+/// Heads, and what each asks for.
 const ASKED: &[(&[u8], Judged)] = &[
     // The example of docs/PROTOCOL.md.
     (
@@ -61,7 +61,7 @@ fn heads_ask_for_locks(rt: HostRuntime) {
     }
 }
 
-/// docs/PROTOCOL.md, "Rules of the head": each head breaks the rule, and keeps those before it.
+/// docs/PROTOCOL.md, "Rules of the head": each head breaks the rule, and obeys those before it.
 const REFUSED: &[(&[u8], Judged)] = &[
     (
         b"POST /no HTTP/1.1\r\nTransfer-Encoding: chunked\r\n\r\n",

@@ -1,16 +1,16 @@
-//! Tests of the crates over a database, by what they export: `schemas`, `tables`, `tokens`, `desk`
-//! and `service`.
+//! Tests of the crates that use a database, through their public items: `schemas`, `tables`, `tokens`,
+//! `desk` and `service`.
 //!
 //! | Of | Modules |
 //! |---|---|
 //! | `schemas` | `comparing` |
-//! | `tables` | `databases` |
+//! | `tables` | `databases`, `crashes` |
 //! | `tokens` | `issuing` |
 //! | `desk` | `answers` |
-//! | `service` | all others, but for `files` and `harness`, which help |
+//! | `service` | all others, except `files` and `harness`, which are helpers |
 //!
-//! They stand in one crate, since a program of tests over a database costs a minute of proof before
-//! its first test, and each crate with tests of its own is proved once more for them.
+//! They are in one crate, since a program of tests over a database costs a minute of proof before its
+//! first test, and each crate with tests of its own is proved once more for them.
 #![tactic(auto)]
 
 #[cfg(test)]
@@ -23,6 +23,8 @@ mod callers;
 mod comparing;
 #[cfg(test)]
 mod connections;
+#[cfg(test)]
+mod crashes;
 #[cfg(test)]
 mod databases;
 #[cfg(test)]

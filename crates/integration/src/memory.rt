@@ -1,5 +1,5 @@
-//! The worked lock, where memory is refused once: `tools/refuse_memory.sh` adds a test for each
-//! allocation, so that it is the one that is refused.
+//! The worked lock with one failed allocation: `tools/refuse_memory.sh` adds a test for each allocation,
+//! in which that one fails.
 
 use names::{Counted, Moment, SliceSource};
 use policy::Policy;
@@ -9,7 +9,7 @@ use sqlite::MemStore;
 use std::alloc::{AllocError, Global};
 use tables::{NewToken, Operation, Store, StoreFault};
 
-/// In it ann may lock in studio/film.
+/// A policy by which ann may lock in studio/film.
 const POLICY: &str =
     "base = \"https://lfs.example\"\ntoken_seconds = 3600\n\n[[repo]]\nname = \"studio/film\"\ndefault_ref = \"refs/heads/main\"\nquota = 1000000\n\n[[row]]\neffect = \"allow\"\nusers = [\"ann\"]\nrepos = [\"*\"]\nrefs = [\"*\"]\npaths = [\"*\"]\nrights = [\"lock\"]\n";
 
@@ -20,7 +20,7 @@ const MESSAGE: &[u8] =
 const CREATED: &[u8] =
     b"HTTP/1.1 201 Created\r\nContent-Type: application/vnd.git-lfs+json\r\nContent-Length: 99\r\n\r\n{\"lock\":{\"id\":\"1\",\"locked_at\":\"2016-05-17T15:49:06Z\",\"owner\":{\"name\":\"ann\"},\"path\":\"art/hero.psd\"}}";
 
-/// The refusal by the store.
+/// The store refusal.
 const REFUSED: &[u8] =
     b"HTTP/1.1 500 Internal Server Error\r\nContent-Type: application/vnd.git-lfs+json\r\nContent-Length: 35\r\nConnection: close\r\n\r\n{\"message\":\"S1: the store refused\"}";
 
@@ -34,7 +34,7 @@ struct Server {
 }
 
 impl Server {
-    /// `None` where memory was refused.
+    /// `None` if memory runs out.
     fn new(alloc: Global) -> Option<Server> {
         let mut store = Store::open_memory(alloc).ok()?;
         store.create_or_check(alloc).ok()?;
@@ -55,7 +55,7 @@ impl Server {
     }
 }
 
-/// Takes memory so many times, and once more.
+/// Allocates memory `times` times, and once more.
 fn spare_memory(alloc: Global, times: usize) -> Result<Vec<Vec<u8>>, AllocError> {
     let mut spare = Vec::with_capacity(alloc, times)?;
     for _ in 0..times {
@@ -64,28 +64,28 @@ fn spare_memory(alloc: Global, times: usize) -> Result<Vec<Vec<u8>>, AllocError>
     Ok(spare)
 }
 
-/// Whether the lock stands, and how many were ever made.
+/// Whether the path is locked, and the number of locks ever made.
 fn kept(store: &mut Store<MemStore>) -> Result<(bool, u32), StoreFault> {
     let row = store.lock_at("studio/film", "refs/heads/main", "art/hero.psd")?;
     Ok((row.is_some(), store.made("studio/film")?))
 }
 
-/// What came of the worked lock.
+/// The outcome of the worked lock.
 #[derive(Clone, Copy, Debug, PartialEq, Eq)]
 enum Outcome {
-    /// There was no memory to begin with.
+    /// There was not enough memory to start.
     NotAsked,
     /// The lock was made, and its whole reply written.
     Created,
-    /// The store refused, the connection was closed behind the whole reply, and nothing was made.
+    /// The store refused, the connection was closed after the whole reply, and nothing was made.
     Refused,
-    /// None of the two.
+    /// Neither of the two.
     Neither,
-    /// There was no memory to look at the store with.
+    /// There was not enough memory to read the store.
     NotSeen,
 }
 
-/// What the text, the end of the connection and the store tell.
+/// The outcome, from the text, the end of the connection and the store.
 fn seen(text: &[u8], served: Served, locks: (bool, u32)) -> Outcome {
     match (served.answered, served.end, locks) {
         (1, End::InputEnded, (true, 1)) if text == CREATED => Outcome::Created,
@@ -94,8 +94,7 @@ fn seen(text: &[u8], served: Served, locks: (bool, u32)) -> Outcome {
     }
 }
 
-/// Asks a new server for the worked lock, once memory was taken so many times. The sink has room
-/// for any reply.
+/// Sends the worked lock to a new server, after `times` allocations. The sink has room for any reply.
 fn asked_after(alloc: Global, times: usize) -> Outcome {
     let Ok(_spare) = spare_memory(alloc, times) else {
         return Outcome::NotAsked;

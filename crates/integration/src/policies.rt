@@ -1,4 +1,4 @@
-//! What the policy says to a lock: the first row that matches decides.
+//! The policy's verdict on locks: the first row that matches decides.
 
 use crate::harness::*;
 use std::process::Abort;
@@ -45,7 +45,7 @@ const BY_FIRST: &str = "P1: policy row 1 denies lock";
 
 const BY_SECOND: &str = "P2: policy row 2 denies lock";
 
-/// What a body has behind its path.
+/// The part of a body after its path.
 const MAIN: &str = ",\"ref\":{\"name\":\"refs/heads/main\"}";
 
 const DEV: &str = ",\"ref\":{\"name\":\"refs/heads/dev\"}";
@@ -54,24 +54,24 @@ const RELEASE: &str = ",\"ref\":{\"name\":\"refs/heads/release/1.0\"}";
 
 const BRANCH: &str = ",\"ref\":{\"name\":\"refs/heads/release\"}";
 
-/// The policy's rows; the bearer, the path, and what the body has behind it; the message of the
-/// denial, or nothing where the lock is made.
+/// The policy's rows; the bearer, the path, and the part of the body after it; the message of the
+/// denial, or the empty text if the lock is made.
 const DECISIONS: &[(&[&str], &str, &str, &str, &str)] = &[
-    // A row about a folder denies what lies below it.
+    // A row about a folder denies the paths below it.
     (&[ART, ALL], ANN, "art/x", "", BY_FIRST),
     (&[ART, ALL], ANN, "art/old/x", "", BY_FIRST),
     (&[ART, ALL], ANN, "artx", "", ""),
     (&[ART, ALL], ANN, "art", "", ""),
     (&[ART, ALL], ANN, "Art/x", "", ""),
     (&[ART, ALL], ANN, "x/art/x", "", ""),
-    // Where no row matches, nothing is allowed.
+    // If no row matches, nothing is allowed.
     (&[], ANN, "art/hero.psd", "", BY_NONE),
     (&[NO_LOCK], ANN, "art/hero.psd", "", BY_NONE),
     (&[OTHER_USER], ANN, "art/hero.psd", "", BY_NONE),
     (&[BELOW_MAIN], ANN, "art/hero.psd", "", BY_NONE),
     (&[OTHER_REF], ANN, "art/hero.psd", "", BY_NONE),
     (&[OTHER_PATHS], ANN, "art/hero.psd", "", BY_NONE),
-    // A row that denies counts before the row that allows, and not behind it.
+    // A row that denies counts before a row that allows, and not after it.
     (&[ROW, FROZEN], ANN, "a", RELEASE, ""),
     (&[ROW, FROZEN], BOB, "a", RELEASE, ""),
     (&[FROZEN, ROW], ANN, "a", RELEASE, BY_FIRST),
@@ -90,8 +90,8 @@ const DECISIONS: &[(&[&str], &str, &str, &str, &str)] = &[
     (&[NOT_ANN, ROW], BOB, "a", "", ""),
 ];
 
-/// The reply where the policy denies, with this message; or to a lock that is made, where that is
-/// empty.
+/// The reply if the policy denies with this message; for an empty message, the reply for a lock that is
+/// made.
 fn decided(rt: &impl Tester, bearer: &str, path: &str, message: &str) -> String {
     if message.is_empty() {
         let owner = if bearer == BOB { "bob" } else { "ann" };
@@ -101,7 +101,7 @@ fn decided(rt: &impl Tester, bearer: &str, path: &str, message: &str) -> String 
     reply(rt, "403 Forbidden", "", body.as_str())
 }
 
-/// That a server with these rows answers so, and makes the lock or none.
+/// Asserts that a server with these rows answers this way, and makes the lock or none.
 fn expect_decision(rt: &impl Tester, rows: &[&str], asked: &str, want: &str, locks: u32) {
     let rows = texts(rt, rows);
     for most in MOSTS {
@@ -129,7 +129,7 @@ fn the_policy_is_asked_last_but_for_the_lock(rt: HostRuntime) {
     let mut server = Server::new(&rt);
     let told = server.tell(&rt, MESSAGE.as_bytes(), usize::MAX);
     expect_told(&rt, MESSAGE.as_bytes(), &told, CREATED, served(1, false));
-    // A path that is held is not told where the policy denies.
+    // If the policy denies, the reply does not say that the path is locked.
     server.govern(&rt, "");
     let told = server.tell(&rt, MESSAGE.as_bytes(), usize::MAX);
     let denial = decided(&rt, ANN, "", BY_NONE);
@@ -140,7 +140,7 @@ fn the_policy_is_asked_last_but_for_the_lock(rt: HostRuntime) {
         denial.as_str(),
         served(1, false),
     );
-    // Nor is the policy told to one whose token does not cover a lock.
+    // Nor does it name the policy's verdict if the token does not cover a lock.
     let asked = asking(&rt, READER, HERO);
     let told = server.tell(&rt, asked.as_bytes(), usize::MAX);
     let refused = refusal(&rt, "A5", false);

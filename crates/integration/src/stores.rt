@@ -4,12 +4,12 @@ use crate::connections::{CHUNKED, REFUSED, TREE};
 use crate::files::{Step, take_steps};
 use crate::harness::*;
 
-/// The reply where the store refuses, 156 bytes.
+/// The reply if the store refuses, 156 bytes.
 const STORE_REFUSED: &str =
     "HTTP/1.1 500 Internal Server Error\r\nContent-Type: application/vnd.git-lfs+json\r\nContent-Length: 35\r\nConnection: close\r\n\r\n{\"message\":\"S1: the store refused\"}";
 
-/// What a server is told that has no tables, and how it answers. A head that is refused for its
-/// framing needs no store.
+/// Messages to a server without tables, and its answers. A head that is refused for its framing needs
+/// no store.
 const NO_TABLES: &[(&[&str], &str)] = &[
     (&[MESSAGE, MESSAGE], STORE_REFUSED),
     (&[CHUNKED], REFUSED),
@@ -28,15 +28,15 @@ fn a_store_that_refuses_is_told_and_closes(rt: HostRuntime) {
     }
 }
 
-/// The reply to [`TREE`] where one id is left.
+/// The reply to [`TREE`] if one id is left.
 const LAST: &str =
     "HTTP/1.1 201 Created\r\nContent-Type: application/vnd.git-lfs+json\r\nContent-Length: 108\r\n\r\n{\"lock\":{\"id\":\"4294967295\",\"locked_at\":\"2016-05-17T15:49:06Z\",\"owner\":{\"name\":\"ann\"},\"path\":\"art/tree.psd\"}}";
 
-/// The reply where none is left.
+/// The reply if no id is left.
 const USED_UP: &str =
     "HTTP/1.1 507 Insufficient Storage\r\nContent-Type: application/vnd.git-lfs+json\r\nContent-Length: 42\r\n\r\n{\"message\":\"L5: the lock ids are used up\"}";
 
-/// The reply where the last lock is held.
+/// The reply if the last lock holds the path.
 const LAST_HELD: &str =
     "HTTP/1.1 409 Conflict\r\nContent-Type: application/vnd.git-lfs+json\r\nContent-Length: 151\r\n\r\n{\"lock\":{\"id\":\"4294967295\",\"locked_at\":\"2016-05-17T15:49:06Z\",\"owner\":{\"name\":\"ann\"},\"path\":\"art/tree.psd\"},\"message\":\"L1: the path is already locked\"}";
 
@@ -56,7 +56,7 @@ fn ids_are_used_up(rt: HostRuntime) {
         Step::Serve("", ""),
         Step::Run("INSERT INTO repos VALUES ('studio/film', 4294967294, 0)"),
         Step::Serve(TREE, LAST),
-        // Nothing is held by a lock that has no id.
+        // A lock without an id holds no path.
         Step::Serve(MESSAGE, USED_UP),
         Step::Serve(MESSAGE, USED_UP),
         // A path that is locked is reported first.

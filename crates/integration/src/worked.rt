@@ -1,4 +1,4 @@
-//! The worked exchanges: a path is locked, held, and locked on another branch.
+//! The worked exchanges: a path is locked, found locked, and locked on another branch.
 
 use crate::harness::*;
 use std::process::Abort;
@@ -39,7 +39,7 @@ const WORKED: &[(&str, &str)] = &[
     (ON_DEV, CREATED_ON_DEV),
 ];
 
-/// That the server tells these in turn, in connections of their own.
+/// Asserts that the server answers these in turn, each on a connection of its own.
 fn expect_worked(rt: &impl Tester, most: usize) {
     let mut server = Server::new(rt);
     for (text, want) in WORKED {

@@ -6,7 +6,7 @@ use names::{LockId, LockPath, Moment, Rule, UserName};
 use std::alloc::{AllocError, Global};
 use std::test::Fail;
 
-/// The lock of the example in `docs/PROTOCOL.md`, on that path.
+/// The lock of the example in `docs/PROTOCOL.md`, on this path.
 fn lock_on(path: &str) -> Option<ShownLock<'_>> {
     Some(ShownLock {
         id: LockId::read("1")?,
@@ -23,7 +23,7 @@ fn text_of(alloc: Global, answer: &Answer<'_>) -> Result<String, AllocError> {
     format!(in alloc; "{status} {body}")
 }
 
-/// The text of what is told of a lock that was made, or of one that stands.
+/// The text of the reply to a lock that was made or, if `stands`, of one that already holds the path.
 fn text_of_lock(alloc: Global, path: &str, stands: bool) -> Result<Option<String>, AllocError> {
     let Some(lock) = lock_on(path) else {
         return Ok(None);

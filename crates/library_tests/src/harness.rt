@@ -1,9 +1,9 @@
-//! What the tests share.
+//! Helpers that the tests share.
 
 use std::fmt::Debug;
 use std::process::Abort;
 
-/// The value of an answer that has to be `Ok`.
+/// Unwraps a result that has to be `Ok`.
 pub(crate) fn sure<T, E>(rt: &impl Abort, answer: Result<T, E>) -> T {
     match answer {
         Ok(value) => value,
@@ -11,7 +11,7 @@ pub(crate) fn sure<T, E>(rt: &impl Abort, answer: Result<T, E>) -> T {
     }
 }
 
-/// Compares what came of a case with what is wanted.
+/// Asserts that the result of a case is the expected one.
 pub(crate) fn expect<T: Copy + PartialEq + Debug>(
     rt: &impl Abort,
     case: &impl Debug,

@@ -1,4 +1,4 @@
-//! `wire`: heads cut from bytes, and what they say.
+//! `wire`: heads cut from bytes, and what they state.
 
 use crate::harness::{expect, sure};
 use httparse::spans::EMPTY_HEADER_SPAN;
@@ -7,7 +7,7 @@ use std::alloc::{Alloc, Global};
 use std::process::Abort;
 use wire::{Cut, FIELD_ROOM, Head, first_head, front_of};
 
-/// How long the head at the front of the text is, or what is there in its place.
+/// The length of the head at the front of the text, or what the text begins with instead.
 fn length_of(text: &[u8]) -> Result<usize, &'static str> {
     let mut fields = [EMPTY_HEADER_SPAN; FIELD_ROOM];
     match first_head(text, &mut fields) {
@@ -17,7 +17,7 @@ fn length_of(text: &[u8]) -> Result<usize, &'static str> {
     }
 }
 
-/// What a head says of its connection, of its body and of its client.
+/// What a head states about its connection, its body and its client.
 #[derive(Clone, Copy)]
 struct Said {
     asks_close: bool,
@@ -25,7 +25,7 @@ struct Said {
     accepts_json: bool,
 }
 
-/// What the head at the front of the text says, where one is there.
+/// What the head at the front of the text states; `None` if there is no head.
 fn said_by(text: &[u8]) -> Option<Said> {
     let mut fields = [EMPTY_HEADER_SPAN; FIELD_ROOM];
     let Cut::Head(spans) = first_head(text, &mut fields) else {
@@ -39,7 +39,7 @@ fn said_by(text: &[u8]) -> Option<Said> {
     })
 }
 
-/// Texts, and how long the head at their front is.
+/// Texts, and the length of the head at their front.
 const CUTS: &[(&[u8], Result<usize, &str>)] = &[
     // The example of RFC 9110.
     (
@@ -74,7 +74,7 @@ fn heads_are_cut_from_what_follows(rt: HostRuntime) {
     }
 }
 
-/// A head of that many bytes in all, or as many less as `short` says.
+/// A head of `size` bytes in all, less `short`.
 fn head_of_size(rt: &(impl Abort + Alloc<A = Global>), size: usize, short: usize) -> Vec<u8> {
     let value = sure(rt, "a".repeat(rt.alloc(), size.saturating_sub(23)));
     let text = sure(
@@ -86,7 +86,7 @@ fn head_of_size(rt: &(impl Abort + Alloc<A = Global>), size: usize, short: usize
     bytes
 }
 
-/// Sizes of heads, how many bytes are missing, and how long the head is.
+/// Sizes of heads, the number of missing bytes, and the length of the head.
 const SIZES: &[(usize, usize, Result<usize, &str>)] = &[
     (16_384, 0, Ok(16_384)),
     (16_385, 0, Err("bad")),
@@ -105,7 +105,7 @@ fn heads_of_over_16384_bytes_are_bad(rt: HostRuntime) {
     }
 }
 
-/// How many fields a head has, and how long it is.
+/// The number of fields of a head, and its length.
 const COUNTS: &[(usize, Result<usize, &str>)] = &[
     (0, Ok(18)),
     (64, Ok(402)),
@@ -129,7 +129,7 @@ fn heads_of_over_64_fields_are_bad(rt: HostRuntime) {
 const HEAD: &[u8] =
     b"POST /a.git/info/lfs/locks?b=c HTTP/1.1\r\nAccept: x\r\nACCEPT:\t y \r\nA:\r\n\r\nAccept: z";
 
-/// Names of fields, how many the head has, and the first.
+/// Names of fields, the number of such fields in the head, and the first value.
 const FIELDS: &[(&str, usize, &[u8])] = &[
     ("Accept", 2, b"x"),
     ("accept", 2, b"x"),
@@ -155,7 +155,7 @@ fn heads_tell_their_parts(rt: HostRuntime) {
     }
 }
 
-/// Texts, and whether the connection ends behind the head at their front.
+/// Texts, and whether the connection ends after the head at their front.
 const CLOSING: &[(&[u8], bool)] = &[
     (b"GET / HTTP/1.1\r\n\r\n", false),
     (b"GET / HTTP/1.0\r\n\r\n", true),
@@ -191,7 +191,7 @@ fn connections_end_where_the_head_says_so(rt: HostRuntime) {
     }
 }
 
-/// Texts, and how long the body is of the head at their front, or the rule that refuses it.
+/// Texts, and the size of the body after the head at their front, or the rule that refuses it.
 const LENGTHS: &[(&[u8], Result<u64, Rule>)] = &[
     (b"GET / HTTP/1.1\r\n\r\n", Ok(0)),
     (b"GET / HTTP/1.1\r\nContent-Length: 0\r\n\r\n", Ok(0)),
@@ -291,7 +291,7 @@ fn heads_say_how_long_the_body_is(rt: HostRuntime) {
     }
 }
 
-/// Texts, and whether the head at their front accepts a reply of JSON.
+/// Texts, and whether the head at their front accepts a JSON reply.
 const ACCEPTS: &[(&[u8], bool)] = &[
     (b"GET / HTTP/1.1\r\n\r\n", true),
     (

@@ -1,6 +1,6 @@
-//! Tests of the crates that need no database: `names`, `policy`, `forms`, `wire` and `routes`, by
-//! what they export. In a crate of its own they are proved without those crates' code, which is
-//! proved already.
+//! Tests of the crates that need no database: `names`, `policy`, `forms`, `wire` and `routes`, through
+//! their public items. In a crate of their own the tests are proved without the code of those crates,
+//! which is proved already.
 #![tactic(auto)]
 
 #[cfg(test)]

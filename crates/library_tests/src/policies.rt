@@ -1,4 +1,4 @@
-//! `policy`: policy files, their faults, and which row decides.
+//! `policy`: policy files, their faults, and the row that decides.
 
 use crate::harness::sure;
 use policy::*;
@@ -29,12 +29,12 @@ paths = ["*"]
 rights = ["pull", "push", "list", "lock"]
 "#;
 
-/// The three parts, one after the other.
+/// The three parts, joined.
 fn join(rt: &(impl Abort + Alloc<A = Global>), first: &str, second: &str, third: &str) -> String {
     sure(rt, format!(in rt.alloc(); "{first}{second}{third}"))
 }
 
-/// The lists of a row, and entries that each may have.
+/// The lists of a row, and valid entries of each.
 const LISTS: &[(Key, &str)] = &[
     (Key::Users, "[\"*\"]"),
     (Key::Repos, "[\"*\"]"),
@@ -43,7 +43,7 @@ const LISTS: &[(Key, &str)] = &[
     (Key::Rights, "[\"pull\"]"),
 ];
 
-/// A row that denies all to all but for one list, which is as given.
+/// A row that denies everything to everyone, except that one list is the given one.
 fn row_with(rt: &(impl Abort + Alloc<A = Global>), key: Key, list: &str) -> String {
     let mut row = sure(
         rt,
@@ -57,8 +57,8 @@ fn row_with(rt: &(impl Abort + Alloc<A = Global>), key: Key, list: &str) -> Stri
     row
 }
 
-/// That the program prints this of the text after `custody: policy `, or that the text spells a
-/// policy, where `none` is expected.
+/// Asserts that the program prints this after `custody: policy ` for the text, or, if `none` is expected,
+/// that the text is a policy.
 fn expect(rt: &(impl Abort + Alloc<A = Global>), source: &str, expected: &str) {
     let line = match Policy::read(rt.alloc(), source) {
         Ok(_) => sure(rt, String::from_str(rt.alloc(), "none")),
@@ -67,7 +67,7 @@ fn expect(rt: &(impl Abort + Alloc<A = Global>), source: &str, expected: &str) {
     assert_eq!(rt; line.as_str(), expected, "of {source}");
 }
 
-/// The same of a text in three parts: mostly the top, the repositories and the rows.
+/// The same for a text in three parts: usually the top, the repositories and the rows.
 fn expect_parts(
     rt: &(impl Abort + Alloc<A = Global>),
     top: &str,
@@ -99,7 +99,7 @@ fn reads_bytes(rt: HostRuntime) {
     assert_eq!(rt; policy.token_seconds(), 3600);
 }
 
-/// The longest length of a file and one more, and what bytes that are no text are refused for.
+/// The longest length of a file and one byte more, and the faults of bytes that are not UTF-8.
 const LENGTHS: &[(usize, FaultCode)] = &[(1_048_576, FaultCode::Y1), (1_048_577, FaultCode::Y5)];
 
 #[test]

@@ -2,8 +2,9 @@
 
 use crate::harness::{expect, sure};
 use http::StatusCode;
-use names::{FailAfter, Sink, VecSink};
+use names::{Counted, FailAfter, Sink, VecSink};
 use std::alloc::{Alloc, Global};
+use std::io::{self, Write};
 use std::process::Abort;
 use wire::{ALLOW_LIMIT, Content, ReplyHead, WriteFault, write_reply, write_whole};
 
@@ -25,15 +26,15 @@ const JSON: Case<'static> = Case {
     close: false,
 };
 
-/// The body that tells a lock.
+/// The body for a lock that was made.
 const LOCK: &str =
     "{\"lock\":{\"id\":\"1\",\"locked_at\":\"2016-05-17T15:49:06Z\",\"owner\":{\"name\":\"ann\"},\"path\":\"art/hero.psd\"}}";
 
-/// The body that refuses it again.
+/// The body that refuses it the second time.
 const HELD: &str =
     "{\"lock\":{\"id\":\"1\",\"locked_at\":\"2016-05-17T15:49:06Z\",\"owner\":{\"name\":\"ann\"},\"path\":\"art/hero.psd\"},\"message\":\"L1: the path is already locked\"}";
 
-/// Heads, bodies, the lines of the heads, and how long the replies are.
+/// Heads, bodies, the lines of the heads, and the lengths of the replies.
 const REPLIES: &[(Case<'static>, &str, &str, usize)] = &[
     (
         Case {
@@ -120,7 +121,7 @@ const REPLIES: &[(Case<'static>, &str, &str, usize)] = &[
     ),
 ];
 
-/// What a sink has of the reply that takes at most so many bytes a write.
+/// The part of the reply that a sink with at most `most` bytes per write takes.
 fn reply_of(
     rt: &(impl Abort + Alloc<A = Global>),
     case: &Case<'_>,
@@ -189,7 +190,7 @@ fn each_status_has_its_phrase(rt: HostRuntime) {
     }
 }
 
-/// How many writes of two bytes succeed, and what then becomes of three bytes.
+/// The number of two-byte writes that succeed, and the result of writing three bytes.
 const WRITES: &[(u64, Result<(), WriteFault>)] = &[
     (0, Err(WriteFault { written: 0 })),
     (1, Err(WriteFault { written: 2 })),
@@ -197,24 +198,66 @@ const WRITES: &[(u64, Result<(), WriteFault>)] = &[
     (3, Ok(())),
 ];
 
+/// A reply of 81 bytes, and its text.
+const OCTETS: ReplyHead<'static> = ReplyHead {
+    status: StatusCode::OK,
+    content: Content::Octets,
+    size: 3,
+    allow: "",
+    close: false,
+};
+
+const OCTETS_TEXT: &[u8] =
+    b"HTTP/1.1 200 OK\r\nContent-Type: application/octet-stream\r\nContent-Length: 3\r\n\r\nabc";
+
+/// A writer that takes a byte per call. It fails once, after `good` bytes, and would then take the rest.
+#[derive(Drop)]
+struct WritesAgain {
+    taken: Vec<u8>,
+    good: Option<usize>,
+}
+
+impl Write for WritesAgain {
+    fn write(&mut self, piece: &[u8]) -> io::Result<usize> {
+        if self.good == Some(0) {
+            self.good = None;
+            return Err(io::ErrorKind::Interrupted.into());
+        }
+        self.good = self.good.map(|count| count.saturating_sub(1));
+        let size = piece.len().min(1);
+        self.taken.write(&piece[..size])
+    }
+
+    fn flush(&mut self) -> io::Result<()> {
+        Ok(())
+    }
+}
+
+#[test]
+fn nothing_is_written_after_a_write_that_failed(rt: HostRuntime) {
+    for written in 0..OCTETS_TEXT.len() {
+        let mut sink = Counted::new(WritesAgain {
+            taken: Vec::new(rt.alloc()),
+            good: Some(written),
+        });
+        let told = write_reply(&mut sink, &OCTETS, b"abc");
+        expect(&rt, &written, told, Err(WriteFault { written }));
+        expect(&rt, &written, sink.failures(), 1);
+        let taken = sink.into_inner().taken;
+        let front = OCTETS_TEXT.get(..written);
+        expect(&rt, &written, Some(taken.as_slice()), front);
+    }
+}
+
 #[test]
 fn a_sink_that_fails_has_taken_a_beginning(rt: HostRuntime) {
-    let head = ReplyHead {
-        status: StatusCode::OK,
-        content: Content::Octets,
-        size: 3,
-        allow: "",
-        close: false,
-    };
-    let text =
-        b"HTTP/1.1 200 OK\r\nContent-Type: application/octet-stream\r\nContent-Length: 3\r\n\r\nabc";
     for calls in 0..81 {
         let mut sink = FailAfter::new(VecSink::new(rt.alloc(), 1), calls);
         let written = usize::try_from(calls).unwrap_or(0);
-        let told = write_reply(&mut sink, &head, b"abc");
+        let told = write_reply(&mut sink, &OCTETS, b"abc");
         expect(&rt, &calls, told, Err(WriteFault { written }));
         expect(&rt, &calls, sink.failures(), 1);
-        let begins = text.starts_with(sink.into_inner().taken());
+        let begins = OCTETS_TEXT.starts_with(sink.into_inner().taken());
         expect(&rt, &calls, begins, true);
     }
     for &(calls, want) in WRITES {

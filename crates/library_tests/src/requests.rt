@@ -5,7 +5,7 @@ use model::ServedForm;
 use std::alloc::{AllocError, Global};
 use std::test::Fail;
 
-/// What a lock's body asks, as `PATH` or `PATH at REF`, or the rule that refuses it.
+/// The lock that a body requests, as `PATH` or `PATH at REF`, or the rule that refuses it.
 fn asked(alloc: Global, body: &[u8]) -> Result<String, AllocError> {
     match read_form(alloc, ServedForm::Lock, "", "", body)? {
         Ok(Request::Lock(lock)) => {
@@ -38,7 +38,7 @@ fn locks_are_asked_by_path_and_ref(rt: HostRuntime) -> Result<(), Fail> {
         (br#"{"\u0070ath":"a"}"#.as_slice(), "a"),
         ("{\"path\":\"\u{e9}\"}".as_bytes(), "\u{e9}"),
         (br#"{"path":"\ud83d\ude00"}"#.as_slice(), "\u{1f600}"),
-        // Of a key that stands twice the last counts.
+        // The last of repeated keys counts.
         (br#"{"path":1,"path":"a"}"#.as_slice(), "a"),
         (br#"{"path":"a","path":"b"}"#.as_slice(), "b"),
         (br#"{"path":"a","ref":1,"ref":null}"#.as_slice(), "a"),
@@ -93,7 +93,7 @@ fn bodies_of_another_shape_are_j1(rt: HostRuntime) -> Result<(), Fail> {
         b"{\"path\":\"a\nb\"}".as_slice(),
         b"{\"path\":\"\xff\"}".as_slice(),
         b"\xef\xbb\xbf{\"path\":\"a\"}".as_slice(),
-        // The shape comes before the range, wherever the two stand.
+        // The shape is checked before the range, whatever their order in the body.
         br#"{"path":"","ref":1}"#.as_slice(),
         br#"{"path":1,"ref":{"name":"main"}}"#.as_slice(),
     ] {
@@ -125,7 +125,7 @@ fn texts_out_of_range_are_j2(rt: HostRuntime) -> Result<(), Fail> {
     Ok(())
 }
 
-/// A body whose path has that many bytes, and in which so many arrays nest in the outer object.
+/// A body whose path has `path` bytes, with `arrays` arrays nested in the outer object.
 fn body_of(alloc: Global, path: usize, arrays: usize) -> Result<String, AllocError> {
     let path = "a".repeat(alloc, path)?;
     let open = "[".repeat(alloc, arrays)?;

@@ -34,7 +34,7 @@ fn copy<S: Source, K: Sink>(source: &mut S, sink: &mut K) -> Result<usize, Devic
 
 const TEXT: &[u8] = b"twenty bytes of text";
 
-/// How many bytes a call takes at most, and how many reads hand out the text then.
+/// The most bytes of a call, and the number of reads that then return the text.
 const MOSTS: &[(usize, usize)] = &[(0, 20), (1, 20), (2, 10), (7, 3), (usize::MAX, 3)];
 
 #[test]
@@ -42,7 +42,7 @@ fn sources_hand_out_every_byte(rt: HostRuntime) {
     for &(most, reads) in MOSTS {
         let mut source = SliceSource::new(TEXT, most);
         let mut sink = VecSink::new(rt.alloc(), most);
-        // Lent, a source is a source and a sink a sink.
+        // A borrowed source is a source, and a borrowed sink is a sink.
         let copied = copy(&mut &mut source, &mut &mut sink);
         expect(&rt, &most, copied, Ok(reads));
         expect(&rt, &most, sink.taken(), TEXT);
@@ -51,10 +51,10 @@ fn sources_hand_out_every_byte(rt: HostRuntime) {
     }
 }
 
-/// How many of six bytes a read hands out at most, the room, and how many it hands out.
+/// The most of six bytes that a read returns, the room, and the number of bytes that it returns.
 const READS: &[(usize, usize, usize)] = &[(2, 8, 2), (7, 8, 6), (7, 3, 3), (7, 0, 0)];
 
-/// What is written, one behind the other, and how much of it a sink of two bytes takes.
+/// The writes, in order, and how much of each a sink of two bytes takes.
 const WRITES: &[(&[u8], usize)] = &[(b"abc", 2), (b"c", 1), (b"", 0)];
 
 #[test]
@@ -122,7 +122,7 @@ impl Read for FailsOnce {
     }
 }
 
-/// What copies of that reader tell, one after the other.
+/// The results of copies from that reader, in order.
 const COPIES: &[Result<usize, DeviceFault>] = &[Err(DeviceFault), Ok(3), Ok(0)];
 
 #[test]
@@ -142,7 +142,7 @@ fn a_reader_that_fails_is_counted(rt: HostRuntime) {
     expect(&rt, &"the sink", sink.into_inner().as_slice(), b"abcdef");
 }
 
-/// A reader that fills any room, leaves the bytes as they are, and counts its calls in a cell.
+/// A reader that fills any room, leaves the bytes unchanged, and counts its calls in a cell.
 #[derive(Drop)]
 struct Endless<'c> {
     calls: &'c Cell<u32>,
@@ -155,7 +155,7 @@ impl Read for Endless<'_> {
     }
 }
 
-/// How much room is offered, and how many bytes are read: at most 1,099,511,627,776 in all, which are 16,384 reads of
+/// The room offered, and the number of bytes read: at most 1,099,511,627,776 in all, which are 16,384 reads of
 /// 67,108,864 bytes.
 const LAST_READS: &[(usize, usize)] = &[(67_108_860, 67_108_860), (3, 3), (8, 1), (8, 0), (0, 0)];
 
@@ -171,7 +171,7 @@ fn a_source_ends_at_its_cap(rt: HostRuntime) {
         let mut piece = sure(&rt, vec![in rt.alloc(); 0; room]);
         expect(&rt, &room, source.read(&mut piece), Ok(size));
     }
-    // The reader is not asked once all is handed out.
+    // The reader is not called once all bytes are returned.
     expect(&rt, &"calls", calls.get(), 16_386);
 }
 
@@ -192,8 +192,8 @@ impl Write for Stuck {
     }
 }
 
-/// What is written, one piece after the other, what comes of each, and how many failures are counted
-/// then: where the writer fails, and where it takes nothing.
+/// The pieces written, in order, the result of each, and the number of failures counted then: if the
+/// writer fails, and if it takes nothing.
 const TO_FAILING: &[(&[u8], Result<usize, DeviceFault>, u64)] = &[
     (b"a", Err(DeviceFault), 1),
     (b"", Err(DeviceFault), 2),
@@ -206,7 +206,7 @@ const TO_FULL: &[(&[u8], Result<usize, DeviceFault>, u64)] = &[
     (b"a", Err(DeviceFault), 2),
 ];
 
-/// That the writes to that writer are counted so.
+/// Asserts that the writes to that writer are counted this way.
 fn expect_writes(
     rt: &impl Abort,
     writer: Stuck,
@@ -285,7 +285,7 @@ fn a_source_and_a_sink_may_share_a_cell(rt: HostRuntime) {
     };
     let copied = copy(&mut source, &mut sink);
     expect(&rt, &"a copy", copied, Ok(2));
-    // Three reads, of which the last is the end, and four writes.
+    // Three reads, the last of which is the end, and four writes.
     expect(&rt, &"calls", calls.get(), 7);
     expect(&rt, &"the sink", sink.inner.taken(), b"abcd");
 }

@@ -1,4 +1,4 @@
-//! `routes`: where a target leads.
+//! `routes`: the route of a target.
 
 use model::ServedForm;
 use routes::{Resource, Routes, path_of, query_of};
@@ -13,7 +13,7 @@ fn targets_lead_to_the_locks_of_a_repository(rt: HostRuntime) -> Result<(), Fail
         ("/studio/film.git/info/lfs/locks?a=/b?c", "studio", "film"),
         ("/a/b.git.git/info/lfs/locks", "a", "b.git"),
         ("/a/.git/info/lfs/locks", "a", ""),
-        // No names, and yet a route.
+        // Not valid names, and yet a route.
         ("/STUDIO/%66ilm.git/info/lfs/locks", "STUDIO", "%66ilm"),
         ("/../...git/info/lfs/locks", "..", ".."),
         ("/{owner}/{name}.git/info/lfs/locks", "{owner}", "{name}"),

@@ -6,7 +6,7 @@ use std::alloc::{Alloc, Global};
 use std::fmt::Display;
 use std::process::Abort;
 
-/// The text, with so many letters `a` behind it.
+/// The text, followed by `letters` letters `a`.
 fn lengthened(rt: &(impl Abort + Alloc<A = Global>), text: &str, letters: usize) -> String {
     let mut long = sure(rt, text.to_owned(rt.alloc()));
     let rest = sure(rt, "a".repeat(rt.alloc(), letters));
@@ -14,10 +14,10 @@ fn lengthened(rt: &(impl Abort + Alloc<A = Global>), text: &str, letters: usize)
     long
 }
 
-/// What is written where there is no name. Each name in these tables is another text.
+/// The printed text if there is no name. Each name in these tables is another text.
 const NONE: &str = "none";
 
-/// What is written of the name, or [`NONE`].
+/// The printed name, or [`NONE`].
 fn printed<T: Copy + Display>(rt: &(impl Abort + Alloc<A = Global>), name: Option<T>) -> String {
     match name {
         Some(name) => sure(rt, name.to_string(rt.alloc())),
@@ -34,7 +34,7 @@ enum Kind {
     Path,
 }
 
-/// What is written of the text as a name of that kind, or [`NONE`].
+/// The text, read and printed as a name of this kind, or [`NONE`].
 fn written(rt: &(impl Abort + Alloc<A = Global>), kind: Kind, text: &str) -> String {
     match kind {
         Kind::User => printed(rt, UserName::read(text)),
@@ -44,7 +44,7 @@ fn written(rt: &(impl Abort + Alloc<A = Global>), kind: Kind, text: &str) -> Str
     }
 }
 
-/// The text that the name of that kind has, or [`NONE`].
+/// The text of the name of this kind, or [`NONE`].
 fn text_of(kind: Kind, text: &str) -> &str {
     match kind {
         Kind::User => UserName::read(text).map_or(NONE, |user| user.as_str()),
@@ -54,12 +54,12 @@ fn text_of(kind: Kind, text: &str) -> &str {
     }
 }
 
-/// The text where it is a name, or [`NONE`].
+/// The text if it is a name, else [`NONE`].
 fn wanted(text: &str, good: bool) -> &str {
     if good { text } else { NONE }
 }
 
-/// That those texts are names of the kind, or not.
+/// Asserts that these texts are names of the kind, or not.
 fn expect_names(
     rt: &(impl Abort + Alloc<A = Global>),
     kind: Kind,
@@ -74,7 +74,7 @@ fn expect_names(
     }
 }
 
-/// Texts, how many letters `a` stand behind them, and whether that is a user.
+/// Texts, the number of letters `a` after them, and whether the result is a user.
 const USERS: &[(&str, usize, bool)] = &[
     ("anna", 0, true),
     ("a", 0, true),
@@ -94,7 +94,7 @@ fn users_are_1_to_40_bytes_of_their_alphabet(rt: HostRuntime) {
     expect_names(&rt, Kind::User, USERS);
 }
 
-/// Texts, how many letters `a` stand behind them, and whether that is a repository.
+/// Texts, the number of letters `a` after them, and whether the result is a repository.
 const REPOSITORIES: &[(&str, usize, bool)] = &[
     ("studio/film", 0, true),
     // An owner of 40 letters and one of 41.
@@ -115,7 +115,7 @@ fn repositories_are_an_owner_and_a_name(rt: HostRuntime) {
     expect_names(&rt, Kind::Repository, REPOSITORIES);
 }
 
-/// Texts, how many letters `a` stand behind them, and whether that is a ref.
+/// Texts, the number of letters `a` after them, and whether the result is a ref.
 const REFS: &[(&str, usize, bool)] = &[
     ("refs/heads/main", 0, true),
     ("refs/a", 0, true),
@@ -141,7 +141,7 @@ fn refs_have_no_two_dots_and_no_empty_part(rt: HostRuntime) {
     expect_names(&rt, Kind::Ref, REFS);
 }
 
-/// Texts, how many letters `a` stand behind them, and whether that is a path.
+/// Texts, the number of letters `a` after them, and whether the result is a path.
 const PATHS: &[(&str, usize, bool)] = &[
     ("a/\u{e9}", 0, true),
     ("a", 0, true),
@@ -188,17 +188,17 @@ const DIGITS: &[(&str, bool)] = &[
     ("F", false),
 ];
 
-/// Numbers of bytes, the size that each is, and what is written of it.
+/// Numbers of bytes, the size of each, and its printed form.
 const SIZES: &[(u64, Option<u64>, &str)] = &[
     (0, Some(0), "0"),
     (268_435_456, Some(268_435_456), "268435456"),
     (268_435_457, None, NONE),
 ];
 
-/// How many digits a text has, and whether an object's name may have that many.
+/// The number of digits of a text, and whether an object's name may have that many.
 const COUNTS: &[(usize, bool)] = &[(63, false), (64, true), (65, false)];
 
-/// That the digit, repeated, is an object's name, or not.
+/// Asserts that the digit, repeated, is an object's name, or not.
 fn expect_digit(rt: &(impl Abort + Alloc<A = Global>), digit: &str, good: bool) {
     for &(count, fits) in COUNTS {
         let text = sure(rt, digit.repeat(rt.alloc(), count));
@@ -209,7 +209,7 @@ fn expect_digit(rt: &(impl Abort + Alloc<A = Global>), digit: &str, good: bool) 
 
 #[test]
 fn objects_are_64_digits(rt: HostRuntime) {
-    // The SHA-256 of no byte.
+    // The SHA-256 of the empty text.
     let empty = "e3b0c44298fc1c149afbf4c8996fb92427ae41e4649b934ca495991b7852b855";
     let name = sure(&rt, Oid::read(empty.as_bytes()).ok_or(()));
     expect(&rt, &"the text", name.text(), empty);

@@ -1,9 +1,9 @@
-//! Which row decides.
+//! The row that decides.
 use super::*;
 use model::Right;
 use names::{LockPath, RefName, RepoName, UserName};
 
-/// A question of the tests: user, repository, right, ref and path, where it is about them.
+/// A question of the tests: user, repository, right, and the ref and path if it concerns them.
 pub type Asked = (
     &'static str,
     &'static str,
@@ -12,7 +12,7 @@ pub type Asked = (
     Option<&'static str>,
 );
 
-/// The answer to a question.
+/// The verdict on a question.
 fn ask(rt: &impl Abort, policy: &Policy, asked: &Asked) -> Verdict {
     let &(user, repo, right, ref_name, path) = asked;
     let ref_name = ref_name.map(|text| sure(rt, RefName::read(text).ok_or(())));
@@ -27,7 +27,7 @@ fn ask(rt: &impl Abort, policy: &Policy, asked: &Asked) -> Verdict {
     decide(policy, &question)
 }
 
-/// That the policy answers these questions so.
+/// Asserts the policy's verdicts on these questions.
 pub fn expect_verdicts(
     rt: &(impl Abort + Alloc<A = Global>),
     source: &str,
@@ -45,7 +45,7 @@ const MAIN: Option<&str> = Some("refs/heads/main");
 
 const BELOW_ART: Option<&str> = Some("art/x");
 
-/// No lock below art/; all else is allowed to all.
+/// No lock below art/; everyone may do everything else.
 const FROZEN_FOLDER: &str = r#"
 [[row]]
 effect = "deny"
@@ -64,7 +64,7 @@ paths = ["*"]
 rights = ["pull", "push", "list", "lock", "force"]
 "#;
 
-/// Questions, and the answers.
+/// Questions, and the verdicts.
 const ON_FROZEN_FOLDER: &[(Asked, Verdict)] = &[
     (
         ("ann", FILM, Right::Lock, MAIN, BELOW_ART),
@@ -90,7 +90,7 @@ fn the_first_row_that_matches(rt: HostRuntime) {
     expect_verdicts(&rt, source.as_str(), ON_FROZEN_FOLDER);
 }
 
-/// Ann may push below art/ alone.
+/// Ann may push only below art/.
 const PUSH_BELOW: &str = r#"
 [[row]]
 effect = "allow"
@@ -101,7 +101,7 @@ paths = ["art/"]
 rights = ["push"]
 "#;
 
-/// Questions, and the answers.
+/// Questions, and the verdicts.
 const WITHOUT_A_PATH: &[(Asked, Verdict)] = &[
     (("ann", FILM, Right::Push, MAIN, None), Verdict::Deny(0)),
     (
@@ -131,7 +131,7 @@ paths = ["*"]
 rights = ["pull"]
 "#;
 
-/// Questions, and the answers.
+/// Questions, and the verdicts.
 const WITHOUT_A_REF: &[(Asked, Verdict)] = &[
     (("ann", FILM, Right::Pull, None, None), Verdict::Deny(0)),
     (("ann", FILM, Right::Pull, MAIN, None), Verdict::Allow(1)),
@@ -151,7 +151,7 @@ fn a_question_without_a_ref(rt: HostRuntime) {
     expect_verdicts(&rt, source.as_str(), WITHOUT_A_REF);
 }
 
-/// Questions, and the answers.
+/// Questions, and the verdicts.
 const WITHOUT_A_ROW: &[(Asked, Verdict)] = &[(
     ("ann", FILM, Right::Pull, None, None),
     Verdict::Deny(0),

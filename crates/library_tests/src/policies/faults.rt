@@ -1,7 +1,7 @@
-//! Each fault at each place where it can stand, and which of several is the first.
+//! Each fault at each place that can have it, and which of several is the first.
 use super::*;
 
-/// Whole files, and what is told of them.
+/// Whole files, and the fault that is reported.
 const TEXTS: &[(&str, &str)] = &[
     ("base =", "Y1"),
     ("base = \"a\"\nbase = \"b\"", "Y1"),
@@ -16,7 +16,7 @@ fn of_the_file(rt: HostRuntime) {
     }
 }
 
-/// Tops of a file, and what is told of it.
+/// Tops of a file, and the fault that is reported.
 const TOPS: &[(&str, &str)] = &[
     (
         "base = \"https://lfs.example\"\ntoken_seconds = 3600\ncolour = 1\n",
@@ -75,7 +75,7 @@ fn at_the_top(rt: HostRuntime) {
     }
 }
 
-/// What stands behind the top, and what is told.
+/// The text after the top, and the fault that is reported.
 const RESTS: &[(&str, &str)] = &[
     ("", "none"),
     ("repo = []\nrow = []\n", "none"),
@@ -93,7 +93,7 @@ fn where_no_array_or_no_table_stands(rt: HostRuntime) {
     }
 }
 
-/// The keys of the second repository, and what is told.
+/// The keys of the second repository, and the fault that is reported.
 const REPOS: &[(&str, &str)] = &[
     ("name = \"a/b\"\ndefault_ref = \"refs/a\"\n", "Y2 at repo 2"),
     ("name = \"a/b\"\nquota = 1\n", "Y2 at repo 2"),
@@ -148,7 +148,7 @@ fn of_a_repository(rt: HostRuntime) {
     }
 }
 
-/// The second of two equal names is told, which is the third repository here.
+/// The second of two equal names is reported, which is the third repository here.
 #[test]
 fn of_a_repeated_name(rt: HostRuntime) {
     let other = "[[repo]]\nname = \"a/b\"\ndefault_ref = \"refs/a\"\nquota = 1\n";
@@ -156,7 +156,7 @@ fn of_a_repeated_name(rt: HostRuntime) {
     expect_parts(&rt, TOP, repos.as_str(), ROW, "Y4 at repo 3");
 }
 
-/// The keys of the second row, and what is told.
+/// The keys of the second row, and the fault that is reported.
 const ROWS: &[(&str, &str)] = &[
     ("effect = \"allow\"\n", "Y2 at row 2"),
     (
@@ -205,7 +205,7 @@ fn of_the_keys_of_a_row(rt: HostRuntime) {
     }
 }
 
-/// Lists of a row, and what is told.
+/// Lists of a row, and the fault that is reported.
 const ROW_LISTS: &[(Key, &str, &str)] = &[
     (Key::Users, "[]", "Y3 at row 1"),
     (Key::Users, "[\"Ann\"]", "Y3 at row 1"),
@@ -260,7 +260,7 @@ const NO_USERS: &str =
 
 const BAD_VALUES: &str = "base = \"x\"\ntoken_seconds = 0\n";
 
-/// The top comes before repositories, these before rows; of a table keys come before values.
+/// The top comes before repositories, these before rows; in a table, keys come before values.
 const SEVERAL: &[(&str, &str, &str, &str)] = &[
     (TOP, NO_QUOTA, NO_USERS, "Y2 at repo 1"),
     (TOP, NO_USERS, NO_QUOTA, "Y2 at repo 1"),

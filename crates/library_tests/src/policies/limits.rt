@@ -1,13 +1,12 @@
-//! The longest and the most that is allowed, and one more. Those of single numbers stand among the
-//! faults.
+//! Each limit of a length or a count, and one more. The limits of single numbers are among the faults.
 use super::*;
 
-/// So many copies of the text.
+/// `count` copies of the text.
 fn copies(rt: &(impl Abort + Alloc<A = Global>), text: &str, count: usize) -> String {
     sure(rt, text.repeat(rt.alloc(), count))
 }
 
-/// So many repositories, each with a name of its own.
+/// `count` repositories, each with another name.
 fn repos(rt: &(impl Abort + Alloc<A = Global>), count: u32) -> String {
     let mut repos = String::new(rt.alloc());
     for number in 0..count {
@@ -20,7 +19,7 @@ fn repos(rt: &(impl Abort + Alloc<A = Global>), count: u32) -> String {
     repos
 }
 
-/// Lengths of a file, and what is told.
+/// Lengths of a file, and the fault that is reported.
 const FILES: &[(usize, &str)] = &[(1_048_576, "none"), (1_048_577, "Y5")];
 
 #[test]
@@ -35,7 +34,7 @@ fn length_of_the_file(rt: HostRuntime) {
     }
 }
 
-/// How many repositories stand in a file, and what is told.
+/// The number of repositories in a file, and the fault that is reported.
 const REPOSITORIES: &[(u32, &str)] = &[(256, "none"), (257, "Y5 at top")];
 
 #[test]
@@ -46,7 +45,7 @@ fn repositories(rt: HostRuntime) {
     }
 }
 
-/// One row too many is told before what is wrong with the first.
+/// One row too many is reported before a fault of the first row.
 #[test]
 fn rows(rt: HostRuntime) {
     let no_users = row_with(&rt, Key::Users, "[]");
@@ -66,7 +65,7 @@ const ENTRIES: &[(Key, &str)] = &[
     (Key::Rights, "\"pull\", "),
 ];
 
-/// How many entries a list has, and what is told.
+/// The number of entries of a list, and the fault that is reported.
 const LIST_LENGTHS: &[(usize, &str)] = &[(1, "none"), (64, "none"), (65, "Y3 at row 1")];
 
 #[test]
@@ -81,7 +80,7 @@ fn entries_of_a_list(rt: HostRuntime) {
     }
 }
 
-/// Fronts of addresses, how many letters follow, and what is told.
+/// Fronts of addresses, the number of letters that follow, and the fault that is reported.
 const ADDRESSES: &[(&str, usize, &str)] = &[
     ("http://", 0, "Y3 at top"),
     ("http://", 1, "none"),

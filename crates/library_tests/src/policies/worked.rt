@@ -1,4 +1,4 @@
-//! The policies of `docs/POLICY.md`, and the questions that it answers by them.
+//! The policies of `docs/POLICY.md`, and their verdicts on the questions there.
 use super::decisions::{Asked, expect_verdicts};
 use super::*;
 use model::Right;
@@ -37,7 +37,7 @@ paths = ["*"]
 rights = ["pull"]
 "#;
 
-/// Questions, and the answers.
+/// Questions, and the verdicts.
 const VENDOR_ANSWERS: &[(Asked, Verdict)] = &[
     (("vendor", FILM, Right::Pull, None, None), Verdict::Allow(2)),
     (("vendor", FILM, Right::Push, MAIN, None), Verdict::Deny(0)),
@@ -90,7 +90,7 @@ paths = ["art/sets/", "art/palette.aco"]
 rights = ["lock"]
 "#;
 
-/// Questions, and the answers.
+/// Questions, and the verdicts.
 const FOLDERS_ANSWERS: &[(Asked, Verdict)] = &[
     (
         (
@@ -159,7 +159,7 @@ paths = ["*"]
 rights = ["force"]
 "#;
 
-/// Questions, and the answers.
+/// Questions, and the verdicts.
 const SUPERVISOR_ANSWERS: &[(Asked, Verdict)] = &[
     (
         ("sue", FILM, Right::Force, MAIN, Some("art/hero.psd")),
@@ -221,7 +221,7 @@ paths = ["*"]
 rights = ["pull", "push", "list", "lock"]
 "#;
 
-/// Questions, and the answers.
+/// Questions, and the verdicts.
 const RELEASE_ANSWERS: &[(Asked, Verdict)] = &[
     (
         ("rita", FILM, Right::Push, RELEASED, None),
@@ -288,7 +288,7 @@ paths = ["*"]
 rights = ["pull", "push", "list", "lock"]
 "#;
 
-/// Questions, and the answers.
+/// Questions, and the verdicts.
 const SEVERAL_ANSWERS: &[(Asked, Verdict)] = &[
     (
         ("ann", "studio/tools", Right::Pull, None, None),

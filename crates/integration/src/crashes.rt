@@ -1,0 +1,153 @@
+//! A machine that stops at each call of the disk in turn. The next open finds the rows before the
+//! change or those after it, whole, and those after it if the change was reported.
+//!
+//! A fuse forwards the first `calls` calls to a disk in memory, and fails each later one. Then the
+//! machine restarts: what was never synced is lost, and the files are opened again.
+
+use crate::harness::{EXPIRY, NOW, Tester, sure};
+use names::{Moment, RepoName, UserName};
+use sqlite::{Connection, Files, Options};
+use sqlite_disk::{Crash, Fuse, Memory};
+use tables::{Creation, NewLock, Operation, Storage, Store, StoreFault};
+use tokens::{TokenRequest, issue};
+
+const FILM: &str = "studio/film";
+
+/// More calls than a test makes of either file.
+const MANY: u64 = 1_000;
+
+/// The file whose calls are counted.
+#[derive(Clone, Copy)]
+enum Counted {
+    Log,
+    Database,
+}
+
+/// The work done with a store.
+#[derive(Clone, Copy)]
+enum Work {
+    Lock,
+    Issue,
+    Look,
+}
+
+/// The number of locks, the number of locks ever made, and the number of tokens.
+type Seen = (usize, u32, usize);
+
+/// New files, one of which fails after `calls` calls.
+fn fused(rt: &impl Tester, counted: Counted, calls: u64) -> Files<Fuse<Memory>> {
+    let (log, db) = match counted {
+        Counted::Log => (calls, u64::MAX),
+        Counted::Database => (u64::MAX, calls),
+    };
+    Files {
+        log: Fuse::new(Memory::new(rt.alloc()), log),
+        db: Fuse::new(Memory::new(rt.alloc()), db),
+    }
+}
+
+/// Makes a lock for ann. Returns whether it was reported as made.
+fn lock<S: Storage>(store: &mut Store<S>) -> bool {
+    let lock = NewLock {
+        repo: FILM,
+        ref_name: "refs/heads/main",
+        path: "art/hero.psd",
+        owner: "ann",
+        moment: 1_463_500_146,
+    };
+    match store.create_lock(&lock) {
+        Ok(Creation::Created(id)) => id == 1,
+        _ => false,
+    }
+}
+
+/// Issues a token to ann. Returns whether it was reported as issued.
+fn issue_token<S: Storage>(rt: &impl Tester, store: &mut Store<S>) -> bool {
+    let asked = TokenRequest {
+        user: sure(rt, UserName::read("ann").ok_or(())),
+        repo: sure(rt, RepoName::read(FILM).ok_or(())),
+        operation: Operation::Download,
+        now: sure(rt, Moment::read(NOW).ok_or(())),
+        seconds: EXPIRY - NOW,
+        random: &[0xcc; 32],
+    };
+    issue(rt.alloc(), store, &asked).is_ok()
+}
+
+/// The contents of the store.
+fn seen<S: Storage>(rt: &impl Tester, store: &mut Store<S>) -> Result<Seen, StoreFault> {
+    store.create_or_check(rt.alloc())?;
+    let locks = store.locks_in(rt.alloc(), FILM)?.len();
+    let made = store.made(FILM)?;
+    let tokens = store.tokens_of(rt.alloc(), "ann", FILM)?.len();
+    Ok((locks, made, tokens))
+}
+
+/// The result that the work reported or found; `None` if the store failed.
+fn work_on<S: Storage>(rt: &impl Tester, store: &mut Store<S>, work: Work) -> Option<Seen> {
+    if let Work::Look = work {
+        return seen(rt, store).ok();
+    }
+    store.create_or_check(rt.alloc()).ok()?;
+    match work {
+        Work::Lock if lock(store) => Some((1, 1, 0)),
+        Work::Issue if issue_token(rt, store) => Some((0, 0, 1)),
+        _ => None,
+    }
+}
+
+/// Opens a store over the files, does the work, and returns the files.
+fn with_files(
+    rt: &impl Tester,
+    files: Files<Fuse<Memory>>,
+    work: Work,
+) -> (Option<Seen>, Files<Fuse<Memory>>) {
+    assert!(rt; files.may_be_used());
+    match Connection::open_files(rt.alloc(), files, Options::new(7)) {
+        Ok(conn) => {
+            let mut store = Store::adopt(conn);
+            let told = work_on(rt, &mut store, work);
+            (told, store.into_connection().into_store().close())
+        }
+        Err((_, left)) => (None, left.into_files()),
+    }
+}
+
+/// Does the work with files that fail after `calls` calls, and checks what is left. Returns whether the
+/// work was reported as done.
+fn stopped(rt: &impl Tester, counted: Counted, calls: u64, work: Work, after: Seen) -> bool {
+    let (told, mut files) = with_files(rt, fused(rt, counted, calls), work);
+    files.log.crash();
+    files.db.crash();
+    let (found, _) = with_files(rt, files, Work::Look);
+    assert!(rt;
+        found == Some(after) || (told.is_none() && found == Some((0, 0, 0))),
+        "{calls}"
+    );
+    told.is_some()
+}
+
+/// Stops the work at each call of a file in turn, until the work completes before the stop.
+fn stop_everywhere(rt: &impl Tester, counted: Counted, work: Work, after: Seen) {
+    for calls in 0..MANY {
+        if stopped(rt, counted, calls, work, after) {
+            assert!(rt; calls > 2);
+            return;
+        }
+    }
+    panic!(rt; "the work was never done");
+}
+
+#[test]
+fn a_lock_is_made_whole_or_not_at_all(rt: HostRuntime) {
+    for counted in [Counted::Log, Counted::Database] {
+        stop_everywhere(&rt, counted, Work::Lock, (1, 1, 0));
+    }
+}
+
+#[test]
+fn a_token_is_issued_whole_or_not_at_all(rt: HostRuntime) {
+    for counted in [Counted::Log, Counted::Database] {
+        stop_everywhere(&rt, counted, Work::Issue, (0, 0, 1));
+    }
+}
