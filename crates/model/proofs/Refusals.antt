@@ -13,8 +13,8 @@ use Rattle.model.specs.declared.Form.{Form}
 use Rattle.model.specs.declared.Form.TheVariants as form
 use Rattle.model.specs.declared.Right.{Right}
 use Rattle.model.specs.declared.Right.TheVariants as right
-use Rattle.model.specs.declared.Operation.{Operation}
-use Rattle.model.specs.declared.Operation.TheVariants as operation
+use Rattle.names.specs.declared.operations.Operation.{Operation}
+use Rattle.names.specs.declared.operations.Operation.TheVariants as operation
 use Rattle.model.specs.Reading.{◌>>=◌, check, ok_or, none_or}
 use Rattle.model.specs.Policy.{Policy, Decision, allowed, denied, decide, repo_named}
 use Rattle.model.specs.World.{World, Lock, find_token, object_named, name_of}

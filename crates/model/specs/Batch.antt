@@ -4,8 +4,8 @@ use Rattle.form_urlencoded.specs.Form.{byte_serialize}
 use Rattle.names.specs.Texts.{is_hex_64}
 use Rattle.names.specs.declared.rules.Rule.{Rule}
 use Rattle.names.specs.declared.rules.Rule.TheVariants.{B1, B2, B3, B4, B5}
-use Rattle.model.specs.declared.Operation.{Operation}
-use Rattle.model.specs.declared.Operation.TheVariants as operation
+use Rattle.names.specs.declared.operations.Operation.{Operation}
+use Rattle.names.specs.declared.operations.Operation.TheVariants as operation
 use Rattle.model.specs.Reading.{◌>>=◌, check, ok_or, or_default}
 use Rattle.model.specs.RepoState.{RepoState, size_of, has_room}
 use Rattle.model.specs.Forms.{BatchObject, BatchForm, is_size, is_if_given}

@@ -1,7 +1,7 @@
 -- Which worlds a stop may leave.
 use Rattle.std.specs.Prelude.{◌≡◌, ◌⊎◌, ℕ, Bool, true, false, nat_lt, List, [], ◌∷◌, map, Option, Some, None, is_none, Ok, Err, IsPermutation, if◌then◌else◌}
 use Rattle.sha2.specs.Sha256.{sha256}
-use Rattle.model.specs.declared.Operation.{Operation}
+use Rattle.names.specs.declared.operations.Operation.{Operation}
 use Rattle.model.specs.World.{World, Token, object_named}
 use Rattle.model.specs.Answers.{Answer, Grant, stores, makes_lock, releases, is_store_refusal}
 use Rattle.model.specs.Operator.{issue_outcome, prune_outcome}

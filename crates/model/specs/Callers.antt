@@ -7,7 +7,7 @@ use Rattle.names.specs.declared.rules.Rule.{Rule}
 use Rattle.names.specs.declared.rules.Rule.TheVariants.{A1, A2, A3}
 use Rattle.model.specs.declared.Right.{Right}
 use Rattle.model.specs.declared.Right.TheVariants as right
-use Rattle.model.specs.declared.Operation.{Operation}
+use Rattle.names.specs.declared.operations.Operation.{Operation}
 use Rattle.model.specs.Reading.{◌>>=◌, check, ok_or}
 use Rattle.model.specs.Policy.{Policy, Question, Decision, allowed, denied, decide}
 use Rattle.model.specs.World.{World, Lock, find_token}

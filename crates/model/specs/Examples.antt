@@ -6,7 +6,7 @@ use Rattle.names.specs.declared.rules.Rule.TheVariants as rule
 use Rattle.model.specs.declared.Form.{Form}
 use Rattle.model.specs.declared.Form.TheVariants as form
 use Rattle.model.specs.declared.Right.TheVariants as right
-use Rattle.model.specs.declared.Operation.TheVariants as operation
+use Rattle.names.specs.declared.operations.Operation.TheVariants as operation
 use Rattle.model.specs.World.{World, nothing, with_lock, without_lock, with_object, without_expired}
 use Rattle.model.specs.Heads.{Target, values, routes, head_verdict_in, route_in, methods_of}
 use Rattle.model.specs.Callers.{caller_by}

@@ -1,7 +1,7 @@
 -- What the operator of a server does: issuing tokens and removing those that expired.
 use Rattle.std.specs.Prelude.{◌≡◌, ℕ, ◌+◌, ◌≤◌, nat_le, List, Option, Some, None, Result, Ok, Err, IsTrue}
 use Rattle.names.specs.Texts.{last_moment, is_hex_64, is_user, is_repo}
-use Rattle.model.specs.declared.Operation.{Operation}
+use Rattle.names.specs.declared.operations.Operation.{Operation}
 use Rattle.model.specs.Reading.{◌>>=◌, check, none_or}
 use Rattle.model.specs.World.{World, Token, find_token, with_token, without_expired, expired_count}
 

@@ -6,7 +6,7 @@ use Rattle.names.specs.declared.rules.Rule.TheVariants as rule
 use Rattle.model.specs.declared.Right.TheVariants as right
 use Rattle.model.specs.declared.Effect.{Effect}
 use Rattle.model.specs.declared.Effect.TheVariants as effect
-use Rattle.model.specs.declared.Operation.{Operation}
+use Rattle.names.specs.declared.operations.Operation.{Operation}
 use Rattle.model.specs.Reading.{◌>>=◌, check, ok_or}
 use Rattle.model.specs.Policy.{Policy, Repo, Row, held_by, same_right, repo_named, decide}
 use Rattle.model.specs.World.{World, Token, total}

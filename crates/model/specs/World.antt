@@ -3,7 +3,7 @@ use Rattle.std.specs.Prelude.{◌≡◌, ℕ, ◌+◌, ◌≤◌, Bool, ◌&&◌
 use Rattle.sha2.specs.Sha256.{sha256}
 use Rattle.hex.specs.Hex.{encode_lower}
 use Rattle.names.specs.Texts.{largest_object, last_lock_id, last_moment, is_hex_64, is_user, is_repo, is_ref, is_lock_path}
-use Rattle.model.specs.declared.Operation.{Operation}
+use Rattle.names.specs.declared.operations.Operation.{Operation}
 
 -- the bytes that a repository has under a name
 pub record Object : Type 0 where

@@ -35,15 +35,6 @@ pub enum Effect {
     Deny,
 }
 
-/// The operation that a token was issued for.
-#[derive(Clone, Copy, Debug, PartialEq, Eq, Hash)]
-pub enum Operation {
-    /// Pull and list.
-    Download,
-    /// All five rights.
-    Upload,
-}
-
 /// The form of a request, from its route and its method.
 #[derive(Clone, Copy, Debug, PartialEq, Eq, Hash)]
 pub enum Form {

@@ -1,9 +1,9 @@
 //! Names that are texts: of repositories, users, refs and paths.
 //!
-//! A value of such a type is a text in range, so its holder has nothing left to test. Two names are
+//! A value of such a type owns a text in range, so its holder has nothing left to test. Two names are
 //! equal if their bytes are.
 
-ghost use Rattle.std.specs.Prelude.{◌≡◌, ◌↔◌, IsTrue, IsSome, IfSome, Some, codes, not};
+ghost use Rattle.std.specs.Prelude.{◌≡◌, ◌↔◌, IsTrue, IsSome, IfSome, Some, codes, not, string_bytes};
 ghost use Rattle.std.specs.List.{list_all};
 ghost use Rattle.names.specs.Texts.{is_name_byte, is_ref_byte, is_path_byte, is_path_part, is_empty, has_two_dots, begins, parts, is_user, is_repo, is_ref, is_lock_path};
 
@@ -111,21 +111,28 @@ fn is_lock_path(text: &str) -> bool
 }
 
 /// A user: 1 to 40 bytes of `a-z 0-9 _ -`.
-#[derive(Clone, Copy, Debug, PartialEq, Eq, PartialOrd, Ord, Hash)]
-pub struct UserName<'a> {
-    user: &'a str,
-    pub ghost in_range: { IsTrue (is_user user.now) },
+#[derive(Debug, Drop, PartialEq, Eq, PartialOrd, Ord, Hash)]
+pub struct UserName {
+    user: String,
+    pub ghost in_range: { IsTrue (is_user (string_bytes user)) },
 }
 
-impl<'a> UserName<'a> {
+impl UserName {
     ghost use Rattle.names.specs.Names.{user_text};
 
-    /// Reads a user; `None` exactly if the text is out of range.
-    pub fn read(text: &'a str) -> Option<Self>
-        ensures accepted { IsSome result ↔ IsTrue (is_user text.now) }
-        ensures value { IfSome result (λ name. user_text name ≡ text.now) }
+    /// Whether the text is a user.
+    pub fn accepts(text: &str) -> bool
+        ensures { result ≡ is_user text.now }
     {
-        if is_user(text) {
+        is_user(text)
+    }
+
+    /// Reads a user; `None` exactly if the text is out of range.
+    pub fn read(text: String) -> Option<Self>
+        ensures accepted { IsSome result ↔ IsTrue (is_user (string_bytes text)) }
+        ensures value { IfSome result (λ name. user_text name ≡ string_bytes text) }
+    {
+        if is_user(text.as_str()) {
             Some(UserName { user: text })
         } else {
             None
@@ -133,41 +140,48 @@ impl<'a> UserName<'a> {
     }
 
     /// The text, which is in range.
-    pub fn as_str(&self) -> &'a str
+    pub fn as_str(&self) -> &str
         ensures value { result.now ≡ user_text self.now }
         ensures in_range { IsTrue (is_user result.now) }
     {
-        self.user
+        self.user.as_str()
     }
 }
 
 /// Writes the text.
-impl fmt::Display for UserName<'_> {
+impl fmt::Display for UserName {
     ghost use Rattle.names.specs.Names.{user_text};
 
     ghost output = { λ name. Some (user_text name) };
 
     fn fmt<W: fmt::Write>(&self, f: &mut fmt::Formatter<W>) -> fmt::Result {
-        f.write_str(self.user)
+        f.write_str(self.user.as_str())
     }
 }
 
 /// A repository: `owner/name`, each of 1 to 40 bytes of `a-z 0-9 _ -`.
-#[derive(Clone, Copy, Debug, PartialEq, Eq, PartialOrd, Ord, Hash)]
-pub struct RepoName<'a> {
-    repo: &'a str,
-    pub ghost in_range: { IsTrue (is_repo repo.now) },
+#[derive(Debug, Drop, PartialEq, Eq, PartialOrd, Ord, Hash)]
+pub struct RepoName {
+    repo: String,
+    pub ghost in_range: { IsTrue (is_repo (string_bytes repo)) },
 }
 
-impl<'a> RepoName<'a> {
+impl RepoName {
     ghost use Rattle.names.specs.Names.{repo_text};
 
-    /// Reads a repository; `None` exactly if the text is out of range.
-    pub fn read(text: &'a str) -> Option<Self>
-        ensures accepted { IsSome result ↔ IsTrue (is_repo text.now) }
-        ensures value { IfSome result (λ name. repo_text name ≡ text.now) }
+    /// Whether the text is a repository.
+    pub fn accepts(text: &str) -> bool
+        ensures { result ≡ is_repo text.now }
     {
-        if is_repo(text) {
+        is_repo(text)
+    }
+
+    /// Reads a repository; `None` exactly if the text is out of range.
+    pub fn read(text: String) -> Option<Self>
+        ensures accepted { IsSome result ↔ IsTrue (is_repo (string_bytes text)) }
+        ensures value { IfSome result (λ name. repo_text name ≡ string_bytes text) }
+    {
+        if is_repo(text.as_str()) {
             Some(RepoName { repo: text })
         } else {
             None
@@ -175,42 +189,49 @@ impl<'a> RepoName<'a> {
     }
 
     /// The text, which is in range.
-    pub fn as_str(&self) -> &'a str
+    pub fn as_str(&self) -> &str
         ensures value { result.now ≡ repo_text self.now }
         ensures in_range { IsTrue (is_repo result.now) }
     {
-        self.repo
+        self.repo.as_str()
     }
 }
 
 /// Writes the text.
-impl fmt::Display for RepoName<'_> {
+impl fmt::Display for RepoName {
     ghost use Rattle.names.specs.Names.{repo_text};
 
     ghost output = { λ name. Some (repo_text name) };
 
     fn fmt<W: fmt::Write>(&self, f: &mut fmt::Formatter<W>) -> fmt::Result {
-        f.write_str(self.repo)
+        f.write_str(self.repo.as_str())
     }
 }
 
 /// A ref of Git: at most 255 bytes of `A-Z a-z 0-9 / . _ -` that begin with `refs/`, with no `..`
 /// and no empty part between slashes or at the end.
-#[derive(Clone, Copy, Debug, PartialEq, Eq, PartialOrd, Ord, Hash)]
-pub struct RefName<'a> {
-    name: &'a str,
-    pub ghost in_range: { IsTrue (is_ref name.now) },
+#[derive(Debug, Drop, PartialEq, Eq, PartialOrd, Ord, Hash)]
+pub struct RefName {
+    name: String,
+    pub ghost in_range: { IsTrue (is_ref (string_bytes name)) },
 }
 
-impl<'a> RefName<'a> {
+impl RefName {
     ghost use Rattle.names.specs.Names.{ref_text};
 
-    /// Reads a ref; `None` exactly if the text is out of range.
-    pub fn read(text: &'a str) -> Option<Self>
-        ensures accepted { IsSome result ↔ IsTrue (is_ref text.now) }
-        ensures value { IfSome result (λ name. ref_text name ≡ text.now) }
+    /// Whether the text is a ref.
+    pub fn accepts(text: &str) -> bool
+        ensures { result ≡ is_ref text.now }
     {
-        if is_ref(text) {
+        is_ref(text)
+    }
+
+    /// Reads a ref; `None` exactly if the text is out of range.
+    pub fn read(text: String) -> Option<Self>
+        ensures accepted { IsSome result ↔ IsTrue (is_ref (string_bytes text)) }
+        ensures value { IfSome result (λ name. ref_text name ≡ string_bytes text) }
+    {
+        if is_ref(text.as_str()) {
             Some(RefName { name: text })
         } else {
             None
@@ -218,42 +239,49 @@ impl<'a> RefName<'a> {
     }
 
     /// The text, which is in range.
-    pub fn as_str(&self) -> &'a str
+    pub fn as_str(&self) -> &str
         ensures value { result.now ≡ ref_text self.now }
         ensures in_range { IsTrue (is_ref result.now) }
     {
-        self.name
+        self.name.as_str()
     }
 }
 
 /// Writes the text.
-impl fmt::Display for RefName<'_> {
+impl fmt::Display for RefName {
     ghost use Rattle.names.specs.Names.{ref_text};
 
     ghost output = { λ name. Some (ref_text name) };
 
     fn fmt<W: fmt::Write>(&self, f: &mut fmt::Formatter<W>) -> fmt::Result {
-        f.write_str(self.name)
+        f.write_str(self.name.as_str())
     }
 }
 
 /// A path that may be locked: 1 to 1,024 bytes of UTF-8, with no control character (below 0x20, or
 /// 0x7F), no backslash, and between slashes no part that is empty, `.` or `..`.
-#[derive(Clone, Copy, Debug, PartialEq, Eq, PartialOrd, Ord, Hash)]
-pub struct LockPath<'a> {
-    path: &'a str,
-    pub ghost in_range: { IsTrue (is_lock_path path.now) },
+#[derive(Debug, Drop, PartialEq, Eq, PartialOrd, Ord, Hash)]
+pub struct LockPath {
+    path: String,
+    pub ghost in_range: { IsTrue (is_lock_path (string_bytes path)) },
 }
 
-impl<'a> LockPath<'a> {
+impl LockPath {
     ghost use Rattle.names.specs.Names.{path_text};
 
-    /// Reads a path; `None` exactly if the text is out of range.
-    pub fn read(text: &'a str) -> Option<Self>
-        ensures accepted { IsSome result ↔ IsTrue (is_lock_path text.now) }
-        ensures value { IfSome result (λ name. path_text name ≡ text.now) }
+    /// Whether the text is a path.
+    pub fn accepts(text: &str) -> bool
+        ensures { result ≡ is_lock_path text.now }
     {
-        if is_lock_path(text) {
+        is_lock_path(text)
+    }
+
+    /// Reads a path; `None` exactly if the text is out of range.
+    pub fn read(text: String) -> Option<Self>
+        ensures accepted { IsSome result ↔ IsTrue (is_lock_path (string_bytes text)) }
+        ensures value { IfSome result (λ name. path_text name ≡ string_bytes text) }
+    {
+        if is_lock_path(text.as_str()) {
             Some(LockPath { path: text })
         } else {
             None
@@ -261,21 +289,21 @@ impl<'a> LockPath<'a> {
     }
 
     /// The text, which is in range.
-    pub fn as_str(&self) -> &'a str
+    pub fn as_str(&self) -> &str
         ensures value { result.now ≡ path_text self.now }
         ensures in_range { IsTrue (is_lock_path result.now) }
     {
-        self.path
+        self.path.as_str()
     }
 }
 
 /// Writes the text.
-impl fmt::Display for LockPath<'_> {
+impl fmt::Display for LockPath {
     ghost use Rattle.names.specs.Names.{path_text};
 
     ghost output = { λ name. Some (path_text name) };
 
     fn fmt<W: fmt::Write>(&self, f: &mut fmt::Formatter<W>) -> fmt::Result {
-        f.write_str(self.path)
+        f.write_str(self.path.as_str())
     }
 }
