@@ -1,3 +1,3 @@
 pub mod Bodies
-pub mod Bools
 pub mod Texts
+pub mod Refusals

@@ -14,8 +14,8 @@ use Rattle.forms.specs.declared.answer.ShownLock.{ShownLock}
 pub record AreTextsOf (t : LockTexts) (shown : ShownLock) : Type 0 where
   pub id : t.id.now ≡ decimal shown.id
   pub at : t.locked_at.now ≡ moment_text shown.locked_at
-  pub owner : t.owner.now ≡ user_text shown.owner
-  pub path : t.path.now ≡ path_text shown.path
+  pub owner : t.owner.now ≡ user_text shown.owner.now
+  pub path : t.path.now ≡ path_text shown.path.now
 
 lock_is : (t : LockTexts) (shown : ShownLock) → AreTextsOf t shown → lock_of_texts t ≡ lock_data (lock_shown shown)
 lock_is t shown is = rw (is.id, is.at, is.owner, is.path) refl

@@ -1,5 +1,5 @@
 -- The steps that read a body: its value, the texts under its keys, and their ranges.
-use Rattle.std.specs.Prelude.{◌≡◌, ℕ, ◌&&◌, List, Option, None, Result, Ok, Err, codes, if◌then◌else◌}
+use Rattle.std.specs.Prelude.{◌≡◌, ℕ, Bool, ◌&&◌, List, Option, None, Result, Ok, Err, codes, if◌then◌else◌, ⊤}
 use Rattle.std.specs.Str.{is_utf8}
 use Rattle.serde_json.specs.Data.{Data}
 use Rattle.serde_json.specs.Find.{get, as_str}
@@ -7,6 +7,8 @@ use Rattle.serde_json.specs.Read.{read}
 use Rattle.names.specs.Texts.{is_lock_path, is_ref}
 use Rattle.names.specs.declared.rules.Rule.{Rule}
 use Rattle.names.specs.declared.rules.Rule.TheVariants.{J1, J2}
+use Rattle.forms.specs.declared.refusal.Refusal.{Refusal}
+use Rattle.forms.specs.declared.refusal.Refusal.TheVariants as refusal
 use Rattle.model.specs.Reading.{◌>>=◌, check, ok_or}
 use Rattle.model.specs.Forms.{LockForm, if_given, as_name, is_if_given}
 
@@ -14,6 +16,20 @@ use Rattle.model.specs.Forms.{LockForm, if_given, as_name, is_if_given}
 abbrev pub Gives : {X Y : Type 0} → (X → Y) → Result X Rule → Result Y Rule → Type 0
 Gives view (Ok x) read = read ≡ Ok (view x)
 Gives view (Err e) read = read ≡ Err e
+
+-- the model refuses by the same rule; if memory ran out, nothing is claimed
+abbrev pub IsRefusedBy : {Y : Type 0} → Refusal → Result Y Rule → Type 0
+IsRefusedBy (refusal.Rule e) read = read ≡ Err e
+IsRefusedBy refusal.Memory read = ⊤
+
+-- the same as `Gives`, for a call that allocates
+abbrev pub Reads : {X Y : Type 0} → (X → Y) → Result X Refusal → Result Y Rule → Type 0
+Reads view (Ok x) read = read ≡ Ok (view x)
+Reads view (Err e) read = IsRefusedBy e read
+
+-- the value, if it passes the test
+abbrev pub within : {A : Type 0} → (A → Bool) → A → Result A Rule
+within test x = check (test x) J2 >>= λ valid. Ok x
 
 -- the JSON value of a body, if any
 abbrev pub value_of : List ℕ → Option Data
@@ -29,8 +45,4 @@ lock_fields d = do
 
 -- the form, if its texts are in range
 abbrev pub in_range : LockForm → Result LockForm Rule
-in_range form = check (is_lock_path form.path && is_if_given is_ref form.ref) J2 >>= λ valid. Ok form
-
--- the lock form of a JSON value
-abbrev pub lock_of_value : Data → Result LockForm Rule
-lock_of_value d = lock_fields d >>= in_range
+in_range = within (λ form. is_lock_path form.path && is_if_given is_ref form.ref)

@@ -1,5 +1,6 @@
 -- A request, in the model's terms.
-use Rattle.std.specs.Prelude.{option_map, string_bytes}
+use Rattle.std.specs.Prelude.{option_map}
+use Rattle.names.specs.Names.{path_text, ref_text}
 use Rattle.model.specs.Forms.{LockForm, Request, asks_lock}
 use Rattle.forms.specs.declared.lock.LockRequest.{LockRequest}
 use Rattle.forms.specs.declared.request.Request as code
@@ -7,7 +8,7 @@ use Rattle.forms.specs.declared.request.Request.TheVariants.{Lock}
 
 -- the path and the ref
 abbrev pub lock_asked : LockRequest → LockForm
-lock_asked r = record { path = string_bytes r.path; ref = option_map string_bytes r.ref_name }
+lock_asked r = record { path = path_text r.path; ref = option_map ref_text r.ref_name }
 
 -- the request
 abbrev pub request_asked : code.Request → Request

@@ -17,8 +17,8 @@ use Rattle.forms.specs.declared.answer.DenialStatus.TheVariants.{Forbidden, NotF
 pub record IsOf (shown : ShownLock) (l : Lock) : Type 0 where
   pub id : l.id ≡ shown.id
   pub at : l.at ≡ shown.locked_at
-  pub owner : l.owner ≡ user_text shown.owner
-  pub path : l.path ≡ path_text shown.path
+  pub owner : l.owner ≡ user_text shown.owner.now
+  pub path : l.path ≡ path_text shown.path.now
 
 -- the status of a denial by the policy
 abbrev pub denial_status : DenialStatus → ℕ
@@ -40,8 +40,8 @@ lock_shown shown = record {
   repo = [];
   id = shown.id;
   ref = [];
-  path = path_text shown.path;
-  owner = user_text shown.owner;
+  path = path_text shown.path.now;
+  owner = user_text shown.owner.now;
   at = shown.locked_at;
 }
 

@@ -20,9 +20,9 @@ pub struct ShownLock<'a> {
     /// When it was made; written as `2016-05-17T15:49:06Z`.
     pub locked_at: Moment,
     /// Who made it.
-    pub owner: UserName<'a>,
+    pub owner: &'a UserName,
     /// The locked path.
-    pub path: LockPath<'a>,
+    pub path: &'a LockPath,
 }
 
 /// The status of a denial by the policy; the request decides which (Git LFS API, Batch).

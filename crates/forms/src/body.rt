@@ -1,34 +1,38 @@
 //! What the bodies of all requests share: a JSON value, texts under keys, a ref.
 
-ghost use Rattle.std.specs.Prelude.{◌≡◌, option_map, IfOk};
+ghost use Rattle.std.specs.Prelude.{◌≡◌, option_map};
 ghost use Rattle.serde_json.specs.View.{view};
 ghost use Rattle.serde_json.specs.Find.{as_str};
-ghost use Rattle.model.specs.Forms.{if_given, as_name};
-ghost use Rattle.forms.specs.Given.{Gives, value_of};
+ghost use Rattle.names.specs.Names.{ref_text};
+ghost use Rattle.names.specs.Texts.{is_ref};
+ghost use Rattle.names.specs.declared.rules.Rule.TheVariants.{J1};
+ghost use Rattle.model.specs.Reading.{ok_or};
+ghost use Rattle.model.specs.Forms.{if_given, as_name, is_if_given};
+ghost use Rattle.forms.specs.Given.{Gives, Reads, value_of, within};
 
-use names::Rule;
+use crate::refusal::Refusal;
+use names::{RefName, Rule};
 use serde_json::Value;
-use std::alloc::{AllocError, Global};
+use std::alloc::Global;
 
-/// Parses the body as one JSON value, with only white space around it; `None` if it is not UTF-8 or
-/// not such a value (RFC 8259).
+/// Parses the body as one JSON value, with only white space around it (RFC 8259).
 ///
 /// # Errors
 ///
-/// Fails only if memory runs out.
-pub(crate) fn value_of(alloc: Global, body: &[u8]) -> Result<Option<Value>, AllocError>
-    ensures { IfOk result (λ v. option_map view v ≡ value_of body.now) }
+/// J1 if it is not UTF-8 or not such a value.
+pub(crate) fn value_of(alloc: Global, body: &[u8]) -> Result<Value, Refusal>
+    ensures { Reads view result (ok_or (value_of body.now) J1) }
 {
     let Ok(text) = str::from_utf8(body) else {
-        return Ok(None);
+        return Err(Rule::J1.into());
     };
     match Value::from_str(alloc, text) {
-        Ok(value) => Ok(Some(value)),
+        Ok(value) => Ok(value),
         Err(error) => {
             if error.is_memory() {
-                Err(AllocError)
+                Err(Refusal::Memory)
             } else {
-                Ok(None)
+                Err(Rule::J1.into())
             }
         }
     }
@@ -70,5 +74,23 @@ pub(crate) fn ref_if_given(value: Option<&Value>) -> Result<Option<&str>, Rule>
             None => Err(Rule::J1),
         },
         _ => Err(Rule::J1),
+    }
+}
+
+/// Reads the ref, if one is given.
+///
+/// # Errors
+///
+/// J2 if the text is not a ref.
+pub(crate) fn read_ref(alloc: Global, text: Option<&str>) -> Result<Option<RefName>, Refusal>
+    ensures { Reads (λ name. option_map ref_text name) result
+        (within (is_if_given is_ref) (option_map (λ s. s.now) text.entry)) }
+{
+    let Some(text) = text else {
+        return Ok(None);
+    };
+    match RefName::read(text.to_owned(alloc)?) {
+        Some(name) => Ok(Some(name)),
+        None => Err(Rule::J2.into()),
     }
 }

@@ -11,4 +11,4 @@ use Rattle.policy.specs.Values.{repo_view, policy_view}
 pub IsPolicy-policy_view : (p : Policy) → model.IsPolicy (policy_view p)
 IsPolicy-policy_view p =
     All-map (λ r. IsTrue (is_repo r.name) × IsTrue (is_ref r.default_ref)) repo_view p.repos.items
-    (λ k r inside. ((get_or p.repos.items k r).name_in_range, (get_or p.repos.items k r).default_ref_in_range))
+    (λ k r inside. ((get_or p.repos.items k r).name.in_range, (get_or p.repos.items k r).default_ref.in_range))

@@ -7,6 +7,7 @@ use Rattle.std.proofs.lemmas.Bool.{true≢false, and_parts, or_parts, or_from, n
 use Rattle.std.proofs.lemmas.Slice.Eq.{bytes_eq-Decides}
 use Rattle.std.specs.List.{find}
 use Rattle.std.specs.Option.{option_copied}
+use Rattle.names.specs.Names.{repo_text}
 use Rattle.policy.specs.declared.faults.Place.TheVariants as place
 use Rattle.policy.specs.Language.{repo_keys}
 use Rattle.policy.proofs.Lists.{list_any-map, is_some-find, is_some-copied}
@@ -51,23 +52,23 @@ are_distinct-append (x ∷ xs) name distinct new =
     ∙ or_from (is_among x xs) (bytes_eq name x || false) (not-true (is_among x xs) apart) (or_from (bytes_eq name x) false (same_text x name other) refl) in
     rw (alone, are_distinct-append xs name later others)
 
-pub is_among-names_of : (repos : List Repo) (name : List ℕ) (r : Option (Bor Repo)) → option_copied r ≡ find (λ repo. bytes_eq (string_bytes repo.name) name) repos
+pub is_among-names_of : (repos : List Repo) (name : List ℕ) (r : Option (Bor Repo)) → option_copied r ≡ find (λ repo. bytes_eq (repo_text repo.name) name) repos
     → is_some r ≡ is_among name (names_of repos)
 is_among-names_of repos name r found =
-    is_some-copied r ∙ ap is_some found ∙ is_some-find (λ repo. bytes_eq (string_bytes repo.name) name) repos
-    ∙ sym (list_any-map (λ other. bytes_eq other name) (λ repo. string_bytes repo.name) repos)
+    is_some-copied r ∙ ap is_some found ∙ is_some-find (λ repo. bytes_eq (repo_text repo.name) name) repos
+    ∙ sym (list_any-map (λ other. bytes_eq other name) (λ repo. repo_text repo.name) repos)
 
 -- ---- the next entry
 
 -- the next repository, which has no fault
 pub repos_next : (all : List Data) (i : ℕ) (repos : List Repo) (rest later : List Data) (d : Data) (repo : Repo) → ReposSoFar all i repos rest
     → rest ≡ d ∷ later → entry_fault (place.Repo (i + 1)) repo_keys d ≡ None → repo_view repo ≡ repo_in (table_in d)
-    → is_among (string_bytes repo.name) (names_of repos) ≡ false → ReposSoFar all (i + 1) (repos ++ repo ∷ []) later
+    → is_among (repo_text repo.name) (names_of repos) ≡ false → ReposSoFar all (i + 1) (repos ++ repo ∷ []) later
 repos_next all i repos rest later d repo so_far here fine value new =
-    let name : (repo_in (table_in d)).name ≡ string_bytes repo.name = ap (λ r. r.name) (sym value) in
+    let name : (repo_in (table_in d)).name ≡ repo_text repo.name = ap (λ r. r.name) (sym value) in
     let free : is_among (repo_in (table_in d)).name (names_of repos) ≡ false = rw name new in
     record {
-      faults = so_far.faults ∙ rw (here, fine, free, name, map-append (λ r. string_bytes r.name) repos (repo ∷ [])) refl;
+      faults = so_far.faults ∙ rw (here, fine, free, name, map-append (λ r. repo_text r.name) repos (repo ∷ [])) refl;
       values = so_far.values ∙ rw (here, map-append repo_view repos (repo ∷ []), ← value, append_assoc) refl;
-      distinct = rw (map-append (λ r. string_bytes r.name) repos (repo ∷ [])) (are_distinct-append (names_of repos) (string_bytes repo.name) so_far.distinct new);
+      distinct = rw (map-append (λ r. repo_text r.name) repos (repo ∷ [])) (are_distinct-append (names_of repos) (repo_text repo.name) so_far.distinct new);
     }

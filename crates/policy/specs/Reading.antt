@@ -171,6 +171,11 @@ abbrev pub FindsInMemory : {A B : Type 0} → (B → A) → Option A → Fault �
 FindsInMemory seen found fault r =
     MatchResult r (λ x. found ≡ Some (seen x)) (λ e. IfRefused e (λ f. (found ≡ None) × (f ≡ fault)))
 
+-- the text passes the test and is read, or it fails and the result is the fault
+abbrev pub Parses : {A : Type 0} → (A → List ℕ) → Bool → List ℕ → Fault → Result A PolicyFault → Type 0
+Parses seen passed text fault r =
+    MatchResult r (λ x. (passed ≡ true) × (seen x ≡ text)) (λ e. IfRefused e (λ f. (passed ≡ false) × (f ≡ fault)))
+
 -- the test passes, or it fails and the result is the fault
 abbrev pub Tests : Bool → Fault → Result ⊤ Fault → Type 0
 Tests passed fault r = MatchResult r (λ _. passed ≡ true) (λ f. (passed ≡ false) × (f ≡ fault))

@@ -19,7 +19,7 @@ use Rattle.policy.specs.declared.policies.Policy.{Policy}
 
 -- a repository, a row and a policy in memory, as the model's values
 abbrev pub repo_view : Repo → model.Repo
-repo_view r = record { name = string_bytes r.name; default_ref = string_bytes r.default_ref; quota = r.quota }
+repo_view r = record { name = repo_text r.name; default_ref = ref_text r.default_ref; quota = r.quota }
 
 abbrev pub row_view : Row → model.Row
 row_view r = record {
@@ -42,11 +42,11 @@ policy_view p = record {
 -- a question and an answer, as the model's values
 abbrev pub question_view : Question → model.Question
 question_view q = record {
-  user = user_text q.user;
-  repo = repo_text q.repo;
+  user = user_text q.user.now;
+  repo = repo_text q.repo.now;
   right = q.right;
-  ref = option_map ref_text q.ref_name;
-  path = option_map path_text q.path;
+  ref = option_map (λ name. ref_text name.now) q.ref_name;
+  path = option_map (λ path. path_text path.now) q.path;
 }
 
 -- the users, repositories, refs and paths of the row match the question

@@ -56,27 +56,27 @@ fn is_any(text: &str) -> bool
 fn is_user(text: &str) -> bool
     ensures { result ≡ is_user text.now }
 {
-    UserName::read(text).is_some()
+    UserName::accepts(text)
 }
 
 /// Whether the text is a repository: `owner/name`.
 fn is_repo(text: &str) -> bool
     ensures { result ≡ is_repo text.now }
 {
-    RepoName::read(text).is_some()
+    RepoName::accepts(text)
 }
 
 /// Whether the text is a ref.
 fn is_ref(text: &str) -> bool
     ensures { result ≡ is_ref text.now }
 {
-    RefName::read(text).is_some()
+    RefName::accepts(text)
 }
 
 fn is_lock_path(text: &str) -> bool
     ensures { result ≡ is_lock_path text.now }
 {
-    LockPath::read(text).is_some()
+    LockPath::accepts(text)
 }
 
 /// The text before the slash at its end; `None` if it does not end in one.

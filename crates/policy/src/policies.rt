@@ -1,6 +1,7 @@
 //! The policy as a value.
 
 ghost use Rattle.std.specs.Prelude.{◌≡◌, ◌≤◌, IsTrue, length, option_copied, find, bytes_eq, string_bytes};
+ghost use Rattle.names.specs.Names.{repo_text};
 ghost use Rattle.names.specs.Texts.{between};
 ghost use Rattle.policy.specs.Ranges.{is_base, longest_life, most_repos, most_rows, are_distinct};
 ghost use Rattle.policy.specs.Repos.{names_of};
@@ -25,7 +26,7 @@ pub struct Policy {
 /// The first repository with the name.
 pub(crate) fn named<'a>(repos: &'a [Repo], name: &str) -> Option<&'a Repo>
     ensures { option_copied result ≡ find
-        (λ repo. bytes_eq (string_bytes repo.name) name.now) repos.entry.now }
+        (λ repo. bytes_eq (repo_text repo.name) name.now) repos.entry.now }
 {
     repos.iter().find(|repo| repo.name.as_str() == name)
 }

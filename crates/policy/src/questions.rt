@@ -9,15 +9,15 @@ use names::{LockPath, RefName, RepoName, UserName};
 #[derive(Clone, Copy, Debug)]
 pub struct Question<'a> {
     /// The user who asks.
-    pub user: UserName<'a>,
+    pub user: &'a UserName,
     /// The repository.
-    pub repo: RepoName<'a>,
+    pub repo: &'a RepoName,
     /// The right that is asked for.
     pub right: Right,
     /// The ref, if the question concerns one.
-    pub ref_name: Option<RefName<'a>>,
+    pub ref_name: Option<&'a RefName>,
     /// The path, if the question concerns one.
-    pub path: Option<LockPath<'a>>,
+    pub path: Option<&'a LockPath>,
 }
 
 impl<'a> Question<'a> {

@@ -58,13 +58,10 @@ fn read_repo(alloc: Global, table: TableAt) -> Result<Repo, PolicyFault>
     let default_ref = table.text(Key::DefaultRef)?;
     let quota = table.whole(Key::Quota)?;
     table.has_only(&REPO_KEYS)?;
-    table.check_text(Key::Name, name)?;
-    table.check_text(Key::DefaultRef, default_ref)?;
-    let quota = table.check_whole(Key::Quota, quota, 0, LARGEST_QUOTA)?;
     Ok(Repo {
-        name: String::from_str(alloc, name)?,
-        default_ref: String::from_str(alloc, default_ref)?,
-        quota,
+        name: table.repo_name(alloc, Key::Name, name)?,
+        default_ref: table.ref_name(alloc, Key::DefaultRef, default_ref)?,
+        quota: table.check_whole(Key::Quota, quota, 0, LARGEST_QUOTA)?,
     })
 }
 

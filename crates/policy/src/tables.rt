@@ -8,11 +8,14 @@ ghost use Rattle.toml.specs.View.{view, table_view};
 ghost use Rattle.policy.specs.declared.faults.FaultCode.TheVariants.{Y2, Y3, Y5};
 ghost use Rattle.policy.specs.Ranges.{texts, is_count, are_entries};
 ghost use Rattle.policy.specs.Language.{value_at, text_at, whole_at, texts_at, entries_at, as_values, all_texts, is_name_of, has_only, kind_of, test_of, natural_within};
-ghost use Rattle.policy.specs.Reading.{at_key, at_place, Finds, FindsInMemory, Tests};
+ghost use Rattle.policy.specs.Reading.{at_key, at_place, Finds, FindsInMemory, Parses, Tests};
+ghost use Rattle.names.specs.Names.{repo_text, ref_text};
+ghost use Rattle.names.specs.Texts.{is_repo, is_ref};
 
 use crate::entries::is_text_for;
 use crate::faults::{Fault, FaultCode, Place, PolicyFault};
 use crate::keys::Key;
+use names::{RefName, RepoName};
 use std::alloc::{AllocError, Global};
 use toml::{Table, Value};
 
@@ -211,6 +214,26 @@ impl<'a> TableAt<'a> {
             Ok(())
         } else {
             Err(self.fault(FaultCode::Y3, key))
+        }
+    }
+
+    /// Reads the text at the key as a repository's name; Y3 if it is none, `Memory` if memory runs out.
+    pub fn repo_name(&self, alloc: Global, key: Key, text: &str) -> Result<RepoName, PolicyFault>
+        ensures { Parses repo_text (is_repo text.now) text.now (at_key Y3 self.now.place key) result }
+    {
+        match RepoName::read(String::from_str(alloc, text)?) {
+            Some(name) => Ok(name),
+            None => Err(self.fault(FaultCode::Y3, key).into()),
+        }
+    }
+
+    /// Reads the text at the key as a ref; Y3 if it is none, `Memory` if memory runs out.
+    pub fn ref_name(&self, alloc: Global, key: Key, text: &str) -> Result<RefName, PolicyFault>
+        ensures { Parses ref_text (is_ref text.now) text.now (at_key Y3 self.now.place key) result }
+    {
+        match RefName::read(String::from_str(alloc, text)?) {
+            Some(name) => Ok(name),
+            None => Err(self.fault(FaultCode::Y3, key).into()),
         }
     }
 

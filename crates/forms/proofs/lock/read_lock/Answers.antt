@@ -1,23 +1,21 @@
-use Rattle.std.proofs.Common.{Some, None, option_map, sym, ap, refl, ◌∙◌}
-use Rattle.serde_json.specs.View.{view}
-use Rattle.forms.proofs.Bodies.{lock_from, same_form, path_in_range, ref_in_range}
+use Rattle.std.proofs.Common.{◌∙◌, refl, sym, subst}
+use Rattle.forms.specs.Given.{Reads}
+use Rattle.forms.specs.Requests.{lock_asked}
+use Rattle.forms.specs.declared.refusal.Refusal.TheVariants as refusal
+use Rattle.forms.proofs.Bodies.{lock_by_value}
+use Rattle.forms.proofs.Refusals.{at_first, passed_on}
 use Rattle.forms.proofs.lock.read_lock.Goals as goal
 
-pub returns-in_default : goal.returns-in_default
-returns-in_default c =
-    lock_from c.args.body.now None _ (sym (ap (option_map view) c.in_default.is) ∙ c.in_ok-value.ensures) refl
+pub returns-in_err-value : goal.returns-in_err-value
+returns-in_err-value c =
+    let e = c.in_err-value.field-0.0 in
+    passed_on lock_asked e c.from_residual.result _ c.from_residual.ensures.1 (rw (lock_by_value c.args.body.now) (at_first e _ _ c.in_err-value.ensures))
 
-pub returns-in-Err : goal.returns-in-Err
-returns-in-Err c =
-    lock_from c.args.body.now (Some (view c.in-Some.value)) _ (sym (ap (option_map view) c.in-Some.is) ∙ c.in_ok-value.ensures) c.in-Err.ensures
+pub returns-in_err-path : goal.returns-in_err-path
+returns-in_err-path c =
+    passed_on lock_asked (refusal.Rule c.in_err-path.field-0.0) c.from_residual-in_err-path.result _ c.from_residual-in_err-path.ensures.1
+    (lock_by_value c.args.body.now ∙ rw (c.in_ok-value.ensures, c.in_err-path.ensures) refl)
 
 pub returns : goal.returns
 returns c =
-    lock_from c.args.body.now (Some (view c.in-Some.value)) _ (sym (ap (option_map view) c.in-Some.is) ∙ c.in_ok-value.ensures)
-    (c.in-Ok.ensures ∙ same_form _ _ _ _ (sym c.in_ok-path-in-Ok.ensures.ok) (sym c.in_ok-ref_name-in-Ok.ensures))
-
-pub invariant_of-result : goal.invariant_of-result
-invariant_of-result c = record {
-  path_in_range = path_in_range (view c.in-Some.value) _ _ _ c.in-Ok.ensures (sym c.in_ok-path-in-Ok.ensures.ok);
-  ref_in_range = ref_in_range (view c.in-Some.value) _ _ _ c.in-Ok.ensures (sym c.in_ok-ref_name-in-Ok.ensures);
-}
+    subst (Reads lock_asked c.lock_of.result) (sym (lock_by_value c.args.body.now ∙ rw (c.in_ok-value.ensures, c.in_ok-path.ensures) refl)) c.lock_of.ensures

@@ -1,5 +1,6 @@
-use Rattle.std.proofs.Common.{◌≡◌, ◌∙◌, sym, false, ◌<◌, length, arith, string_bytes}
+use Rattle.std.proofs.Common.{◌≡◌, ◌∙◌, sym, false, ◌<◌, length, arith}
 use Rattle.toml.specs.View.{view}
+use Rattle.names.specs.Names.{repo_text}
 use Rattle.policy.specs.Ranges.{is_among}
 use Rattle.policy.specs.Repos.{names_of}
 use Rattle.policy.proofs.Steps.{map-drop, repos_next}
@@ -9,6 +10,6 @@ pub loop-index-preserved : goal.loop-index-preserved
 loop-index-preserved c =
     let inside : c.loop-index.index < length c.args.entries.now = omega arith in
     let here = map-drop view c.args.entries.now c.loop-index.index c.index-entries-index.result inside c.index-entries-index.is in
-    let free : is_among (string_bytes c.in_ok-repo.repo.name) (names_of c.loop-index.repos.items) ≡ false =
+    let free : is_among (repo_text c.in_ok-repo.repo.name) (names_of c.loop-index.repos.items) ≡ false =
     rw (← c.deref.ensures.value, ← c.as_str.ensures.value) (sym c.is_taken.ensures ∙ c.if-is_taken.false) in
     rw c.in_ok-push.ensures.items (repos_next _ _ _ _ _ _ _ c.loop-index.invariant here c.in_ok-repo.ensures.0 c.in_ok-repo.ensures.1 free)

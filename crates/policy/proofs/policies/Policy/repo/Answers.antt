@@ -1,5 +1,6 @@
 use Rattle.std.proofs.Common.{◌∙◌, sym, ap, option_map, string_bytes, bytes_eq}
 use Rattle.std.specs.List.{find}
+use Rattle.names.specs.Names.{repo_text}
 use Rattle.policy.specs.Values.{repo_view}
 use Rattle.policy.proofs.Lists.{find-map, option_map-then}
 use Rattle.policy.proofs.InRange.{IsPolicy-policy_view}
@@ -8,7 +9,7 @@ use Rattle.policy.proofs.policies.Policy.repo.Goals as goal
 pub returns-clause-value : goal.returns-clause-value
 returns-clause-value c =
     option_map-then (λ r. r.now) repo_view c.named.result
-    ∙ ap (option_map repo_view) (c.named.ensures ∙ ap (find (λ r. bytes_eq (string_bytes r.name) c.args.name.now)) c.deref.ensures.value)
+    ∙ ap (option_map repo_view) (c.named.ensures ∙ ap (find (λ r. bytes_eq (repo_text r.name) c.args.name.now)) c.deref.ensures.value)
     ∙ sym (find-map (λ r. bytes_eq r.name c.args.name.now) repo_view c.args.self.now.repos.items)
 
 pub returns-clause-in_range : goal.returns-clause-in_range
