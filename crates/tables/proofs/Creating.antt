@@ -1,11 +1,17 @@
 -- The result of making a lock, from what its statements found and did.
-use Rattle.std.proofs.Common.{◌≡◌, ◌≢◌, ℕ, ◌+◌, ℤ, pos, ◌+ℤ◌, true, false, find, option_map, Option, Some, None, refl, sym, ap, ◌∙◌, arith}
-use Rattle.std.proofs.lemmas.Int.{ints}
-use Rattle.std.specs.Ordering.{int_eq}
+use Rattle.std.proofs.Common.{◌≡◌, ℤ, true, false, find, option_map, Option, Some, None, Ok, IsTrue, refl, sym, ap, ◌∙◌}
+use Rattle.sqlite.specs.Held.{Held, state}
+use Rattle.sqlite_trees.specs.declared.store.Store.{Ghosts}
 use Rattle.tables.specs.declared.rows.LockRow.{LockRow}
-use Rattle.tables.specs.Rows.{Token, Lock, Tables}
-use Rattle.tables.specs.Statements.{is_at, with_token}
-use Rattle.tables.specs.Steps.{IsLockOf, lock_fields, read_lock, Outcome, held, used_up, created, greatest_id, next_outcome, outcome_by, outcome_of, made_of, after_outcome, after_create, with_new_lock, has_token, after_add}
+use Rattle.tables.specs.declared.fault.StoreFault.{StoreFault}
+use Rattle.tables.specs.declared.locks.Count.{Count}
+use Rattle.tables.specs.Rows.{Repo, Token, Lock, Tables}
+use Rattle.tables.specs.Statements.{is_named, with_token}
+use Rattle.tables.specs.Runs.{tables_in}
+use Rattle.tables.specs.Calls.{IfReady, Does}
+use Rattle.tables.specs.Steps.{IsLockOf, IsCountOf, lock_fields, read_lock, Outcome, held, next_outcome, outcome_by, held_at, outcome_of, made_in, made_of, after_outcome, after_create, has_token, after_add}
+use Rattle.typed_rows.proofs.Transactions.{clean_before}
+use Rattle.tables.proofs.Calls.{ready_after}
 
 held_by : (row : LockRow) (found : Option Lock) (m : ℤ) → Some (read_lock row) ≡ option_map lock_fields found → outcome_by found m ≡ held (read_lock row)
 held_by row None m h = absurd (let e : Some (read_lock row) ≡ None = h in cc)
@@ -15,30 +21,29 @@ free : (found : Option Lock) (m : ℤ) → None ≡ option_map lock_fields found
 free None m h = ap next_outcome (λ i. m)
 free (Some l) m h = absurd (let e : None ≡ Some (lock_fields l) = h in cc)
 
-last_id : (n : ℕ) → n ≡ 4294967295 → next_outcome (pos n) ≡ used_up
-last_id n h = let is : int_eq (pos n) greatest_id ≡ true = grind (arith, ints) in rw is
+-- the step for an outcome is that of the call
+pub step_by : (l : Lock) (t : Tables) (o : Outcome) → outcome_of l t ≡ o → after_outcome l o t ≡ after_create l t
+unfolding after_create
+step_by l t o is = sym (ap (λ k. after_outcome l k t) is)
 
-next_id : (n : ℕ) → n ≢ 4294967295 → next_outcome (pos n) ≡ created (pos (n + 1))
-next_id n h =
-    let is : int_eq (pos n) greatest_id ≡ false = grind (arith, ints) in
-    let next : pos n +ℤ pos 1 ≡ pos (n + 1) = grind (arith, ints) in
-    rw is (ap created next)
+pub outcome_held : (l : Lock) (t : Tables) (row : LockRow) → IsLockOf (Some row) (held_at l t) → outcome_of l t ≡ held (read_lock row)
+outcome_held l t row found = held_by row _ _ found
 
-module _ (l : Lock) (t : Tables) where
-  -- the step for an outcome is that of the call
-  step_by : (o : Outcome) → outcome_of l t ≡ o → after_outcome l o t ≡ after_create l t
-  unfolding after_create
-  step_by o is = sym (ap (λ k. after_outcome l k t) is)
-
-  pub kept_if_held : (row : LockRow) → IsLockOf (Some row) (find (is_at l.repo l.ref_name l.path) t.locks) → t ≡ after_create l t
-  kept_if_held row found = step_by (held (read_lock row)) (held_by row _ _ found)
-
-  module _ (none : IsLockOf None (find (is_at l.repo l.ref_name l.path) t.locks)) (n : ℕ) (counts : pos n ≡ made_of l.repo t) where
-    pub kept_if_used_up : n ≡ 4294967295 → t ≡ after_create l t
-    kept_if_used_up last = step_by used_up (free _ _ none ∙ ap next_outcome (sym counts) ∙ last_id n last)
-
-    pub made_if_free : n ≢ 4294967295 → with_new_lock l (pos (n + 1)) t ≡ after_create l t
-    made_if_free some = step_by (created (pos (n + 1))) (free _ _ none ∙ ap next_outcome (sym counts) ∙ next_id n some)
+module _ {S : Type 0} (g : Ghosts S) (l : Lock) (begun after last : Held S) where
+  -- if no lock is on the path, the number of locks made so far decides
+  pub outcome_free : (row : Option LockRow) (count : Option Count) (o : Outcome) → row ≡ None
+      → IfReady g begun after (IsTrue (state g begun).is_open × IsLockOf row (held_at l (tables_in (state g begun)))) → Does g {E = StoreFault} begun after (Ok row) (λ t. t)
+      → IfReady g after last (IsTrue (state g after).is_open × IsCountOf count (find (is_named l.repo) (tables_in (state g after)).repos)) → Does g {E = StoreFault} after last (Ok count) (λ t. t)
+      → ((repo : Option Repo) → IsCountOf count repo → next_outcome (made_in repo) ≡ o)
+      → IfReady g begun last (IsTrue (state g begun).is_open × (outcome_of l (tables_in (state g begun)) ≡ o))
+  outcome_free row count o none found looked counts counted next clean inside ready =
+      let before = clean_before g after last _ counted.within clean in
+      let first = looked.ok before inside ready in
+      let is = found before inside ready in
+      let n = (counts clean (looked.within.inside before inside) (ready_after (λ t. t) (state g begun) (state g after) first)).1 in (
+        is.0,
+        free _ _ (ap (option_map read_lock) (sym none) ∙ is.1) ∙ sym (ap (λ (t : Tables). next_outcome (made_of l.repo t)) first.tables) ∙ next _ n,
+      )
 
 module _ (k : Token) (t : Tables) where
   pub kept_if_there : has_token k.digest t ≡ true → t ≡ after_add k t

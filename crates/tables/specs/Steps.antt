@@ -1,14 +1,15 @@
 -- The effects of the calls on the tables, and their results.
-use Rattle.std.specs.Prelude.{◌≡◌, ◌+ℤ◌, ℕ, ℤ, pos, Bool, if◌then◌else◌, List, [], ◌∷◌, string_bytes, find, map, Option, Some, None, is_some, option_map, unwrap_or}
+use Rattle.std.specs.Prelude.{◌≡◌, ◌+ℤ◌, ℕ, ℤ, pos, Bool, if◌then◌else◌, List, [], ◌∷◌, find, map, Option, Some, None, is_some, option_map, unwrap_or}
 use Rattle.std.specs.Ordering.{int_eq}
 use Rattle.sqlite_keyed.specs.Keyed.{next_key}
-use Rattle.tables.specs.declared.rows.NewLock.{NewLock}
+use Rattle.names.specs.Names.{user_text, repo_text, ref_text, path_text}
+use Rattle.names.specs.declared.operations.Operation.{Operation}
+use Rattle.names.specs.declared.operations.Operation.TheVariants as operation
+use Rattle.tables.specs.declared.new_rows.NewLock.{NewLock}
 use Rattle.tables.specs.declared.rows.LockRow.{LockRow}
 use Rattle.tables.specs.declared.locks.Count.{Count}
-use Rattle.tables.specs.declared.rows.NewToken.{NewToken}
+use Rattle.tables.specs.declared.new_rows.NewToken.{NewToken}
 use Rattle.tables.specs.declared.rows.TokenRow.{TokenRow}
-use Rattle.tables.specs.declared.rows.Operation.{Operation}
-use Rattle.tables.specs.declared.rows.Operation.TheVariants as operation
 use Rattle.tables.specs.declared.rows.Creation.{Creation}
 use Rattle.tables.specs.declared.rows.Creation.TheVariants as creation
 use Rattle.tables.specs.Rows.{Repo, Token, Lock, Tables}
@@ -30,10 +31,10 @@ lock_fields l = record { id = l.id; ref_name = l.ref_name; path = l.path; owner 
 abbrev pub read_lock : LockRow → LockFields
 read_lock row = record {
   id = pos row.id;
-  ref_name = string_bytes row.ref_name;
-  path = string_bytes row.path;
-  owner = string_bytes row.owner;
-  moment = row.moment;
+  ref_name = ref_text row.ref_name;
+  path = path_text row.path;
+  owner = user_text row.owner;
+  moment = pos row.moment;
 }
 
 -- the result is this lock, and the result is these locks
@@ -54,17 +55,18 @@ pub record TokenFields : Type 0 where
 abbrev pub token_fields : Token → TokenFields
 token_fields t = record { digest = t.digest; user = t.user; repo = t.repo; op = t.op; expires = t.expires }
 
+-- the number of an operation in the database
 abbrev pub code_of : Operation → ℤ
 code_of operation.Download = pos 1
 code_of operation.Upload = pos 2
 
 abbrev pub read_token : TokenRow → TokenFields
 read_token row = record {
-  digest = row.digest.items;
-  user = string_bytes row.user;
-  repo = string_bytes row.repo;
+  digest = row.digest;
+  user = user_text row.user;
+  repo = repo_text row.repo;
   op = code_of row.operation;
-  expires = row.expires;
+  expires = pos row.expires;
 }
 
 -- the result is this token, and the result is these tokens
@@ -118,12 +120,12 @@ with_made name made t = record t { repos = set_made name made (next_key (λ x. x
 abbrev pub asked_lock : NewLock → Lock
 asked_lock l = record {
   rowid = pos 0;
-  repo = l.repo.now;
+  repo = repo_text l.repo.now;
   id = pos 0;
-  ref_name = l.ref_name.now;
-  path = l.path.now;
-  owner = l.owner.now;
-  moment = l.moment;
+  ref_name = ref_text l.ref_name.now;
+  path = path_text l.path.now;
+  owner = user_text l.owner.now;
+  moment = pos l.moment;
 }
 
 -- the result of a lock request: the lock that holds the path, no more ids, or a new lock with this id
@@ -142,13 +144,21 @@ abbrev pub outcome_by : Option Lock → ℤ → Outcome
 outcome_by (Some l) made_so_far = held (lock_fields l)
 outcome_by None made_so_far = next_outcome made_so_far
 
+-- the lock on the path of this one
+abbrev pub held_at : Lock → Tables → Option Lock
+held_at l t = find (is_at l.repo l.ref_name l.path) t.locks
+
 abbrev pub outcome_of : Lock → Tables → Outcome
-outcome_of l t = outcome_by (find (is_at l.repo l.ref_name l.path) t.locks) (made_of l.repo t)
+outcome_of l t = outcome_by (held_at l t) (made_of l.repo t)
 
 abbrev pub read_creation : Creation → Outcome
 read_creation (creation.Created id) = created (pos id)
 read_creation (creation.Held row) = held (read_lock row)
 read_creation creation.UsedUp = used_up
+
+-- the call returned the outcome of this request
+unfoldable pub IsOutcomeOf : Lock → Tables → Creation → Type 0
+IsOutcomeOf l t creation = read_creation creation ≡ outcome_of l t
 
 -- the lock is added, and counted
 unfoldable pub with_new_lock : Lock → ℤ → Tables → Tables
@@ -168,10 +178,10 @@ abbrev pub asked_token : NewToken → Token
 asked_token t = record {
   rowid = pos 0;
   digest = t.digest.now;
-  user = t.user.now;
-  repo = t.repo.now;
+  user = user_text t.user.now;
+  repo = repo_text t.repo.now;
   op = code_of t.operation;
-  expires = t.expires;
+  expires = pos t.expires;
 }
 
 -- a token with this digest is stored

@@ -10,6 +10,7 @@ use sqlite::Connection;
 
 mod fault;
 mod locks;
+mod new_rows;
 mod open;
 mod read;
 mod rows;
@@ -19,7 +20,8 @@ mod tokens;
 mod write;
 
 pub use fault::StoreFault;
-pub use rows::{Creation, LockRow, NewLock, NewToken, Operation, TokenRow};
+pub use new_rows::{NewLock, NewToken};
+pub use rows::{Creation, LockRow, TokenRow};
 pub use sqlite::{Alter, Start, Unknown};
 pub use storage::Storage;
 

@@ -1,19 +1,22 @@
 //! The calls on locks, and on the number of locks that a repository ever made.
 
-ghost use Rattle.std.specs.Prelude.{◌≡◌, ◌≢◌, length, pos, find, filter, map, take, slice_get, IfOk};
+ghost use Rattle.std.specs.Prelude.{◌≡◌, ◌≢◌, length, pos, find, filter, map, take, slice_get, IfOk, MatchOption};
+ghost use Rattle.names.specs.Names.{repo_text, ref_text, path_text};
 ghost use Rattle.sqlite.specs.Held.{state};
 ghost use Rattle.tables.specs.Statements.{is_named, is_at, has_id, is_in, is_from, by_id, show_made, with_lock, without_lock};
 ghost use Rattle.tables.specs.Runs.{tables_in};
 ghost use Rattle.typed_rows.specs.Transactions.{Inside};
 ghost use Rattle.tables.specs.Calls.{MakesStep, Says, Does, Transacts};
-ghost use Rattle.tables.specs.Steps.{IsLockOf, AreLocksOf, repo_count, read_count, IsCountOf, made_in, made_of, with_made, asked_lock, outcome_of, read_creation, with_new_lock, after_create};
+ghost use Rattle.tables.specs.Steps.{IsLockOf, AreLocksOf, repo_count, read_count, IsCountOf, made_in, made_of, with_made, asked_lock, held_at, used_up, created, next_outcome, outcome_of, read_creation, IsOutcomeOf, with_new_lock, after_create};
 ghost use Rattle.tables.specs.Shown.{Reads, Changes};
 
 use crate::Store;
 use crate::fault::StoreFault;
+use crate::new_rows::NewLock;
 use crate::read::{read, select};
-use crate::rows::{Creation, LockRow, NewLock, all_locks, first_lock};
+use crate::rows::{Creation, LockRow, all_locks, first_lock, second_of};
 use crate::write::{change, finish_with};
+use names::{LockId, LockPath, RefName, RepoName};
 use sqlite::{Alter, Connection, Error, Row, Transaction, params};
 use std::alloc::Global;
 
@@ -57,6 +60,15 @@ fn made_so_far(count: Option<Count>) -> u32
     }
 }
 
+/// The id of the repository's next lock; `None` if no id is left.
+fn next_id(count: Option<Count>) -> Option<LockId>
+    ensures { (repo : _) → IsCountOf count repo → MatchOption result
+        (next_outcome (made_in repo) ≡ used_up)
+        (λ id. next_outcome (made_in repo) ≡ created (pos id)) }
+{
+    LockId::from_number(made_so_far(count).checked_add(1)?)
+}
+
 /// The lock on this path of this ref.
 fn held_in<S: Alter>(
     tx: &mut Transaction<'_, S>,
@@ -64,29 +76,36 @@ fn held_in<S: Alter>(
 ) -> Result<Option<LockRow>, StoreFault>
     ensures same_reference { tx.new.conn.ghost_name ≡ tx.old.conn.ghost_name }
     ensures value { Says S.Store tx.old.conn.now tx.new.conn.now result
-        (λ t found. IsLockOf found (find (is_at lock.now.repo.now lock.now.ref_name.now lock.now.path.now) t.locks)) }
+        (λ t found. IsLockOf found (held_at (asked_lock lock.now) t)) }
     ensures does { Does S.Store tx.old.conn.now tx.new.conn.now result (λ t. t) }
     ensures known { result ≢ Err StoreFault.UnknownSchema }
 {
     let rows = select(
         tx,
         "SELECT id, ref, path, owner, moment FROM locks WHERE repo = ?1 AND ref = ?2 AND path = ?3 ORDER BY rowid",
-        params![lock.repo, lock.ref_name, lock.path],
+        params![
+            lock.repo.as_str(),
+            lock.ref_name.as_str(),
+            lock.path.as_str()
+        ],
     )?;
     first_lock(rows.as_slice())
 }
 
-fn count_in<S: Alter>(tx: &mut Transaction<'_, S>, repo: &str) -> Result<Option<Count>, StoreFault>
+fn count_in<S: Alter>(
+    tx: &mut Transaction<'_, S>,
+    repo: &RepoName,
+) -> Result<Option<Count>, StoreFault>
     ensures same_reference { tx.new.conn.ghost_name ≡ tx.old.conn.ghost_name }
     ensures value { Says S.Store tx.old.conn.now tx.new.conn.now result
-        (λ t found. IsCountOf found (find (is_named repo.now) t.repos)) }
+        (λ t found. IsCountOf found (find (is_named (repo_text repo.now)) t.repos)) }
     ensures does { Does S.Store tx.old.conn.now tx.new.conn.now result (λ t. t) }
     ensures known { result ≢ Err StoreFault.UnknownSchema }
 {
     let rows = select(
         tx,
         "SELECT rowid, made FROM repos WHERE name = ?1 ORDER BY rowid",
-        params![repo],
+        params![repo.as_str()],
     )?;
     first_count(rows.as_slice())
 }
@@ -94,37 +113,45 @@ fn count_in<S: Alter>(tx: &mut Transaction<'_, S>, repo: &str) -> Result<Option<
 fn lock_into<S: Alter>(
     tx: &mut Transaction<'_, S>,
     lock: &NewLock<'_>,
-    id: u32,
+    id: LockId,
 ) -> Result<usize, Error>
     ensures same_reference { tx.new.conn.ghost_name ≡ tx.old.conn.ghost_name }
     ensures does { Does S.Store tx.old.conn.now tx.new.conn.now result
         (with_lock (record (asked_lock lock.now) { id = pos id })) }
 {
-    let moment = lock.moment;
     change(
         tx,
         "INSERT INTO locks (repo, id, ref, path, owner, moment) VALUES (?1, ?2, ?3, ?4, ?5, ?6)",
-        params![lock.repo, id, lock.ref_name, lock.path, lock.owner, moment],
+        params![
+            lock.repo.as_str(),
+            id.get(),
+            lock.ref_name.as_str(),
+            lock.path.as_str(),
+            lock.owner.as_str(),
+            second_of(lock.moment)
+        ],
     )
 }
 
 /// Sets the number of locks that the repository ever made, in the row that was found or in a new one.
 fn set_count<S: Alter>(
     tx: &mut Transaction<'_, S>,
-    repo: &str,
+    repo: &RepoName,
     count: Option<Count>,
     made: u32,
 ) -> Result<usize, Error>
     ensures same_reference { tx.new.conn.ghost_name ≡ tx.old.conn.ghost_name }
-    ensures ok { IsCountOf count (find (is_named repo.now) (tables_in (state S.Store tx.old.conn.now)).repos)
-        → MakesStep S.Store tx.old.conn.now tx.new.conn.now result (with_made repo.now (pos made)) }
+    ensures ok { IsCountOf count
+        (find (is_named (repo_text repo.now)) (tables_in (state S.Store tx.old.conn.now)).repos)
+        → MakesStep S.Store tx.old.conn.now tx.new.conn.now result
+        (with_made (repo_text repo.now) (pos made)) }
     ensures within { Inside S.Store tx.old.conn.now tx.new.conn.now result }
 {
     match count {
         None => change(
             tx,
             "INSERT INTO repos (name, made, used) VALUES (?1, ?2, 0)",
-            params![repo, made],
+            params![repo.as_str(), made],
         ),
         Some(count) => change(
             tx,
@@ -139,16 +166,18 @@ fn set_count<S: Alter>(
 fn keep_into<S: Alter>(
     tx: &mut Transaction<'_, S>,
     lock: &NewLock<'_>,
-    id: u32,
+    id: LockId,
     count: Option<Count>,
 ) -> Result<(), Error>
     ensures same_reference { tx.new.conn.ghost_name ≡ tx.old.conn.ghost_name }
-    ensures ok { IsCountOf count (find (is_named lock.now.repo.now) (tables_in (state S.Store tx.old.conn.now)).repos)
-        → MakesStep S.Store tx.old.conn.now tx.new.conn.now result (with_new_lock (asked_lock lock.now) (pos id)) }
+    ensures ok { IsCountOf count (find (is_named (repo_text lock.now.repo.now))
+        (tables_in (state S.Store tx.old.conn.now)).repos)
+        → MakesStep S.Store tx.old.conn.now tx.new.conn.now result
+        (with_new_lock (asked_lock lock.now) (pos id)) }
     ensures within { Inside S.Store tx.old.conn.now tx.new.conn.now result }
 {
     lock_into(tx, lock, id)?;
-    set_count(tx, lock.repo, count, id)?;
+    set_count(tx, lock.repo, count, id.get())?;
     Ok(())
 }
 
@@ -159,7 +188,7 @@ fn create_into<S: Alter>(
 ) -> Result<Creation, StoreFault>
     ensures same_reference { tx.new.conn.ghost_name ≡ tx.old.conn.ghost_name }
     ensures value { Says S.Store tx.old.conn.now tx.new.conn.now result
-        (λ t creation. read_creation creation ≡ outcome_of (asked_lock lock.now) t) }
+        (IsOutcomeOf (asked_lock lock.now)) }
     ensures does { Does S.Store tx.old.conn.now tx.new.conn.now result
         (after_create (asked_lock lock.now)) }
     ensures known { result ≢ Err StoreFault.UnknownSchema }
@@ -168,18 +197,17 @@ fn create_into<S: Alter>(
         return Ok(Creation::Held(row));
     }
     let count = count_in(tx, lock.repo)?;
-    let made = made_so_far(count);
-    if made == u32::MAX {
+    let Some(id) = next_id(count) else {
         return Ok(Creation::UsedUp);
-    }
-    keep_into(tx, lock, made + 1, count)?;
-    Ok(Creation::Created(made + 1))
+    };
+    keep_into(tx, lock, id, count)?;
+    Ok(Creation::Created(id))
 }
 
 #[tactic(auto, using(crate::proofs::Calls::led))]
 fn create<S: Alter>(conn: &mut Connection<S>, lock: &NewLock<'_>) -> Result<Creation, StoreFault>
     ensures { Transacts S.Store conn.old conn.new result (after_create (asked_lock lock.now))
-        (λ t creation. read_creation creation ≡ outcome_of (asked_lock lock.now) t) }
+        (IsOutcomeOf (asked_lock lock.now)) }
 {
     if !conn.is_autocommit() {
         return Err(StoreFault::Refused);
@@ -189,24 +217,33 @@ fn create<S: Alter>(conn: &mut Connection<S>, lock: &NewLock<'_>) -> Result<Crea
     finish_with(tx, creation)
 }
 
-fn remove_into<S: Alter>(tx: &mut Transaction<'_, S>, repo: &str, id: u32) -> Result<usize, Error>
+fn remove_into<S: Alter>(
+    tx: &mut Transaction<'_, S>,
+    repo: &RepoName,
+    id: LockId,
+) -> Result<usize, Error>
     ensures same_reference { tx.new.conn.ghost_name ≡ tx.old.conn.ghost_name }
     ensures count { Says S.Store tx.old.conn.now tx.new.conn.now result
-        (λ t n. n ≡ length (filter (has_id repo.now (pos id)) t.locks)) }
+        (λ t n. n ≡ length (filter (has_id (repo_text repo.now) (pos id)) t.locks)) }
     ensures does { Does S.Store tx.old.conn.now tx.new.conn.now result
-        (without_lock repo.now (pos id)) }
+        (without_lock (repo_text repo.now) (pos id)) }
 {
     change(
         tx,
         "DELETE FROM locks WHERE repo = ?1 AND id = ?2",
-        params![repo, id],
+        params![repo.as_str(), id.get()],
     )
 }
 
 #[tactic(auto, using(crate::proofs::Calls::led))]
-fn remove<S: Alter>(conn: &mut Connection<S>, repo: &str, id: u32) -> Result<usize, StoreFault>
-    ensures { Transacts S.Store conn.old conn.new result (without_lock repo.now (pos id))
-        (λ t n. n ≡ length (filter (has_id repo.now (pos id)) t.locks)) }
+fn remove<S: Alter>(
+    conn: &mut Connection<S>,
+    repo: &RepoName,
+    id: LockId,
+) -> Result<usize, StoreFault>
+    ensures { Transacts S.Store conn.old conn.new result
+        (without_lock (repo_text repo.now) (pos id))
+        (λ t n. n ≡ length (filter (has_id (repo_text repo.now) (pos id)) t.locks)) }
 {
     if !conn.is_autocommit() {
         return Err(StoreFault::Refused);
@@ -222,13 +259,14 @@ impl<S: Alter> Store<S> {
     /// # Errors
     ///
     /// `Refused` or `Memory`. The tables are unchanged in any case.
-    pub fn made(&mut self, repo: &str) -> Result<u32, StoreFault>
-        ensures { Reads S.Store self.old self.new result (λ t n. pos n ≡ made_of repo.now t) }
+    pub fn made(&mut self, repo: &RepoName) -> Result<u32, StoreFault>
+        ensures { Reads S.Store self.old self.new result
+            (λ t n. pos n ≡ made_of (repo_text repo.now) t) }
     {
         let rows = read(
             &mut self.conn,
             "SELECT rowid, made FROM repos WHERE name = ?1 ORDER BY rowid",
-            params![repo],
+            params![repo.as_str()],
         )?;
         Ok(made_so_far(first_count(rows.as_slice())?))
     }
@@ -240,17 +278,18 @@ impl<S: Alter> Store<S> {
     /// `Refused` or `Memory`. The tables are unchanged in any case.
     pub fn lock_at(
         &mut self,
-        repo: &str,
-        ref_name: &str,
-        path: &str,
+        repo: &RepoName,
+        ref_name: &RefName,
+        path: &LockPath,
     ) -> Result<Option<LockRow>, StoreFault>
         ensures { Reads S.Store self.old self.new result
-            (λ t found. IsLockOf found (find (is_at repo.now ref_name.now path.now) t.locks)) }
+            (λ t found. IsLockOf found (find
+            (is_at (repo_text repo.now) (ref_text ref_name.now) (path_text path.now)) t.locks)) }
     {
         let rows = read(
             &mut self.conn,
             "SELECT id, ref, path, owner, moment FROM locks WHERE repo = ?1 AND ref = ?2 AND path = ?3 ORDER BY rowid",
-            params![repo, ref_name, path],
+            params![repo.as_str(), ref_name.as_str(), path.as_str()],
         )?;
         first_lock(rows.as_slice())
     }
@@ -260,14 +299,18 @@ impl<S: Alter> Store<S> {
     /// # Errors
     ///
     /// `Refused` or `Memory`. The tables are unchanged in any case.
-    pub fn lock_with_id(&mut self, repo: &str, id: u32) -> Result<Option<LockRow>, StoreFault>
+    pub fn lock_with_id(
+        &mut self,
+        repo: &RepoName,
+        id: LockId,
+    ) -> Result<Option<LockRow>, StoreFault>
         ensures { Reads S.Store self.old self.new result
-            (λ t found. IsLockOf found (find (has_id repo.now (pos id)) t.locks)) }
+            (λ t found. IsLockOf found (find (has_id (repo_text repo.now) (pos id)) t.locks)) }
     {
         let rows = read(
             &mut self.conn,
             "SELECT id, ref, path, owner, moment FROM locks WHERE repo = ?1 AND id = ?2 ORDER BY rowid",
-            params![repo, id],
+            params![repo.as_str(), id.get()],
         )?;
         first_lock(rows.as_slice())
     }
@@ -277,14 +320,15 @@ impl<S: Alter> Store<S> {
     /// # Errors
     ///
     /// `Refused` or `Memory`. The tables are unchanged in any case.
-    pub fn locks_in(&mut self, alloc: Global, repo: &str) -> Result<Vec<LockRow>, StoreFault>
+    pub fn locks_in(&mut self, alloc: Global, repo: &RepoName) -> Result<Vec<LockRow>, StoreFault>
         ensures { Reads S.Store self.old self.new result
-            (λ t found. AreLocksOf found.items (by_id (filter (is_in repo.now) t.locks))) }
+            (λ t found. AreLocksOf found.items
+            (by_id (filter (is_in (repo_text repo.now)) t.locks))) }
     {
         let rows = read(
             &mut self.conn,
             "SELECT id, ref, path, owner, moment FROM locks WHERE repo = ?1 ORDER BY id, rowid",
-            params![repo],
+            params![repo.as_str()],
         )?;
         all_locks(alloc, rows.as_slice())
     }
@@ -297,16 +341,17 @@ impl<S: Alter> Store<S> {
     pub fn locks_from(
         &mut self,
         alloc: Global,
-        repo: &str,
-        id: u32,
+        repo: &RepoName,
+        id: LockId,
     ) -> Result<Vec<LockRow>, StoreFault>
         ensures { Reads S.Store self.old self.new result
-            (λ t found. AreLocksOf found.items (take 64 (by_id (filter (is_from repo.now (pos id)) t.locks)))) }
+            (λ t found. AreLocksOf found.items
+            (take 64 (by_id (filter (is_from (repo_text repo.now) (pos id)) t.locks)))) }
     {
         let rows = read(
             &mut self.conn,
             "SELECT id, ref, path, owner, moment FROM locks WHERE repo = ?1 AND id >= ?2 ORDER BY id, rowid LIMIT 64",
-            params![repo, id],
+            params![repo.as_str(), id.get()],
         )?;
         all_locks(alloc, rows.as_slice())
     }
@@ -329,9 +374,10 @@ impl<S: Alter> Store<S> {
     /// # Errors
     ///
     /// `Refused` or `Memory`. The tables are unchanged, but a stop may still leave the change.
-    pub fn remove_lock(&mut self, repo: &str, id: u32) -> Result<usize, StoreFault>
-        ensures { Changes S.Store self.old self.new result (without_lock repo.now (pos id))
-            (λ t n. n ≡ length (filter (has_id repo.now (pos id)) t.locks)) }
+    pub fn remove_lock(&mut self, repo: &RepoName, id: LockId) -> Result<usize, StoreFault>
+        ensures { Changes S.Store self.old self.new result
+            (without_lock (repo_text repo.now) (pos id))
+            (λ t n. n ≡ length (filter (has_id (repo_text repo.now) (pos id)) t.locks)) }
     {
         remove(&mut self.conn, repo, id)
     }

@@ -1,126 +1,120 @@
-//! The rows that the calls take and return.
+//! The rows that the calls return.
 
-ghost use Rattle.std.specs.Prelude.{◌≡◌, ◌≢◌, ◌<◌, IfOk, map, slice_get};
+ghost use Rattle.std.specs.Prelude.{◌≡◌, ◌≢◌, ◌<◌, pos, length, IfOk, MatchOption, map, slice_get};
 ghost use Rattle.tables.specs.Rows.{Lock, Token};
 ghost use Rattle.tables.specs.Statements.{show_lock, show_token};
 ghost use Rattle.tables.specs.Steps.{IsLockOf, AreLocksOf, lock_fields, read_lock, IsTokenOf, AreTokensOf, token_fields, read_token, code_of};
+ghost use Rattle.tables.specs.Ranges.{IsLockInRange, IsTokenInRange};
 
 use crate::fault::StoreFault;
+use names::{LockId, LockPath, Moment, Operation, RefName, RepoName, UserName};
 use sqlite::Row;
 use std::alloc::{AllocError, Global};
-
-/// A lock to be made.
-#[derive(Clone, Copy, Debug)]
-pub struct NewLock<'a> {
-    pub repo: &'a str,
-    pub ref_name: &'a str,
-    pub path: &'a str,
-    pub owner: &'a str,
-    /// In seconds since 1970.
-    pub moment: i64,
-}
 
 /// A lock, without its repository, which the caller knows.
 #[derive(Debug, Drop)]
 pub struct LockRow {
     /// Counted from 1 in the repository, and never reused.
-    pub id: u32,
-    pub ref_name: String,
-    pub path: String,
-    pub owner: String,
-    /// When it was made, in seconds since 1970.
-    pub moment: i64,
+    pub id: LockId,
+    pub ref_name: RefName,
+    pub path: LockPath,
+    pub owner: UserName,
+    /// When it was made.
+    pub moment: Moment,
 }
 
 /// The result of a lock request.
 #[derive(Debug, Drop)]
 pub enum Creation {
     /// The lock was made, under this id.
-    Created(u32),
+    Created(LockId),
     /// This lock holds the path.
     Held(LockRow),
     /// The repository has made 4,294,967,295 locks.
     UsedUp,
 }
 
-/// What a token allows its user to do.
-#[derive(Clone, Copy, Debug, PartialEq, Eq)]
-pub enum Operation {
-    Download,
-    Upload,
-}
-
-impl Operation {
-    /// The number that represents it in the database.
-    pub(crate) fn code(self) -> i64
-        ensures { result ≡ code_of self }
-    {
-        match self {
-            Operation::Download => 1,
-            Operation::Upload => 2,
-        }
-    }
-
-    fn from_code(code: i64) -> Result<Operation, StoreFault>
-        ensures value { IfOk result (λ operation. code_of operation ≡ code) }
-        ensures known { result ≢ Err StoreFault.UnknownSchema }
-    {
-        match code {
-            1 => Ok(Operation::Download),
-            2 => Ok(Operation::Upload),
-            _ => Err(StoreFault::Refused),
-        }
-    }
-}
-
-/// A token to be stored.
-#[derive(Clone, Copy, Debug)]
-pub struct NewToken<'a> {
-    /// The SHA-256 of the token's text.
-    pub digest: &'a [u8; 32],
-    pub user: &'a str,
-    pub repo: &'a str,
-    pub operation: Operation,
-    /// The first moment at which it is no longer valid, in seconds since 1970.
-    pub expires: i64,
-}
-
 /// A token that was issued.
 #[derive(Debug, Drop)]
 pub struct TokenRow {
-    pub digest: Vec<u8>,
-    pub user: String,
-    pub repo: String,
+    pub digest: [u8; 32],
+    pub user: UserName,
+    pub repo: RepoName,
     pub operation: Operation,
-    pub expires: i64,
+    pub expires: Moment,
 }
 
+/// The number of the operation in the database.
+pub(crate) fn code_of(operation: Operation) -> u32
+    ensures { pos result ≡ code_of operation }
+{
+    match operation {
+        Operation::Download => 1,
+        Operation::Upload => 2,
+    }
+}
+
+/// The operation of this number in the database.
+fn operation_of(code: u32) -> Option<Operation>
+    ensures { MatchOption result
+        ((operation : _) → code_of operation ≢ pos code)
+        (λ operation. code_of operation ≡ pos code) }
+{
+    match code {
+        1 => Some(Operation::Download),
+        2 => Some(Operation::Upload),
+        _ => None,
+    }
+}
+
+/// The second of the moment since 1970, as the database stores it.
+pub(crate) fn second_of(moment: Moment) -> i64
+    ensures { result ≡ pos moment }
+{
+    moment.get() as i64
+}
+
+/// The 32 bytes of a digest; `None` for any other number of bytes.
+fn digest_of(bytes: &[u8]) -> Option<[u8; 32]>
+    ensures { MatchOption result (length bytes.now ≢ 32) (λ digest. digest ≡ bytes.now) }
+{
+    Some(*bytes.as_array()?)
+}
+
+/// The lock in a row. A row that is out of range is refused.
 fn lock_from(row: &Row) -> Result<LockRow, StoreFault>
     ensures value { (l : Lock) → row.now ≡ show_lock l → IfOk result
         (λ found. read_lock found ≡ lock_fields l) }
+    ensures in_range { (l : Lock) → row.now ≡ show_lock l → IfOk result (λ _. IsLockInRange l) }
+    ensures refused { (l : Lock) → row.now ≡ show_lock l → IsLockInRange l
+        → result ≢ Err StoreFault.Refused }
     ensures known { result ≢ Err StoreFault.UnknownSchema }
 {
     Ok(LockRow {
-        id: row.get(0)?,
-        ref_name: row.get(1)?,
-        path: row.get(2)?,
-        owner: row.get(3)?,
-        moment: row.get(4)?,
+        id: LockId::from_number(row.get(0)?).ok_or(StoreFault::Refused)?,
+        ref_name: RefName::read(row.get(1)?).ok_or(StoreFault::Refused)?,
+        path: LockPath::read(row.get(2)?).ok_or(StoreFault::Refused)?,
+        owner: UserName::read(row.get(3)?).ok_or(StoreFault::Refused)?,
+        moment: Moment::read(row.get(4)?).ok_or(StoreFault::Refused)?,
     })
 }
 
+/// The token in a row. A row that is out of range is refused.
 fn token_from(row: &Row) -> Result<TokenRow, StoreFault>
     ensures value { (t : Token) → row.now ≡ show_token t → IfOk result
         (λ found. read_token found ≡ token_fields t) }
+    ensures in_range { (t : Token) → row.now ≡ show_token t → IfOk result (λ _. IsTokenInRange t) }
+    ensures refused { (t : Token) → row.now ≡ show_token t → IsTokenInRange t
+        → result ≢ Err StoreFault.Refused }
     ensures known { result ≢ Err StoreFault.UnknownSchema }
 {
-    let code: i64 = row.get(3)?;
+    let digest: Vec<u8> = row.get(0)?;
     Ok(TokenRow {
-        digest: row.get(0)?,
-        user: row.get(1)?,
-        repo: row.get(2)?,
-        operation: Operation::from_code(code)?,
-        expires: row.get(4)?,
+        digest: digest_of(digest.as_slice()).ok_or(StoreFault::Refused)?,
+        user: UserName::read(row.get(1)?).ok_or(StoreFault::Refused)?,
+        repo: RepoName::read(row.get(2)?).ok_or(StoreFault::Refused)?,
+        operation: operation_of(row.get(3)?).ok_or(StoreFault::Refused)?,
+        expires: Moment::read(row.get(4)?).ok_or(StoreFault::Refused)?,
     })
 }
 

@@ -1,6 +1,7 @@
 //! The calls on tokens.
 
-ghost use Rattle.std.specs.Prelude.{◌≡◌, not, length, find, filter};
+ghost use Rattle.std.specs.Prelude.{◌≡◌, not, pos, length, find, filter};
+ghost use Rattle.names.specs.Names.{user_text, repo_text};
 ghost use Rattle.tables.specs.Statements.{has_digest, is_held_by, has_expired, with_token, without_expired};
 ghost use Rattle.tables.specs.Calls.{Says, Does, Transacts};
 ghost use Rattle.tables.specs.Steps.{IsTokenOf, AreTokensOf, asked_token, has_token, after_add};
@@ -8,9 +9,11 @@ ghost use Rattle.tables.specs.Shown.{Reads, Changes};
 
 use crate::Store;
 use crate::fault::StoreFault;
+use crate::new_rows::NewToken;
 use crate::read::{read, select};
-use crate::rows::{NewToken, TokenRow, all_tokens, first_token};
+use crate::rows::{TokenRow, all_tokens, code_of, first_token, second_of};
 use crate::write::{change, finish_with};
+use names::{Moment, RepoName, UserName};
 use sqlite::{Alter, Connection, Error, Transaction, params};
 use std::alloc::Global;
 
@@ -34,16 +37,15 @@ fn token_into<S: Alter>(tx: &mut Transaction<'_, S>, token: &NewToken<'_>) -> Re
     ensures does { Does S.Store tx.old.conn.now tx.new.conn.now result
         (with_token (asked_token token.now)) }
 {
-    let expires = token.expires;
     change(
         tx,
         "INSERT INTO tokens (digest, user, repo, op, expires) VALUES (?1, ?2, ?3, ?4, ?5)",
         params![
             token.digest.as_slice(),
-            token.user,
-            token.repo,
-            token.operation.code(),
-            expires
+            token.user.as_str(),
+            token.repo.as_str(),
+            code_of(token.operation),
+            second_of(token.expires)
         ],
     )
 }
@@ -76,23 +78,27 @@ fn add<S: Alter>(conn: &mut Connection<S>, token: &NewToken<'_>) -> Result<bool,
     finish_with(tx, added)
 }
 
-fn remove_expired_into<S: Alter>(tx: &mut Transaction<'_, S>, moment: i64) -> Result<usize, Error>
+fn remove_expired_into<S: Alter>(
+    tx: &mut Transaction<'_, S>,
+    moment: Moment,
+) -> Result<usize, Error>
     ensures same_reference { tx.new.conn.ghost_name ≡ tx.old.conn.ghost_name }
     ensures count { Says S.Store tx.old.conn.now tx.new.conn.now result
-        (λ t n. n ≡ length (filter (has_expired moment) t.tokens)) }
-    ensures does { Does S.Store tx.old.conn.now tx.new.conn.now result (without_expired moment) }
+        (λ t n. n ≡ length (filter (has_expired (pos moment)) t.tokens)) }
+    ensures does { Does S.Store tx.old.conn.now tx.new.conn.now result
+        (without_expired (pos moment)) }
 {
     change(
         tx,
         "DELETE FROM tokens WHERE expires <= ?1",
-        params![moment],
+        params![second_of(moment)],
     )
 }
 
 #[tactic(auto, using(crate::proofs::Calls::led))]
-fn remove_expired<S: Alter>(conn: &mut Connection<S>, moment: i64) -> Result<usize, StoreFault>
-    ensures { Transacts S.Store conn.old conn.new result (without_expired moment)
-        (λ t n. n ≡ length (filter (has_expired moment) t.tokens)) }
+fn remove_expired<S: Alter>(conn: &mut Connection<S>, moment: Moment) -> Result<usize, StoreFault>
+    ensures { Transacts S.Store conn.old conn.new result (without_expired (pos moment))
+        (λ t n. n ≡ length (filter (has_expired (pos moment)) t.tokens)) }
 {
     if !conn.is_autocommit() {
         return Err(StoreFault::Refused);
@@ -128,16 +134,17 @@ impl<S: Alter> Store<S> {
     pub fn tokens_of(
         &mut self,
         alloc: Global,
-        user: &str,
-        repo: &str,
+        user: &UserName,
+        repo: &RepoName,
     ) -> Result<Vec<TokenRow>, StoreFault>
         ensures { Reads S.Store self.old self.new result
-            (λ t found. AreTokensOf found.items (filter (is_held_by user.now repo.now) t.tokens)) }
+            (λ t found. AreTokensOf found.items
+            (filter (is_held_by (user_text user.now) (repo_text repo.now)) t.tokens)) }
     {
         let rows = read(
             &mut self.conn,
             "SELECT digest, user, repo, op, expires FROM tokens WHERE user = ?1 AND repo = ?2 ORDER BY rowid",
-            params![user, repo],
+            params![user.as_str(), repo.as_str()],
         )?;
         all_tokens(alloc, rows.as_slice())
     }
@@ -154,14 +161,14 @@ impl<S: Alter> Store<S> {
         add(&mut self.conn, token)
     }
 
-    /// Removes the tokens that have expired at this moment, in seconds since 1970, and returns their number.
+    /// Removes the tokens that have expired at this moment, and returns their number.
     ///
     /// # Errors
     ///
     /// `Refused` or `Memory`. The tables are unchanged, but a stop may still leave the change.
-    pub fn remove_expired(&mut self, moment: i64) -> Result<usize, StoreFault>
-        ensures { Changes S.Store self.old self.new result (without_expired moment)
-            (λ t n. n ≡ length (filter (has_expired moment) t.tokens)) }
+    pub fn remove_expired(&mut self, moment: Moment) -> Result<usize, StoreFault>
+        ensures { Changes S.Store self.old self.new result (without_expired (pos moment))
+            (λ t n. n ≡ length (filter (has_expired (pos moment)) t.tokens)) }
     {
         remove_expired(&mut self.conn, moment)
     }

@@ -1,9 +1,9 @@
 -- The caller, from the row of a token to the world.
-use Rattle.std.proofs.Common.{◌≡◌, ◌<ℤ◌, ◌≤ℤ◌, ℕ, ◌<◌, ◌≤◌, ℤ, pos, true, false, nat_lt, List, find, Option, Some, None, option_map, Result, Ok, Err, string_bytes, refl, sym, ap, ◌∙◌, subst, arith}
+use Rattle.std.proofs.Common.{◌≡◌, ℕ, ◌<◌, ◌≤◌, true, false, nat_lt, List, find, Option, Some, None, option_map, Result, Ok, Err, refl, sym, ap, ◌∙◌, subst, arith}
 use Rattle.std.proofs.lemmas.Bool.Decides.{nat_tests}
-use Rattle.std.proofs.lemmas.Int.{ints}
 use Rattle.std.proofs.lemmas.Option.{none-some}
 use Rattle.sha2.specs.Sha256.{sha256}
+use Rattle.names.specs.Names.{user_text, repo_text}
 use Rattle.names.specs.declared.rules.Rule.{Rule}
 use Rattle.names.specs.declared.rules.Rule.TheVariants.{A2, A3}
 use Rattle.model.specs.World.{World, IsWorld, Token, find_token}
@@ -12,10 +12,11 @@ use Rattle.model.specs.Callers.{bearer, caller_by}
 use Rattle.tables.specs.Rows as row
 use Rattle.tables.specs.Rows.{Tables}
 use Rattle.tables.specs.Statements.{has_digest}
-use Rattle.tables.specs.Steps.{TokenFields, token_fields, read_token, code_of}
+use Rattle.tables.specs.Steps.{TokenFields, token_fields, read_token}
 use Rattle.tables.specs.declared.rows.TokenRow.{TokenRow}
-use Rattle.worlds.specs.Standing.{token_kept, token_row, operation_code, StandsFor}
+use Rattle.worlds.specs.Standing.{token_kept, token_row, StandsFor}
 use Rattle.worlds.proofs.Lookups.{token_found}
+use Rattle.worlds.proofs.Same.{same_operation, same_pos}
 use Rattle.tokens.specs.declared.callers.Caller.{Caller}
 use Rattle.tokens.specs.Callers.{IsCalling, IsGoodAt}
 
@@ -53,17 +54,17 @@ unknown_token t world now values text digest s w bears is e =
 
 -- a row and the token that it stores agree
 record Keeps (found : TokenRow) (i : Token) : Type 0 where
-  user : string_bytes found.user ≡ i.user
-  repo : string_bytes found.repo ≡ i.repo
-  operation : code_of found.operation ≡ operation_code i.operation
-  expires : found.expires ≡ pos i.expires
+  user : user_text found.user ≡ i.user
+  repo : repo_text found.repo ≡ i.repo
+  operation : found.operation ≡ i.operation
+  expires : found.expires ≡ i.expires
 
 keeps : (found : TokenRow) (r : row.Token) (i : Token) → read_token found ≡ token_fields r → token_kept r ≡ token_row i → Keeps found i
 keeps found r i a b = record {
   user = ap (λ (f : TokenFields). f.user) a ∙ ap (λ (k : row.Token). k.user) b;
   repo = ap (λ (f : TokenFields). f.repo) a ∙ ap (λ (k : row.Token). k.repo) b;
-  operation = ap (λ (f : TokenFields). f.op) a ∙ ap (λ (k : row.Token). k.op) b;
-  expires = ap (λ (f : TokenFields). f.expires) a ∙ ap (λ (k : row.Token). k.expires) b;
+  operation = same_operation _ _ (ap (λ (f : TokenFields). f.op) a ∙ ap (λ (k : row.Token). k.op) b);
+  expires = same_pos _ _ (ap (λ (f : TokenFields). f.expires) a ∙ ap (λ (k : row.Token). k.expires) b);
 }
 
 lt_true : (a b : ℕ) → a < b → nat_lt a b ≡ true
@@ -75,12 +76,10 @@ lt_false a b h = grind (arith, nat_tests)
 calling : (world : World) (now : ℕ) (values : List (List ℕ)) (text : List ℕ) (i : Token) (found : TokenRow) (r : Result Caller Rule)
     → bearer values ≡ Some text → find_token text world ≡ Some i → Keeps found i → IsGoodAt found now r → IsCalling world now values r
 calling world now values text i found (Ok c) bears known k good =
-    let soon : pos now <ℤ pos i.expires = subst (λ (z : ℤ). pos now <ℤ z) k.expires good.0 in
-    let before : now < i.expires = omega (arith, ints, soon) in
-    (presented_by text i, accepted world now values text i bears known (lt_true now i.expires before), record { user = good.1 ∙ k.user; repo = good.2 ∙ k.repo; operation = ap code_of good.3 ∙ k.operation })
+    let before : now < i.expires = omega (arith, good.0, k.expires) in
+    (presented_by text i, accepted world now values text i bears known (lt_true now i.expires before), record { user = good.1 ∙ k.user; repo = good.2 ∙ k.repo; operation = good.3 ∙ k.operation })
 calling world now values text i found (Err rule) bears known k late =
-    let past : pos i.expires ≤ℤ pos now = subst (λ (z : ℤ). z ≤ℤ pos now) k.expires late.0 in
-    let after : i.expires ≤ now = omega (arith, ints, past) in
+    let after : i.expires ≤ now = omega (arith, late.0, k.expires) in
     refused_expired world now values text i bears known (lt_false now i.expires after) ∙ ap Err (sym late.1)
 
 pub known_token : (t : Tables) (world : World) (now : ℕ) (values : List (List ℕ)) (text digest : List ℕ) (found : TokenRow) (r : Result Caller Rule) → StandsFor t world → IsWorld world

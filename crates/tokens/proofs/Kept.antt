@@ -14,30 +14,20 @@ use Rattle.model.proofs.Keeping.{keeps_without_expired}
 use Rattle.tables.specs.Rows as row
 use Rattle.tables.specs.Statements.{has_expired}
 use Rattle.tables.specs.Statements as tables
-use Rattle.tables.specs.Steps.{code_of, has_token, after_add}
+use Rattle.tables.specs.Steps.{has_token, after_add}
 use Rattle.tables.specs.Shown.{IsHonest, IsOpen, shown, Makes, Fails}
 use Rattle.tables.specs.declared.Store.{Store}
 use Rattle.tables.specs.declared.fault.StoreFault.{StoreFault}
-use Rattle.tables.specs.declared.rows.Operation.{Operation}
-use Rattle.tables.specs.declared.rows.Operation.TheVariants.{Download, Upload}
-use Rattle.worlds.specs.Standing.{Holds, token_kept, token_row, operation_code}
+use Rattle.worlds.specs.Standing.{Holds, token_kept, token_row}
 use Rattle.worlds.specs.Left.{Leads, Ends}
 use Rattle.worlds.proofs.Leading.{still_then, ends_made, ends_failed, takes_made, takes_failed, takes_still}
 use Rattle.worlds.proofs.Tokens.{token_known, none_is, some_is, would_add, holds_token, holds_if_known, holds_pruned, expired_counted, expired_gone}
-use Rattle.tokens.specs.Issuing.{Keeps, Issues, Refuses, denial_of, report_of, operation_of, token_asked, token_until}
+use Rattle.tokens.specs.Issuing.{Keeps, Issues, Refuses, denial_of, report_of, token_asked, token_until}
 use Rattle.tokens.specs.Pruning.{Prunes}
 use Rattle.tokens.specs.declared.issuing.TokenFault.{TokenFault}
 use Rattle.tokens.specs.declared.issuing.TokenFault.TheVariants.{AlreadyIssued, ExpiresTooLate}
 use Rattle.tokens.specs.declared.issuing.TokenFault.TheVariants as fault
 use Rattle.tokens.specs.declared.requests.TokenRequest.{TokenRequest}
-
-pub code_alike : (op : Operation) → code_of op ≡ operation_code (operation_of op)
-code_alike Download = refl
-code_alike Upload = refl
-
-pub row_alike : (digest user repo : List ℕ) (op expires : ℤ) (i : Token) → digest ≡ sha256 i.text → user ≡ i.user → repo ≡ i.repo → op ≡ operation_code i.operation → expires ≡ pos i.expires
-    → ◌≡◌ {A = row.Token} (record { rowid = pos 0; digest = digest; user = user; repo = repo; op = op; expires = expires }) (token_row i)
-row_alike digest user repo op expires i a b c d e = rw (a, b, c, d, e) refl
 
 -- ---- what the tables did
 
@@ -81,7 +71,7 @@ module _ (world : World) (asked : TokenRequest) where
   is_there known = let there = some_is (find_token (token_asked asked).text world) known in rw there.1 refl
 
   pub is_request : IsTrue (is_hex_64 (token_asked asked).text) → IsTokenRequest (token_asked asked)
-  is_request text = record { text = text; user = asked.user.in_range; repo = asked.repo.in_range; now = asked.in_range }
+  is_request text = record { text = text; user = asked.user.now.in_range; repo = asked.repo.now.in_range; now = asked.in_range }
 
   in_range : IsTokenRequest (token_asked asked) → nat_le (asked.now + asked.seconds) last_moment ≡ true → IsToken (token_until asked (token_asked asked).text (asked.now + asked.seconds))
   in_range is in_time = record { text = is.text; user = is.user; repo = is.repo; expires = leb-true (asked.now + asked.seconds) last_moment in_time }

@@ -1,20 +1,19 @@
 -- The caller, as the store reports it.
-use Rattle.std.specs.Prelude.{◌≡◌, ◌<ℤ◌, ◌≤ℤ◌, ℕ, pos, List, Result, Ok, Err, string_bytes}
+use Rattle.std.specs.Prelude.{◌≡◌, ◌<◌, ◌≤◌, ℕ, List, Result, Ok, Err}
+use Rattle.names.specs.Names.{user_text, repo_text}
 use Rattle.names.specs.declared.rules.Rule.{Rule}
 use Rattle.names.specs.declared.rules.Rule.TheVariants.{A3}
 use Rattle.model.specs.World.{World}
 use Rattle.model.specs.Callers as model
 use Rattle.model.specs.Callers.{caller_by}
-use Rattle.tables.specs.Steps.{code_of}
 use Rattle.tables.specs.declared.rows.TokenRow.{TokenRow}
-use Rattle.worlds.specs.Standing.{operation_code}
 use Rattle.tokens.specs.declared.callers.Caller.{Caller}
 
 -- the caller, as in the model
 pub record IsHolder (c : Caller) (who : model.Caller) : Type 0 where
-  pub user : string_bytes c.user ≡ who.user
-  pub repo : string_bytes c.repo ≡ who.repo
-  pub operation : code_of c.operation ≡ operation_code who.operation
+  pub user : user_text c.user ≡ who.user
+  pub repo : repo_text c.repo ≡ who.repo
+  pub operation : c.operation ≡ who.operation
 
 -- the result is the caller, or the rule, that the world gives for these values of Authorization
 abbrev pub IsCalling : World → ℕ → List (List ℕ) → Result Caller Rule → Type 0
@@ -23,5 +22,7 @@ IsCalling world now values (Err rule) = caller_by world now values ≡ Err rule
 
 -- the caller of a row that is valid at the moment, or A3
 abbrev pub IsGoodAt : TokenRow → ℕ → Result Caller Rule → Type 0
-IsGoodAt row now (Ok c) = (pos now <ℤ row.expires) × (string_bytes c.user ≡ string_bytes row.user) × (string_bytes c.repo ≡ string_bytes row.repo) × (c.operation ≡ row.operation)
-IsGoodAt row now (Err rule) = (row.expires ≤ℤ pos now) × (rule ≡ A3)
+IsGoodAt row now (Ok c) =
+    (now < row.expires) × (user_text c.user ≡ user_text row.user)
+    × (repo_text c.repo ≡ repo_text row.repo) × (c.operation ≡ row.operation)
+IsGoodAt row now (Err rule) = (row.expires ≤ now) × (rule ≡ A3)

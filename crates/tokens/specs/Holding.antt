@@ -2,8 +2,7 @@
 use Rattle.std.specs.Prelude.{ℕ, pos, Bool, ◌&&◌, List, bytes_eq}
 use Rattle.sha2.specs.Sha256.{sha256}
 use Rattle.model.specs.World.{Token}
-use Rattle.tables.specs.Steps.{TokenFields}
-use Rattle.worlds.specs.Standing.{operation_code}
+use Rattle.tables.specs.Steps.{TokenFields, code_of}
 
 -- the token is the user's, for the repository
 abbrev pub is_of : List ℕ → List ℕ → Token → Bool
@@ -11,4 +10,4 @@ is_of user repo t = bytes_eq t.user user && bytes_eq t.repo repo
 
 -- the reported fields of a token: its digest replaces its text
 abbrev pub told_of : Token → TokenFields
-told_of t = record { digest = sha256 t.text; user = t.user; repo = t.repo; op = operation_code t.operation; expires = pos t.expires }
+told_of t = record { digest = sha256 t.text; user = t.user; repo = t.repo; op = code_of t.operation; expires = pos t.expires }

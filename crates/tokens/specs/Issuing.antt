@@ -3,15 +3,11 @@ use Rattle.std.specs.Prelude.{◌≡◌, ℕ, Bool, true, false, is_some, List, 
 use Rattle.sqlite_trees.specs.declared.store.Store.{Ghosts}
 use Rattle.hex.specs.Hex.{encode_lower}
 use Rattle.names.specs.Names.{user_text, repo_text}
-use Rattle.model.specs.declared.Operation as for_model
-use Rattle.model.specs.declared.Operation.TheVariants as model_operation
 use Rattle.model.specs.World.{World, Token, IsToken, find_token, with_token}
 use Rattle.model.specs.Operator as model
 use Rattle.model.specs.Operator.{TokenDenial, token_verdict, already_issued, expires_too_late}
 use Rattle.model.specs.Steps.{issues}
 use Rattle.model.specs.Bounds.{Ending, changed, unchanged, failed, world_by}
-use Rattle.tables.specs.declared.rows.Operation.{Operation}
-use Rattle.tables.specs.declared.rows.Operation.TheVariants.{Download, Upload}
 use Rattle.tables.specs.declared.Store.{Store}
 use Rattle.tables.specs.declared.fault.StoreFault.{StoreFault}
 use Rattle.worlds.specs.Left.{Ends, Takes}
@@ -20,18 +16,13 @@ use Rattle.tokens.specs.declared.issuing.TokenFault.{TokenFault}
 use Rattle.tokens.specs.declared.issuing.TokenFault.TheVariants.{AlreadyIssued, ExpiresTooLate}
 use Rattle.tokens.specs.declared.issuing.TokenFault.TheVariants as fault
 
--- the operation of a token
-abbrev pub operation_of : Operation → for_model.Operation
-operation_of Download = model_operation.Download
-operation_of Upload = model_operation.Upload
-
 -- the request, in the model's terms
 abbrev pub token_asked : TokenRequest → model.TokenRequest
 token_asked r = record {
   text = encode_lower r.random.now;
-  user = user_text r.user;
-  repo = repo_text r.repo;
-  operation = operation_of r.operation;
+  user = user_text r.user.now;
+  repo = repo_text r.repo.now;
+  operation = r.operation;
   now = r.now;
   seconds = r.seconds;
 }
@@ -40,9 +31,9 @@ token_asked r = record {
 abbrev pub token_until : TokenRequest → List ℕ → ℕ → Token
 token_until r text expires = record {
   text = text;
-  user = user_text r.user;
-  repo = repo_text r.repo;
-  operation = operation_of r.operation;
+  user = user_text r.user.now;
+  repo = repo_text r.repo.now;
+  operation = r.operation;
   expires = expires;
 }
 

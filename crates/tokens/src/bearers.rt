@@ -1,6 +1,6 @@
 //! Finds the caller: the token in a request, and its row in the store (RFC 6750).
 
-ghost use Rattle.std.specs.Prelude.{◌≡◌, option_map, Some, IfOk};
+ghost use Rattle.std.specs.Prelude.{◌≡◌, ◌≢◌, option_map, Some, IfOk};
 ghost use Rattle.std.specs.List.{list_all};
 ghost use Rattle.sha2.specs.Sha256.{sha256};
 ghost use Rattle.model.specs.Callers.{bearer, is_visible};
@@ -49,13 +49,14 @@ fn digest_of(text: &[u8]) -> [u8; 32]
 ///
 /// # Errors
 ///
-/// A [`StoreFault`], which leaves the store unchanged too.
+/// `Refused` or `Memory`, which leave the store unchanged too.
 pub fn caller<S: Alter>(
     store: &mut Store<S>,
     authorization: Option<&[u8]>,
     now: Moment,
 ) -> Result<Result<Caller, Rule>, StoreFault>
-    ensures { Reads S.Store store.old store.new (λ world.
+    ensures known { result ≢ Err StoreFault.UnknownSchema }
+    ensures world { Reads S.Store store.old store.new (λ world.
         IfOk result (IsCalling world now (the_one (option_map (λ v. v.now) authorization.entry)))) }
 {
     let Some(value) = authorization else {

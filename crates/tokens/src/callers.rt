@@ -2,16 +2,16 @@
 
 ghost use Rattle.tokens.specs.Callers.{IsGoodAt};
 
-use names::{Moment, Rule};
-use tables::{Operation, TokenRow};
+use names::{Moment, Operation, RepoName, Rule, UserName};
+use tables::TokenRow;
 
 /// The authenticated caller.
 #[derive(Debug, Drop)]
 pub struct Caller {
     /// The user.
-    pub user: String,
+    pub user: UserName,
     /// The repository that the token is for.
-    pub repo: String,
+    pub repo: RepoName,
     /// The operation that the token was issued for.
     pub operation: Operation,
 }
@@ -20,7 +20,7 @@ pub struct Caller {
 pub(crate) fn good_at(token: TokenRow, now: Moment) -> Result<Caller, Rule>
     ensures { IsGoodAt token now result }
 {
-    if (now.get() as i64) < token.expires {
+    if now.get() < token.expires.get() {
         Ok(Caller {
             user: token.user,
             repo: token.repo,

@@ -1,6 +1,6 @@
 //! Lists a user's tokens.
 
-ghost use Rattle.std.specs.Prelude.{map, filter, IfOk, IsPermutation};
+ghost use Rattle.std.specs.Prelude.{◌≢◌, map, filter, IfOk, IsPermutation};
 ghost use Rattle.names.specs.Names.{user_text, repo_text};
 ghost use Rattle.tables.specs.Steps.{read_token};
 ghost use Rattle.worlds.specs.Left.{Reads};
@@ -15,17 +15,18 @@ use tables::{Alter, Store, StoreFault, TokenRow};
 ///
 /// # Errors
 ///
-/// A [`StoreFault`]. In either case, what the store shows is unchanged.
+/// `Refused` or `Memory`. In either case, what the store shows is unchanged.
 pub fn of<S: Alter>(
     alloc: Global,
     store: &mut Store<S>,
-    user: UserName<'_>,
-    repo: RepoName<'_>,
+    user: &UserName,
+    repo: &RepoName,
 ) -> Result<Vec<TokenRow>, StoreFault>
-    ensures { Reads S.Store store.old store.new (λ world.
+    ensures known { result ≢ Err StoreFault.UnknownSchema }
+    ensures world { Reads S.Store store.old store.new (λ world.
         IfOk result (λ found. IsPermutation (map read_token found.items)
         (map told_of
-        (filter (is_of (user_text user.entry) (repo_text repo.entry)) world.tokens)))) }
+        (filter (is_of (user_text user.entry.now) (repo_text repo.entry.now)) world.tokens)))) }
 {
-    store.tokens_of(alloc, user.as_str(), repo.as_str())
+    store.tokens_of(alloc, user, repo)
 }

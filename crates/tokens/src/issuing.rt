@@ -1,6 +1,6 @@
 //! Issues tokens.
 
-ghost use Rattle.std.specs.Prelude.{◌≡◌, ◌+◌, true, false, is_some, nat_le, Ok, IfOk, IsTrue, MatchOption, MatchResult, string_bytes};
+ghost use Rattle.std.specs.Prelude.{◌≡◌, ◌≢◌, ◌+◌, true, false, is_some, nat_le, Ok, IfOk, IsTrue, MatchOption, MatchResult, string_bytes};
 ghost use Rattle.hex.specs.Hex.{encode_lower};
 ghost use Rattle.names.specs.Texts.{last_moment, is_hex_64};
 ghost use Rattle.model.specs.World.{find_token};
@@ -9,7 +9,6 @@ ghost use Rattle.worlds.specs.Left.{From, Reads};
 ghost use Rattle.tokens.specs.Issuing.{Issues, Refuses, Keeps, Offers, denial_of, token_asked, token_until};
 ghost use Rattle.tokens.specs.declared.issuing.TokenFault.TheVariants.{Store as by_store};
 
-use crate::moments::second_of;
 use crate::requests::TokenRequest;
 use names::Moment;
 use sha2::{Digest, Sha256};
@@ -43,13 +42,15 @@ impl From<StoreFault> for TokenFault {
 fn text_of(alloc: Global, random: &[u8; 32]) -> Result<String, StoreFault>
     ensures text { IfOk result (λ text. string_bytes text ≡ encode_lower random.now) }
     ensures digits { IsTrue (is_hex_64 (encode_lower random.now)) }
+    ensures known { result ≢ Err StoreFault.UnknownSchema }
 {
     Ok(hex::encode(alloc, random.as_slice())?)
 }
 
 /// Whether a token of this text was issued.
 fn is_known<S: Alter>(store: &mut Store<S>, text: &str) -> Result<bool, StoreFault>
-    ensures { Reads S.Store store.old store.new (λ world.
+    ensures known { result ≢ Err StoreFault.UnknownSchema }
+    ensures world { Reads S.Store store.old store.new (λ world.
         IfOk result (λ known. known ≡ is_some (find_token text.now world))) }
 {
     let digest = Sha256::digest(text.as_bytes());
@@ -72,16 +73,17 @@ fn keep<S: Alter>(
     text: &str,
     expires: Moment,
 ) -> Result<bool, StoreFault>
-    ensures { From S.Store store.old store.new (λ world.
+    ensures known { result ≢ Err StoreFault.UnknownSchema }
+    ensures world { From S.Store store.old store.new (λ world.
         Keeps S.Store world asked.entry.now text.now expires store.old store.new result) }
 {
     let digest = Sha256::digest(text.as_bytes());
     store.add_token(&NewToken {
         digest: &digest,
-        user: asked.user.as_str(),
-        repo: asked.repo.as_str(),
+        user: asked.user,
+        repo: asked.repo,
         operation: asked.operation,
-        expires: second_of(expires),
+        expires,
     })
 }
 
@@ -91,7 +93,8 @@ fn judge<S: Alter>(
     asked: &TokenRequest<'_>,
     text: &str,
 ) -> Result<Moment, TokenFault>
-    ensures { Reads S.Store store.old store.new (λ world.
+    ensures known { result ≢ Err (TokenFault.Store StoreFault.UnknownSchema) }
+    ensures world { Reads S.Store store.old store.new (λ world.
         text.now ≡ (token_asked asked.entry.now).text → MatchResult result
         (λ expires. token_verdict world (token_asked asked.entry.now)
         ≡ Ok (token_until asked.entry.now text.now expires))
@@ -114,7 +117,8 @@ pub fn offer<S: Alter>(
     store: &mut Store<S>,
     asked: &TokenRequest<'_>,
 ) -> Result<String, TokenFault>
-    ensures { Reads S.Store store.old store.new (λ world.
+    ensures known { result ≢ Err (TokenFault.Store StoreFault.UnknownSchema) }
+    ensures world { Reads S.Store store.old store.new (λ world.
         MatchResult result
         (λ text. Offers world asked.entry.now (string_bytes text))
         (λ fault. denial_of fault (token_verdict world (token_asked asked.entry.now)))) }
@@ -136,7 +140,8 @@ pub fn issue<S: Alter>(
     store: &mut Store<S>,
     asked: &TokenRequest<'_>,
 ) -> Result<String, TokenFault>
-    ensures { From S.Store store.old store.new (λ world.
+    ensures known { result ≢ Err (TokenFault.Store StoreFault.UnknownSchema) }
+    ensures world { From S.Store store.old store.new (λ world.
         MatchResult result
         (λ text. Issues S.Store world store.old store.new asked.entry.now (string_bytes text))
         (λ fault. Refuses S.Store world store.old store.new asked.entry.now fault)) }

@@ -9,7 +9,6 @@ mod bearers;
 mod callers;
 mod holding;
 mod issuing;
-mod moments;
 mod pruning;
 mod requests;
 

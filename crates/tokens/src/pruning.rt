@@ -1,9 +1,9 @@
 //! Removes tokens.
 
+ghost use Rattle.std.specs.Prelude.{◌≢◌};
 ghost use Rattle.worlds.specs.Left.{From};
 ghost use Rattle.tokens.specs.Pruning.{Prunes};
 
-use crate::moments::second_of;
 use names::Moment;
 use tables::{Alter, Store, StoreFault};
 
@@ -11,10 +11,11 @@ use tables::{Alter, Store, StoreFault};
 ///
 /// # Errors
 ///
-/// A [`StoreFault`], which leaves the contents of the store unchanged.
+/// `Refused` or `Memory`, which leave the contents of the store unchanged.
 pub fn prune<S: Alter>(store: &mut Store<S>, now: Moment) -> Result<usize, StoreFault>
-    ensures { From S.Store store.old store.new (λ world.
+    ensures known { result ≢ Err StoreFault.UnknownSchema }
+    ensures world { From S.Store store.old store.new (λ world.
         Prunes S.Store world now store.old store.new result) }
 {
-    store.remove_expired(second_of(now))
+    store.remove_expired(now)
 }

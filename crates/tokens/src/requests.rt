@@ -3,16 +3,15 @@
 ghost use Rattle.std.specs.Prelude.{◌≤◌};
 ghost use Rattle.names.specs.Texts.{last_moment};
 
-use names::{Moment, RepoName, UserName};
-use tables::Operation;
+use names::{Moment, Operation, RepoName, UserName};
 
 /// A request for a token.
 #[derive(Clone, Copy, Debug)]
 pub struct TokenRequest<'a> {
     /// The user of the token.
-    pub user: UserName<'a>,
+    pub user: &'a UserName,
     /// The repository that it is for.
-    pub repo: RepoName<'a>,
+    pub repo: &'a RepoName,
     /// The operation that it is for.
     pub operation: Operation,
     /// The moment of the request.

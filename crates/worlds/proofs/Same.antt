@@ -3,13 +3,14 @@ use Rattle.std.proofs.Common.{◌≡◌, ◌∙◌, inl, inr, ℕ, ℤ, pos, Lis
 use Rattle.std.specs.Ordering.{int_eq}
 use Rattle.std.proofs.lemmas.List.Sorted.{IsPermutation-refl, IsPermutation-trans, IsPermutation-sym, IsPermutation-map}
 use Rattle.sha2.specs.Sha256.{sha256}
-use Rattle.model.specs.declared.Operation.{Operation}
-use Rattle.model.specs.declared.Operation.TheVariants.{Download, Upload}
+use Rattle.names.specs.declared.operations.Operation.{Operation}
+use Rattle.names.specs.declared.operations.Operation.TheVariants.{Download, Upload}
 use Rattle.model.specs.World.{World, Object, Lock, Token}
 use Rattle.model.specs.Bounds.{TokenDigest, token_digest, SameWorld, Bound, IsWithin}
 use Rattle.tables.specs.Rows as row
 use Rattle.tables.specs.Rows.{Tables}
-use Rattle.worlds.specs.Standing.{StandsFor, lock_kept, lock_row, token_kept, token_row, operation_code}
+use Rattle.tables.specs.Steps.{code_of}
+use Rattle.worlds.specs.Standing.{StandsFor, lock_kept, lock_row, token_kept, token_row}
 use Rattle.worlds.specs.Left.{IsAmong}
 
 nat_of : ℤ → ℕ
@@ -30,10 +31,13 @@ lock_back : (l : Lock) → lock_of (lock_row l) ≡ l
 unfolding lock_of nat_of
 lock_back l = refl
 
-operation_back : (o : Operation) → operation_in (operation_code o) ≡ o
+operation_back : (o : Operation) → operation_in (code_of o) ≡ o
 unfolding operation_in
 operation_back Download = refl
 operation_back Upload = refl
+
+pub same_operation : (a b : Operation) → code_of a ≡ code_of b → a ≡ b
+same_operation a b e = sym (operation_back a) ∙ ap operation_in e ∙ operation_back b
 
 token_back : (t : Token) → token_of (token_row t) ≡ token_digest t
 unfolding token_of nat_of
@@ -55,7 +59,7 @@ map_itself : {A : Type 0} (xs : List A) → map (λ x. x) xs ≡ xs
 map_itself [] = refl
 map_itself (x ∷ xs) = ap (λ ys. x ∷ ys) (map_itself xs)
 
-same_pos : (a b : ℕ) → pos a ≡ pos b → a ≡ b
+pub same_pos : (a b : ℕ) → pos a ≡ pos b → a ≡ b
 unfolding nat_of
 same_pos a b e = ap nat_of e
 

@@ -1,5 +1,5 @@
 -- A store that `start` accepted is in a world, and a stop leaves that world.
-use Rattle.std.proofs.Common.{◌≡◌, ◌∙◌, ◌⊎◌, inl, inr, arith, ℕ, ◌<◌, length, IsTrue, [], ◌∷◌, List, Result, Ok, Err, OnOk, refl, sym, ap, subst}
+use Rattle.std.proofs.Common.{◌≡◌, ◌∙◌, ◌⊎◌, inl, inr, IsTrue, [], ◌∷◌, Result, Ok, Err, OnOk, refl, sym, ap, subst}
 use Rattle.std.proofs.Math.Logic.{∥∥₁_map}
 use Rattle.sqlite_disk.specs.declared.Disk as disk
 use Rattle.sqlite_trees.specs.declared.store.Store.{Ghosts}
@@ -9,8 +9,7 @@ use Rattle.sqlite_wal.specs.Recovery.{Image}
 use Rattle.sqlite_store.specs.declared.store.FileStore.{FileStore}
 use Rattle.sqlite_store.specs.FileStore as files
 use Rattle.sqlite.specs.Effect.{Database}
-use Rattle.sqlite_trees.specs.Objects.{catalog_tree}
-use Rattle.sqlite.specs.Files.{over_files, AreFoundIn}
+use Rattle.sqlite.specs.Files.{over_files}
 use Rattle.sqlite.specs.Schema.{Schema}
 use Rattle.sqlite.proofs.Theorems.{opens_again}
 use Rattle.model.specs.World.{World, IsWorld, nothing}
@@ -89,12 +88,6 @@ module _ {S : Type 0} (g : Ghosts S) (old new : Store S) where
   is_one a ours [] among = among
   is_one a ours (world ∷ bound) (inl here) = inl (is_found a world here.0 (λ _. (ours, subst (λ (d : Database). StandsFor (tables_of d.trees) world) (sym ours.settled) here.1)))
   is_one a ours (world ∷ bound) (inr rest) = inr (is_one a ours bound rest)
-
--- the database found in an empty file lists no table
-pub finds_nothing : (image : Image) (db : Trees) → image.db ≡ [] → AreFoundIn image db → db catalog_tree ≡ []
-finds_nothing image db none (inl found) =
-    let some : 0 < length {A = ℕ} [] = subst (λ (bytes : List ℕ). 0 < length bytes) none found.3.found.present in absurd (omega (arith, some))
-finds_nothing image db none (inr empty) = empty.1.1
 
 -- the next open can read what a stop leaves of a store
 pub left_image : {D : Type 0} {g : disk.Ghosts D} (s : Store (FileStore D g)) (bound : Bound) → IsHonest over_files s → IsBoundedBy over_files s bound → IsTrue (files.view s.conn.store).is_numbered

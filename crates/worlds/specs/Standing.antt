@@ -1,14 +1,12 @@
 -- The worlds that tables represent.
-use Rattle.std.specs.Prelude.{◌≡◌, ℕ, ℤ, pos, List, [], ◌∷◌, map, IsPermutation}
+use Rattle.std.specs.Prelude.{◌≡◌, ℕ, pos, List, [], ◌∷◌, map, IsPermutation}
 use Rattle.sha2.specs.Sha256.{sha256}
 use Rattle.sqlite_trees.specs.declared.store.Store.{Ghosts}
-use Rattle.model.specs.declared.Operation.{Operation}
-use Rattle.model.specs.declared.Operation.TheVariants.{Download, Upload}
 use Rattle.model.specs.World.{World, IsWorld, Lock, Token, total}
 use Rattle.tables.specs.Rows as row
 use Rattle.tables.specs.Rows.{Tables}
 use Rattle.tables.specs.Runs.{first_meta}
-use Rattle.tables.specs.Steps.{made_of, used_of}
+use Rattle.tables.specs.Steps.{code_of, made_of, used_of}
 use Rattle.tables.specs.Shown.{IsHonest, IsOpen, Stands, shown}
 use Rattle.tables.specs.declared.Store.{Store}
 
@@ -23,13 +21,9 @@ token_kept t = record t { rowid = pos 0 }
 abbrev pub lock_row : Lock → row.Lock
 lock_row l = record { rowid = pos 0; repo = l.repo; id = pos l.id; ref_name = l.ref; path = l.path; owner = l.owner; moment = pos l.at }
 
-abbrev pub operation_code : Operation → ℤ
-operation_code Download = pos 1
-operation_code Upload = pos 2
-
 -- the row of an issued token, which stores only the digest
 abbrev pub token_row : Token → row.Token
-token_row t = record { rowid = pos 0; digest = sha256 t.text; user = t.user; repo = t.repo; op = operation_code t.operation; expires = pos t.expires }
+token_row t = record { rowid = pos 0; digest = sha256 t.text; user = t.user; repo = t.repo; op = code_of t.operation; expires = pos t.expires }
 
 -- the rows are those of the world's locks and tokens, in any order; there are no objects, uploads or chunks; each
 -- repository has its counts

@@ -5,7 +5,7 @@ ghost use Rattle.sqlite_trees.specs.Objects.{catalog_tree};
 ghost use Rattle.sqlite_wal.specs.Files.{image_at};
 ghost use Rattle.sqlite_wal.specs.Recovery.{Image};
 ghost use Rattle.sqlite_store.specs.FileStore.{state, view};
-ghost use Rattle.sqlite.specs.Files.{over_files};
+ghost use Rattle.sqlite.specs.Files.{over_files, IsNothing};
 ghost use Rattle.model.specs.World.{World, IsWorld, nothing};
 ghost use Rattle.model.specs.Bounds.{Bound, IsWithin, SameWorld};
 ghost use Rattle.tables.specs.Rows.{Tables};
@@ -43,8 +43,8 @@ pub fn start<S: Storage>(alloc: Global, store: &mut Store<S>) -> Result<(), Stor
 }
 
 /// Opens the file at the path and accepts its tables as [`start`] does. `first` represents the contents
-/// of the file and its log. The store then holds the empty world if the file is empty, and one of some
-/// worlds if a stop left one of them in the file.
+/// of the file and its log. The store then holds the empty world if the file is empty or has only the
+/// first page of a new database, and one of some worlds if a stop left one of them in the file.
 ///
 /// # Errors
 ///
@@ -54,6 +54,8 @@ pub fn open_from<S: Start>(
     path: &str,
     first: S,
 ) -> Result<Store<FileStore<FileFrom<S>>>, StoreFault>
+    ensures blank { IsNothing (image_at S.Start)
+        → IfOk result (λ store. IsHonest over_files store → IsAt over_files store nothing) }
     ensures empty { (image_at S.Start).db ≡ []
         → IfOk result (λ store. IsHonest over_files store → IsAt over_files store nothing) }
     ensures again { (bound : Bound) → HoldsAmong (image_at S.Start) bound

@@ -1,5 +1,6 @@
 use Rattle.std.proofs.Common.{filter, slice_get, refl, ap, ◌∙◌, rules}
 use Rattle.sqlite_keyed.proofs.ListLemmas.{slice_get-filter}
+use Rattle.names.specs.Names.{repo_text}
 use Rattle.tables.specs.Statements.{made_by, is_named, reading}
 use Rattle.tables.specs.Steps.{made_in}
 use Rattle.tables.specs.Shown.{shown}
@@ -9,13 +10,13 @@ use Rattle.tables.proofs.Store.made.Goals as goal
 pub returns : goal.returns
 unfolding reading
 returns g c =
-    let passes = is_named c.args.repo.now in
+    let passes = is_named (repo_text c.args.repo.now) in
     let repos = (shown g.S.Store c.args.self.now).repos in
     looks_reads g.S.Store _ _ _ _ _ _ c.in_ok-rows.ensures
     (λ clean stands.
     let it = c.in_ok-rows.ensures.answers clean stands in (
       it.0,
       c.made_so_far.ensures (slice_get (filter passes repos) 0)
-          (c.in_ok-first_count.ensures.value (filter passes repos) (c.as_slice.ensures.value ∙ it.1 (made_by c.args.repo.now) refl (rw c.params-to_sql.ensures)))
+          (c.in_ok-first_count.ensures.value (filter passes repos) (c.as_slice.ensures.value ∙ it.1 (made_by (repo_text c.args.repo.now)) refl (rw (c.params-to_sql.ensures, c.as_str.ensures.value))))
           ∙ ap made_in (slice_get-filter passes repos),
     )) (search rules)

@@ -1,5 +1,6 @@
 use Rattle.std.proofs.Common.{filter, refl, ◌∙◌}
 use Rattle.sqlite.specs.Held.{state}
+use Rattle.names.specs.Names.{repo_text}
 use Rattle.tables.specs.Statements.{made_by, is_named, reading}
 use Rattle.tables.specs.Steps.{read_count, repo_count}
 use Rattle.tables.specs.Runs.{tables_in}
@@ -10,13 +11,13 @@ use Rattle.tables.proofs.locks.count_in.Goals as goal
 pub returns-clause-value : goal.returns-clause-value
 unfolding reading
 returns-clause-value g c clean inside ready =
-    let repo = c.args.repo.now in
+    let repo = repo_text c.args.repo.now in
     let repos = (tables_in (state g.S.Store c.args.tx.now.conn.now)).repos in
     let it = c.in_ok-rows.ensures.rows clean inside ready in
     with_fact _ _ c.first_count.result it.0 (first_found read_count repo_count (is_named repo) repos c.first_count.result
-    (c.first_count.ensures.value (filter (is_named repo) repos) (c.as_slice.ensures.value ∙ it.1 (made_by repo) refl (rw c.params-to_sql.ensures))))
+    (c.first_count.ensures.value (filter (is_named repo) repos) (c.as_slice.ensures.value ∙ it.1 (made_by repo) refl (rw (c.params-to_sql.ensures, c.as_str.ensures.value)))))
 
 pub returns-clause-does : goal.returns-clause-does
 unfolding reading
 returns-clause-does g c =
-    does_on g.S.Store c.args.tx.now.conn.now c.select.new.tx.conn.now c.first_count.result (λ t. t) record { within = c.in_ok-rows.ensures.within; ok = c.in_ok-rows.ensures.same (made_by c.args.repo.now) refl }
+    does_on g.S.Store c.args.tx.now.conn.now c.select.new.tx.conn.now c.first_count.result (λ t. t) record { within = c.in_ok-rows.ensures.within; ok = c.in_ok-rows.ensures.same (made_by (repo_text c.args.repo.now)) refl }

@@ -1,7 +1,7 @@
 use Rattle.std.proofs.Common.{filter, refl, ◌∙◌}
 use Rattle.sqlite.specs.Held.{state}
 use Rattle.tables.specs.Statements.{lock_at, is_at, reading}
-use Rattle.tables.specs.Steps.{read_lock, lock_fields}
+use Rattle.tables.specs.Steps.{read_lock, lock_fields, asked_lock}
 use Rattle.tables.specs.Runs.{tables_in}
 use Rattle.typed_rows.proofs.Found.{with_fact, first_found}
 use Rattle.tables.proofs.Calls.{does_on}
@@ -10,15 +10,15 @@ use Rattle.tables.proofs.locks.held_in.Goals as goal
 pub returns-clause-value : goal.returns-clause-value
 unfolding reading
 returns-clause-value g c clean inside ready =
-    let lock = c.args.lock.now in
-    let passes = is_at lock.repo.now lock.ref_name.now lock.path.now in
+    let lock = asked_lock c.args.lock.now in
+    let passes = is_at lock.repo lock.ref_name lock.path in
     let locks = (tables_in (state g.S.Store c.args.tx.now.conn.now)).locks in
     let it = c.in_ok-rows.ensures.rows clean inside ready in
     with_fact _ _ c.first_lock.result it.0 (first_found read_lock lock_fields passes locks c.first_lock.result
-    (c.first_lock.ensures.value (filter passes locks) (c.as_slice.ensures.value ∙ it.1 (lock_at lock.repo.now lock.ref_name.now lock.path.now) refl (rw (c.params-to_sql.ensures, c.params-to_sql-2.ensures, c.params-to_sql-3.ensures)))))
+    (c.first_lock.ensures.value (filter passes locks) (c.as_slice.ensures.value ∙ it.1 (lock_at lock.repo lock.ref_name lock.path) refl (rw (c.params-to_sql.ensures, c.params-to_sql-2.ensures, c.params-to_sql-3.ensures, c.as_str.ensures.value, c.as_str-2.ensures.value, c.as_str-3.ensures.value)))))
 
 pub returns-clause-does : goal.returns-clause-does
 unfolding reading
 returns-clause-does g c =
-    let lock = c.args.lock.now in
-    does_on g.S.Store c.args.tx.now.conn.now c.select.new.tx.conn.now c.first_lock.result (λ t. t) record { within = c.in_ok-rows.ensures.within; ok = c.in_ok-rows.ensures.same (lock_at lock.repo.now lock.ref_name.now lock.path.now) refl }
+    let lock = asked_lock c.args.lock.now in
+    does_on g.S.Store c.args.tx.now.conn.now c.select.new.tx.conn.now c.first_lock.result (λ t. t) record { within = c.in_ok-rows.ensures.within; ok = c.in_ok-rows.ensures.same (lock_at lock.repo lock.ref_name lock.path) refl }

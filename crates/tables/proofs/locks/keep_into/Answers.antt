@@ -1,7 +1,9 @@
-use Rattle.std.proofs.Common.{arith, pos, find, sym, subst}
+use Rattle.std.proofs.Common.{arith, ℕ, pos, find, sym, subst}
 use Rattle.sqlite.specs.Held.{state}
+use Rattle.names.specs.Names.{repo_text}
 use Rattle.sqlite.specs.State.{HasCleanDisk}
 use Rattle.tables.specs.Rows.{Tables}
+use Rattle.tables.specs.Runs.{Steps}
 use Rattle.tables.specs.Statements.{is_named, with_lock}
 use Rattle.tables.specs.Steps.{IsCountOf, asked_lock, with_made, with_new_lock}
 use Rattle.tables.proofs.Calls.{steps_then, ready_after}
@@ -16,6 +18,7 @@ returns-clause-ok g c counts clean inside ready =
     let clean_mid : HasCleanDisk mid = omega (arith, clean, c.set_count.ensures.within.survives.clean) in
     let keep = with_lock record (asked_lock c.args.lock.now) { id = pos c.args.id } in
     let first = c.in_ok-lock_into.ensures.does.ok clean_mid inside ready in
-    let still = subst (λ (t : Tables). IsCountOf c.args.count (find (is_named c.args.lock.now.repo.now) t.repos)) (sym first.tables) counts in
-    steps_then keep (with_made c.args.lock.now.repo.now (pos c.args.id)) old mid new first
-    (c.in_ok-set_count.ensures.ok still clean (c.in_ok-lock_into.ensures.does.within.inside clean_mid inside) (ready_after keep old mid first))
+    let still = subst (λ (t : Tables). IsCountOf c.args.count (find (is_named (repo_text c.args.lock.now.repo.now)) t.repos)) (sym first.tables) counts in
+    steps_then keep (with_made (repo_text c.args.lock.now.repo.now) (pos c.args.id)) old mid new first
+    (subst (λ (n : ℕ). Steps (with_made (repo_text c.args.lock.now.repo.now) (pos n)) mid new) c.get.ensures.value
+    (c.in_ok-set_count.ensures.ok still clean (c.in_ok-lock_into.ensures.does.within.inside clean_mid inside) (ready_after keep old mid first)))

@@ -1,4 +1,4 @@
-use Rattle.std.proofs.Common.{pos, refl, w64, rules}
+use Rattle.std.proofs.Common.{pos, refl, w64}
 use Rattle.std.proofs.lemmas.Int.{to_z-of_z}
 use Rattle.tables.specs.Statements.{add_lock, writing}
 use Rattle.tables.specs.Steps.{asked_lock}
@@ -9,5 +9,5 @@ unfolding writing
 returns-clause-does g c = record {
   within = c.change.ensures.within;
   ok = c.change.ensures.ok (add_lock record (asked_lock c.args.lock.now) { id = pos c.args.id }) refl
-      (rw (c.params-to_sql.ensures, c.params-to_sql-2.ensures, c.params-to_sql-3.ensures, c.params-to_sql-4.ensures, c.params-to_sql-5.ensures, c.params-to_sql-6.ensures, to_z-of_z w64 c.args.lock.now.moment (search rules)));
+      (rw (c.params-to_sql.ensures, c.params-to_sql-2.ensures, c.params-to_sql-3.ensures, c.params-to_sql-4.ensures, c.params-to_sql-5.ensures, c.params-to_sql-6.ensures, c.as_str.ensures.value, c.as_str-2.ensures.value, c.as_str-3.ensures.value, c.as_str-4.ensures.value, c.get.ensures.value, to_z-of_z w64 c.second_of.result record { sfits = c.second_of.type_inv }, c.second_of.ensures));
 }

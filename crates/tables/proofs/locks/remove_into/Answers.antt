@@ -1,14 +1,15 @@
 use Rattle.std.proofs.Common.{refl}
+use Rattle.names.specs.Names.{repo_text}
 use Rattle.tables.specs.Statements.{remove_lock, writing}
 use Rattle.tables.proofs.locks.remove_into.Goals as goal
 
 pub returns-clause-count : goal.returns-clause-count
 unfolding writing
-returns-clause-count g c = c.change.ensures.count (remove_lock c.args.repo.now c.args.id) refl (rw (c.params-to_sql.ensures, c.params-to_sql-2.ensures))
+returns-clause-count g c = c.change.ensures.count (remove_lock (repo_text c.args.repo.now) c.args.id) refl (rw (c.params-to_sql.ensures, c.params-to_sql-2.ensures, c.as_str.ensures.value, c.get.ensures.value))
 
 pub returns-clause-does : goal.returns-clause-does
 unfolding writing
 returns-clause-does g c = record {
   within = c.change.ensures.within;
-  ok = c.change.ensures.ok (remove_lock c.args.repo.now c.args.id) refl (rw (c.params-to_sql.ensures, c.params-to_sql-2.ensures));
+  ok = c.change.ensures.ok (remove_lock (repo_text c.args.repo.now) c.args.id) refl (rw (c.params-to_sql.ensures, c.params-to_sql-2.ensures, c.as_str.ensures.value, c.get.ensures.value));
 }

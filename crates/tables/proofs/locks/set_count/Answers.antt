@@ -2,6 +2,7 @@ use Rattle.std.proofs.Common.{arith, rules, pos, refl, w64}
 use Rattle.std.proofs.lemmas.Int.{to_z-of_z}
 use Rattle.std.proofs.lemmas.Result.{IfOk-weaker}
 use Rattle.sqlite.specs.Held.{state}
+use Rattle.names.specs.Names.{repo_text}
 use Rattle.tables.specs.Statements.{add_repo, set_made, writing}
 use Rattle.tables.proofs.Counting.{counted_new, counted_at}
 use Rattle.tables.proofs.locks.set_count.Goals as goal
@@ -9,13 +10,13 @@ use Rattle.tables.proofs.locks.set_count.Goals as goal
 pub returns-in-None-clause-ok : goal.returns-in-None-clause-ok
 unfolding writing
 returns-in-None-clause-ok g c counts clean inside ready =
-    IfOk-weaker c.change.result _ _ (λ _ h. counted_new (state g.S.Store c.args.tx.now.conn.now) (state g.S.Store c.change.new.tx.conn.now) c.args.repo.now (pos c.args.made) c.args.count counts c.in-None.is h)
-    (c.change.ensures.ok (add_repo c.args.repo.now (pos c.args.made)) refl (rw (c.params-to_sql.ensures, c.params-to_sql-in-None.ensures)) clean inside ready)
+    IfOk-weaker c.change.result _ _ (λ _ h. counted_new (state g.S.Store c.args.tx.now.conn.now) (state g.S.Store c.change.new.tx.conn.now) (repo_text c.args.repo.now) (pos c.args.made) c.args.count counts c.in-None.is h)
+    (c.change.ensures.ok (add_repo (repo_text c.args.repo.now) (pos c.args.made)) refl (rw (c.params-to_sql.ensures, c.params-to_sql-in-None.ensures, c.as_str.ensures.value)) clean inside ready)
 
 pub returns-in-Some-clause-ok : goal.returns-in-Some-clause-ok
 unfolding writing
 returns-in-Some-clause-ok g c counts clean inside ready =
     IfOk-weaker c.change-in-Some.result _ _
-    (λ _ h. counted_at (state g.S.Store c.args.tx.now.conn.now) (state g.S.Store c.change-in-Some.new.tx.conn.now) c.args.repo.now (pos c.args.made) c.args.count counts c.in-Some.count c.in-Some.is
+    (λ _ h. counted_at (state g.S.Store c.args.tx.now.conn.now) (state g.S.Store c.change-in-Some.new.tx.conn.now) (repo_text c.args.repo.now) (pos c.args.made) c.args.count counts c.in-Some.count c.in-Some.is
     (ready (omega (arith, clean, c.change-in-Some.ensures.within.survives.clean)) h.was_open) h)
     (c.change-in-Some.ensures.ok (set_made c.in-Some.count.rowid (pos c.args.made)) refl (rw (c.params-to_sql-in-Some.ensures, c.params-to_sql-in-Some-2.ensures, to_z-of_z w64 c.in-Some.count.rowid (search rules))) clean inside ready)

@@ -1,4 +1,4 @@
-use Rattle.std.proofs.Common.{refl, rules, w64}
+use Rattle.std.proofs.Common.{refl, w64}
 use Rattle.std.proofs.lemmas.Int.{to_z-of_z}
 use Rattle.tables.specs.Statements.{add_token, writing}
 use Rattle.tables.specs.Steps.{asked_token}
@@ -9,5 +9,5 @@ unfolding writing
 returns-clause-does g c = record {
   within = c.change.ensures.within;
   ok = c.change.ensures.ok (add_token (asked_token c.args.token.now)) refl
-      (rw (c.params-to_sql.ensures, c.as_slice.ensures, c.params-to_sql-2.ensures, c.params-to_sql-3.ensures, c.params-to_sql-4.ensures, c.params-to_sql-5.ensures, to_z-of_z w64 c.code.result record { sfits = c.code.type_inv }, c.code.ensures, to_z-of_z w64 c.args.token.now.expires (search rules)));
+      (rw (c.params-to_sql.ensures, c.as_slice.ensures, c.params-to_sql-2.ensures, c.params-to_sql-3.ensures, c.params-to_sql-4.ensures, c.params-to_sql-5.ensures, c.as_str.ensures.value, c.as_str-2.ensures.value, c.code_of.ensures, to_z-of_z w64 c.second_of.result record { sfits = c.second_of.type_inv }, c.second_of.ensures));
 }

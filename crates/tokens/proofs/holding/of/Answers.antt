@@ -8,18 +8,18 @@ use Rattle.tokens.specs.Holding.{is_of, told_of}
 use Rattle.tokens.proofs.Listed.{held_told}
 use Rattle.tokens.proofs.holding.of.Goals as goal
 
-pub returns : goal.returns
-returns g c = record {
+pub returns-clause-world : goal.returns-clause-world
+returns-clause-world g c = record {
   same = c.tokens_of.ensures.same;
   adds = c.tokens_of.ensures.adds;
   each = λ honest world h.
       let t = shown g.S.Store c.args.store.now in
-      let user = user_text c.args.user in
-      let repo = repo_text c.args.repo in
+      let user = user_text c.args.user.now in
+      let repo = repo_text c.args.repo.now in
       let told = map told_of (filter (is_of user repo) world.tokens) in
       IfOk-weaker c.tokens_of.result
       (λ found. IsOpen g.S.Store c.args.store.now × AreTokensOf found.items (filter (is_held_by user repo) t.tokens))
       (λ found. IsPermutation (map read_token found.items) told)
       (λ found is. subst (λ (xs : List TokenFields). IsPermutation xs told) (sym is.1) (held_told t world user repo (h.shows (c.tokens_of.ensures.same.was_honest honest) is.0)))
-      (rw (← c.as_str.ensures.value, ← c.as_str-2.ensures.value) (c.tokens_of.ensures.answers honest h.stands));
+      (c.tokens_of.ensures.answers honest h.stands);
 }

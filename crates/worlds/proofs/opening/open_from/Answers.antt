@@ -1,13 +1,14 @@
-use Rattle.std.proofs.Common.{sym, subst}
+use Rattle.std.proofs.Common.{inl, sym, ap, length, subst}
 use Rattle.std.proofs.Math.Logic.{∥∥₁_map}
 use Rattle.sqlite_trees.specs.Tree.{Trees}
 use Rattle.worlds.specs.Opening.{AreAmong}
-use Rattle.worlds.proofs.TakenUp.{finds_nothing}
 use Rattle.worlds.proofs.opening.open_from.Goals as goal
 
+pub returns-clause-blank : goal.returns-clause-blank
+returns-clause-blank g c none honest = c.in_ok-start.ensures.fresh (c.in_ok-store.ensures.empty (c.in_ok-start.ensures.honest honest) none)
+
 pub returns-clause-empty : goal.returns-clause-empty
-returns-clause-empty g c none honest =
-    c.in_ok-start.ensures.empty honest (finds_nothing _ _ none (c.in_ok-store.ensures.found (c.in_ok-start.ensures.honest honest)).reads)
+returns-clause-empty g c none honest = c.in_ok-start.ensures.fresh (c.in_ok-store.ensures.empty (c.in_ok-start.ensures.honest honest) (inl (inl (ap length none))))
 
 pub returns-clause-again : goal.returns-clause-again
 returns-clause-again g c bound held honest =

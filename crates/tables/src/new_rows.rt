@@ -1,0 +1,29 @@
+//! The rows that the calls add.
+
+ghost use Rattle.std.specs.Prelude.{◌≤◌};
+ghost use Rattle.names.specs.Texts.{last_moment};
+
+use names::{LockPath, Moment, Operation, RefName, RepoName, UserName};
+
+/// A lock to be made.
+#[derive(Clone, Copy, Debug)]
+pub struct NewLock<'a> {
+    pub repo: &'a RepoName,
+    pub ref_name: &'a RefName,
+    pub path: &'a LockPath,
+    pub owner: &'a UserName,
+    pub moment: Moment,
+    pub ghost in_range: { moment ≤ last_moment },
+}
+
+/// A token to be stored.
+#[derive(Clone, Copy, Debug)]
+pub struct NewToken<'a> {
+    /// The SHA-256 of the token's text.
+    pub digest: &'a [u8; 32],
+    pub user: &'a UserName,
+    pub repo: &'a RepoName,
+    pub operation: Operation,
+    /// The first moment at which it is no longer valid.
+    pub expires: Moment,
+}
