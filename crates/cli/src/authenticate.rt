@@ -20,7 +20,7 @@ use worlds::open_from;
 
 /// The policy's repository that a path names. The path may have the form of an address, with one slash
 /// before the name and `.git` after it.
-fn repo_at<'p>(policy: &'p Policy, path: &str) -> Option<RepoName<'p>> {
+fn repo_at<'p>(policy: &'p Policy, path: &str) -> Option<&'p RepoName> {
     let path = path.strip_prefix('/').unwrap_or(path);
     let name = path.strip_suffix(".git").unwrap_or(path);
     policy.repo(name).map(Repo::name)
@@ -32,7 +32,7 @@ fn repo_at<'p>(policy: &'p Policy, path: &str) -> Option<RepoName<'p>> {
 fn write_answer<W: Write>(
     output: &mut W,
     policy: &Policy,
-    repo: RepoName<'_>,
+    repo: &RepoName,
     token: &str,
 ) -> io::Result<()> {
     let seconds = policy.token_seconds();
@@ -89,7 +89,7 @@ pub(crate) fn authenticate<S: Start, W: Write>(
     let random = read_random(rt, words.random)?;
     let mut store = open_from(rt, words.db, start)?;
     let asked = TokenRequest {
-        user: words.user,
+        user: &words.user,
         repo,
         operation: words.operation,
         now,

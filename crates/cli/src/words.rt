@@ -9,9 +9,8 @@ use crate::commands::{UPLOAD, program};
 use crate::faults::Fault;
 use clap::ArgMatches;
 use clap::error::ErrorKind;
-use names::{Moment, UserName};
+use names::{Moment, Operation, UserName};
 use std::alloc::Global;
-use tables::Operation;
 
 /// The command that the arguments name.
 #[derive(Debug, Drop)]
@@ -38,14 +37,14 @@ pub(crate) struct SessionWords<'a> {
 }
 
 /// The arguments of `authenticate`.
-#[derive(Clone, Copy, Debug)]
+#[derive(Debug, Drop)]
 pub(crate) struct AuthenticateWords<'a> {
     /// The database file.
     pub db: &'a str,
     /// The policy file.
     pub policy: &'a str,
     /// The user who gets the token.
-    pub user: UserName<'a>,
+    pub user: UserName,
     /// The moment at which the token is issued; `None` for the clock's.
     pub now: Option<Moment>,
     /// The file of random bytes.
@@ -119,11 +118,15 @@ fn operation_of(matches: &ArgMatches<'_>) -> Operation {
     }
 }
 
-fn authenticate_words<'a>(matches: &ArgMatches<'a>) -> Result<AuthenticateWords<'a>, Fault> {
+fn authenticate_words<'a>(
+    alloc: Global,
+    matches: &ArgMatches<'a>,
+) -> Result<AuthenticateWords<'a>, Fault> {
+    let user = value_of(matches, "user").to_owned(alloc)?;
     Ok(AuthenticateWords {
         db: value_of(matches, "db"),
         policy: value_of(matches, "policy"),
-        user: UserName::read(value_of(matches, "user")).ok_or(Fault::Value("--user"))?,
+        user: UserName::read(user).ok_or(Fault::Value("--user"))?,
         now: now_of(matches)?,
         random: value_of(matches, "random"),
         path: value_of(matches, "path"),
@@ -139,10 +142,14 @@ fn prune_words<'a>(matches: &ArgMatches<'a>) -> Result<PruneWords<'a>, Fault> {
 }
 
 /// Parses the arguments of a command; `None` if `clap` knows a command that this function does not.
-fn command_words<'a>(name: &str, matches: &ArgMatches<'a>) -> Result<Option<Asked<'a>>, Fault> {
+fn command_words<'a>(
+    alloc: Global,
+    name: &str,
+    matches: &ArgMatches<'a>,
+) -> Result<Option<Asked<'a>>, Fault> {
     Ok(match name {
         "session" => Some(Asked::Session(session_words(matches)?)),
-        "authenticate" => Some(Asked::Authenticate(authenticate_words(matches)?)),
+        "authenticate" => Some(Asked::Authenticate(authenticate_words(alloc, matches)?)),
         "prune" => Some(Asked::Prune(prune_words(matches)?)),
         _ => None,
     })
@@ -166,7 +173,7 @@ pub(crate) fn read_words<'a>(alloc: Global, words: &'a [String]) -> Result<Asked
         Err(error) => return Err(Fault::from(error)),
     };
     let asked = match matches.subcommand() {
-        Some((name, matches)) => command_words(name, matches)?,
+        Some((name, matches)) => command_words(alloc, name, matches)?,
         None => None,
     };
     match asked {

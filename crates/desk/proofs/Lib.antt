@@ -1,4 +1,3 @@
-pub mod Placing
 pub mod Making
 pub mod Admitting
 pub mod Verdicts

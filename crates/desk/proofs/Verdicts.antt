@@ -1,14 +1,12 @@
 -- How the model decides a request, step by step.
-use Rattle.std.proofs.Common.{◌≡◌, ◌∙◌, ℕ, not, ◌||◌, List, Some, Result, Ok, Err, bytes_eq, string_bytes, refl, sym, ap, ap₂, subst}
+use Rattle.std.proofs.Common.{◌≡◌, ◌∙◌, ℕ, not, ◌||◌, List, Some, Result, Ok, Err, bytes_eq, refl, sym, ap, ap₂, subst}
 use Rattle.std.specs.Prelude.{IsErrAnd}
 use Rattle.std.specs.Bool.{⊤}
 use Rattle.sqlite_trees.specs.declared.store.Store.{Ghosts}
 use Rattle.names.specs.declared.rules.Rule.{Rule}
 use Rattle.names.specs.declared.rules.Rule.TheVariants as rule
-use Rattle.names.specs.Names.{user_text}
+use Rattle.names.specs.Names.{user_text, repo_text}
 use Rattle.names.specs.declared.texts.UserName.{UserName}
-use Rattle.model.specs.declared.Operation.{Operation}
-use Rattle.model.specs.declared.Operation.TheVariants as model_operation
 use Rattle.model.specs.declared.Right.TheVariants as right
 use Rattle.model.specs.Reading.{◌>>=◌, check, ok_or}
 use Rattle.model.specs.World as kept
@@ -28,12 +26,8 @@ use Rattle.policy.specs.Values.{repo_view}
 use Rattle.policy.specs.declared.repos.Repo as policy_repo
 use Rattle.forms.specs.Requests.{lock_asked}
 use Rattle.forms.specs.declared.lock.LockRequest.{LockRequest}
-use Rattle.tables.specs.Steps.{code_of}
-use Rattle.tables.specs.declared.rows.Operation as row_operation
-use Rattle.tables.specs.declared.rows.Operation.TheVariants.{Download, Upload}
 use Rattle.tables.specs.declared.Store.{Store}
 use Rattle.tables.specs.declared.fault.StoreFault.{StoreFault}
-use Rattle.worlds.specs.Standing.{operation_code}
 use Rattle.worlds.specs.Left.{Leads, Gives}
 use Rattle.worlds.proofs.Leading.{ends_still, denial_changes_none, still_then}
 use Rattle.tokens.specs.Callers.{IsHolder}
@@ -41,9 +35,9 @@ use Rattle.tokens.specs.declared.callers.Caller.{Caller}
 use Rattle.desk.specs.Done.{Answers, given_by}
 use Rattle.desk.specs.Told.{IsReplyOf}
 use Rattle.desk.specs.declared.replies.Reply.{Reply}
-use Rattle.desk.specs.Admission.{admitted, case_verdict, caller_verdict, is_for_upload}
+use Rattle.desk.specs.Admission.{admitted, case_verdict, caller_verdict}
 use Rattle.desk.specs.Locking.{IsWantedBy, lock_wanted, question_on, placed_verdict, allowed_verdict}
-use Rattle.desk.specs.declared.locking.Wanted.{Wanted}
+use Rattle.tables.specs.declared.new_rows.NewLock.{NewLock}
 
 -- successive checks by rules are one check by the first of them that fails
 checks_joined : (own : Result ⊤ Rule) (repo : Result Repo Rule) (asked : Result Request Rule) (covered : Request → Result ⊤ Rule) (f : Repo → Request → Result Plan Denial)
@@ -88,19 +82,13 @@ module _ (world : World) (setting : Setting) (asked : DeskRequest) (body : List 
     unfolding finished
     taken_up repo request is = ap finished by_admission ∙ rw is refl
 
-covers : (a : row_operation.Operation) (b : Operation) → code_of a ≡ operation_code b → is_for_upload a ≡ is_upload b
-covers Download model_operation.Download e = refl
-covers Upload model_operation.Upload e = refl
-covers Download model_operation.Upload e = absurd (cc)
-covers Upload model_operation.Download e = absurd (cc)
-
 -- for a caller, the code and the model admit the same requests
 pub admitted_alike : (policy : Policy) (c : Caller) (who : model.Caller) (repo_asked : List ℕ) (asked : Result Request Rule) → IsHolder c who
-    → admitted policy (string_bytes c.repo) (is_for_upload c.operation) repo_asked asked ≡ admitted policy who.repo (is_upload who.operation) repo_asked asked
-admitted_alike policy c who repo_asked asked h = ap₂ (λ own covered. admitted policy own covered repo_asked asked) h.repo (covers c.operation who.operation h.operation)
+    → admitted policy (repo_text c.repo) (is_upload c.operation) repo_asked asked ≡ admitted policy who.repo (is_upload who.operation) repo_asked asked
+admitted_alike policy c who repo_asked asked h = ap₂ (λ own operation. admitted policy own (is_upload operation) repo_asked asked) h.repo h.operation
 
 -- the attempt that the code makes is the lock that the model's request asks for
-pub verdict_alike : (world : World) (setting : Setting) (who : model.Caller) (r : policy_repo.Repo) (user : UserName) (asked : LockRequest) (w : Wanted)
+pub verdict_alike : (world : World) (setting : Setting) (who : model.Caller) (r : policy_repo.Repo) (user : UserName) (asked : LockRequest) (w : NewLock)
     → user_text user ≡ who.user → IsWantedBy r user setting.now asked w
     → allowed_verdict world setting.policy w ≡ lock_verdict (case_in world setting who (repo_view r)) (lock_asked asked)
 verdict_alike world setting who r user asked w is_user is = ap₂ (λ (q : Question) (l : kept.Lock). permit setting.policy q 403 >>= λ may. placed_verdict world l) question place
@@ -149,8 +137,8 @@ done_then g old mid new world given r p done = record {
 -- ---- what the policy says of a lock
 
 -- if the policy allows the lock, its place decides
-pub allowed_is : (world : World) (policy : Policy) (w : Wanted) (n : ℕ) → allowed n ≡ decide policy (question_on w) → allowed_verdict world policy w ≡ placed_verdict world (lock_wanted world w)
+pub allowed_is : (world : World) (policy : Policy) (w : NewLock) (n : ℕ) → allowed n ≡ decide policy (question_on w) → allowed_verdict world policy w ≡ placed_verdict world (lock_wanted world w)
 allowed_is world policy w n is = rw (← is) refl
 
-pub denied_is : (world : World) (policy : Policy) (w : Wanted) (n : ℕ) → denied n ≡ decide policy (question_on w) → allowed_verdict world policy w ≡ Err (by_row n right.Lock 403)
+pub denied_is : (world : World) (policy : Policy) (w : NewLock) (n : ℕ) → denied n ≡ decide policy (question_on w) → allowed_verdict world policy w ≡ Err (by_row n right.Lock 403)
 denied_is world policy w n is = rw (← is) refl

@@ -1,5 +1,5 @@
 -- Which requests are admitted.
-use Rattle.std.specs.Prelude.{◌≡◌, ℕ, Bool, true, false, not, ◌||◌, List, Result, Ok, Err, bytes_eq}
+use Rattle.std.specs.Prelude.{ℕ, Bool, not, ◌||◌, List, Result, Ok, bytes_eq}
 use Rattle.std.specs.Borrow.{Bor}
 use Rattle.names.specs.declared.rules.Rule.{Rule}
 use Rattle.names.specs.declared.rules.Rule.TheVariants.{A4, A5, R1}
@@ -18,13 +18,6 @@ use Rattle.forms.specs.Requests.{request_asked}
 use Rattle.forms.specs.declared.request.Request.{Request}
 use Rattle.policy.specs.Values.{repo_view}
 use Rattle.policy.specs.declared.repos.Repo.{Repo}
-use Rattle.tables.specs.declared.rows.Operation.{Operation}
-use Rattle.tables.specs.declared.rows.Operation.TheVariants.{Download, Upload}
-
--- the token is for uploads
-abbrev pub is_for_upload : Operation → Bool
-is_for_upload Upload = true
-is_for_upload Download = false
 
 -- the repository and the request, for a token of this repository that covers uploads or not
 abbrev pub admitted : Policy → List ℕ → Bool → List ℕ → Result form.Request Rule → Result (model.Repo × form.Request) Rule
@@ -35,10 +28,9 @@ admitted policy own covers_upload repo_asked asked = do
   covered ← check (not (needs_upload request) || covers_upload) A5
   Ok (repo, request)
 
--- the admitted request, or the rule that refuses it, as in the model
-abbrev pub Admits : Result (model.Repo × form.Request) Rule → Result (Bor Repo × Request) Rule → Type 0
-Admits given (Ok (repo, request)) = given ≡ Ok (repo_view repo.now, request_asked request)
-Admits given (Err rule) = given ≡ Err rule
+-- the repository and the request, in the model's terms
+abbrev pub admission_view : Bor Repo × Request → model.Repo × form.Request
+admission_view (repo, request) = (repo_view repo.now, request_asked request)
 
 -- the verdict on an admitted request
 abbrev pub case_verdict : World → Case → form.Request → DeskRequest → List ℕ → Answer

@@ -1,18 +1,19 @@
 //! Which requests are admitted: by a token for the repository, in a repository that exists.
 
-ghost use Rattle.std.specs.Prelude.{◌≡◌, not, IfOk, string_bytes};
-ghost use Rattle.model.specs.Forms.{needs_upload};
+ghost use Rattle.std.specs.Prelude.{◌≡◌};
+ghost use Rattle.names.specs.Names.{repo_text};
+ghost use Rattle.model.specs.Forms.{needs_upload, is_upload};
 ghost use Rattle.policy.specs.Values.{policy_view};
+ghost use Rattle.forms.specs.Given.{Reads};
 ghost use Rattle.forms.specs.Requests.{request_asked};
 ghost use Rattle.desk.specs.Asking.{request_seen};
-ghost use Rattle.desk.specs.Admission.{Admits, admitted, is_for_upload};
+ghost use Rattle.desk.specs.Admission.{admitted, admission_view};
 
-use forms::{Request, read_form};
+use forms::{Refusal, Request, read_form};
 use model::ServedForm;
-use names::Rule;
+use names::{Operation, Rule};
 use policy::{Policy, Repo};
-use std::alloc::{AllocError, Global};
-use tables::Operation;
+use std::alloc::Global;
 use tokens::Caller;
 
 /// A request in a repository, from its head and its body.
@@ -41,7 +42,7 @@ fn needs_upload(request: &Request) -> bool
 }
 
 fn is_for_upload(operation: Operation) -> bool
-    ensures { result ≡ is_for_upload operation }
+    ensures { result ≡ is_upload operation }
 {
     match operation {
         Operation::Download => false,
@@ -49,34 +50,30 @@ fn is_for_upload(operation: Operation) -> bool
     }
 }
 
-/// Returns the repository and the request, or the first rule that refuses them: A4, R1, the J rules,
-/// A5.
+/// Returns the repository and the request.
 ///
 /// # Errors
 ///
-/// Fails only if memory runs out.
+/// The first rule that refuses the request: A4, R1, the J rules, A5; or `Memory`.
 pub(crate) fn admit<'a>(
     alloc: Global,
     policy: &'a Policy,
     caller: &Caller,
     asked: &Asked<'_>,
-) -> Result<Result<(&'a Repo, Request), Rule>, AllocError>
-    ensures { IfOk result (Admits (admitted (policy_view policy.entry.now)
-        (string_bytes caller.entry.now.repo) (is_for_upload caller.entry.now.operation)
-        asked.entry.now.repo.now (request_seen asked.entry.now).request)) }
+) -> Result<(&'a Repo, Request), Refusal>
+    ensures { Reads admission_view result (admitted (policy_view policy.entry.now)
+        (repo_text caller.entry.now.repo) (is_upload caller.entry.now.operation)
+        asked.entry.now.repo.now (request_seen asked.entry.now).request) }
 {
     if caller.repo.as_str() != asked.repo {
-        return Ok(Err(Rule::A4));
+        return Err(Rule::A4.into());
     }
     let Some(repo) = policy.repo(asked.repo) else {
-        return Ok(Err(Rule::R1));
+        return Err(Rule::R1.into());
     };
-    let request = match read_form(alloc, asked.form, asked.parameter, asked.query, asked.body)? {
-        Ok(request) => request,
-        Err(rule) => return Ok(Err(rule)),
-    };
+    let request = read_form(alloc, asked.form, asked.parameter, asked.query, asked.body)?;
     if needs_upload(&request) && !is_for_upload(caller.operation) {
-        return Ok(Err(Rule::A5));
+        return Err(Rule::A5.into());
     }
-    Ok(Ok((repo, request)))
+    Ok((repo, request))
 }

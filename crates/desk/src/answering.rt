@@ -18,8 +18,8 @@ ghost use Rattle.desk.specs.Admission.{case_verdict, caller_verdict};
 use crate::admission::{Asked, admit};
 use crate::locking::{lock, wanted_by};
 use crate::replies::Reply;
-use forms::{Answer, LockRequest, Request};
-use names::{Moment, Rule, UserName};
+use forms::{Answer, LockRequest, Refusal, Request};
+use names::{Moment, Rule};
 use policy::{Policy, Repo};
 use std::alloc::{AllocError, Global};
 use tables::{Alter, Store, StoreFault};
@@ -79,9 +79,10 @@ fn answer_caller<S: Alter>(
         (request_seen asked.entry.now) asked.entry.now.body.now)
         result) }
 {
-    match admit(alloc, policy, caller, asked)? {
+    match admit(alloc, policy, caller, asked) {
         Ok((repo, request)) => { answer_request(alloc, store, policy, now, caller, repo, &request) }
-        Err(rule) => Ok(refusal(alloc, rule)?),
+        Err(Refusal::Rule(rule)) => Ok(refusal(alloc, rule)?),
+        Err(Refusal::Memory) => Err(StoreFault::Memory),
     }
 }
 
@@ -116,9 +117,6 @@ fn answer_request<S: Alter>(
         (request_asked request.entry.now) asked body)
         result) }
 {
-    let Some(user) = UserName::read(caller.user.as_str()) else {
-        return Err(StoreFault::Refused);
-    };
-    let wanted = wanted_by(repo, user, now, lock_in(request));
+    let wanted = wanted_by(repo, &caller.user, now, lock_in(request));
     lock(store, alloc, policy, &wanted)
 }

@@ -1,8 +1,7 @@
-use Rattle.std.proofs.Common.{◌≡◌, subst}
+use Rattle.std.proofs.Common.{subst}
+use Rattle.names.specs.Names.{repo_text}
 use Rattle.model.specs.World.{World}
-use Rattle.tables.specs.Rows as row
-use Rattle.tables.specs.Shown.{IsHonest, Makes, Fails, shown}
-use Rattle.tables.specs.Steps.{after_create, outcome_of, read_creation}
+use Rattle.tables.specs.Shown.{IsHonest}
 use Rattle.worlds.specs.Standing.{Holds}
 use Rattle.worlds.proofs.Holding.{holds_still}
 use Rattle.worlds.proofs.Leading.{leads_still}
@@ -19,14 +18,12 @@ asked g c honest world h =
     let e = c.in_ok-creation.ensures in
     let still = holds_still g.S.Store c.args.store.now c.made.new.self world c.in_ok-made.ensures.same h in
     let was_honest = e.made.moves.was_honest honest in
-    let count = counts g.S.Store c.args.store.now world w c.as_str.result.now c.in_ok-made.made (c.in_ok-made.ensures.same.was_honest was_honest)
-    (c.in_ok-made.ensures.answers was_honest h.stands).0 h c.as_str.ensures.value (c.in_ok-made.ensures.answers was_honest h.stands).1 in
+    let answers = c.in_ok-made.ensures.answers was_honest h.stands in
+    let count = counts g.S.Store c.args.store.now world (repo_text w.repo.now) c.in_ok-made.made (c.in_ok-made.ensures.same.was_honest was_honest) answers.0 h answers.1 in
     record {
-      range = c.row_of.ensures.range;
       honest = honest;
-      makes = subst (λ (l : row.Lock). Makes g.S.Store (after_create l) c.made.new.self c.create_lock.new.self) c.row_of.ensures.row e.made;
-      outcome = subst (λ (l : row.Lock). read_creation c.in_ok-creation.creation ≡ outcome_of l (shown g.S.Store c.made.new.self)) c.row_of.ensures.row
-          (e.answers honest still.stands).1;
+      makes = e.made;
+      outcome = (e.answers honest still.stands).1;
       ready_for = subst (λ n. IsReadyAfter n w c.in_ok-ready.ready) count c.in_ok-ready.ensures;
       holds = still;
     }
@@ -48,8 +45,7 @@ returns-in_err-creation g c = record {
       let e = c.in_err-creation.ensures in
       done_then g.S.Store c.args.store.now c.made.new.self c.create_lock.new.self world _ c.from_residual-in_err-creation.result lead
       (passed_on g.S.Store c.made.new.self c.create_lock.new.self world _ _ c.from_residual-in_err-creation.result c.from_residual-in_err-creation.ensures.1
-      (refused_by g.S.Store c.made.new.self c.create_lock.new.self world c.args.wanted.now c.row_of.ensures.range
-      (subst (λ (l : row.Lock). Fails g.S.Store (after_create l) c.made.new.self c.create_lock.new.self) c.row_of.ensures.row e.failed) lead.holds));
+      (refused_by g.S.Store c.made.new.self c.create_lock.new.self world c.args.wanted.now e.failed lead.holds));
 }
 
 pub returns-in_err-ready : goal.returns-in_err-ready
