@@ -2,19 +2,10 @@
 
 use forms::{Answer, DenialStatus, ShownLock};
 use model::Right;
-use names::{LockId, LockPath, Moment, Rule, UserName};
+use names::{LockId, Rule};
 use std::alloc::{AllocError, Global};
 use std::test::Fail;
-
-/// The lock of the example in `docs/PROTOCOL.md`, on this path.
-fn lock_on(path: &str) -> Option<ShownLock<'_>> {
-    Some(ShownLock {
-        id: LockId::read("1")?,
-        locked_at: Moment::read(1_463_500_146)?,
-        owner: UserName::read("ann")?,
-        path: LockPath::read(path)?,
-    })
-}
+use test_support::{Tester, lock_path, moment, sure, user};
 
 /// The status, a space and the body.
 fn text_of(alloc: Global, answer: &Answer<'_>) -> Result<String, AllocError> {
@@ -23,22 +14,28 @@ fn text_of(alloc: Global, answer: &Answer<'_>) -> Result<String, AllocError> {
     format!(in alloc; "{status} {body}")
 }
 
-/// The text of the reply to a lock that was made or, if `stands`, of one that already holds the path.
-fn text_of_lock(alloc: Global, path: &str, stands: bool) -> Result<Option<String>, AllocError> {
-    let Some(lock) = lock_on(path) else {
-        return Ok(None);
+/// The text of the reply to the lock of the example in `docs/PROTOCOL.md`, on this path: one that was
+/// made or, if `is_held`, one that already holds the path.
+fn text_of_lock(rt: &impl Tester, path: &str, is_held: bool) -> Result<String, AllocError> {
+    let owner = user(rt, "ann");
+    let path = lock_path(rt, path);
+    let lock = ShownLock {
+        id: sure(rt, LockId::read("1").ok_or(())),
+        locked_at: moment(rt, 1_463_500_146),
+        owner: &owner,
+        path: &path,
     };
-    let answer = if stands {
+    let answer = if is_held {
         Answer::Held(&lock)
     } else {
         Answer::Locked(&lock)
     };
-    Ok(Some(text_of(alloc, &answer)?))
+    text_of(rt.alloc(), &answer)
 }
 
 #[test]
 fn locks_are_told_with_their_owner(rt: HostRuntime) -> Result<(), Fail> {
-    for (path, stands, want) in [
+    for (path, is_held, want) in [
         (
             "art/hero.psd",
             false,
@@ -55,7 +52,7 @@ fn locks_are_told_with_their_owner(rt: HostRuntime) -> Result<(), Fail> {
             "201 {\"lock\":{\"id\":\"1\",\"locked_at\":\"2016-05-17T15:49:06Z\",\"owner\":{\"name\":\"ann\"},\"path\":\"\\\"\u{e9}\\\" & <b>\"}}",
         ),
     ] {
-        let text = text_of_lock(rt.alloc(), path, stands)?.ok_or("no path")?;
+        let text = text_of_lock(&rt, path, is_held)?;
         assert_eq!(rt; text.as_str(), want);
     }
     Ok(())

@@ -1,15 +1,7 @@
-//! Helpers that the tests share.
+//! How the tests compare the result of a case.
 
 use std::fmt::Debug;
 use std::process::Abort;
-
-/// Unwraps a result that has to be `Ok`.
-pub(crate) fn sure<T, E>(rt: &impl Abort, answer: Result<T, E>) -> T {
-    match answer {
-        Ok(value) => value,
-        Err(_) => panic!(rt; "an answer is an error"),
-    }
-}
 
 /// Asserts that the result of a case is the expected one.
 pub(crate) fn expect<T: Copy + PartialEq + Debug>(

@@ -1,22 +1,23 @@
 //! `forms`: requests from JSON.
 
-use forms::{Request, read_form};
+use forms::{Refusal, Request, read_form};
 use model::ServedForm;
 use std::alloc::{AllocError, Global};
 use std::test::Fail;
 
 /// The lock that a body requests, as `PATH` or `PATH at REF`, or the rule that refuses it.
 fn asked(alloc: Global, body: &[u8]) -> Result<String, AllocError> {
-    match read_form(alloc, ServedForm::Lock, "", "", body)? {
+    match read_form(alloc, ServedForm::Lock, "", "", body) {
         Ok(Request::Lock(lock)) => {
-            let mut text = lock.path;
+            let mut text = lock.path.to_string(alloc)?;
             if let Some(name) = &lock.ref_name {
                 text.push_str(" at ")?;
                 text.push_str(name.as_str())?;
             }
             Ok(text)
         }
-        Err(rule) => rule.to_string(alloc),
+        Err(Refusal::Rule(rule)) => rule.to_string(alloc),
+        Err(Refusal::Memory) => Err(AllocError),
     }
 }
 

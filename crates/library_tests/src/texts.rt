@@ -1,14 +1,15 @@
 //! `names`: texts and numbers with a range, moments, rules.
 
-use crate::harness::{expect, sure};
+use crate::harness::expect;
 use names::{LockId, LockPath, Moment, Oid, RefName, RepoName, Rule, Size, UserName, moment_text};
 use std::alloc::{Alloc, Global};
 use std::fmt::Display;
 use std::process::Abort;
+use test_support::{owned, sure};
 
 /// The text, followed by `letters` letters `a`.
 fn lengthened(rt: &(impl Abort + Alloc<A = Global>), text: &str, letters: usize) -> String {
-    let mut long = sure(rt, text.to_owned(rt.alloc()));
+    let mut long = owned(rt, text);
     let rest = sure(rt, "a".repeat(rt.alloc(), letters));
     sure(rt, long.push_str(rest.as_str()));
     long
@@ -18,11 +19,16 @@ fn lengthened(rt: &(impl Abort + Alloc<A = Global>), text: &str, letters: usize)
 const NONE: &str = "none";
 
 /// The printed name, or [`NONE`].
-fn printed<T: Copy + Display>(rt: &(impl Abort + Alloc<A = Global>), name: Option<T>) -> String {
+fn printed<T: Drop + Display>(rt: &(impl Abort + Alloc<A = Global>), name: Option<T>) -> String {
     match name {
         Some(name) => sure(rt, name.to_string(rt.alloc())),
-        None => sure(rt, NONE.to_owned(rt.alloc())),
+        None => owned(rt, NONE),
     }
+}
+
+/// The text of a name, or [`NONE`].
+fn held(rt: &(impl Abort + Alloc<A = Global>), name: Option<&str>) -> String {
+    owned(rt, name.unwrap_or(NONE))
 }
 
 /// The kinds of names that are texts.
@@ -36,6 +42,7 @@ enum Kind {
 
 /// The text, read and printed as a name of this kind, or [`NONE`].
 fn written(rt: &(impl Abort + Alloc<A = Global>), kind: Kind, text: &str) -> String {
+    let text = owned(rt, text);
     match kind {
         Kind::User => printed(rt, UserName::read(text)),
         Kind::Repository => printed(rt, RepoName::read(text)),
@@ -45,12 +52,35 @@ fn written(rt: &(impl Abort + Alloc<A = Global>), kind: Kind, text: &str) -> Str
 }
 
 /// The text of the name of this kind, or [`NONE`].
-fn text_of(kind: Kind, text: &str) -> &str {
+fn text_of(rt: &(impl Abort + Alloc<A = Global>), kind: Kind, text: &str) -> String {
+    let text = owned(rt, text);
     match kind {
-        Kind::User => UserName::read(text).map_or(NONE, |user| user.as_str()),
-        Kind::Repository => RepoName::read(text).map_or(NONE, |repo| repo.as_str()),
-        Kind::Ref => RefName::read(text).map_or(NONE, |name| name.as_str()),
-        Kind::Path => LockPath::read(text).map_or(NONE, |path| path.as_str()),
+        Kind::User => {
+            let name = UserName::read(text);
+            held(rt, name.as_ref().map(UserName::as_str))
+        }
+        Kind::Repository => {
+            let name = RepoName::read(text);
+            held(rt, name.as_ref().map(RepoName::as_str))
+        }
+        Kind::Ref => {
+            let name = RefName::read(text);
+            held(rt, name.as_ref().map(RefName::as_str))
+        }
+        Kind::Path => {
+            let name = LockPath::read(text);
+            held(rt, name.as_ref().map(LockPath::as_str))
+        }
+    }
+}
+
+/// Whether the text is accepted as a name of this kind.
+fn is_accepted(kind: Kind, text: &str) -> bool {
+    match kind {
+        Kind::User => UserName::accepts(text),
+        Kind::Repository => RepoName::accepts(text),
+        Kind::Ref => RefName::accepts(text),
+        Kind::Path => LockPath::accepts(text),
     }
 }
 
@@ -70,7 +100,8 @@ fn expect_names(
         let text = text.as_str();
         let want = wanted(text, good);
         expect(rt, &text, written(rt, kind, text).as_str(), want);
-        expect(rt, &text, text_of(kind, text), want);
+        expect(rt, &text, text_of(rt, kind, text).as_str(), want);
+        expect(rt, &text, is_accepted(kind, text), good);
     }
 }
 

@@ -1,7 +1,7 @@
 //! The row that decides.
 use super::*;
 use model::Right;
-use names::{LockPath, RefName, RepoName, UserName};
+use test_support::{lock_path, ref_name, repo, user};
 
 /// A question of the tests: user, repository, right, and the ref and path if it concerns them.
 pub type Asked = (
@@ -13,13 +13,17 @@ pub type Asked = (
 );
 
 /// The verdict on a question.
-fn ask(rt: &impl Abort, policy: &Policy, asked: &Asked) -> Verdict {
-    let &(user, repo, right, ref_name, path) = asked;
-    let ref_name = ref_name.map(|text| sure(rt, RefName::read(text).ok_or(())));
-    let path = path.map(|text| sure(rt, LockPath::read(text).ok_or(())));
+fn ask(rt: &(impl Abort + Alloc<A = Global>), policy: &Policy, asked: &Asked) -> Verdict {
+    let &(name, place, right, branch, file) = asked;
+    let name = user(rt, name);
+    let place = repo(rt, place);
+    let branch = branch.map(|text| ref_name(rt, text));
+    let file = file.map(|text| lock_path(rt, text));
+    let ref_name = branch.as_ref();
+    let path = file.as_ref();
     let question = Question {
-        user: sure(rt, UserName::read(user).ok_or(())),
-        repo: sure(rt, RepoName::read(repo).ok_or(())),
+        user: &name,
+        repo: &place,
         right,
         ref_name,
         path,

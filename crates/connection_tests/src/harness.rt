@@ -1,13 +1,13 @@
 //! A server in memory, messages to it, and the replies that its protocol specifies.
 
-use names::{Moment, Sink, SliceSource, Source, VecSink};
+use names::{Moment, Operation, Sink, SliceSource, Source, VecSink};
 use policy::Policy;
 use service::{End, Routes, Served, serve};
 use sha2::{Digest, Sha256};
 use sqlite::MemStore;
-use std::alloc::{Alloc, Global};
-use std::process::Abort;
-use tables::{Alter, NewToken, Operation, Storage, Store};
+use tables::{Alter, NewToken, Storage, Store};
+pub(crate) use test_support::{Tester, sure};
+use test_support::{lock_path, moment, ref_name, repo, user};
 
 /// The moment of a connection, unless a test gives another.
 pub(crate) const NOW: u64 = 1_463_500_146;
@@ -101,11 +101,6 @@ const RULES: &[(&str, &str, &str)] = &[
     ("P0", "403 Forbidden", "no policy row allows lock"),
 ];
 
-/// What a test needs of its runtime: memory, and a way to abort.
-pub(crate) trait Tester: Abort + Alloc<A = Global> {}
-
-impl<R: Abort + Alloc<A = Global>> Tester for R {}
-
 /// The text that a connection was sent, and how it ended.
 #[derive(Drop)]
 pub(crate) struct Told {
@@ -121,23 +116,17 @@ const TOKENS: &[(u8, &str, &str, Operation)] = &[
     (b'd', "ann", "studio/game", Operation::Upload),
 ];
 
-/// Unwraps a result that has to be `Ok`.
-pub(crate) fn sure<T, E>(rt: &impl Tester, answer: Result<T, E>) -> T {
-    match answer {
-        Ok(value) => value,
-        Err(_) => panic!(rt; "an answer is an error"),
-    }
-}
-
 /// Stores the tokens.
 pub(crate) fn keep_tokens<S: Alter>(rt: &impl Tester, store: &mut Store<S>) {
-    for &(byte, user, repo, operation) in TOKENS {
+    for &(byte, name, place, operation) in TOKENS {
+        let name = user(rt, name);
+        let place = repo(rt, place);
         let kept = store.add_token(&NewToken {
             digest: &Sha256::digest(&[byte; 64]),
-            user,
-            repo,
+            user: &name,
+            repo: &place,
             operation,
-            expires: EXPIRY as i64,
+            expires: moment(rt, EXPIRY),
         });
         sure(rt, kept);
     }
@@ -239,14 +228,17 @@ impl Server {
     }
 
     /// The id of the lock on this path; 0 if it is not locked.
-    pub fn id_at(&mut self, rt: &impl Tester, ref_name: &str, path: &str) -> u32 {
-        let row = sure(rt, self.store.lock_at("studio/film", ref_name, path));
-        row.map_or(0, |lock| lock.id)
+    pub fn id_at(&mut self, rt: &impl Tester, name: &str, path: &str) -> u32 {
+        let film = repo(rt, "studio/film");
+        let name = ref_name(rt, name);
+        let path = lock_path(rt, path);
+        let row = sure(rt, self.store.lock_at(&film, &name, &path));
+        row.map_or(0, |lock| lock.id.get())
     }
 
     /// The number of locks ever made.
     pub fn made(&mut self, rt: &impl Tester) -> u32 {
-        sure(rt, self.store.made("studio/film"))
+        sure(rt, self.store.made(&repo(rt, "studio/film")))
     }
 }
 

@@ -1,22 +1,15 @@
-//! Stores in memory and over files, and the steps that a test takes on a file.
+//! Stores over files, and the steps that a test takes on a file.
 //!
 //! The helpers have no clause, so a test's proof does not include those of each call. A function that
 //! owns a store over a file takes long to prove: here there is one for each kind of file.
 
 use crate::databases::{fill, found, last_locks};
-use crate::harness::{Tester, sure, tell_over};
-use sqlite::{Connection, Error, File, FileFrom, FileStore, MemStore, Wary};
+use sqlite::{Connection, Error, File, FileFrom, FileStore, Wary};
 use std::alloc::Global;
 use std::fs;
 use std::rt::HostRuntime;
 use tables::{Alter, Storage, Store, StoreFault};
-
-/// A new store in memory, with its tables.
-pub(crate) fn in_memory(rt: &impl Tester) -> Store<MemStore> {
-    let mut store = sure(rt, Store::open_memory(rt.alloc()));
-    sure(rt, store.create_or_check(rt.alloc()));
-    store
-}
+use test_support::{Tester, sure};
 
 /// A step on a file, with the expected result.
 pub(crate) enum Step {
@@ -34,23 +27,13 @@ pub(crate) enum Step {
     Find(u32, u32, i64),
     /// The ids of the locks on two paths and on the first again.
     Lock(u32, u32, u32),
-    /// A server over it reads the first text, and writes the second.
-    Serve(&'static str, &'static str),
 }
 
 /// Takes a step over an open store.
 fn work<S: Storage>(rt: &impl Tester, store: &mut Store<S>, step: &Step) -> Result<(), StoreFault> {
-    match step {
-        Step::Lock(first, second, again) => {
-            assert!(rt; last_locks(rt, store) == (*first, *second, *again));
-            return Ok(());
-        }
-        Step::Serve(text, want) => {
-            let told = tell_over(rt, store, text);
-            assert_eq!(rt; told.text.as_str(), *want);
-            return Ok(());
-        }
-        _ => {}
+    if let Step::Lock(first, second, again) = step {
+        assert!(rt; last_locks(rt, store) == (*first, *second, *again));
+        return Ok(());
     }
     store.create_or_check(rt.alloc())?;
     match step {
@@ -63,10 +46,36 @@ fn work<S: Storage>(rt: &impl Tester, store: &mut Store<S>, step: &Step) -> Resu
     Ok(())
 }
 
+/// Takes a step over the store, if it was opened.
+fn work_on<S: Storage + Drop>(
+    rt: &impl Tester,
+    opened: Result<Store<S>, StoreFault>,
+    step: &Step,
+) -> Result<(), StoreFault> {
+    let mut store = opened?;
+    work(rt, &mut store, step)
+}
+
+/// Runs the statements.
+pub(crate) fn run<S: Alter>(conn: &mut Connection<S>, sql: &str) -> Result<(), Error> {
+    conn.execute_batch(sql)
+}
+
+/// Runs the statements on the connection.
+fn run_on<S: Alter + Drop>(rt: &impl Tester, opened: Result<Connection<S>, Error>, sql: &str) {
+    let mut conn = sure(rt, opened);
+    sure(rt, run(&mut conn, sql));
+}
+
 /// Takes a step over the file.
 fn open(rt: &impl Tester, host: &HostRuntime, path: &str, step: &Step) -> Result<(), StoreFault> {
-    let mut store: Store<FileStore<File>> = Store::open(host, path)?;
-    work(rt, &mut store, step)
+    if let Step::Run(sql) = step {
+        let opened: Result<Connection<FileStore<File>>, Error> = Connection::open(host, path);
+        run_on(rt, opened, sql);
+        return Ok(());
+    }
+    let opened: Result<Store<FileStore<File>>, StoreFault> = Store::open(host, path);
+    work_on(rt, opened, step)
 }
 
 /// Takes a step over the file, opened by the other function.
@@ -76,19 +85,10 @@ fn open_again(
     path: &str,
     step: &Step,
 ) -> Result<(), StoreFault> {
-    let mut store: Store<FileStore<FileFrom<Wary>>> = Store::open_from(host, path, Wary)?;
-    work(rt, &mut store, step)
-}
-
-/// Runs the statements.
-pub(crate) fn run<S: Alter>(conn: &mut Connection<S>, sql: &str) -> Result<(), Error> {
-    conn.execute_batch(sql)
-}
-
-/// Runs the statements on the file, as another program might.
-fn change(host: &HostRuntime, path: &str, sql: &str) -> Result<(), Error> {
-    let mut conn: Connection<FileStore<File>> = Connection::open(host, path)?;
-    run(&mut conn, sql)
+    let opened: Result<Store<FileStore<FileFrom<Wary>>>, StoreFault> = Store::open_from(
+        host, path, Wary,
+    );
+    work_on(rt, opened, step)
 }
 
 /// Asserts that the file is refused for its schema, and left unchanged.
@@ -104,7 +104,6 @@ fn expect_left(rt: &impl Tester, host: &HostRuntime, path: &str) {
 fn take(rt: &impl Tester, host: &HostRuntime, path: &str, step: &Step) {
     match step {
         Step::Write(text) => sure(rt, fs::write(host, path, *text)),
-        Step::Run(sql) => sure(rt, change(host, path, sql)),
         Step::Leave => expect_left(rt, host, path),
         Step::Check(want) => {
             assert!(rt; open(rt, host, path, step) == *want, "{path}");

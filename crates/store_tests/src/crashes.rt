@@ -4,14 +4,17 @@
 //! A fuse forwards the first `calls` calls to a disk in memory, and fails each later one. Then the
 //! machine restarts: what was never synced is lost, and the files are opened again.
 
-use crate::harness::{EXPIRY, NOW, Tester, sure};
-use names::{Moment, RepoName, UserName};
-use sqlite::{Connection, Files, Options};
-use sqlite_disk::{Crash, Fuse, Memory};
-use tables::{Creation, NewLock, Operation, Storage, Store, StoreFault};
+use names::Operation;
+use sqlite::{Connection, FileStore, Files, Options};
+use sqlite_disk::{Crash, Disk, Fuse, Memory};
+use tables::{Creation, NewLock, Storage, Store, StoreFault};
+use test_support::{Tester, lock_path, moment, ref_name, repo, user};
 use tokens::{TokenRequest, issue};
 
 const FILM: &str = "studio/film";
+
+/// The moment of each step.
+const NOW: u64 = 1_463_500_146;
 
 /// More calls than a test makes of either file.
 const MANY: u64 = 1_000;
@@ -47,28 +50,34 @@ fn fused(rt: &impl Tester, counted: Counted, calls: u64) -> Files<Fuse<Memory>> 
 }
 
 /// Makes a lock for ann. Returns whether it was reported as made.
-fn lock<S: Storage>(store: &mut Store<S>) -> bool {
+fn lock<S: Storage>(rt: &impl Tester, store: &mut Store<S>) -> bool {
+    let film = repo(rt, FILM);
+    let main = ref_name(rt, "refs/heads/main");
+    let hero = lock_path(rt, "art/hero.psd");
+    let ann = user(rt, "ann");
     let lock = NewLock {
-        repo: FILM,
-        ref_name: "refs/heads/main",
-        path: "art/hero.psd",
-        owner: "ann",
-        moment: 1_463_500_146,
+        repo: &film,
+        ref_name: &main,
+        path: &hero,
+        owner: &ann,
+        moment: moment(rt, NOW),
     };
     match store.create_lock(&lock) {
-        Ok(Creation::Created(id)) => id == 1,
+        Ok(Creation::Created(id)) => id.get() == 1,
         _ => false,
     }
 }
 
 /// Issues a token to ann. Returns whether it was reported as issued.
 fn issue_token<S: Storage>(rt: &impl Tester, store: &mut Store<S>) -> bool {
+    let ann = user(rt, "ann");
+    let film = repo(rt, FILM);
     let asked = TokenRequest {
-        user: sure(rt, UserName::read("ann").ok_or(())),
-        repo: sure(rt, RepoName::read(FILM).ok_or(())),
+        user: &ann,
+        repo: &film,
         operation: Operation::Download,
-        now: sure(rt, Moment::read(NOW).ok_or(())),
-        seconds: EXPIRY - NOW,
+        now: moment(rt, NOW),
+        seconds: 3_600,
         random: &[0xcc; 32],
     };
     issue(rt.alloc(), store, &asked).is_ok()
@@ -77,9 +86,11 @@ fn issue_token<S: Storage>(rt: &impl Tester, store: &mut Store<S>) -> bool {
 /// The contents of the store.
 fn seen<S: Storage>(rt: &impl Tester, store: &mut Store<S>) -> Result<Seen, StoreFault> {
     store.create_or_check(rt.alloc())?;
-    let locks = store.locks_in(rt.alloc(), FILM)?.len();
-    let made = store.made(FILM)?;
-    let tokens = store.tokens_of(rt.alloc(), "ann", FILM)?.len();
+    let film = repo(rt, FILM);
+    let ann = user(rt, "ann");
+    let locks = store.locks_in(rt.alloc(), &film)?.len();
+    let made = store.made(&film)?;
+    let tokens = store.tokens_of(rt.alloc(), &ann, &film)?.len();
     Ok((locks, made, tokens))
 }
 
@@ -90,24 +101,34 @@ fn work_on<S: Storage>(rt: &impl Tester, store: &mut Store<S>, work: Work) -> Op
     }
     store.create_or_check(rt.alloc()).ok()?;
     match work {
-        Work::Lock if lock(store) => Some((1, 1, 0)),
+        Work::Lock if lock(rt, store) => Some((1, 1, 0)),
         Work::Issue if issue_token(rt, store) => Some((0, 0, 1)),
         _ => None,
     }
 }
 
-/// Opens a store over the files, does the work, and returns the files.
-fn with_files(
+/// Does the work with a store over the connection, and returns the connection.
+fn with_connection<S: Storage>(
     rt: &impl Tester,
-    files: Files<Fuse<Memory>>,
+    conn: Connection<S>,
     work: Work,
-) -> (Option<Seen>, Files<Fuse<Memory>>) {
+) -> (Option<Seen>, Connection<S>) {
+    let mut store = Store::adopt(conn);
+    let told = work_on(rt, &mut store, work);
+    (told, store.into_connection())
+}
+
+/// Opens a store over the files, does the work, and returns the files.
+fn with_files<D: Disk + Drop>(
+    rt: &impl Tester,
+    files: Files<D>,
+    work: Work,
+) -> (Option<Seen>, Files<D>) {
     assert!(rt; files.may_be_used());
     match Connection::open_files(rt.alloc(), files, Options::new(7)) {
         Ok(conn) => {
-            let mut store = Store::adopt(conn);
-            let told = work_on(rt, &mut store, work);
-            (told, store.into_connection().into_store().close())
+            let (told, conn) = with_connection(rt, conn, work);
+            (told, conn.into_store().close())
         }
         Err((_, left)) => (None, left.into_files()),
     }

@@ -1,8 +1,11 @@
 //! Stores that refuse, whose ids are used up, and that are opened again.
 
 use crate::connections::{CHUNKED, REFUSED, TREE};
-use crate::files::{Step, take_steps};
 use crate::harness::*;
+use sqlite::{Connection, Error, File, FileStore};
+use std::fs;
+use std::rt::HostRuntime;
+use tables::{Alter, Storage, Store, StoreFault};
 
 /// The reply if the store refuses, 156 bytes.
 const STORE_REFUSED: &str =
@@ -26,6 +29,62 @@ fn a_store_that_refuses_is_told_and_closes(rt: HostRuntime) {
             expect_told(&rt, text.as_bytes(), &told, want, served(1, true));
         }
     }
+}
+
+/// A step on a file.
+enum Step {
+    /// Another program runs this statement on it.
+    Run(&'static str),
+    /// A server over it reads the first text, and writes the second.
+    Serve(&'static str, &'static str),
+}
+
+/// Runs the statement on the connection.
+fn run_on<S: Alter + Drop>(rt: &impl Tester, opened: Result<Connection<S>, Error>, sql: &str) {
+    let mut conn = sure(rt, opened);
+    sure(rt, conn.execute_batch(sql));
+}
+
+/// Asserts that a server over the store sends this.
+fn expect_told_over<S: Storage + Drop>(
+    rt: &impl Tester,
+    opened: Result<Store<S>, StoreFault>,
+    text: &str,
+    want: &str,
+) {
+    let mut store = sure(rt, opened);
+    let told = tell_over(rt, &mut store, text);
+    assert_eq!(rt; told.text.as_str(), want);
+}
+
+/// Takes the step over the file.
+fn take(rt: &impl Tester, host: &HostRuntime, path: &str, step: &Step) {
+    match step {
+        Step::Run(sql) => {
+            let opened: Result<Connection<FileStore<File>>, Error> = Connection::open(host, path);
+            run_on(rt, opened, sql);
+        }
+        Step::Serve(text, want) => {
+            let opened: Result<Store<FileStore<File>>, StoreFault> = Store::open(host, path);
+            expect_told_over(rt, opened, text, want);
+        }
+    }
+}
+
+/// Removes the files that a test left, with the log.
+fn clear(rt: &impl Tester, host: &HostRuntime, path: &str) {
+    let log = sure(rt, format!(in rt.alloc(); "{path}-wal"));
+    let _ = fs::remove_file(host, path);
+    let _ = fs::remove_file(host, log.as_str());
+}
+
+/// Takes the steps in order, beginning without a file.
+fn take_steps(rt: &impl Tester, host: &HostRuntime, path: &str, steps: &[Step]) {
+    clear(rt, host, path);
+    for step in steps {
+        take(rt, host, path, step);
+    }
+    clear(rt, host, path);
 }
 
 /// The reply to [`TREE`] if one id is left.

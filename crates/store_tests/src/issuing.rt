@@ -1,11 +1,11 @@
 //! Tokens: issued, sent, listed and removed.
 
-use crate::files::in_memory;
-use crate::harness::{Tester, sure};
-use names::{Moment, RepoName, Rule, UserName};
+use crate::harness::in_memory;
+use names::{Operation, Rule};
 use sha2::{Digest, Sha256};
 use sqlite::MemStore;
-use tables::{Operation, Store};
+use tables::Store;
+use test_support::{Tester, moment, repo, sure, user};
 use tokens::{TokenFault, TokenRequest, caller, issue, of, offer, prune};
 
 /// 64 times the letter c: 32 bytes 0xcc in hexadecimal digits.
@@ -29,27 +29,6 @@ enum Act {
 /// result.
 type Step = (Act, u8, u64, u64, &'static str);
 
-fn moment_of(rt: &impl Tester, second: u64) -> Moment {
-    sure(rt, Moment::read(second).ok_or(()))
-}
-
-/// A download token of ann for studio/film, of 32 times this byte.
-fn asked<'r>(
-    rt: &impl Tester,
-    random: &'r [u8; 32],
-    second: u64,
-    seconds: u64,
-) -> TokenRequest<'r> {
-    TokenRequest {
-        user: sure(rt, UserName::read("ann").ok_or(())),
-        repo: sure(rt, RepoName::read("studio/film").ok_or(())),
-        operation: Operation::Download,
-        now: moment_of(rt, second),
-        seconds,
-        random,
-    }
-}
-
 /// The text of a token, or the fault.
 fn as_text(rt: &impl Tester, answer: Result<String, TokenFault>) -> String {
     match answer {
@@ -58,11 +37,20 @@ fn as_text(rt: &impl Tester, answer: Result<String, TokenFault>) -> String {
     }
 }
 
-/// The result of a step.
+/// The result of a step. It is about a download token of ann for studio/film, of 32 times the byte.
 fn told(rt: &impl Tester, store: &mut Store<MemStore>, step: &Step) -> String {
     let (act, byte, second, seconds, _) = step;
+    let ann = user(rt, "ann");
+    let film = repo(rt, "studio/film");
     let random = [*byte; 32];
-    let asked = asked(rt, &random, *second, *seconds);
+    let asked = TokenRequest {
+        user: &ann,
+        repo: &film,
+        operation: Operation::Download,
+        now: moment(rt, *second),
+        seconds: *seconds,
+        random: &random,
+    };
     match act {
         Act::Issue => as_text(rt, issue(rt.alloc(), store, &asked)),
         Act::Offer => as_text(rt, offer(rt.alloc(), store, &asked)),
@@ -150,7 +138,7 @@ fn the_digest_of_a_token_is_kept(rt: HostRuntime) {
     let kept = sure(&rt, store.token(&Sha256::digest(TEXT.as_bytes())));
     let kept = sure(&rt, kept.ok_or(()));
     assert!(rt; kept.user.as_str() == "ann" && kept.repo.as_str() == "studio/film");
-    assert!(rt; kept.operation == Operation::Download && kept.expires == 100);
+    assert!(rt; kept.operation == Operation::Download && kept.expires.get() == 100);
 }
 
 /// Whether the token sent is a download token of ann's for studio/film, or the rule that refuses it.
@@ -160,7 +148,7 @@ fn borne(
     authorization: Option<&[u8]>,
     second: u64,
 ) -> Result<bool, Rule> {
-    match sure(rt, caller(store, authorization, moment_of(rt, second))) {
+    match sure(rt, caller(store, authorization, moment(rt, second))) {
         Ok(caller) => Ok(
             caller.user.as_str() == "ann"
                 && caller.repo.as_str() == "studio/film"
@@ -198,16 +186,16 @@ fn a_token_names_its_caller(rt: HostRuntime) {
 fn count_of(
     rt: &impl Tester,
     store: &mut Store<MemStore>,
-    user: &str,
-    repo: &str,
+    name: &str,
+    place: &str,
 ) -> (usize, bool) {
-    let user = sure(rt, UserName::read(user).ok_or(()));
-    let repo = sure(rt, RepoName::read(repo).ok_or(()));
-    let tokens = sure(rt, of(rt.alloc(), store, user, repo));
+    let name = user(rt, name);
+    let place = repo(rt, place);
+    let tokens = sure(rt, of(rt.alloc(), store, &name, &place));
     let is_that = tokens.first().is_some_and(|token| {
         token.digest.as_slice() == Sha256::digest(TEXT.as_bytes()).as_slice()
             && token.operation == Operation::Download
-            && token.expires == 100
+            && token.expires.get() == 100
     });
     (tokens.len(), is_that)
 }

@@ -1,13 +1,13 @@
 //! The worked lock with one failed allocation: `tools/refuse_memory.sh` adds a test for each allocation,
 //! in which that one fails.
 
-use names::{Counted, Moment, SliceSource};
+use names::{Counted, LockPath, Moment, Operation, RefName, RepoName, SliceSource, UserName};
 use policy::Policy;
 use service::{End, Routes, Served, serve};
 use sha2::{Digest, Sha256};
 use sqlite::MemStore;
 use std::alloc::{AllocError, Global};
-use tables::{NewToken, Operation, Store, StoreFault};
+use tables::{NewToken, Store, StoreFault};
 
 /// A policy by which ann may lock in studio/film.
 const POLICY: &str =
@@ -24,6 +24,25 @@ const CREATED: &[u8] =
 const REFUSED: &[u8] =
     b"HTTP/1.1 500 Internal Server Error\r\nContent-Type: application/vnd.git-lfs+json\r\nContent-Length: 35\r\nConnection: close\r\n\r\n{\"message\":\"S1: the store refused\"}";
 
+/// The place of the worked lock.
+#[derive(Drop)]
+struct Place {
+    repo: RepoName,
+    ref_name: RefName,
+    path: LockPath,
+}
+
+impl Place {
+    /// `None` if memory runs out.
+    fn new(alloc: Global) -> Option<Place> {
+        Some(Place {
+            repo: RepoName::read("studio/film".to_owned(alloc).ok()?)?,
+            ref_name: RefName::read("refs/heads/main".to_owned(alloc).ok()?)?,
+            path: LockPath::read("art/hero.psd".to_owned(alloc).ok()?)?,
+        })
+    }
+}
+
 /// A server that knows ann's upload token.
 #[derive(Drop)]
 struct Server {
@@ -31,6 +50,7 @@ struct Server {
     policy: Policy,
     routes: Routes,
     now: Moment,
+    place: Place,
 }
 
 impl Server {
@@ -38,12 +58,14 @@ impl Server {
     fn new(alloc: Global) -> Option<Server> {
         let mut store = Store::open_memory(alloc).ok()?;
         store.create_or_check(alloc).ok()?;
+        let ann = UserName::read("ann".to_owned(alloc).ok()?)?;
+        let place = Place::new(alloc)?;
         let token = NewToken {
             digest: &Sha256::digest(&[b'a'; 64]),
-            user: "ann",
-            repo: "studio/film",
+            user: &ann,
+            repo: &place.repo,
             operation: Operation::Upload,
-            expires: 1_463_503_600,
+            expires: Moment::read(1_463_503_600)?,
         };
         store.add_token(&token).ok()?;
         Some(Server {
@@ -51,6 +73,7 @@ impl Server {
             policy: Policy::read(alloc, POLICY).ok()?,
             routes: Routes::new(alloc).ok()?,
             now: Moment::read(1_463_500_146)?,
+            place,
         })
     }
 }
@@ -65,9 +88,12 @@ fn spare_memory(alloc: Global, times: usize) -> Result<Vec<Vec<u8>>, AllocError>
 }
 
 /// Whether the path is locked, and the number of locks ever made.
-fn kept(store: &mut Store<MemStore>) -> Result<(bool, u32), StoreFault> {
-    let row = store.lock_at("studio/film", "refs/heads/main", "art/hero.psd")?;
-    Ok((row.is_some(), store.made("studio/film")?))
+fn kept(server: &mut Server) -> Result<(bool, u32), StoreFault> {
+    let place = &server.place;
+    let row = server
+        .store
+        .lock_at(&place.repo, &place.ref_name, &place.path)?;
+    Ok((row.is_some(), server.store.made(&place.repo)?))
 }
 
 /// The outcome of the worked lock.
@@ -115,7 +141,7 @@ fn asked_after(alloc: Global, times: usize) -> Outcome {
         &mut SliceSource::new(MESSAGE, usize::MAX),
         &mut sink,
     );
-    match kept(&mut server.store) {
+    match kept(&mut server) {
         Ok(locks) => seen(&sink.into_inner(), served, locks),
         Err(_) => Outcome::NotSeen,
     }
