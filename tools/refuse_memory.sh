@@ -19,7 +19,7 @@ for crate in "$root"/crates/*; do
     done
 done
 tests=src/memory.rt
-cd "$room/crates/integration"
+cd "$room/crates/connection_tests"
 cp "$tests" "$room/memory.rt"
 # No other test is wanted.
 find src -name '*.rt' ! -name memory.rt -delete
