@@ -1,13 +1,15 @@
 //! A server in memory, messages to it, and the replies that its protocol specifies.
 
-use names::{Moment, Operation, Sink, SliceSource, Source, VecSink};
+use names::{
+    LockPath, Moment, Operation, RefName, RepoName, Sink, SliceSource, Source, UserName, VecSink,
+};
 use policy::Policy;
 use service::{End, Routes, Served, serve};
 use sha2::{Digest, Sha256};
 use sqlite::MemStore;
+use std::alloc::{Alloc, Global};
+use std::process::Abort;
 use tables::{Alter, NewToken, Storage, Store};
-pub(crate) use test_support::{Tester, sure};
-use test_support::{lock_path, moment, ref_name, repo, user};
 
 /// The moment of a connection, unless a test gives another.
 pub(crate) const NOW: u64 = 1_463_500_146;
@@ -100,6 +102,49 @@ const RULES: &[(&str, &str, &str)] = &[
     ("J2", "422 Unprocessable Content", "a field is out of range"),
     ("P0", "403 Forbidden", "no policy row allows lock"),
 ];
+
+/// What a test needs of its runtime: memory, and a way to abort.
+pub(crate) trait Tester: Abort + Alloc<A = Global> {}
+
+impl<R: Abort + Alloc<A = Global>> Tester for R {}
+
+/// Unwraps a result that has to be `Ok`.
+pub(crate) fn sure<T, E>(rt: &impl Abort, answer: Result<T, E>) -> T {
+    match answer {
+        Ok(value) => value,
+        Err(_) => panic!(rt; "an answer is an error"),
+    }
+}
+
+/// A copy of the text.
+pub(crate) fn owned(rt: &impl Tester, text: &str) -> String {
+    sure(rt, text.to_owned(rt.alloc()))
+}
+
+/// The user of this text.
+pub(crate) fn user(rt: &impl Tester, text: &str) -> UserName {
+    sure(rt, UserName::read(owned(rt, text)).ok_or(()))
+}
+
+/// The repository of this text.
+pub(crate) fn repo(rt: &impl Tester, text: &str) -> RepoName {
+    sure(rt, RepoName::read(owned(rt, text)).ok_or(()))
+}
+
+/// The ref of this text.
+pub(crate) fn ref_name(rt: &impl Tester, text: &str) -> RefName {
+    sure(rt, RefName::read(owned(rt, text)).ok_or(()))
+}
+
+/// The path of this text.
+pub(crate) fn lock_path(rt: &impl Tester, text: &str) -> LockPath {
+    sure(rt, LockPath::read(owned(rt, text)).ok_or(()))
+}
+
+/// The moment of this second.
+pub(crate) fn moment(rt: &impl Tester, second: u64) -> Moment {
+    sure(rt, Moment::read(second).ok_or(()))
+}
 
 /// The text that a connection was sent, and how it ended.
 #[derive(Drop)]

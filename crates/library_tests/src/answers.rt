@@ -1,11 +1,11 @@
 //! `forms`: answers as JSON.
 
+use crate::harness::{Tester, lock_path, moment, sure, user};
 use forms::{Answer, DenialStatus, ShownLock};
 use model::Right;
 use names::{LockId, Rule};
 use std::alloc::{AllocError, Global};
 use std::test::Fail;
-use test_support::{Tester, lock_path, moment, sure, user};
 
 /// The status, a space and the body.
 fn text_of(alloc: Global, answer: &Answer<'_>) -> Result<String, AllocError> {

@@ -1,7 +1,52 @@
-//! How the tests compare the result of a case.
+//! Helpers that the tests share.
 
+use names::{LockPath, Moment, RefName, RepoName, UserName};
+use std::alloc::{Alloc, Global};
 use std::fmt::Debug;
 use std::process::Abort;
+
+/// What a test needs of its runtime: memory, and a way to abort.
+pub(crate) trait Tester: Abort + Alloc<A = Global> {}
+
+impl<R: Abort + Alloc<A = Global>> Tester for R {}
+
+/// Unwraps a result that has to be `Ok`.
+pub(crate) fn sure<T, E>(rt: &impl Abort, answer: Result<T, E>) -> T {
+    match answer {
+        Ok(value) => value,
+        Err(_) => panic!(rt; "an answer is an error"),
+    }
+}
+
+/// A copy of the text.
+pub(crate) fn owned(rt: &impl Tester, text: &str) -> String {
+    sure(rt, text.to_owned(rt.alloc()))
+}
+
+/// The user of this text.
+pub(crate) fn user(rt: &impl Tester, text: &str) -> UserName {
+    sure(rt, UserName::read(owned(rt, text)).ok_or(()))
+}
+
+/// The repository of this text.
+pub(crate) fn repo(rt: &impl Tester, text: &str) -> RepoName {
+    sure(rt, RepoName::read(owned(rt, text)).ok_or(()))
+}
+
+/// The ref of this text.
+pub(crate) fn ref_name(rt: &impl Tester, text: &str) -> RefName {
+    sure(rt, RefName::read(owned(rt, text)).ok_or(()))
+}
+
+/// The path of this text.
+pub(crate) fn lock_path(rt: &impl Tester, text: &str) -> LockPath {
+    sure(rt, LockPath::read(owned(rt, text)).ok_or(()))
+}
+
+/// The moment of this second.
+pub(crate) fn moment(rt: &impl Tester, second: u64) -> Moment {
+    sure(rt, Moment::read(second).ok_or(()))
+}
 
 /// Asserts that the result of a case is the expected one.
 pub(crate) fn expect<T: Copy + PartialEq + Debug>(

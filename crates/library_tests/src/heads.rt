@@ -1,11 +1,10 @@
 //! `wire`: heads cut from bytes, and what they state.
 
-use crate::harness::expect;
+use crate::harness::{expect, sure};
 use httparse::spans::EMPTY_HEADER_SPAN;
 use names::Rule;
 use std::alloc::{Alloc, Global};
 use std::process::Abort;
-use test_support::sure;
 use wire::{Cut, FIELD_ROOM, Head, first_head, front_of};
 
 /// The length of the head at the front of the text, or what the text begins with instead.

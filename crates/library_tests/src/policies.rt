@@ -1,9 +1,9 @@
 //! `policy`: policy files, their faults, and the row that decides.
 
+use crate::harness::sure;
 use policy::*;
 use std::alloc::{Alloc, Global};
 use std::process::Abort;
-use test_support::sure;
 
 mod decisions;
 mod faults;

@@ -1,12 +1,11 @@
 //! `wire`: replies written to sinks that take few bytes, or fail.
 
-use crate::harness::expect;
+use crate::harness::{expect, sure};
 use http::StatusCode;
 use names::{Counted, FailAfter, Sink, VecSink};
 use std::alloc::{Alloc, Global};
 use std::io::{self, Write};
 use std::process::Abort;
-use test_support::sure;
 use wire::{ALLOW_LIMIT, Content, ReplyHead, WriteFault, write_reply, write_whole};
 
 /// The head of a reply, with its status as a number.

@@ -1,12 +1,11 @@
 //! `names`: sources and sinks.
 
-use crate::harness::expect;
+use crate::harness::{expect, sure};
 use names::{Counted, DeviceFault, FailAfter, Sink, SliceSource, Source, VecSink};
 use std::cell::Cell;
 use std::io;
 use std::io::{Read, Write};
 use std::process::Abort;
-use test_support::sure;
 
 fn write_whole<K: Sink>(sink: &mut K, bytes: &[u8]) -> Result<(), DeviceFault> {
     let mut rest = bytes;

@@ -1,11 +1,10 @@
 //! `names`: texts and numbers with a range, moments, rules.
 
-use crate::harness::expect;
+use crate::harness::{expect, owned, sure};
 use names::{LockId, LockPath, Moment, Oid, RefName, RepoName, Rule, Size, UserName, moment_text};
 use std::alloc::{Alloc, Global};
 use std::fmt::Display;
 use std::process::Abort;
-use test_support::{owned, sure};
 
 /// The text, followed by `letters` letters `a`.
 fn lengthened(rt: &(impl Abort + Alloc<A = Global>), text: &str, letters: usize) -> String {

@@ -4,11 +4,11 @@
 //! A fuse forwards the first `calls` calls to a disk in memory, and fails each later one. Then the
 //! machine restarts: what was never synced is lost, and the files are opened again.
 
+use crate::harness::{Tester, lock_path, moment, ref_name, repo, user};
 use names::Operation;
 use sqlite::{Connection, FileStore, Files, Options};
 use sqlite_disk::{Crash, Disk, Fuse, Memory};
 use tables::{Creation, NewLock, Storage, Store, StoreFault};
-use test_support::{Tester, lock_path, moment, ref_name, repo, user};
 use tokens::{TokenRequest, issue};
 
 const FILM: &str = "studio/film";
@@ -63,8 +63,16 @@ fn lock<S: Storage>(rt: &impl Tester, store: &mut Store<S>) -> bool {
         moment: moment(rt, NOW),
     };
     match store.create_lock(&lock) {
-        Ok(Creation::Created(id)) => id.get() == 1,
-        _ => false,
+        Ok(creation) => is_first(creation),
+        Err(_) => false,
+    }
+}
+
+/// Whether a lock was made, as the first of its repository.
+fn is_first(creation: Creation) -> bool {
+    match creation {
+        Creation::Created(id) => id.get() == 1,
+        Creation::Held(_) | Creation::UsedUp => false,
     }
 }
 

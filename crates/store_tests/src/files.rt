@@ -4,12 +4,12 @@
 //! owns a store over a file takes long to prove: here there is one for each kind of file.
 
 use crate::databases::{fill, found, last_locks};
+use crate::harness::{Tester, sure};
 use sqlite::{Connection, Error, File, FileFrom, FileStore, Wary};
 use std::alloc::Global;
 use std::fs;
 use std::rt::HostRuntime;
 use tables::{Alter, Storage, Store, StoreFault};
-use test_support::{Tester, sure};
 
 /// A step on a file, with the expected result.
 pub(crate) enum Step {

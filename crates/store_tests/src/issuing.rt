@@ -1,11 +1,10 @@
 //! Tokens: issued, sent, listed and removed.
 
-use crate::harness::in_memory;
+use crate::harness::{Tester, in_memory, moment, repo, sure, user};
 use names::{Operation, Rule};
 use sha2::{Digest, Sha256};
 use sqlite::MemStore;
 use tables::Store;
-use test_support::{Tester, moment, repo, sure, user};
 use tokens::{TokenFault, TokenRequest, caller, issue, of, offer, prune};
 
 /// 64 times the letter c: 32 bytes 0xcc in hexadecimal digits.

@@ -1,7 +1,7 @@
 //! The row that decides.
 use super::*;
+use crate::harness::{lock_path, ref_name, repo, user};
 use model::Right;
-use test_support::{lock_path, ref_name, repo, user};
 
 /// A question of the tests: user, repository, right, and the ref and path if it concerns them.
 pub type Asked = (
