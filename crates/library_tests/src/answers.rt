@@ -25,12 +25,11 @@ fn text_of_lock(rt: &impl Tester, path: &str, is_held: bool) -> Result<String, A
         owner: &owner,
         path: &path,
     };
-    let answer = if is_held {
-        Answer::Held(&lock)
+    if is_held {
+        text_of(rt.alloc(), &Answer::Held(&lock))
     } else {
-        Answer::Locked(&lock)
-    };
-    text_of(rt.alloc(), &answer)
+        text_of(rt.alloc(), &Answer::Locked(&lock))
+    }
 }
 
 #[test]
