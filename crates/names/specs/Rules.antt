@@ -9,6 +9,7 @@ pub record RuleRow : Type 0 where
   pub status : Option ℕ
   pub reason : Option (List ℕ)
 
+-- the row of a rule with a status and a reason of its own
 abbrev pub row : List ℕ → ℕ → List ℕ → RuleRow
 row code status reason = record { code = code; status = Some status; reason = Some reason }
 

@@ -25,18 +25,23 @@ between low high n = nat_le low n && nat_le n high
 
 -- ---- bytes
 
+-- the byte `-`
 abbrev pub hyphen : ℕ
 hyphen = 45
 
+-- the byte `.`
 abbrev pub dot : ℕ
 dot = 46
 
+-- the byte `/`
 abbrev pub slash : ℕ
 slash = 47
 
+-- the byte `\`
 abbrev pub backslash : ℕ
 backslash = 92
 
+-- the byte `_`
 abbrev pub underscore : ℕ
 underscore = 95
 
@@ -85,6 +90,7 @@ is_hex_64 text = length text == 64 && list_all is_hex_digit text
 abbrev pub is_user : List ℕ → Bool
 is_user text = between 1 40 (length text) && list_all is_name_byte text
 
+-- the parts are two: an owner and a name
 abbrev pub are_owner_and_name : List (List ℕ) → Bool
 are_owner_and_name (owner ∷ name ∷ []) = is_user owner && is_user name
 are_owner_and_name _ = Bool.false
@@ -93,6 +99,7 @@ are_owner_and_name _ = Bool.false
 abbrev pub is_repo : List ℕ → Bool
 is_repo text = are_owner_and_name (parts text)
 
+-- the text has no byte
 abbrev pub is_empty : List ℕ → Bool
 is_empty [] = Bool.true
 is_empty (b ∷ text) = Bool.false

@@ -30,9 +30,11 @@ right_named text =
     else if bytes_eq text (codes "force") then Some right.Force
     else None
 
+-- the text is the name of an effect
 abbrev pub is_effect : List ℕ → Bool
 is_effect text = is_some (effect_named text)
 
+-- the text is the name of a right
 abbrev pub is_right : List ℕ → Bool
 is_right text = is_some (right_named text)
 
@@ -81,13 +83,15 @@ key_name key.Refs = codes "refs"
 key_name key.Paths = codes "paths"
 key_name key.Rights = codes "rights"
 
--- the keys of the file, of a repository and of a row, in the order in which they are checked
+-- the keys of the file, in the order in which they are checked
 abbrev pub top_keys : List Key
 top_keys = key.Base ∷ key.TokenSeconds ∷ key.Repo ∷ key.Row ∷ []
 
+-- the keys of a repository, in the order in which they are checked
 abbrev pub repo_keys : List Key
 repo_keys = key.Name ∷ key.DefaultRef ∷ key.Quota ∷ []
 
+-- the keys of a row, in the order in which they are checked
 abbrev pub row_keys : List Key
 row_keys = key.Effect ∷ key.Users ∷ key.Repos ∷ key.Refs ∷ key.Paths ∷ key.Rights ∷ []
 

@@ -12,10 +12,11 @@ use Rattle.model.specs.Policy.{is_any}
 abbrev pub longest_file : ℕ
 longest_file = 1048576
 
--- the largest number of repositories in a policy, and of rows
+-- the largest number of repositories in a policy
 abbrev pub most_repos : ℕ
 most_repos = 256
 
+-- the largest number of rows in a policy
 abbrev pub most_rows : ℕ
 most_rows = 1000
 
@@ -33,6 +34,7 @@ largest_quota = 1099511627776
 
 -- ---- the server's address
 
+-- the byte `:`
 abbrev pub colon : ℕ
 colon = 58
 

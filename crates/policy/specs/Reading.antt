@@ -25,16 +25,19 @@ abbrev pub natural : ℤ → ℕ
 natural (pos n) = n
 natural (negsuc n) = 0
 
--- the value at a key, for a table that has it
+-- the text at a key, for a table that has it
 abbrev pub text_in : Members → Key → List ℕ
 text_in t k = unwrap_or (text_at t k) []
 
+-- the number at a key, for a table that has it
 abbrev pub number_in : Members → Key → ℕ
 number_in t k = natural (unwrap_or (whole_at t k) (pos 0))
 
+-- the texts at a key, for a table that has them
 abbrev pub texts_in : Members → Key → List (List ℕ)
 texts_in t k = unwrap_or (texts_at t k) []
 
+-- the entries at a key, for a table that has them
 abbrev pub entries_in : Members → Key → List Data
 entries_in t k = unwrap_or (entries_at t k) []
 
@@ -47,10 +50,11 @@ abbrev pub rights_named : List (List ℕ) → List Right
 rights_named [] = []
 rights_named (name ∷ names) = unwrap_or (option_map (λ r. r ∷ rights_named names) (right_named name)) (rights_named names)
 
--- the repository of a table, and the row of one
+-- the repository of a table
 unfoldable pub repo_in : Members → model.Repo
 repo_in t = record { name = text_in t key.Name; default_ref = text_in t key.DefaultRef; quota = number_in t key.Quota }
 
+-- the row of a table
 unfoldable pub row_in : Members → model.Row
 row_in t = record {
   effect = unwrap_or (effect_named (text_in t key.Effect)) effect.Deny;
@@ -61,10 +65,11 @@ row_in t = record {
   rights = rights_named (texts_in t key.Rights);
 }
 
--- the repositories and the rows of a list of entries
+-- the repositories of a list of entries
 abbrev pub repos_in : List Data → List model.Repo
 repos_in entries = map (λ d. repo_in (table_in d)) entries
 
+-- the rows of a list of entries
 abbrev pub rows_in : List Data → List model.Row
 rows_in entries = map (λ d. row_in (table_in d)) entries
 
@@ -98,10 +103,11 @@ first_of (fault ∷ more) = fault or first_of more
 abbrev pub unless : Bool → Fault → Option Fault
 unless passed fault = if passed then None else Some fault
 
--- a fault of a place as a whole, and one at a key of the place
+-- a fault of a place as a whole
 abbrev pub at_place : FaultCode → Place → Fault
 at_place code place = record { code = code; place = place; key = None }
 
+-- a fault at a key of a place
 abbrev pub at_key : FaultCode → Place → Key → Fault
 at_key code place k = record { code = code; place = place; key = Some k }
 

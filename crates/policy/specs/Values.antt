@@ -17,10 +17,11 @@ use Rattle.policy.specs.declared.questions.Verdict.{Verdict}
 use Rattle.policy.specs.declared.questions.Verdict.TheVariants.{Allow, Deny}
 use Rattle.policy.specs.declared.policies.Policy.{Policy}
 
--- a repository, a row and a policy in memory, as the model's values
+-- a repository, as the model's
 abbrev pub repo_view : Repo → model.Repo
 repo_view r = record { name = repo_text r.name; default_ref = ref_text r.default_ref; quota = r.quota }
 
+-- a row, as the model's
 abbrev pub row_view : Row → model.Row
 row_view r = record {
   effect = r.effect;
@@ -31,6 +32,7 @@ row_view r = record {
   rights = r.rights.items;
 }
 
+-- a policy, as the model's
 abbrev pub policy_view : Policy → model.Policy
 policy_view p = record {
   base = string_bytes p.base;
@@ -39,7 +41,7 @@ policy_view p = record {
   rows = map row_view p.rows.items;
 }
 
--- a question and an answer, as the model's values
+-- a question, as the model's
 abbrev pub question_view : Question → model.Question
 question_view q = record {
   user = user_text q.user.now;
@@ -55,6 +57,7 @@ is_about row q =
     model.held_by row.users q.user && model.held_by row.repos q.repo
     && model.held_if_named row.refs q.ref && model.held_if_named row.paths q.path
 
+-- an answer, as the model's
 abbrev pub decision_view : Verdict → model.Decision
 decision_view (Allow n) = model.allowed n
 decision_view (Deny n) = model.denied n

@@ -162,21 +162,24 @@ impl<'a> TableAt<'a> {
 
     /// The text at the key; Y2 if the key is missing or has another kind.
     pub fn text(&self, key: Key) -> Result<&'a str, Fault>
-        ensures { Finds (λ text. text.now) (text_at (table_view self.now.table.now) key) (at_key Y2 self.now.place key) result }
+        ensures { Finds (λ text. text.now) (text_at (table_view self.now.table.now) key)
+            (at_key Y2 self.now.place key) result }
     {
         text_at(self.table, key).ok_or(self.fault(FaultCode::Y2, key))
     }
 
     /// The whole number at the key; Y2 if the key is missing or has another kind.
     pub fn whole(&self, key: Key) -> Result<i64, Fault>
-        ensures { Finds (λ number. number) (whole_at (table_view self.now.table.now) key) (at_key Y2 self.now.place key) result }
+        ensures { Finds (λ number. number) (whole_at (table_view self.now.table.now) key)
+            (at_key Y2 self.now.place key) result }
     {
         whole_at(self.table, key).ok_or(self.fault(FaultCode::Y2, key))
     }
 
     /// The texts of the array at the key; Y2 if the key is missing or has another kind, `Memory` if memory runs out.
     pub fn texts(&self, alloc: Global, key: Key) -> Result<Vec<String>, PolicyFault>
-        ensures { FindsInMemory (λ copies. texts copies.items) (texts_at (table_view self.now.table.now) key) (at_key Y2 self.now.place key) result }
+        ensures { FindsInMemory (λ copies. texts copies.items) (texts_at (table_view self.now.table.now) key)
+            (at_key Y2 self.now.place key) result }
     {
         match texts_at(alloc, self.table, key)? {
             Some(copies) => Ok(copies),
@@ -186,14 +189,16 @@ impl<'a> TableAt<'a> {
 
     /// The entries of the array at the key, empty if the key is missing; Y2 if it has another kind.
     pub fn entries(&self, key: Key) -> Result<&'a [Value], Fault>
-        ensures { Finds (λ entries. map view entries.now) (entries_at (table_view self.now.table.now) key) (at_key Y2 self.now.place key) result }
+        ensures { Finds (λ entries. map view entries.now) (entries_at (table_view self.now.table.now) key)
+            (at_key Y2 self.now.place key) result }
     {
         entries_at(self.table, key).ok_or(self.fault(FaultCode::Y2, key))
     }
 
     /// Checks that the table has no other keys; else Y2.
     pub fn has_only(&self, keys: &[Key]) -> Result<(), Fault>
-        ensures { Tests (has_only keys.now (table_view self.now.table.now)) (at_place Y2 self.now.place) result }
+        ensures { Tests (has_only keys.now (table_view self.now.table.now))
+            (at_place Y2 self.now.place) result }
     {
         if has_only(keys, self.table) {
             Ok(())
@@ -239,7 +244,8 @@ impl<'a> TableAt<'a> {
 
     /// Checks that these are valid texts at the key: 1 to 64, each of them valid; else Y3.
     pub fn check_texts(&self, key: Key, entries: &[String]) -> Result<(), Fault>
-        ensures { Tests (are_entries (test_of (kind_of key)) (texts entries.now)) (at_key Y3 self.now.place key) result }
+        ensures { Tests (are_entries (test_of (kind_of key)) (texts entries.now))
+            (at_key Y3 self.now.place key) result }
     {
         if are_texts_for(key, entries) {
             Ok(())

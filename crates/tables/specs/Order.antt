@@ -21,6 +21,7 @@ pub record IsInOrder (v : View) : Type 0 where
   pub ordered : IsOrdered v.committed_shape v.committed
   pub listed : IsListed (v.committed catalog_tree) v.committed_shape v.committed_reals
 
+-- a store in memory that committed all its changes is in order
 pub memory_in_order : (s : MemStore) → (memory_view s).trees ≡ (memory_view s).committed → IsInOrder (memory_view s)
 memory_in_order s same =
     let v = memory_view s in
@@ -31,6 +32,7 @@ memory_in_order s same =
           (subst (λ shape. IsListed (v.committed catalog_tree) shape v.reals) shapes.0 (subst (λ (t : Trees). IsListed (t catalog_tree) v.shape v.reals) same (memory_is_listed s)));
     }
 
+-- an open store over files is in order
 pub files_in_order : {D : Type 0} {g : Ghosts D} (s : FileStore D g) → IsTrue (view s).is_open → IsInOrder (view s)
 files_in_order s is_open = record {
   ordered = rw (clean_of (state s) is_open) (∥∥₁_elim (s.stored is_open) (IsOrdered-prop _ _) (λ stored. all_ordered stored.ours.file.db _));

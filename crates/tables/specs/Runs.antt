@@ -26,6 +26,7 @@ pub record IsKept (db : Database) : Type 0 where
 abbrev pub IsReady : State → Type 0
 IsReady s = HasCleanDisk s → IsTrue s.is_open → IsKept s.now
 
+-- the rows of the tables of the connection, with the changes of an open transaction
 abbrev pub tables_in : State → Tables
 tables_in s = tables_of s.now.trees
 
@@ -62,6 +63,7 @@ pub record Blanks (before after : Schema) (old new : State) : Type 0 where
 abbrev pub meta_of : Version → Meta
 meta_of v = record { one = pos 1; version = v.number }
 
+-- the row of `meta` of the first version
 abbrev pub first_meta : Meta
 first_meta = meta_of version_one
 
@@ -69,6 +71,7 @@ first_meta = meta_of version_one
 abbrev pub fresh : Tables
 fresh = record { meta = first_meta ∷ []; repos = []; tokens = []; uploads = []; chunks = []; locks = [] }
 
+-- the step to the tables of a new database
 unfoldable pub with_fresh : Tables → Tables
 with_fresh _ = fresh
 
@@ -81,6 +84,7 @@ pub record IsNotOf (v : Version) (s : State) : Type 0 where
   pub some : ¬ HasNoTable s
   pub other : s.now.schema ≡ v.schema → ¬ ((tables_in s).meta ≡ meta_of v ∷ [])
 
+-- the database has tables, but not those of the first version
 abbrev pub IsForeign : State → Type 0
 IsForeign = IsNotOf version_one
 
@@ -103,6 +107,7 @@ pub record HasVersion (v : Version) (s : State) : Type 0 where
   pub schema : s.now.schema ≡ v.schema
   pub version : (tables_in s).meta ≡ meta_of v ∷ []
 
+-- it is open, with nothing pending, and its tables are those of the first version
 abbrev pub HasOurs : State → Type 0
 HasOurs = HasVersion version_one
 

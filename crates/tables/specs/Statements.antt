@@ -11,9 +11,11 @@ use Rattle.tables.specs.Rows.{Meta, Repo, Token, Lock, Tables}
 
 -- ---- which rows
 
+-- the two texts have the same bytes, by the comparison of the database
 abbrev pub same_bytes : List ℕ → List ℕ → Bool
 same_bytes a b = is_eq (slice_cmp nat_cmp a b)
 
+-- the row is that of the repository of this name
 abbrev pub is_named : List ℕ → Repo → Bool
 is_named name r = same_bytes r.name name
 
@@ -21,44 +23,53 @@ is_named name r = same_bytes r.name name
 abbrev pub is_at : List ℕ → List ℕ → List ℕ → Lock → Bool
 is_at repo ref_name path l = same_bytes l.repo repo && (same_bytes l.ref_name ref_name && same_bytes l.path path)
 
+-- the lock is the repository's, with this id
 abbrev pub has_id : List ℕ → ℤ → Lock → Bool
 has_id repo id l = same_bytes l.repo repo && int_eq l.id id
 
+-- the lock is the repository's
 abbrev pub is_in : List ℕ → Lock → Bool
 is_in repo l = same_bytes l.repo repo
 
--- its id is this one or a later one
+-- the lock is the repository's, and its id is this one or a later one
 abbrev pub is_from : List ℕ → ℤ → Lock → Bool
 is_from repo id l = same_bytes l.repo repo && int_le id l.id
 
+-- the token has this digest
 abbrev pub has_digest : List ℕ → Token → Bool
 has_digest digest t = same_bytes t.digest digest
 
+-- the token is the user's, for the repository
 abbrev pub is_held_by : List ℕ → List ℕ → Token → Bool
 is_held_by user repo t = same_bytes t.user user && same_bytes t.repo repo
 
+-- the token is no longer valid at this moment
 abbrev pub has_expired : ℤ → Token → Bool
 has_expired moment t = int_le t.expires moment
 
--- equal ids are ordered by the rowid
+-- the order of locks by id; equal ids are ordered by the rowid
 abbrev pub id_cmp : Lock → Lock → Ordering
 id_cmp a b = ordering_then (int_cmp a.id b.id) (int_cmp a.rowid b.rowid)
 
--- in rising ids
+-- the locks in rising ids
 abbrev pub by_id : List Lock → List Lock
 by_id = sort_by id_cmp
 
 -- ---- the columns that are returned of a row
 
+-- the columns that are returned of a row of `meta`
 abbrev pub show_meta : Meta → Row
 show_meta m = Int m.one ∷ Int m.version ∷ []
 
+-- the columns that are returned of a row of `repos`
 abbrev pub show_made : Repo → Row
 show_made r = Int r.rowid ∷ Int r.made ∷ []
 
+-- the columns that are returned of a lock
 abbrev pub show_lock : Lock → Row
 show_lock l = Int l.id ∷ Text l.ref_name ∷ Text l.path ∷ Text l.owner ∷ Int l.moment ∷ []
 
+-- the columns that are returned of a token
 abbrev pub show_token : Token → Row
 show_token t = Blob t.digest ∷ Text t.user ∷ Text t.repo ∷ Int t.op ∷ Int t.expires ∷ []
 
@@ -70,6 +81,7 @@ pub record Statement (M : Type 0) : Type 0 where
   pub params : Row
   pub meaning : M
 
+-- the reading statements, each with the values bound to it
 pub data Read : Type 0 where
   meta : Read
   made_by : List ℕ → Read
@@ -123,12 +135,15 @@ reading (tokens_of user repo) = record {
   meaning = λ t. map show_token (filter (is_held_by user repo) t.tokens);
 }
 
+-- the text of a reading statement
 abbrev pub read_text : Read → List ℕ
 read_text r = (reading r).text
 
+-- the values bound to a reading statement
 abbrev pub read_params : Read → Row
 read_params r = (reading r).params
 
+-- the rows that a reading statement returns
 abbrev pub answer : Read → Tables → List Row
 answer r = (reading r).meaning
 
@@ -138,6 +153,7 @@ Answered sql params t rows = (r : Read) → sql ≡ read_text r → params ≡ r
 
 -- ---- writing; the rowid of an added row does not matter
 
+-- the writing statements, each with the values bound to it
 pub data Write : Type 0 where
   add_lock : Lock → Write
   add_repo : List ℕ → ℤ → Write
@@ -146,21 +162,27 @@ pub data Write : Type 0 where
   add_token : Token → Write
   remove_expired : ℤ → Write
 
+-- the tables with one more lock
 unfoldable pub with_lock : Lock → Tables → Tables
 with_lock l t = record t { locks = t.locks ++ record l { rowid = next_key (λ x. x.rowid) t.locks } ∷ [] }
 
+-- the tables with one more repository
 unfoldable pub with_repo : List ℕ → ℤ → Tables → Tables
 with_repo name made t = record t { repos = t.repos ++ record { rowid = next_key (λ x. x.rowid) t.repos; name = name; made = made; used = pos 0 } ∷ [] }
 
+-- the tables with this number of locks made, in the row with this rowid
 unfoldable pub with_made_at : ℤ → ℤ → Tables → Tables
 with_made_at rowid made t = record t { repos = update_where (λ r. int_eq r.rowid rowid) (λ r. record r { made = made }) t.repos }
 
+-- the tables without the repository's lock of this id
 unfoldable pub without_lock : List ℕ → ℤ → Tables → Tables
 without_lock repo id t = record t { locks = delete_where (has_id repo id) t.locks }
 
+-- the tables with one more token
 unfoldable pub with_token : Token → Tables → Tables
 with_token k t = record t { tokens = t.tokens ++ record k { rowid = next_key (λ x. x.rowid) t.tokens } ∷ [] }
 
+-- the tables without the tokens that have expired at this moment
 unfoldable pub without_expired : ℤ → Tables → Tables
 without_expired moment t = record t { tokens = delete_where (has_expired moment) t.tokens }
 
@@ -208,12 +230,15 @@ writing (remove_expired moment) = record {
   };
 }
 
+-- the text of a writing statement
 abbrev pub write_text : Write → List ℕ
 write_text w = (writing w).text
 
+-- the values bound to a writing statement
 abbrev pub write_params : Write → Row
 write_params w = (writing w).params
 
+-- the step of a writing statement
 abbrev pub after : Write → Tables → Tables
 after w = (writing w).meaning.step
 
@@ -222,5 +247,6 @@ abbrev pub IsCount : Option (Tables → ℕ) → Tables → ℕ → Type 0
 IsCount None t n = ⊤
 IsCount (Some count) t n = n ≡ count t
 
+-- if the writing statement removes rows, it removed n
 abbrev pub HasRemoved : Write → Tables → ℕ → Type 0
 HasRemoved w = IsCount (writing w).meaning.removed

@@ -25,9 +25,11 @@ pub record LockFields : Type 0 where
   pub owner : List ℕ
   pub moment : ℤ
 
+-- the fields of a row of `locks` that a call returns
 abbrev pub lock_fields : Lock → LockFields
 lock_fields l = record { id = l.id; ref_name = l.ref_name; path = l.path; owner = l.owner; moment = l.moment }
 
+-- the fields of a returned lock
 abbrev pub read_lock : LockRow → LockFields
 read_lock row = record {
   id = pos row.id;
@@ -37,10 +39,11 @@ read_lock row = record {
   moment = pos row.moment;
 }
 
--- the result is this lock, and the result is these locks
+-- the result is this lock, or there is none
 abbrev pub IsLockOf : Option LockRow → Option Lock → Type 0
 IsLockOf row l = option_map read_lock row ≡ option_map lock_fields l
 
+-- the results are these locks
 abbrev pub AreLocksOf : List LockRow → List Lock → Type 0
 AreLocksOf rows ls = map read_lock rows ≡ map lock_fields ls
 
@@ -52,6 +55,7 @@ pub record TokenFields : Type 0 where
   pub op : ℤ
   pub expires : ℤ
 
+-- the fields of a row of `tokens` that a call returns
 abbrev pub token_fields : Token → TokenFields
 token_fields t = record { digest = t.digest; user = t.user; repo = t.repo; op = t.op; expires = t.expires }
 
@@ -60,6 +64,7 @@ abbrev pub code_of : Operation → ℤ
 code_of operation.Download = pos 1
 code_of operation.Upload = pos 2
 
+-- the fields of a returned token
 abbrev pub read_token : TokenRow → TokenFields
 read_token row = record {
   digest = row.digest;
@@ -69,10 +74,11 @@ read_token row = record {
   expires = pos row.expires;
 }
 
--- the result is this token, and the result is these tokens
+-- the result is this token, or there is none
 abbrev pub IsTokenOf : Option TokenRow → Option Token → Type 0
 IsTokenOf row t = option_map read_token row ≡ option_map token_fields t
 
+-- the results are these tokens
 abbrev pub AreTokensOf : List TokenRow → List Token → Type 0
 AreTokensOf rows ts = map read_token rows ≡ map token_fields ts
 
@@ -83,9 +89,11 @@ pub record RepoCount : Type 0 where
   pub rowid : ℤ
   pub made : ℤ
 
+-- the rowid and the count in a row of `repos`
 abbrev pub repo_count : Repo → RepoCount
 repo_count r = record { rowid = r.rowid; made = r.made }
 
+-- the rowid and the count that a call read
 abbrev pub read_count : Count → RepoCount
 read_count c = record { rowid = c.rowid; made = pos c.made }
 
@@ -105,6 +113,7 @@ made_of name t = made_in (find (is_named name) t.repos)
 abbrev pub used_in : Option Repo → ℤ
 used_in r = unwrap_or (option_map (λ (x : Repo). x.used) r) (pos 0)
 
+-- the number of bytes that the repository stores
 abbrev pub used_of : List ℕ → Tables → ℤ
 used_of name t = used_in (find (is_named name) t.repos)
 
@@ -113,6 +122,7 @@ abbrev pub set_made : List ℕ → ℤ → ℤ → List Repo → List Repo
 set_made name made next [] = record { rowid = next; name = name; made = made; used = pos 0 } ∷ []
 set_made name made next (r ∷ rs) = if is_named name r then record r { made = made } ∷ rs else r ∷ set_made name made next rs
 
+-- the tables with this number of locks made by the repository
 unfoldable pub with_made : List ℕ → ℤ → Tables → Tables
 with_made name made t = record t { repos = set_made name made (next_key (λ x. x.rowid) t.repos) t.repos }
 
@@ -134,12 +144,15 @@ pub data Outcome : Type 0 where
   used_up : Outcome
   created : ℤ → Outcome
 
+-- the last id of a repository
 abbrev pub greatest_id : ℤ
 greatest_id = pos 4294967295
 
+-- the outcome on a free path, after this number of locks
 abbrev pub next_outcome : ℤ → Outcome
 next_outcome made_so_far = if int_eq made_so_far greatest_id then used_up else created (made_so_far +ℤ pos 1)
 
+-- the outcome, if this lock is on the path, after this number of locks
 abbrev pub outcome_by : Option Lock → ℤ → Outcome
 outcome_by (Some l) made_so_far = held (lock_fields l)
 outcome_by None made_so_far = next_outcome made_so_far
@@ -148,9 +161,11 @@ outcome_by None made_so_far = next_outcome made_so_far
 abbrev pub held_at : Lock → Tables → Option Lock
 held_at l t = find (is_at l.repo l.ref_name l.path) t.locks
 
+-- the outcome of a request for this lock
 abbrev pub outcome_of : Lock → Tables → Outcome
 outcome_of l t = outcome_by (held_at l t) (made_of l.repo t)
 
+-- the outcome that a call reports
 abbrev pub read_creation : Creation → Outcome
 read_creation (creation.Created id) = created (pos id)
 read_creation (creation.Held row) = held (read_lock row)
@@ -164,16 +179,19 @@ IsOutcomeOf l t creation = read_creation creation ≡ outcome_of l t
 unfoldable pub with_new_lock : Lock → ℤ → Tables → Tables
 with_new_lock l id t = with_made l.repo id (with_lock (record l { id = id }) t)
 
+-- the tables after this outcome of a request for the lock
 abbrev pub after_outcome : Lock → Outcome → Tables → Tables
 after_outcome l (held other) t = t
 after_outcome l used_up t = t
 after_outcome l (created id) t = with_new_lock l id t
 
+-- the tables after a request for the lock
 unfoldable pub after_create : Lock → Tables → Tables
 after_create l t = after_outcome l (outcome_of l t) t
 
 -- ---- tokens
 
+-- the token of a request, as stored, except for its rowid
 abbrev pub asked_token : NewToken → Token
 asked_token t = record {
   rowid = pos 0;

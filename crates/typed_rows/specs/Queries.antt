@@ -30,5 +30,6 @@ unordered tests project tree = record (query_of tests project tree) { order = []
 abbrev pub sorted_by : ℕ → ℤ → List Term → List Term → ℕ → Query
 sorted_by place limit tests project tree = record (query_of tests project tree) { order = (col 1 place, ascending Binary) ∷ (col 1 0, ascending Binary) ∷ []; limit = lit (Int limit) }
 
+-- the test that the column has the value of the parameter
 abbrev pub is_given : ℕ → ℕ → Term
 is_given column parameter = op2 (Compare Eq Binary) (col 1 column) (col 0 parameter)

@@ -7,11 +7,12 @@ use Rattle.sqlite_value.specs.Order.{Row}
 use Rattle.sqlite_trees.specs.Tree.{IsTable, rowid}
 use Rattle.sqlite_trees.specs.View.{is_int}
 
--- the number of a value, and the bytes of a text or a blob
+-- the number of a value; 0 for another kind
 abbrev pub int_of : Value → ℤ
 int_of (Int n) = n
 int_of _ = pos 0
 
+-- the bytes of a text or a blob; none for another kind
 abbrev pub bytes_of : Value → List ℕ
 bytes_of (Text t) = t
 bytes_of (Blob b) = b

@@ -122,7 +122,8 @@ fn push_line(text: &mut ArrayString<HEAD_ROOM>, name: &str, value: &str)
 fn push_line_if(text: &mut ArrayString<HEAD_ROOM>, wanted: bool, name: &str, value: &str)
     requires { array_string_len text.old + (length name.now + length value.now) + 2 ≤ HEAD_ROOM }
     ensures bytes { text.new.bytes ≡ text.old.bytes ++ line_if wanted (name.now ++ value.now) }
-    ensures len { array_string_len text.new ≤ array_string_len text.old + (length name.now + length value.now) + 2 }
+    ensures len { array_string_len text.new
+        ≤ array_string_len text.old + (length name.now + length value.now) + 2 }
 {
     if wanted {
         push_line(text, name, value);
@@ -145,7 +146,8 @@ fn push_type(text: &mut ArrayString<HEAD_ROOM>, content: Content)
 /// Adds the line of the status.
 fn push_status(text: &mut ArrayString<HEAD_ROOM>, status: StatusCode)
     requires { array_string_len text.old + 64 ≤ HEAD_ROOM }
-    ensures bytes { text.new.bytes ≡ text.old.bytes ++ line (codes "HTTP/1.1 " ++ decimal status ++ codes " " ++ phrase_in phrases status) }
+    ensures bytes { text.new.bytes ≡ text.old.bytes
+        ++ line (codes "HTTP/1.1 " ++ decimal status ++ codes " " ++ phrase_in phrases status) }
     ensures len { array_string_len text.new ≤ array_string_len text.old + 64 }
 {
     let mut buffer = Buffer::new();

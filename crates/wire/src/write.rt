@@ -55,9 +55,11 @@ pub fn write_reply<K: Sink>(
     body: &[u8],
 ) -> Result<(), WriteFault>
     requires { length head.now.allow.now ≤ ALLOW_LIMIT }
-    ensures ok { OnOk result (Appends (K.taken sink.old) (K.taken sink.new) (head_of head.now ++ body.now)) }
+    ensures ok { OnOk result (Appends (K.taken sink.old) (K.taken sink.new)
+        (head_of head.now ++ body.now)) }
     ensures good { OnOk result (K.failed sink.new ≡ K.failed sink.old) }
-    ensures part { IfErr result (λ e. IsBeginning (K.taken sink.old) (K.taken sink.new) (head_of head.now ++ body.now) e.written) }
+    ensures part { IfErr result (λ e. IsBeginning (K.taken sink.old) (K.taken sink.new)
+        (head_of head.now ++ body.now) e.written) }
     ensures fault { IfErr result (λ _. HasGrown (K.failed sink.old) (K.failed sink.new)) }
 {
     write_both(sink, head.text().as_str().as_bytes(), body)

@@ -10,10 +10,11 @@ use Rattle.tables.specs.Steps.{code_of, made_of, used_of}
 use Rattle.tables.specs.Shown.{IsHonest, IsOpen, Stands, shown}
 use Rattle.tables.specs.declared.Store.{Store}
 
--- a row of the table, without its place in the table
+-- a row of `locks`, without its place in the table
 abbrev pub lock_kept : row.Lock → row.Lock
 lock_kept l = record l { rowid = pos 0 }
 
+-- a row of `tokens`, without its place in the table
 abbrev pub token_kept : row.Token → row.Token
 token_kept t = record t { rowid = pos 0 }
 
