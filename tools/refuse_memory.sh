@@ -19,8 +19,8 @@ for crate in "$root"/crates/*; do
     done
 done
 tests=src/memory.rt
-cd "$room/crates/connection_tests"
-cp "$tests" "$room/memory.rt"
+cd "$room/crates/server_tests"
+mv src/service_tests/memory.rt "$room/memory.rt"
 # No other test is wanted.
 find src -name '*.rt' ! -name memory.rt -delete
 printf '#![tactic(auto)]\n\n#[cfg(test)]\nmod memory;\n' >src/lib.rt

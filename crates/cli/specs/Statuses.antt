@@ -9,11 +9,11 @@ use Rattle.policy.specs.declared.faults.PolicyFault.TheVariants as policy
 use Rattle.tokens.specs.declared.issuing.TokenFault.{TokenFault}
 use Rattle.tokens.specs.declared.issuing.TokenFault.TheVariants as tokens
 use Rattle.cli.specs.declared.faults.Fault.{Fault}
-use Rattle.cli.specs.declared.faults.Fault.TheVariants.{Words, Value, Clock, PolicyFile, Policy, Repository, Random, Store, Token, Memory, Output, Session}
+use Rattle.cli.specs.declared.faults.Fault.TheVariants.{Arguments, Value, Clock, PolicyFile, Policy, Repository, Random, Store, Token, Memory, Output, Session}
 
 -- 2 for a fault of the arguments, else 1
 abbrev pub status_of : Fault → ℕ
-status_of (Words _) = 2
+status_of (Arguments _) = 2
 status_of (Value _) = 2
 status_of Clock = 1
 status_of PolicyFile = 1

@@ -25,7 +25,7 @@ Standard input holds what one connection of a client would send: HTTP requests, 
 other. They are answered when the input has ended.
 
 The status is 0 where the input ended or the server closed the connection, 1 where the policy or \
-the database was refused or reading or writing failed, and 2 where the words are wrong.";
+the database was refused or reading or writing failed, and 2 if the arguments are wrong.";
 
 const AUTHENTICATE_ABOUT: &str =
     "Issues a token to a user, and prints what a Git LFS client needs to use it";
@@ -40,7 +40,7 @@ A token to download lets its user pull and list; one to upload covers all that t
 the user. It is good for the policy's token_seconds. The database keeps its SHA-256 alone, so the \
 line that is printed is the only one that tells it.
 
-The status is 0 where the token was issued, 1 where something was refused, and 2 where the words \
+The status is 0 where the token was issued, 1 where something was refused, and 2 if the arguments \
 are wrong. No token is left where the status is not 0, but perhaps where the database failed (G2).";
 
 const PRUNE_ABOUT: &str = "Removes the tokens that have expired, and says how many there were";

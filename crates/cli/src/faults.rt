@@ -15,7 +15,7 @@ use tokens::TokenFault;
 pub(crate) enum Fault {
     /// The arguments are not a command. The text is `clap`'s, with its own line ends.
     #[error("{0}")]
-    Words(clap::Error),
+    Arguments(clap::Error),
     /// A value is not valid for its option; this is the option's name.
     #[error("custody: bad value for {0}")]
     Value(&'static str),
@@ -57,7 +57,7 @@ impl Fault {
         ensures { result ≡ status_of self.now }
     {
         match self {
-            Fault::Words(_) | Fault::Value(_) => 2,
+            Fault::Arguments(_) | Fault::Value(_) => 2,
             Fault::Clock => 1,
             Fault::PolicyFile => 1,
             Fault::Policy(_) => 1,
@@ -76,7 +76,7 @@ impl From<clap::Error> for Fault {
     fn from(error: clap::Error) -> Fault {
         match error.kind() {
             clap::error::ErrorKind::OutOfMemory => Fault::Memory,
-            _ => Fault::Words(error),
+            _ => Fault::Arguments(error),
         }
     }
 }
@@ -84,7 +84,7 @@ impl From<clap::Error> for Fault {
 impl From<PolicyFault> for Fault {
     ghost use Rattle.cli.specs.Statuses.{of_policy};
 
-    ghost from_gives = { λ fault told. told ≡ of_policy fault };
+    ghost from_gives = { λ fault gives. gives ≡ of_policy fault };
 
     fn from(fault: PolicyFault) -> Fault {
         match fault {
@@ -97,7 +97,7 @@ impl From<PolicyFault> for Fault {
 impl From<StoreFault> for Fault {
     ghost use Rattle.cli.specs.Statuses.{of_store};
 
-    ghost from_gives = { λ fault told. told ≡ of_store fault };
+    ghost from_gives = { λ fault gives. gives ≡ of_store fault };
 
     fn from(fault: StoreFault) -> Fault {
         match fault {
@@ -110,7 +110,7 @@ impl From<StoreFault> for Fault {
 impl From<TokenFault> for Fault {
     ghost use Rattle.cli.specs.Statuses.{of_token};
 
-    ghost from_gives = { λ fault told. told ≡ of_token fault };
+    ghost from_gives = { λ fault gives. gives ≡ of_token fault };
 
     fn from(fault: TokenFault) -> Fault {
         match fault {
@@ -123,7 +123,7 @@ impl From<TokenFault> for Fault {
 impl From<AllocError> for Fault {
     ghost use Rattle.cli.specs.declared.faults.Fault.TheVariants.{Memory};
 
-    ghost from_gives = { λ _ told. told ≡ Memory };
+    ghost from_gives = { λ _ gives. gives ≡ Memory };
 
     fn from(_refused: AllocError) -> Fault {
         Fault::Memory

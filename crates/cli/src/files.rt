@@ -1,19 +1,16 @@
 //! Reads files other than the database: the policy, and random bytes.
 
 use crate::faults::Fault;
-use policy::Policy;
+use policy::{LONGEST_FILE, Policy};
 use std::fs::File;
 use std::io::{self, ErrorKind, Read};
 use std::rt::HostRuntime;
 
-/// One byte more than the longest policy file, so that a longer one is noticed.
-const MOST_READ: u64 = 1_048_577;
-
-/// The bytes of a file, at most [`MOST_READ`] of them.
+/// The bytes of a file, at most one more than the longest policy file has: a longer one is noticed.
 fn read_file(rt: &HostRuntime, path: &str) -> io::Result<Vec<u8>> {
     let mut bytes = Vec::new(rt.alloc());
     File::open(rt, path)?
-        .take(MOST_READ)
+        .take(LONGEST_FILE as u64 + 1)
         .read_to_end(&mut bytes)?;
     Ok(bytes)
 }

@@ -4,6 +4,7 @@
 //! success, 1 for a refusal, 2 for invalid arguments. `main` passes the machine's arguments and streams.
 #![tactic(auto)]
 
+mod args;
 mod authenticate;
 mod commands;
 mod faults;
@@ -12,6 +13,5 @@ mod moments;
 mod program;
 mod prune;
 mod session;
-mod words;
 
-pub use program::{refuse_words, run};
+pub use program::{refuse_args, run};

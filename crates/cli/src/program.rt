@@ -4,11 +4,11 @@ ghost use Rattle.std.specs.Prelude.{◌≡◌, ◌≢◌, ◌≤◌};
 ghost use Rattle.std.specs.IoError.{error_kind};
 ghost use Rattle.cli.specs.Statuses.{status_of};
 
+use crate::args::{Command, read_args};
 use crate::authenticate::authenticate;
 use crate::faults::Fault;
 use crate::prune::prune;
 use crate::session::session;
-use crate::words::{Asked, read_words};
 use std::io::{self, ErrorKind, Read, Write};
 use std::rt::HostRuntime;
 use tables::Start;
@@ -20,25 +20,25 @@ fn write_text<W: Write>(text: &clap::Error, output: &mut W) -> io::Result<()> {
 }
 
 /// Runs the command that the arguments name.
-fn obey<S: Start, R: Read, W: Write>(
+fn dispatch<S: Start, R: Read, W: Write>(
     rt: &HostRuntime,
-    words: &[String],
+    args: &[String],
     input: &mut R,
     output: &mut W,
     start: S,
 ) -> Result<(), Fault> {
-    match read_words(rt.alloc(), words)? {
-        Asked::Text(text) => write_text(&text, output).map_err(|_| Fault::Output),
-        Asked::Session(asked) => session(rt, &asked, input, output, start),
-        Asked::Authenticate(asked) => authenticate(rt, &asked, output, start),
-        Asked::Prune(asked) => prune(rt, &asked, output, start),
+    match read_args(rt.alloc(), args)? {
+        Command::Text(text) => write_text(&text, output).map_err(|_| Fault::Output),
+        Command::Session(asked) => session(rt, &asked, input, output, start),
+        Command::Authenticate(asked) => authenticate(rt, &asked, output, start),
+        Command::Prune(asked) => prune(rt, &asked, output, start),
     }
 }
 
 /// Prints why the program ends.
-fn tell<E: Write>(fault: &Fault, errors: &mut E) -> io::Result<()> {
+fn print_fault<E: Write>(fault: &Fault, errors: &mut E) -> io::Result<()> {
     match fault {
-        Fault::Words(text) => write!(errors, "{text}")?,
+        Fault::Arguments(text) => write!(errors, "{text}")?,
         _ => writeln!(errors, "{fault}")?,
     }
     errors.flush()
@@ -48,7 +48,7 @@ fn tell<E: Write>(fault: &Fault, errors: &mut E) -> io::Result<()> {
 fn refuse<E: Write>(fault: &Fault, errors: &mut E) -> u8
     ensures { result ≡ status_of fault.now }
 {
-    let _ = tell(fault, errors);
+    let _ = print_fault(fault, errors);
     fault.status()
 }
 
@@ -63,7 +63,7 @@ fn refuse<E: Write>(fault: &Fault, errors: &mut E) -> u8
 /// [`Unknown`](tables::Unknown).
 pub fn run<S: Start, R: Read, W: Write, E: Write>(
     rt: &HostRuntime,
-    words: &[String],
+    args: &[String],
     input: &mut R,
     output: &mut W,
     errors: &mut E,
@@ -71,14 +71,14 @@ pub fn run<S: Start, R: Read, W: Write, E: Write>(
 ) -> u8
     ensures { result ≤ 2 }
 {
-    match obey(rt, words, input, output, start) {
+    match dispatch(rt, args, input, output, start) {
         Ok(()) => 0,
         Err(fault) => refuse(&fault, errors),
     }
 }
 
 /// Prints that an argument is not valid UTF-8.
-fn tell_no_text<E: Write>(errors: &mut E) -> io::Result<()> {
+fn print_not_utf8<E: Write>(errors: &mut E) -> io::Result<()> {
     writeln!(
         errors,
         "error: invalid UTF-8 was detected in one or more arguments"
@@ -88,14 +88,14 @@ fn tell_no_text<E: Write>(errors: &mut E) -> io::Result<()> {
 
 /// Prints why the arguments could not be read, and returns the exit status: 1 if memory ran out, else
 /// 2, as for an argument that is not UTF-8.
-pub fn refuse_words<E: Write>(error: &io::Error, errors: &mut E) -> u8
+pub fn refuse_args<E: Write>(error: &io::Error, errors: &mut E) -> u8
     ensures memory { error_kind error.now ≡ ErrorKind.OutOfMemory → result ≡ 1 }
     ensures other { error_kind error.now ≢ ErrorKind.OutOfMemory → result ≡ 2 }
 {
     match error.kind() {
         ErrorKind::OutOfMemory => refuse(&Fault::Memory, errors),
         _ => {
-            let _ = tell_no_text(errors);
+            let _ = print_not_utf8(errors);
             2
         }
     }

@@ -3,22 +3,22 @@
 ghost use Rattle.std.specs.Prelude.{◌≡◌};
 ghost use Rattle.cli.specs.Statuses.{is_good, end_after};
 
+use crate::args::SessionArgs;
 use crate::faults::Fault;
 use crate::files::read_policy;
 use crate::moments::moment;
-use crate::words::SessionWords;
 use names::{Counted, Moment};
 use policy::Policy;
+use refinement::open_from;
 use service::{End, Routes, serve};
 use std::alloc::Global;
 use std::io::{self, BufWriter, Read, Write};
 use std::rt::HostRuntime;
-use tables::{Start, Storage, Store};
-use worlds::open_from;
+use tables::{Start, Storage, Store, StoreFault};
 
 /// What a session is served with.
 #[derive(Clone, Copy)]
-struct Setting<'a> {
+struct SessionContext<'a> {
     policy: &'a Policy,
     routes: &'a Routes,
     now: Moment,
@@ -28,7 +28,7 @@ struct Setting<'a> {
 fn serve_streams<S: Storage, R: Read, W: Write>(
     alloc: Global,
     store: &mut Store<S>,
-    setting: &Setting<'_>,
+    context: &SessionContext<'_>,
     input: &mut R,
     output: &mut W,
 ) -> io::Result<End> {
@@ -37,9 +37,9 @@ fn serve_streams<S: Storage, R: Read, W: Write>(
     let served = serve(
         alloc,
         store,
-        setting.policy,
-        setting.routes,
-        setting.now,
+        context.policy,
+        context.routes,
+        context.now,
         &mut source,
         &mut sink,
     );
@@ -67,6 +67,22 @@ fn is_good(end: End) -> bool
     }
 }
 
+/// Answers the requests of the input over the store, if it was opened.
+fn serve_opened<S: Storage + Drop, R: Read, W: Write>(
+    alloc: Global,
+    opened: Result<Store<S>, StoreFault>,
+    context: &SessionContext<'_>,
+    input: &mut R,
+    output: &mut W,
+) -> Result<(), Fault> {
+    let mut store = opened?;
+    match serve_streams(alloc, &mut store, context, input, output) {
+        Ok(end) if is_good(end) => Ok(()),
+        Ok(end) => Err(Fault::Session(end)),
+        Err(_) => Err(Fault::Memory),
+    }
+}
+
 /// Answers the requests of the input.
 ///
 /// # Errors
@@ -76,24 +92,20 @@ fn is_good(end: End) -> bool
 /// valid.
 pub(crate) fn session<S: Start, R: Read, W: Write>(
     rt: &HostRuntime,
-    words: &SessionWords<'_>,
+    args: &SessionArgs<'_>,
     input: &mut R,
     output: &mut W,
     start: S,
 ) -> Result<(), Fault> {
     let alloc = rt.alloc();
-    let now = moment(rt, words.now)?;
-    let policy = read_policy(rt, words.policy)?;
+    let now = moment(rt, args.now)?;
+    let policy = read_policy(rt, args.policy)?;
     let routes = Routes::new(alloc)?;
-    let mut store = open_from(rt, words.db, start)?;
-    let setting = Setting {
+    let context = SessionContext {
         policy: &policy,
         routes: &routes,
         now,
     };
-    match serve_streams(alloc, &mut store, &setting, input, output) {
-        Ok(end) if is_good(end) => Ok(()),
-        Ok(end) => Err(Fault::Session(end)),
-        Err(_) => Err(Fault::Memory),
-    }
+    let opened = open_from(rt, args.db, start);
+    serve_opened(alloc, opened, &context, input, output)
 }

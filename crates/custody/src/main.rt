@@ -6,22 +6,22 @@ use std::{env, io};
 use tables::Unknown;
 
 /// The arguments of the command line. The first is the program's name.
-fn words(rt: &HostRuntime) -> io::Result<Vec<String>> {
+fn args(rt: &HostRuntime) -> io::Result<Vec<String>> {
     Ok(env::args(rt)?.collect(rt.alloc())?)
 }
 
 fn main(rt: HostRuntime) -> ExitCode {
     let mut errors = rt.stderr();
-    let status = match words(&rt) {
-        Ok(words) => cli::run(
+    let status = match args(&rt) {
+        Ok(args) => cli::run(
             &rt,
-            words.as_slice(),
+            args.as_slice(),
             &mut rt.stdin(),
             &mut rt.stdout(),
             &mut errors,
             Unknown,
         ),
-        Err(error) => cli::refuse_words(&error, &mut errors),
+        Err(error) => cli::refuse_args(&error, &mut errors),
     };
     ExitCode::from(status)
 }

@@ -10,11 +10,11 @@ use Rattle.forms.specs.declared.refusal.Refusal.TheVariants as refusal
 use Rattle.forms.specs.declared.request.Request as form
 use Rattle.forms.specs.Given.{IsRefusedBy, Reads}
 use Rattle.policy.specs.declared.repos.Repo as policy_repo
-use Rattle.desk.specs.Admission.{admitted, admission_view}
+use Rattle.desk.specs.Admission.{admission_result, admission_view}
 
--- a form that is not read is not admitted
+-- a form that is not read is not admission_result
 pub refused_form : (policy : Policy) (own : List ℕ) (covers : Bool) (repo_asked : List ℕ) (asked : Result Request Rule) (r : Repo) (e : Refusal)
-    → bytes_eq own repo_asked ≡ true → repo_named repo_asked policy ≡ Some r → IsRefusedBy e asked → IsRefusedBy e (admitted policy own covers repo_asked asked)
+    → bytes_eq own repo_asked ≡ true → repo_named repo_asked policy ≡ Some r → IsRefusedBy e asked → IsRefusedBy e (admission_result policy own covers repo_asked asked)
 refused_form policy own covers repo_asked asked r (refusal.Rule rule) own_is there is = rw (own_is, there, is) refl
 refused_form policy own covers repo_asked asked r refusal.Memory own_is there is = tt
 
@@ -25,11 +25,11 @@ passed_on e (Ok x) given is by = absurd is
 passed_on e (Err f) given is by = subst (λ (x : Refusal). IsRefusedBy x given) (sym is) by
 
 pub uncovered : (policy : Policy) (own : List ℕ) (covers : Bool) (repo_asked : List ℕ) (asked : Result Request Rule) (r : Repo) (q : Request)
-    → bytes_eq own repo_asked ≡ true → repo_named repo_asked policy ≡ Some r → asked ≡ Ok q → (not (needs_upload q) || covers) ≡ false → admitted policy own covers repo_asked asked ≡ Err A5
+    → bytes_eq own repo_asked ≡ true → repo_named repo_asked policy ≡ Some r → asked ≡ Ok q → (not (needs_upload q) || covers) ≡ false → admission_result policy own covers repo_asked asked ≡ Err A5
 uncovered policy own covers repo_asked asked r q own_is there is not_covered = rw (own_is, there, is, not_covered) refl
 
 pub taken : (policy : Policy) (own : List ℕ) (covers : Bool) (repo_asked : List ℕ) (asked : Result Request Rule) (r : Repo) (q : Request)
-    → bytes_eq own repo_asked ≡ true → repo_named repo_asked policy ≡ Some r → asked ≡ Ok q → (not (needs_upload q) || covers) ≡ true → admitted policy own covers repo_asked asked ≡ Ok (r, q)
+    → bytes_eq own repo_asked ≡ true → repo_named repo_asked policy ≡ Some r → asked ≡ Ok q → (not (needs_upload q) || covers) ≡ true → admission_result policy own covers repo_asked asked ≡ Ok (r, q)
 taken policy own covers repo_asked asked r q own_is there is covered = rw (own_is, there, is, covered) refl
 
 pub is_own : (shown own repo_asked : List ℕ) (differs : Bool) → shown ≡ own → differs ≡ not (bytes_eq shown repo_asked) → differs ≡ false → bytes_eq own repo_asked ≡ true

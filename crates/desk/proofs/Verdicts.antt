@@ -1,4 +1,4 @@
--- How the model decides a request, step by step.
+-- How the definitions decide a request, step by step.
 use Rattle.std.proofs.Common.{◌≡◌, ◌∙◌, ℕ, not, ◌||◌, List, Some, Result, Ok, Err, bytes_eq, refl, sym, ap, ap₂, subst}
 use Rattle.std.specs.Prelude.{IsErrAnd}
 use Rattle.std.specs.Bool.{⊤}
@@ -28,14 +28,14 @@ use Rattle.forms.specs.Requests.{lock_asked}
 use Rattle.forms.specs.declared.lock.LockRequest.{LockRequest}
 use Rattle.tables.specs.declared.Store.{Store}
 use Rattle.tables.specs.declared.fault.StoreFault.{StoreFault}
-use Rattle.worlds.specs.Left.{Leads, Gives}
-use Rattle.worlds.proofs.Leading.{ends_still, denial_changes_none, still_then}
+use Rattle.refinement.specs.Left.{Leads, Gives}
+use Rattle.refinement.proofs.Leading.{ends_still, denial_changes_none, still_then}
 use Rattle.tokens.specs.Callers.{IsHolder}
 use Rattle.tokens.specs.declared.callers.Caller.{Caller}
 use Rattle.desk.specs.Done.{Answers, given_by}
-use Rattle.desk.specs.Told.{IsReplyOf}
+use Rattle.desk.specs.Replies.{IsReplyOf}
 use Rattle.desk.specs.declared.replies.Reply.{Reply}
-use Rattle.desk.specs.Admission.{admitted, case_verdict, caller_verdict}
+use Rattle.desk.specs.Admission.{admission_result, case_verdict, caller_verdict}
 use Rattle.desk.specs.Locking.{IsWantedBy, lock_wanted, question_on, placed_verdict, allowed_verdict}
 use Rattle.tables.specs.declared.new_rows.NewLock.{NewLock}
 
@@ -63,7 +63,7 @@ module _ (world : World) (setting : Setting) (asked : DeskRequest) (body : List 
 
   module _ (who : model.Caller) where
     abbrev admits : Result (Repo × Request) Rule
-    admits = admitted setting.policy who.repo (is_upload who.operation) asked.repo asked.request
+    admits = admission_result setting.policy who.repo (is_upload who.operation) asked.repo asked.request
 
     finished : Result Plan Denial → Answer
     finished plan = plan >>= λ p. finish world asked.repo body p
@@ -82,12 +82,12 @@ module _ (world : World) (setting : Setting) (asked : DeskRequest) (body : List 
     unfolding finished
     taken_up repo request is = ap finished by_admission ∙ rw is refl
 
--- for a caller, the code and the model admit the same requests
+-- for a caller, the code and the definitions admit the same requests
 pub admitted_alike : (policy : Policy) (c : Caller) (who : model.Caller) (repo_asked : List ℕ) (asked : Result Request Rule) → IsHolder c who
-    → admitted policy (repo_text c.repo) (is_upload c.operation) repo_asked asked ≡ admitted policy who.repo (is_upload who.operation) repo_asked asked
-admitted_alike policy c who repo_asked asked h = ap₂ (λ own operation. admitted policy own (is_upload operation) repo_asked asked) h.repo h.operation
+    → admission_result policy (repo_text c.repo) (is_upload c.operation) repo_asked asked ≡ admission_result policy who.repo (is_upload who.operation) repo_asked asked
+admitted_alike policy c who repo_asked asked h = ap₂ (λ own operation. admission_result policy own (is_upload operation) repo_asked asked) h.repo h.operation
 
--- the attempt that the code makes is the lock that the model's request asks for
+-- the attempt that the code makes is the lock that the request of the definitions asks for
 pub verdict_alike : (world : World) (setting : Setting) (who : model.Caller) (r : policy_repo.Repo) (user : UserName) (asked : LockRequest) (w : NewLock)
     → user_text user ≡ who.user → IsWantedBy r user setting.now asked w
     → allowed_verdict world setting.policy w ≡ lock_verdict (case_in world setting who (repo_view r)) (lock_asked asked)

@@ -1,4 +1,4 @@
--- Which requests are admitted.
+-- Which requests are admission_result.
 use Rattle.std.specs.Prelude.{ℕ, Bool, not, ◌||◌, List, Result, Ok, bytes_eq}
 use Rattle.std.specs.Borrow.{Bor}
 use Rattle.names.specs.declared.rules.Rule.{Rule}
@@ -20,19 +20,19 @@ use Rattle.policy.specs.Values.{repo_view}
 use Rattle.policy.specs.declared.repos.Repo.{Repo}
 
 -- the repository and the request, for a token of this repository that covers uploads or not
-abbrev pub admitted : Policy → List ℕ → Bool → List ℕ → Result form.Request Rule → Result (model.Repo × form.Request) Rule
-admitted policy own covers_upload repo_asked asked = do
+abbrev pub admission_result : Policy → List ℕ → Bool → List ℕ → Result form.Request Rule → Result (model.Repo × form.Request) Rule
+admission_result policy own covers_upload repo_asked asked = do
   is_own ← check (bytes_eq own repo_asked) A4
   repo ← ok_or (repo_named repo_asked policy) R1
   request ← asked
   covered ← check (not (needs_upload request) || covers_upload) A5
   Ok (repo, request)
 
--- the repository and the request, in the model's terms
+-- the repository and the request, in the terms of the definitions
 abbrev pub admission_view : Bor Repo × Request → model.Repo × form.Request
 admission_view (repo, request) = (repo_view repo.now, request_asked request)
 
--- the verdict on an admitted request
+-- the verdict on an admission_result request
 abbrev pub case_verdict : World → Case → form.Request → DeskRequest → List ℕ → Answer
 case_verdict world c request asked body = plan_for c asked.left request >>= λ plan. finish world asked.repo body plan
 

@@ -6,9 +6,9 @@ use Rattle.model.specs.Answers.{Answer, store_refusal}
 use Rattle.model.specs.Views.{SameViews}
 use Rattle.tables.specs.declared.Store.{Store}
 use Rattle.tables.specs.declared.fault.StoreFault.{StoreFault}
-use Rattle.worlds.specs.Left.{Gives}
+use Rattle.refinement.specs.Left.{Gives}
 use Rattle.desk.specs.declared.replies.Reply.{Reply}
-use Rattle.desk.specs.Told.{IsReplyOf}
+use Rattle.desk.specs.Replies.{IsReplyOf}
 
 -- the answer that is given: the verdict, or a store refusal if the store refused or memory ran out
 abbrev pub given_by : Answer → Result Reply StoreFault → Answer

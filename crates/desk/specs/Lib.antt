@@ -1,4 +1,4 @@
-pub mod Told
+pub mod Replies
 pub mod Asking
 pub mod Locking
 pub mod Done

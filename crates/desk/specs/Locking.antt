@@ -12,8 +12,8 @@ use Rattle.model.specs.Answers.{Answer, makes_lock, by_lock, by_rules, permit}
 use Rattle.model.specs.Locks.{place_verdict, ref_or_default}
 use Rattle.model.specs.declared.Right.TheVariants as right
 use Rattle.forms.specs.Requests.{lock_asked}
-use Rattle.forms.specs.Told.{IsOf}
-use Rattle.forms.specs.declared.answer.ShownLock.{ShownLock}
+use Rattle.forms.specs.ShownLocks.{IsOf}
+use Rattle.forms.specs.declared.shown_lock.ShownLock.{ShownLock}
 use Rattle.forms.specs.declared.lock.LockRequest.{LockRequest}
 use Rattle.policy.specs.Values.{repo_view}
 use Rattle.policy.specs.declared.repos.Repo.{Repo}
@@ -22,7 +22,7 @@ use Rattle.tables.specs.declared.new_rows.NewLock.{NewLock}
 use Rattle.tables.specs.declared.rows.Creation.{Creation}
 use Rattle.tables.specs.declared.rows.Creation.TheVariants.{Created, Held, UsedUp}
 use Rattle.desk.specs.declared.replies.Reply.{Reply}
-use Rattle.desk.specs.Told.{IsReplyOf}
+use Rattle.desk.specs.Replies.{IsReplyOf}
 
 -- the state of the repository of this name; a policy repository's locks do not depend on its quota or default ref
 abbrev pub state_of : List ℕ → World → RepoState
@@ -61,14 +61,14 @@ IsReadyAfter made w reply =
     → IsReplyOf reply (free_verdict made l)
 
 -- the reply reports the lock of this row as the one that holds the path
-abbrev pub TellsHeld : LockRow → Reply → Type 0
-TellsHeld row reply = (l : Lock) → IsOfRow row l → IsReplyOf reply (Err (by_lock l))
+abbrev pub ReportsHeld : LockRow → Reply → Type 0
+ReportsHeld row reply = (l : Lock) → IsOfRow row l → IsReplyOf reply (Err (by_lock l))
 
 -- the reply reports the lock that holds the path, or is the one for a free path
-abbrev pub TellsCreation : Creation → Reply → Reply → Type 0
-TellsCreation (Held row) ready reply = TellsHeld row reply
-TellsCreation (Created id) ready reply = ready ≡ reply
-TellsCreation UsedUp ready reply = ready ≡ reply
+abbrev pub ReportsCreation : Creation → Reply → Reply → Type 0
+ReportsCreation (Held row) ready reply = ReportsHeld row reply
+ReportsCreation (Created id) ready reply = ready ≡ reply
+ReportsCreation UsedUp ready reply = ready ≡ reply
 
 -- no lock was made
 abbrev pub MadeNothing : Creation → Type 0

@@ -1,4 +1,4 @@
-//! Which requests are admitted: by a token for the repository, in a repository that exists.
+//! Which requests are admission_result: by a token for the repository, in a repository that exists.
 
 ghost use Rattle.std.specs.Prelude.{◌≡◌};
 ghost use Rattle.names.specs.Names.{repo_text};
@@ -7,7 +7,7 @@ ghost use Rattle.policy.specs.Values.{policy_view};
 ghost use Rattle.forms.specs.Given.{Reads};
 ghost use Rattle.forms.specs.Requests.{request_asked};
 ghost use Rattle.desk.specs.Asking.{request_seen};
-ghost use Rattle.desk.specs.Admission.{admitted, admission_view};
+ghost use Rattle.desk.specs.Admission.{admission_result, admission_view};
 
 use forms::{Refusal, Request, read_form};
 use model::ServedForm;
@@ -18,7 +18,7 @@ use tokens::Caller;
 
 /// A request in a repository, from its head and its body.
 #[derive(Clone, Copy, Debug)]
-pub struct Asked<'a> {
+pub struct RepoRequest<'a> {
     /// The value of `Authorization`, if the head has that field.
     pub authorization: Option<&'a [u8]>,
     /// The repository's text in the target.
@@ -59,9 +59,9 @@ pub(crate) fn admit<'a>(
     alloc: Global,
     policy: &'a Policy,
     caller: &Caller,
-    asked: &Asked<'_>,
+    asked: &RepoRequest<'_>,
 ) -> Result<(&'a Repo, Request), Refusal>
-    ensures { Reads admission_view result (admitted (policy_view policy.entry.now)
+    ensures { Reads admission_view result (admission_result (policy_view policy.entry.now)
         (repo_text caller.entry.now.repo) (is_upload caller.entry.now.operation)
         asked.entry.now.repo.now (request_seen asked.entry.now).request) }
 {

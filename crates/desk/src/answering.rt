@@ -8,14 +8,14 @@ ghost use Rattle.model.specs.Answers.{by_rule};
 ghost use Rattle.model.specs.Steps.{after};
 ghost use Rattle.policy.specs.Values.{repo_view};
 ghost use Rattle.forms.specs.Requests.{request_asked, lock_asked};
-ghost use Rattle.worlds.specs.Left.{From};
+ghost use Rattle.refinement.specs.Left.{From};
 ghost use Rattle.tokens.specs.Callers.{IsHolder};
-ghost use Rattle.desk.specs.Told.{IsReplyOf};
+ghost use Rattle.desk.specs.Replies.{IsReplyOf};
 ghost use Rattle.desk.specs.Done.{Answers, LeavesOthers, given_by};
 ghost use Rattle.desk.specs.Asking.{setting_of, request_seen, verdict_seen};
 ghost use Rattle.desk.specs.Admission.{case_verdict, caller_verdict};
 
-use crate::admission::{Asked, admit};
+use crate::admission::{RepoRequest, admit};
 use crate::locking::{lock, wanted_by};
 use crate::replies::Reply;
 use forms::{Answer, LockRequest, Refusal, Request};
@@ -39,7 +39,7 @@ pub fn answer<S: Alter>(
     store: &mut Store<S>,
     policy: &Policy,
     now: Moment,
-    asked: &Asked<'_>,
+    asked: &RepoRequest<'_>,
 ) -> Result<Reply, StoreFault>
     ensures answered { From S.Store store.old store.new (λ world.
         Answers S.Store store.old store.new world
@@ -71,7 +71,7 @@ fn answer_caller<S: Alter>(
     policy: &Policy,
     now: Moment,
     caller: &Caller,
-    asked: &Asked<'_>,
+    asked: &RepoRequest<'_>,
 ) -> Result<Reply, StoreFault>
     ensures { From S.Store store.old store.new (λ world.
         (who : model.Caller) → IsHolder caller.entry.now who → Answers S.Store store.old store.new world
@@ -95,7 +95,7 @@ fn lock_in(request: &Request) -> &LockRequest
     }
 }
 
-/// Answers an admitted request.
+/// Answers an admission_result request.
 ///
 /// # Errors
 ///

@@ -6,6 +6,6 @@ mod answering;
 mod locking;
 mod replies;
 
-pub use admission::Asked;
+pub use admission::RepoRequest;
 pub use answering::answer;
 pub use replies::{Body, Reply};

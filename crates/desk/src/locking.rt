@@ -6,9 +6,9 @@ ghost use Rattle.model.specs.Answers.{by_row};
 ghost use Rattle.model.specs.declared.Right.TheVariants as right;
 ghost use Rattle.model.specs.Policy.{decide};
 ghost use Rattle.policy.specs.Values.{policy_view, decision_view};
-ghost use Rattle.worlds.specs.Left.{From};
-ghost use Rattle.desk.specs.Told.{IsReplyOf};
-ghost use Rattle.desk.specs.Locking.{ShowsRow, IsReadyAfter, TellsHeld, TellsCreation, MadeNothing, IsWantedBy, lock_wanted, question_on, placed_verdict, allowed_verdict};
+ghost use Rattle.refinement.specs.Left.{From};
+ghost use Rattle.desk.specs.Replies.{IsReplyOf};
+ghost use Rattle.desk.specs.Locking.{ShowsRow, IsReadyAfter, ReportsHeld, ReportsCreation, MadeNothing, IsWantedBy, lock_wanted, question_on, placed_verdict, allowed_verdict};
 ghost use Rattle.desk.specs.Done.{Answers};
 
 use crate::replies::Reply;
@@ -57,14 +57,14 @@ fn free_reply(alloc: Global, made: u32, wanted: &NewLock<'_>) -> Result<Reply, A
 
 /// The reply for a path that is already locked: 409 with the lock that holds it.
 fn held_reply(alloc: Global, row: &LockRow) -> Result<Reply, AllocError>
-    ensures { IfOk result (TellsHeld row.now) }
+    ensures { IfOk result (ReportsHeld row.now) }
 {
     Reply::telling(alloc, &Answer::Held(&shown(row)))
 }
 
 /// The reply for a `Creation`; `ready` is the one for a free path.
 fn reply_to(alloc: Global, creation: &Creation, ready: Reply) -> Result<Reply, StoreFault>
-    ensures told { IfOk result (TellsCreation creation.entry.now ready) }
+    ensures reports { IfOk result (ReportsCreation creation.entry.now ready) }
     ensures refused { OnErr result (MadeNothing creation.entry.now) }
 {
     match creation {

@@ -6,7 +6,7 @@ ghost use Rattle.serde_json.specs.Written.{compact_text};
 ghost use Rattle.model.specs.Answers.{is_store_refusal};
 ghost use Rattle.model.specs.Steps.{is_of_head};
 ghost use Rattle.model.specs.Replies.{message_json, rule_message};
-ghost use Rattle.forms.specs.Told.{Tells};
+ghost use Rattle.forms.specs.Replies.{IsAnswer};
 
 use forms::Answer;
 use http::StatusCode;
@@ -60,7 +60,7 @@ fn refusal_body() -> &'static str
 }
 /// Whether the answer is a store refusal.
 fn is_store_refusal(answer: &Answer<'_>) -> bool
-    ensures { (given : _) → Tells answer.now given → result ≡ is_store_refusal given }
+    ensures { (given : _) → IsAnswer answer.now given → result ≡ is_store_refusal given }
 {
     match answer {
         Answer::Denied(rule) => matches!(rule, Rule::S1),
@@ -72,8 +72,8 @@ impl Reply {
     ghost use Rattle.std.specs.Prelude.{◌≡◌, IfOk, true, false, Err};
     ghost use Rattle.model.specs.Answers.{store_refusal, by_rule};
     ghost use Rattle.model.specs.Steps.{is_of_head};
-    ghost use Rattle.forms.specs.Told.{Tells};
-    ghost use Rattle.desk.specs.Told.{IsReplyOf};
+    ghost use Rattle.forms.specs.Replies.{IsAnswer};
+    ghost use Rattle.desk.specs.Replies.{IsReplyOf};
     /// The store refusal (S1): the store refused or memory ran out. It needs no memory.
     pub fn store_refused() -> Reply
         ensures { IsReplyOf result store_refusal }
@@ -87,7 +87,7 @@ impl Reply {
     /// The refusal of a head by one of the rules H1 to H8. It needs no memory. For any other rule this is
     /// the store refusal.
     pub fn head_refused(rule: Rule) -> Reply
-        ensures told { is_of_head rule ≡ true → IsReplyOf result (Err (by_rule rule)) }
+        ensures shows { is_of_head rule ≡ true → IsReplyOf result (Err (by_rule rule)) }
         ensures other { is_of_head rule ≡ false → IsReplyOf result store_refusal }
     {
         match fixed_body(rule) {
@@ -106,7 +106,7 @@ impl Reply {
     /// Fails only if memory runs out.
     pub fn telling(alloc: Global, answer: &Answer<'_>) -> Result<Reply, AllocError>
         ensures { IfOk result
-            (λ reply. (given : _) → Tells answer.now given → IsReplyOf reply given) }
+            (λ reply. (given : _) → IsAnswer answer.now given → IsReplyOf reply given) }
     {
         let status = answer.status();
         let text = answer.body(alloc)?;

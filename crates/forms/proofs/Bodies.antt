@@ -10,7 +10,7 @@ use Rattle.names.specs.Texts.{is_lock_path, is_ref}
 use Rattle.names.specs.declared.rules.Rule.{Rule}
 use Rattle.names.specs.declared.rules.Rule.TheVariants.{J1, J2}
 use Rattle.model.specs.Reading.{◌>>=◌, check, ok_or}
-use Rattle.model.specs.Forms.{LockForm, lock_form, as_name, optional, required, is_if_given}
+use Rattle.model.specs.Forms.{LockForm, lock_form, as_name, optional, required_member, is_if_given}
 use Rattle.forms.specs.Given.{lock_fields, in_range, value_of, within}
 
 pub no_text : (body : List ℕ) → ¬ (IsUtf8 body) → None ≡ value_of body
@@ -27,7 +27,7 @@ value_is body text o same utf8 e =
 abbrev form : List ℕ → Option (List ℕ) → LockForm
 form path ref = record { path = path; ref = ref }
 
--- reading the fields and then testing their ranges gives what the model's interleaved checks give
+-- reading the fields and then testing their ranges gives what the interleaved checks of the definitions give
 chain : (p : Result (Option (List ℕ)) Rule) (r : Result (Option (List ℕ)) Rule)
     → ((p >>= λ given. ok_or given J1) >>= λ path. r >>= λ ref. check (is_lock_path path && is_if_given is_ref ref) J2 >>= λ valid. Ok (form path ref))
     ≡ ((p >>= λ given. ok_or given J1 >>= λ path. r >>= λ ref. Ok (form path ref)) >>= in_range)
@@ -37,7 +37,7 @@ chain (Ok (Some path)) (Err e) = refl
 chain (Ok (Some path)) (Ok ref) = refl
 
 by_value : (o : Option Data)
-    → (ok_or (option_and_then as_object o) J1 >>= λ members. required as_str (codes "path") members >>= λ path. optional as_name (codes "ref") members >>= λ ref. check (is_lock_path path && is_if_given is_ref ref) J2 >>= λ valid. Ok (form path ref))
+    → (ok_or (option_and_then as_object o) J1 >>= λ members. required_member as_str (codes "path") members >>= λ path. optional as_name (codes "ref") members >>= λ ref. check (is_lock_path path && is_if_given is_ref ref) J2 >>= λ valid. Ok (form path ref))
     ≡ (ok_or o J1 >>= λ d. lock_fields d >>= in_range)
 by_value None = refl
 by_value (Some null) = refl
@@ -50,7 +50,7 @@ by_value (Some (object ms)) = chain (optional as_str (codes "path") ms) (optiona
 pub lock_by_value : (body : List ℕ) → lock_form body ≡ (ok_or (value_of body) J1 >>= λ d. lock_fields d >>= in_range)
 unfolding lock_form
 lock_by_value body =
-    elim (is_utf8 body) as (λ v. (ok_or (if v then option_and_then as_object (read body) else None) J1 >>= λ members. required as_str (codes "path") members >>= λ path. optional as_name (codes "ref") members >>= λ ref. check (is_lock_path path && is_if_given is_ref ref) J2 >>= λ valid. Ok (form path ref))
+    elim (is_utf8 body) as (λ v. (ok_or (if v then option_and_then as_object (read body) else None) J1 >>= λ members. required_member as_str (codes "path") members >>= λ path. optional as_name (codes "ref") members >>= λ ref. check (is_lock_path path && is_if_given is_ref ref) J2 >>= λ valid. Ok (form path ref))
     ≡ (ok_or (if v then read body else None) J1 >>= λ d. lock_fields d >>= in_range)) [
       | true ↦ by_value (read body)
       | false ↦ refl

@@ -6,9 +6,9 @@ use Rattle.names.specs.Names.{user_text, path_text}
 use Rattle.names.specs.declared.rules.Rule.TheVariants.{L1}
 use Rattle.model.specs.Moments.{moment_text}
 use Rattle.model.specs.Replies.{members, lock_data, lock_json, conflict_json, rule_message}
-use Rattle.forms.specs.Told.{lock_shown, lock_of_texts, json_of_texts, conflict_of_texts}
-use Rattle.forms.specs.declared.answer.LockTexts.{LockTexts}
-use Rattle.forms.specs.declared.answer.ShownLock.{ShownLock}
+use Rattle.forms.specs.ShownLocks.{lock_shown, lock_of_texts, json_of_texts, conflict_of_texts}
+use Rattle.forms.specs.declared.shown_lock.LockTexts.{LockTexts}
+use Rattle.forms.specs.declared.shown_lock.ShownLock.{ShownLock}
 
 -- the texts are those of the shown lock
 pub record AreTextsOf (t : LockTexts) (shown : ShownLock) : Type 0 where

@@ -12,12 +12,12 @@ use Rattle.forms.specs.declared.refusal.Refusal.TheVariants as refusal
 use Rattle.model.specs.Reading.{◌>>=◌, check, ok_or}
 use Rattle.model.specs.Forms.{LockForm, if_given, as_name, is_if_given}
 
--- the result is what the model reads: the same value, mapped by `view`, or the same rule
+-- the result is what the definitions read: the same value, mapped by `view`, or the same rule
 abbrev pub Gives : {X Y : Type 0} → (X → Y) → Result X Rule → Result Y Rule → Type 0
 Gives view (Ok x) read = read ≡ Ok (view x)
 Gives view (Err e) read = read ≡ Err e
 
--- the model refuses by the same rule; if memory ran out, nothing is claimed
+-- the definitions refuse by the same rule; if memory ran out, nothing is claimed
 abbrev pub IsRefusedBy : {Y : Type 0} → Refusal → Result Y Rule → Type 0
 IsRefusedBy (refusal.Rule e) read = read ≡ Err e
 IsRefusedBy refusal.Memory read = ⊤

@@ -1,4 +1,4 @@
--- A request, in the model's terms.
+-- A request, in the terms of the definitions.
 use Rattle.std.specs.Prelude.{option_map}
 use Rattle.names.specs.Names.{path_text, ref_text}
 use Rattle.model.specs.Forms.{LockForm, Request, asks_lock}

@@ -1,11 +1,10 @@
 //! `forms`: answers as JSON.
 
-use crate::harness::{Tester, lock_path, moment, sure, user};
-use forms::{Answer, DenialStatus, ShownLock};
+use crate::harness::{Tester, lock_path, moment, unwrap, user};
+use forms::{Action, Answer, DenialStatus, ShownLock};
 use model::Right;
 use names::{LockId, Rule};
 use std::alloc::{AllocError, Global};
-use std::test::Fail;
 
 /// The status, a space and the body.
 fn text_of(alloc: Global, answer: &Answer<'_>) -> Result<String, AllocError> {
@@ -14,138 +13,175 @@ fn text_of(alloc: Global, answer: &Answer<'_>) -> Result<String, AllocError> {
     format!(in alloc; "{status} {body}")
 }
 
-/// The text of the reply to the lock of the example in `docs/PROTOCOL.md`, on this path: one that was
-/// made or, if `is_held`, one that already holds the path.
-fn text_of_lock(rt: &impl Tester, path: &str, is_held: bool) -> Result<String, AllocError> {
+/// The text of the reply that shows the lock: one that was made or, if `is_held`, one that already
+/// holds the path.
+fn lock_text(alloc: Global, lock: &ShownLock<'_>, is_held: bool) -> Result<String, AllocError> {
+    if is_held {
+        text_of(alloc, &Answer::Held(lock))
+    } else {
+        text_of(alloc, &Answer::Locked(lock))
+    }
+}
+
+/// The text of the reply to the lock of the example in `docs/PROTOCOL.md`, on this path.
+fn text_of_lock(rt: &impl Tester, path: &str, is_held: bool) -> String {
     let owner = user(rt, "ann");
     let path = lock_path(rt, path);
     let lock = ShownLock {
-        id: sure(rt, LockId::read("1").ok_or(())),
+        id: unwrap(rt, LockId::read("1").ok_or(())),
         locked_at: moment(rt, 1_463_500_146),
         owner: &owner,
         path: &path,
     };
-    if is_held {
-        text_of(rt.alloc(), &Answer::Held(&lock))
-    } else {
-        text_of(rt.alloc(), &Answer::Locked(&lock))
-    }
+    unwrap(rt, lock_text(rt.alloc(), &lock, is_held))
 }
 
+/// A path, whether it is locked already, and the text of the reply.
+const LOCKS: &[(&str, bool, &str)] = &[
+    (
+        "art/hero.psd",
+        false,
+        r#"201 {"lock":{"id":"1","locked_at":"2016-05-17T15:49:06Z","owner":{"name":"ann"},"path":"art/hero.psd"}}"#,
+    ),
+    (
+        "art/hero.psd",
+        true,
+        r#"409 {"lock":{"id":"1","locked_at":"2016-05-17T15:49:06Z","owner":{"name":"ann"},"path":"art/hero.psd"},"message":"L1: the path is already locked"}"#,
+    ),
+    (
+        "\"\u{e9}\" & <b>",
+        false,
+        "201 {\"lock\":{\"id\":\"1\",\"locked_at\":\"2016-05-17T15:49:06Z\",\"owner\":{\"name\":\"ann\"},\"path\":\"\\\"\u{e9}\\\" & <b>\"}}",
+    ),
+];
+
 #[test]
-fn locks_are_told_with_their_owner(rt: HostRuntime) -> Result<(), Fail> {
-    for (path, is_held, want) in [
-        (
-            "art/hero.psd",
-            false,
-            r#"201 {"lock":{"id":"1","locked_at":"2016-05-17T15:49:06Z","owner":{"name":"ann"},"path":"art/hero.psd"}}"#,
-        ),
-        (
-            "art/hero.psd",
-            true,
-            r#"409 {"lock":{"id":"1","locked_at":"2016-05-17T15:49:06Z","owner":{"name":"ann"},"path":"art/hero.psd"},"message":"L1: the path is already locked"}"#,
-        ),
-        (
-            "\"\u{e9}\" & <b>",
-            false,
-            "201 {\"lock\":{\"id\":\"1\",\"locked_at\":\"2016-05-17T15:49:06Z\",\"owner\":{\"name\":\"ann\"},\"path\":\"\\\"\u{e9}\\\" & <b>\"}}",
-        ),
-    ] {
-        let text = text_of_lock(&rt, path, is_held)?;
+fn locks_are_shown_with_their_owner(rt: HostRuntime) {
+    for &(path, is_held, want) in LOCKS {
+        let text = text_of_lock(&rt, path, is_held);
         assert_eq!(rt; text.as_str(), want);
     }
-    Ok(())
 }
 
+/// Rules, and the text of the reply by each.
+const RULES: &[(Rule, &str)] = &[
+    (Rule::H1, r#"400 {"message":"H1: bad request head"}"#),
+    (
+        Rule::H2,
+        r#"501 {"message":"H2: transfer codings are not served"}"#,
+    ),
+    (Rule::H3, r#"411 {"message":"H3: a length is needed"}"#),
+    (
+        Rule::H4,
+        r#"400 {"message":"H4: a field or body is not allowed here"}"#,
+    ),
+    (Rule::H5, r#"413 {"message":"H5: the body is too large"}"#),
+    (Rule::H6, r#"404 {"message":"H6: no such route"}"#),
+    (
+        Rule::H7,
+        r#"405 {"message":"H7: the method is not served here"}"#,
+    ),
+    (
+        Rule::H8,
+        r#"406 {"message":"H8: the reply type is not accepted"}"#,
+    ),
+    (
+        Rule::A1,
+        r#"401 {"message":"A1: a bearer token is needed"}"#,
+    ),
+    (Rule::A2, r#"401 {"message":"A2: the token is unknown"}"#),
+    (Rule::A3, r#"401 {"message":"A3: the token has expired"}"#),
+    (Rule::A4, r#"404 {"message":"A4: no such repository"}"#),
+    (
+        Rule::A5,
+        r#"403 {"message":"A5: the token does not cover this"}"#,
+    ),
+    (Rule::R1, r#"404 {"message":"R1: no such repository"}"#),
+    (
+        Rule::J1,
+        r#"422 {"message":"J1: the body has the wrong shape"}"#,
+    ),
+    (Rule::J2, r#"422 {"message":"J2: a field is out of range"}"#),
+    (
+        Rule::L5,
+        r#"507 {"message":"L5: the lock ids are used up"}"#,
+    ),
+    (Rule::S1, r#"500 {"message":"S1: the store refused"}"#),
+];
+
 #[test]
-fn rules_are_told_by_their_code(rt: HostRuntime) -> Result<(), Fail> {
-    for (rule, want) in [
-        (Rule::H1, r#"400 {"message":"H1: bad request head"}"#),
-        (
-            Rule::H2,
-            r#"501 {"message":"H2: transfer codings are not served"}"#,
-        ),
-        (Rule::H3, r#"411 {"message":"H3: a length is needed"}"#),
-        (
-            Rule::H4,
-            r#"400 {"message":"H4: a field or body is not allowed here"}"#,
-        ),
-        (Rule::H5, r#"413 {"message":"H5: the body is too large"}"#),
-        (Rule::H6, r#"404 {"message":"H6: no such route"}"#),
-        (
-            Rule::H7,
-            r#"405 {"message":"H7: the method is not served here"}"#,
-        ),
-        (
-            Rule::H8,
-            r#"406 {"message":"H8: the reply type is not accepted"}"#,
-        ),
-        (
-            Rule::A1,
-            r#"401 {"message":"A1: a bearer token is needed"}"#,
-        ),
-        (Rule::A2, r#"401 {"message":"A2: the token is unknown"}"#),
-        (Rule::A3, r#"401 {"message":"A3: the token has expired"}"#),
-        (Rule::A4, r#"404 {"message":"A4: no such repository"}"#),
-        (
-            Rule::A5,
-            r#"403 {"message":"A5: the token does not cover this"}"#,
-        ),
-        (Rule::R1, r#"404 {"message":"R1: no such repository"}"#),
-        (
-            Rule::J1,
-            r#"422 {"message":"J1: the body has the wrong shape"}"#,
-        ),
-        (Rule::J2, r#"422 {"message":"J2: a field is out of range"}"#),
-        (
-            Rule::L5,
-            r#"507 {"message":"L5: the lock ids are used up"}"#,
-        ),
-        (Rule::S1, r#"500 {"message":"S1: the store refused"}"#),
-    ] {
-        let text = text_of(rt.alloc(), &Answer::Denied(rule))?;
+fn rules_are_reported_by_their_code(rt: HostRuntime) {
+    for &(rule, want) in RULES {
+        let text = unwrap(&rt, text_of(rt.alloc(), &Answer::Denied(rule)));
         assert_eq!(rt; text.as_str(), want);
     }
-    Ok(())
 }
 
+/// The row that decides, the right, the status of the denial, and the text of the reply.
+const ROWS: &[(u32, Right, DenialStatus, &str)] = &[
+    (
+        0,
+        Right::Lock,
+        DenialStatus::Forbidden,
+        r#"403 {"message":"P0: no policy row allows lock"}"#,
+    ),
+    (
+        1,
+        Right::Pull,
+        DenialStatus::NotFound,
+        r#"404 {"message":"P1: policy row 1 denies pull"}"#,
+    ),
+    (
+        12,
+        Right::Push,
+        DenialStatus::Forbidden,
+        r#"403 {"message":"P12: policy row 12 denies push"}"#,
+    ),
+    (
+        2,
+        Right::List,
+        DenialStatus::Forbidden,
+        r#"403 {"message":"P2: policy row 2 denies list"}"#,
+    ),
+    (
+        u32::MAX,
+        Right::Force,
+        DenialStatus::Forbidden,
+        r#"403 {"message":"P4294967295: policy row 4294967295 denies force"}"#,
+    ),
+];
+
 #[test]
-fn rows_are_told_by_their_number(rt: HostRuntime) -> Result<(), Fail> {
-    for (row, right, status, want) in [
-        (
-            0,
-            Right::Lock,
-            DenialStatus::Forbidden,
-            r#"403 {"message":"P0: no policy row allows lock"}"#,
-        ),
-        (
-            1,
-            Right::Pull,
-            DenialStatus::NotFound,
-            r#"404 {"message":"P1: policy row 1 denies pull"}"#,
-        ),
-        (
-            12,
-            Right::Push,
-            DenialStatus::Forbidden,
-            r#"403 {"message":"P12: policy row 12 denies push"}"#,
-        ),
-        (
-            2,
-            Right::List,
-            DenialStatus::Forbidden,
-            r#"403 {"message":"P2: policy row 2 denies list"}"#,
-        ),
-        (
-            u32::MAX,
-            Right::Force,
-            DenialStatus::Forbidden,
-            r#"403 {"message":"P4294967295: policy row 4294967295 denies force"}"#,
-        ),
-    ] {
+fn rows_are_reported_by_their_number(rt: HostRuntime) {
+    for &(row, right, status, want) in ROWS {
         let answer = Answer::DeniedByRow { row, right, status };
-        let text = text_of(rt.alloc(), &answer)?;
+        let text = unwrap(&rt, text_of(rt.alloc(), &answer));
         assert_eq!(rt; text.as_str(), want);
     }
-    Ok(())
+}
+
+/// The line that `docs/COMMANDS.md` shows for `authenticate`.
+const ACTION: &str =
+    r#"{"expires_in":3600,"header":{"Authorization":"Bearer TOKEN"},"href":"https://lfs.example/studio/film.git/info/lfs"}"#;
+
+/// The text of an action.
+fn action_text(
+    alloc: Global,
+    href: &str,
+    token: &str,
+    expires_in: u64,
+) -> Result<String, AllocError> {
+    let action = Action {
+        href,
+        token,
+        expires_in,
+    };
+    action.text(alloc)
+}
+
+#[test]
+fn an_action_has_its_token_in_a_field(rt: HostRuntime) {
+    let href = "https://lfs.example/studio/film.git/info/lfs";
+    let text = unwrap(&rt, action_text(rt.alloc(), href, "TOKEN", 3600));
+    assert_eq!(rt; text.as_str(), ACTION);
 }

@@ -11,7 +11,7 @@ pub(crate) trait Tester: Abort + Alloc<A = Global> {}
 impl<R: Abort + Alloc<A = Global>> Tester for R {}
 
 /// Unwraps a result that has to be `Ok`.
-pub(crate) fn sure<T, E>(rt: &impl Abort, answer: Result<T, E>) -> T {
+pub(crate) fn unwrap<T, E>(rt: &impl Abort, answer: Result<T, E>) -> T {
     match answer {
         Ok(value) => value,
         Err(_) => panic!(rt; "an answer is an error"),
@@ -20,32 +20,32 @@ pub(crate) fn sure<T, E>(rt: &impl Abort, answer: Result<T, E>) -> T {
 
 /// A copy of the text.
 pub(crate) fn owned(rt: &impl Tester, text: &str) -> String {
-    sure(rt, text.to_owned(rt.alloc()))
+    unwrap(rt, text.to_owned(rt.alloc()))
 }
 
 /// The user of this text.
 pub(crate) fn user(rt: &impl Tester, text: &str) -> UserName {
-    sure(rt, UserName::read(owned(rt, text)).ok_or(()))
+    unwrap(rt, UserName::read(owned(rt, text)).ok_or(()))
 }
 
 /// The repository of this text.
 pub(crate) fn repo(rt: &impl Tester, text: &str) -> RepoName {
-    sure(rt, RepoName::read(owned(rt, text)).ok_or(()))
+    unwrap(rt, RepoName::read(owned(rt, text)).ok_or(()))
 }
 
 /// The ref of this text.
 pub(crate) fn ref_name(rt: &impl Tester, text: &str) -> RefName {
-    sure(rt, RefName::read(owned(rt, text)).ok_or(()))
+    unwrap(rt, RefName::read(owned(rt, text)).ok_or(()))
 }
 
 /// The path of this text.
 pub(crate) fn lock_path(rt: &impl Tester, text: &str) -> LockPath {
-    sure(rt, LockPath::read(owned(rt, text)).ok_or(()))
+    unwrap(rt, LockPath::read(owned(rt, text)).ok_or(()))
 }
 
 /// The moment of this second.
 pub(crate) fn moment(rt: &impl Tester, second: u64) -> Moment {
-    sure(rt, Moment::read(second).ok_or(()))
+    unwrap(rt, Moment::read(second).ok_or(()))
 }
 
 /// Asserts that the result of a case is the expected one.

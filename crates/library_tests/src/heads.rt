@@ -1,6 +1,6 @@
 //! `wire`: heads cut from bytes, and what they state.
 
-use crate::harness::{expect, sure};
+use crate::harness::{expect, unwrap};
 use httparse::spans::EMPTY_HEADER_SPAN;
 use names::Rule;
 use std::alloc::{Alloc, Global};
@@ -76,12 +76,12 @@ fn heads_are_cut_from_what_follows(rt: HostRuntime) {
 
 /// A head of `size` bytes in all, less `short`.
 fn head_of_size(rt: &(impl Abort + Alloc<A = Global>), size: usize, short: usize) -> Vec<u8> {
-    let value = sure(rt, "a".repeat(rt.alloc(), size.saturating_sub(23)));
-    let text = sure(
+    let value = unwrap(rt, "a".repeat(rt.alloc(), size.saturating_sub(23)));
+    let text = unwrap(
         rt,
         format!(in rt.alloc(); "GET / HTTP/1.1\r\nA: {value}\r\n\r\n"),
     );
-    let mut bytes = sure(rt, text.as_bytes().to_vec(rt.alloc()));
+    let mut bytes = unwrap(rt, text.as_bytes().to_vec(rt.alloc()));
     bytes.truncate(size.saturating_sub(short));
     bytes
 }
@@ -116,8 +116,8 @@ const COUNTS: &[(usize, Result<usize, &str>)] = &[
 #[test]
 fn heads_of_over_64_fields_are_bad(rt: HostRuntime) {
     for &(count, want) in COUNTS {
-        let fields = sure(&rt, "A: b\r\n".repeat(rt.alloc(), count));
-        let text = sure(
+        let fields = unwrap(&rt, "A: b\r\n".repeat(rt.alloc(), count));
+        let text = unwrap(
             &rt,
             format!(in rt.alloc(); "GET / HTTP/1.1\r\n{fields}\r\n"),
         );
@@ -139,7 +139,7 @@ const FIELDS: &[(&str, usize, &[u8])] = &[
 ];
 
 #[test]
-fn heads_tell_their_parts(rt: HostRuntime) {
+fn heads_have_their_parts(rt: HostRuntime) {
     let mut fields = [EMPTY_HEADER_SPAN; FIELD_ROOM];
     let Cut::Head(spans) = first_head(HEAD, &mut fields) else {
         panic!(rt; "no head");

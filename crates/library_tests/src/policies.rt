@@ -1,6 +1,6 @@
 //! `policy`: policy files, their faults, and the row that decides.
 
-use crate::harness::sure;
+use crate::harness::unwrap;
 use policy::*;
 use std::alloc::{Alloc, Global};
 use std::process::Abort;
@@ -31,7 +31,7 @@ rights = ["pull", "push", "list", "lock"]
 
 /// The three parts, joined.
 fn join(rt: &(impl Abort + Alloc<A = Global>), first: &str, second: &str, third: &str) -> String {
-    sure(rt, format!(in rt.alloc(); "{first}{second}{third}"))
+    unwrap(rt, format!(in rt.alloc(); "{first}{second}{third}"))
 }
 
 /// The lists of a row, and valid entries of each.
@@ -45,14 +45,14 @@ const LISTS: &[(Key, &str)] = &[
 
 /// A row that denies everything to everyone, except that one list is the given one.
 fn row_with(rt: &(impl Abort + Alloc<A = Global>), key: Key, list: &str) -> String {
-    let mut row = sure(
+    let mut row = unwrap(
         rt,
         String::from_str(rt.alloc(), "[[row]]\neffect = \"deny\"\n"),
     );
     for &(other, any) in LISTS {
         let list = if other == key { list } else { any };
-        let line = sure(rt, format!(in rt.alloc(); "{} = {list}\n", other.name()));
-        sure(rt, row.push_str(line.as_str()));
+        let line = unwrap(rt, format!(in rt.alloc(); "{} = {list}\n", other.name()));
+        unwrap(rt, row.push_str(line.as_str()));
     }
     row
 }
@@ -61,8 +61,8 @@ fn row_with(rt: &(impl Abort + Alloc<A = Global>), key: Key, list: &str) -> Stri
 /// that the text is a policy.
 fn expect(rt: &(impl Abort + Alloc<A = Global>), source: &str, expected: &str) {
     let line = match Policy::read(rt.alloc(), source) {
-        Ok(_) => sure(rt, String::from_str(rt.alloc(), "none")),
-        Err(fault) => sure(rt, fault.to_string(rt.alloc())),
+        Ok(_) => unwrap(rt, String::from_str(rt.alloc(), "none")),
+        Err(fault) => unwrap(rt, fault.to_string(rt.alloc())),
     };
     assert_eq!(rt; line.as_str(), expected, "of {source}");
 }
@@ -82,10 +82,10 @@ fn expect_parts(
 #[test]
 fn reads_a_plain_policy(rt: HostRuntime) {
     let source = join(&rt, TOP, REPO, ROW);
-    let policy = sure(&rt, Policy::read(rt.alloc(), source.as_str()));
+    let policy = unwrap(&rt, Policy::read(rt.alloc(), source.as_str()));
     assert_eq!(rt; policy.base(), "https://lfs.example");
     assert_eq!(rt; policy.token_seconds(), 3600);
-    let repo = sure(&rt, policy.repo("studio/film").ok_or(()));
+    let repo = unwrap(&rt, policy.repo("studio/film").ok_or(()));
     assert_eq!(rt; repo.name().as_str(), "studio/film");
     assert_eq!(rt; repo.default_ref().as_str(), "refs/heads/main");
     assert_eq!(rt; repo.quota(), 1000000);
@@ -95,7 +95,7 @@ fn reads_a_plain_policy(rt: HostRuntime) {
 #[test]
 fn reads_bytes(rt: HostRuntime) {
     let source = join(&rt, TOP, REPO, ROW);
-    let policy = sure(&rt, Policy::read_bytes(rt.alloc(), source.as_bytes()));
+    let policy = unwrap(&rt, Policy::read_bytes(rt.alloc(), source.as_bytes()));
     assert_eq!(rt; policy.token_seconds(), 3600);
 }
 
@@ -105,7 +105,7 @@ const LENGTHS: &[(usize, FaultCode)] = &[(1_048_576, FaultCode::Y1), (1_048_577,
 #[test]
 fn reads_bytes_that_are_no_text(rt: HostRuntime) {
     for &(length, code) in LENGTHS {
-        let bytes = sure(&rt, vec![in rt.alloc(); 0xffu8; length]);
+        let bytes = unwrap(&rt, vec![in rt.alloc(); 0xffu8; length]);
         let fault = Fault {
             code,
             place: Place::File,

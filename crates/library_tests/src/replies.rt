@@ -1,12 +1,12 @@
 //! `wire`: replies written to sinks that take few bytes, or fail.
 
-use crate::harness::{expect, sure};
+use crate::harness::{expect, unwrap};
 use http::StatusCode;
-use names::{Counted, FailAfter, Sink, VecSink};
+use names::{ALLOW_LIMIT, Counted, FailAfter, Sink, VecSink};
 use std::alloc::{Alloc, Global};
 use std::io::{self, Write};
 use std::process::Abort;
-use wire::{ALLOW_LIMIT, Content, ReplyHead, WriteFault, write_reply, write_whole};
+use wire::{Content, ReplyHead, WriteFault, write_reply, write_whole};
 
 /// The head of a reply, with its status as a number.
 #[derive(Clone, Copy)]
@@ -130,21 +130,21 @@ fn reply_of(
 ) -> Vec<u8> {
     assert!(rt; case.allow.len() <= ALLOW_LIMIT);
     let head = ReplyHead {
-        status: sure(rt, StatusCode::from_u16(case.status)),
+        status: unwrap(rt, StatusCode::from_u16(case.status)),
         content: case.content,
         size: case.size,
         allow: case.allow,
         close: case.close,
     };
     let mut sink = VecSink::new(rt.alloc(), most);
-    sure(rt, write_reply(&mut sink, &head, body.as_bytes()));
-    sure(rt, sink.taken().to_vec(rt.alloc()))
+    unwrap(rt, write_reply(&mut sink, &head, body.as_bytes()));
+    unwrap(rt, sink.taken().to_vec(rt.alloc()))
 }
 
 #[test]
 fn replies_are_their_head_and_their_body(rt: HostRuntime) {
     for (case, body, lines, size) in REPLIES {
-        let text = sure(&rt, format!(in rt.alloc(); "{lines}{body}"));
+        let text = unwrap(&rt, format!(in rt.alloc(); "{lines}{body}"));
         expect(&rt, lines, text.len(), *size);
         for &most in &[1, 2, 7, usize::MAX] {
             let reply = reply_of(&rt, case, body, most);
@@ -181,7 +181,7 @@ fn each_status_has_its_phrase(rt: HostRuntime) {
             ..JSON
         };
         let reply = reply_of(&rt, &case, "", usize::MAX);
-        let line = sure(
+        let line = unwrap(
             &rt,
             format!(in rt.alloc(); "HTTP/1.1 {status} {phrase}\r\n"),
         );
@@ -240,8 +240,8 @@ fn nothing_is_written_after_a_write_that_failed(rt: HostRuntime) {
             taken: Vec::new(rt.alloc()),
             good: Some(written),
         });
-        let told = write_reply(&mut sink, &OCTETS, b"abc");
-        expect(&rt, &written, told, Err(WriteFault { written }));
+        let reply = write_reply(&mut sink, &OCTETS, b"abc");
+        expect(&rt, &written, reply, Err(WriteFault { written }));
         expect(&rt, &written, sink.failures(), 1);
         let taken = sink.into_inner().taken;
         let front = OCTETS_TEXT.get(..written);
@@ -254,8 +254,8 @@ fn a_sink_that_fails_has_taken_a_beginning(rt: HostRuntime) {
     for calls in 0..81 {
         let mut sink = FailAfter::new(VecSink::new(rt.alloc(), 1), calls);
         let written = usize::try_from(calls).unwrap_or(0);
-        let told = write_reply(&mut sink, &OCTETS, b"abc");
-        expect(&rt, &calls, told, Err(WriteFault { written }));
+        let reply = write_reply(&mut sink, &OCTETS, b"abc");
+        expect(&rt, &calls, reply, Err(WriteFault { written }));
         expect(&rt, &calls, sink.failures(), 1);
         let begins = OCTETS_TEXT.starts_with(sink.into_inner().taken());
         expect(&rt, &calls, begins, true);
@@ -264,7 +264,7 @@ fn a_sink_that_fails_has_taken_a_beginning(rt: HostRuntime) {
         let mut sink = FailAfter::new(VecSink::new(rt.alloc(), 2), calls);
         expect(&rt, &calls, write_whole(&mut sink, b"abc"), want);
     }
-    let fault = sure(&rt, WriteFault { written: 3 }.to_string(rt.alloc()));
+    let fault = unwrap(&rt, WriteFault { written: 3 }.to_string(rt.alloc()));
     expect(
         &rt,
         &"a fault",

@@ -1,6 +1,6 @@
 //! `names`: sources and sinks.
 
-use crate::harness::{expect, sure};
+use crate::harness::{expect, unwrap};
 use names::{Counted, DeviceFault, FailAfter, Sink, SliceSource, Source, VecSink};
 use std::cell::Cell;
 use std::io;
@@ -60,7 +60,7 @@ const WRITES: &[(&[u8], usize)] = &[(b"abc", 2), (b"c", 1), (b"", 0)];
 #[test]
 fn a_source_hands_out_as_little_as_asked(rt: HostRuntime) {
     for &(most, room, size) in READS {
-        let mut piece = sure(&rt, vec![in rt.alloc(); 0; room]);
+        let mut piece = unwrap(&rt, vec![in rt.alloc(); 0; room]);
         let read = SliceSource::new(b"abcdef", most).read(&mut piece);
         expect(&rt, &(most, room), read, Ok(size));
     }
@@ -95,7 +95,7 @@ fn a_sink_fails_from_then_on(rt: HostRuntime) {
     expect(&rt, &"writes", written, Err(DeviceFault));
     expect(&rt, &"writes", sink.failures(), 1);
     expect(&rt, &"writes", sink.into_inner().taken(), b"abc");
-    let text = sure(&rt, DeviceFault.to_string(rt.alloc()));
+    let text = unwrap(&rt, DeviceFault.to_string(rt.alloc()));
     expect(&rt, &"a fault", text.as_str(), "the device failed");
 }
 
@@ -163,12 +163,12 @@ const LAST_READS: &[(usize, usize)] = &[(67_108_860, 67_108_860), (3, 3), (8, 1)
 fn a_source_ends_at_its_cap(rt: HostRuntime) {
     let calls = Cell::new(0);
     let mut source = Counted::new(Endless { calls: &calls });
-    let mut piece = sure(&rt, vec![in rt.alloc(); 0; 67_108_864]);
+    let mut piece = unwrap(&rt, vec![in rt.alloc(); 0; 67_108_864]);
     for _ in 0..16_383 {
         expect(&rt, &"a read", source.read(&mut piece), Ok(67_108_864));
     }
     for &(room, size) in LAST_READS {
-        let mut piece = sure(&rt, vec![in rt.alloc(); 0; room]);
+        let mut piece = unwrap(&rt, vec![in rt.alloc(); 0; room]);
         expect(&rt, &room, source.read(&mut piece), Ok(size));
     }
     // The reader is not called once all bytes are returned.

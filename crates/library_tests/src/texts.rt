@@ -1,6 +1,6 @@
 //! `names`: texts and numbers with a range, moments, rules.
 
-use crate::harness::{expect, owned, sure};
+use crate::harness::{expect, owned, unwrap};
 use names::{LockId, LockPath, Moment, Oid, RefName, RepoName, Rule, Size, UserName, moment_text};
 use std::alloc::{Alloc, Global};
 use std::fmt::Display;
@@ -9,8 +9,8 @@ use std::process::Abort;
 /// The text, followed by `letters` letters `a`.
 fn lengthened(rt: &(impl Abort + Alloc<A = Global>), text: &str, letters: usize) -> String {
     let mut long = owned(rt, text);
-    let rest = sure(rt, "a".repeat(rt.alloc(), letters));
-    sure(rt, long.push_str(rest.as_str()));
+    let rest = unwrap(rt, "a".repeat(rt.alloc(), letters));
+    unwrap(rt, long.push_str(rest.as_str()));
     long
 }
 
@@ -20,7 +20,7 @@ const NONE: &str = "none";
 /// The printed name, or [`NONE`].
 fn printed<T: Drop + Display>(rt: &(impl Abort + Alloc<A = Global>), name: Option<T>) -> String {
     match name {
-        Some(name) => sure(rt, name.to_string(rt.alloc())),
+        Some(name) => unwrap(rt, name.to_string(rt.alloc())),
         None => owned(rt, NONE),
     }
 }
@@ -231,7 +231,7 @@ const COUNTS: &[(usize, bool)] = &[(63, false), (64, true), (65, false)];
 /// Asserts that the digit, repeated, is an object's name, or not.
 fn expect_digit(rt: &(impl Abort + Alloc<A = Global>), digit: &str, good: bool) {
     for &(count, fits) in COUNTS {
-        let text = sure(rt, digit.repeat(rt.alloc(), count));
+        let text = unwrap(rt, digit.repeat(rt.alloc(), count));
         let read = Oid::read(text.as_bytes()).is_some();
         expect(rt, &text, read, good && fits);
     }
@@ -241,7 +241,7 @@ fn expect_digit(rt: &(impl Abort + Alloc<A = Global>), digit: &str, good: bool) 
 fn objects_are_64_digits(rt: HostRuntime) {
     // The SHA-256 of the empty text.
     let empty = "e3b0c44298fc1c149afbf4c8996fb92427ae41e4649b934ca495991b7852b855";
-    let name = sure(&rt, Oid::read(empty.as_bytes()).ok_or(()));
+    let name = unwrap(&rt, Oid::read(empty.as_bytes()).ok_or(()));
     expect(&rt, &"the text", name.text(), empty);
     expect(&rt, &empty, printed(&rt, Some(name)).as_str(), empty);
     for &(digit, good) in DIGITS {
@@ -302,8 +302,8 @@ const MOMENTS: &[(u64, &str)] = &[
 #[test]
 fn moments_are_printed_as_dates(rt: HostRuntime) {
     for &(second, text) in MOMENTS {
-        let moment = sure(&rt, Moment::read(second).ok_or(()));
-        let date = sure(&rt, moment_text(rt.alloc(), moment));
+        let moment = unwrap(&rt, Moment::read(second).ok_or(()));
+        let date = unwrap(&rt, moment_text(rt.alloc(), moment));
         expect(&rt, &second, date.as_str(), text);
         expect(&rt, &second, moment.get(), second);
     }
@@ -357,8 +357,8 @@ const RULES: &[(Rule, &str, u16, &str)] = &[
 fn rules_have_a_code_a_status_and_a_reason(rt: HostRuntime) {
     for &(rule, code, status, reason) in RULES {
         expect(&rt, &rule, printed(&rt, Some(rule)).as_str(), code);
-        let told = (rule.status(), rule.reason());
-        expect(&rt, &rule, told, (Some(status), Some(reason)));
+        let reply = (rule.status(), rule.reason());
+        expect(&rt, &rule, reply, (Some(status), Some(reason)));
     }
 }
 

@@ -252,8 +252,8 @@ denied old (Ok x) = refl
 denied old (Err d) = refl
 
 -- texts that differ have different bytes
-pub told_apart : (a b : List ℕ) → a ≢ b → bytes_eq a b ≡ false
-told_apart a b differ = at (bytes_eq a b) refl
+pub differ_by_bytes : (a b : List ℕ) → a ≢ b → bytes_eq a b ≡ false
+differ_by_bytes a b differ = at (bytes_eq a b) refl
   where
     at : (v : Bool) → bytes_eq a b ≡ v → v ≡ false
     at true e = absurd (differ ((bytes_eq-Decides a b).0 e))
@@ -269,7 +269,7 @@ module _ (old : World) (setting : Setting) (repo : List ℕ) (policy : Policy) (
       at (Err e) j = ap (λ (a : Answer). view_of (after old (Some a)) policy user repo) (verdict_refused old setting head body e j)
       at (Ok target) j =
           view_after old (verdict old setting head body) policy user repo target.repo (verdict_in old setting head body target j)
-          (told_apart target.repo repo (λ same. off (ap repo_of j ∙ ap (λ (n : List ℕ). Some n) same)))
+          (differ_by_bytes target.repo repo (λ same. off (ap repo_of j ∙ ap (λ (n : List ℕ). Some n) same)))
   view_verdict (message head body false) off = ap (λ (w : World). view_of w policy user repo) (denied old (early_verdict old setting head))
   view_verdict bad_head off = refl
 

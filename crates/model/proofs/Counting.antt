@@ -54,13 +54,13 @@ next_of old given l e may =
     (is.next, ap (λ (g : Option Answer). (after old g).made l.repo) e ∙ counted_itself l.repo old.made ∙ sym is.next)
 
 new_next : (old : World) (e : Exchange) (l : Lock) (new : World) → IfGranted old (judgement old e) → Carries old e new → e.given ≡ Some (Ok (makes_lock l)) → (l.id ≡ old.made l.repo + 1) × (new.made l.repo ≡ l.id)
-new_next old e l new may (by_verdict given is) told =
-    let n = next_of old (judgement old e) l (sym given ∙ told) may in (n.0, ap (λ (w : World). w.made l.repo) is ∙ n.1)
-new_next old e l new may (by_refusal given sure is) told = absurd (cc)
+new_next old e l new may (by_verdict given is) given_is =
+    let n = next_of old (judgement old e) l (sym given ∙ given_is) may in (n.0, ap (λ (w : World). w.made l.repo) is ∙ n.1)
+new_next old e l new may (by_refusal given sure is) given_is = absurd (cc)
 
 pub new_id_is_next : NewIdIsNext
-new_id_is_next old e l new w step told =
-    new_next old e l new (exchange_grantable old e new w step) step.carries told
+new_id_is_next old e l new w step given_is =
+    new_next old e l new (exchange_grantable old e new w step) step.carries given_is
 
 pub no_id_comes_again : NoIdComesAgain
 no_id_comes_again l m t =

@@ -29,10 +29,10 @@ pub one_first : HasOneFirst
 one_first bytes a b rest more (with_bad_head bad is none) (with_bad_head worse same nil) = (is ∙ sym same, none ∙ sym nil)
 one_first bytes a b rest more (with_bad_head bad is none) (with_message k q good same after) = absurd (not_bad bytes k q bad good)
 one_first bytes a b rest more (with_message h r good is after) (with_bad_head bad same nil) = absurd (not_bad bytes h r bad good)
-one_first bytes a b rest more (with_message h r good is after) (with_message k q fine same behind) =
+one_first bytes a b rest more (with_message h r good is after) (with_message k q fine same beyond) =
     let one = heads_one bytes h k r q good.reads fine.reads in (
       is ∙ same_parts message_with h k r q one ∙ sym same,
-      after ∙ same_parts (λ (x : RequestHead) (l : List ℕ). drop (body_length x) l) h k r q one ∙ sym behind,
+      after ∙ same_parts (λ (x : RequestHead) (l : List ℕ). drop (body_length x) l) h k r q one ∙ sym beyond,
     )
 
 bad_there : (bytes : List ℕ) → BeginsBadly bytes → IsUnfinished bytes → IsFreeChoice bytes

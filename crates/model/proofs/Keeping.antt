@@ -20,7 +20,7 @@ use Rattle.model.specs.Reading.{◌>>=◌, check, ok_or, none_or, or_default}
 use Rattle.model.specs.Policy.{Policy, IsPolicy, Repo, repo_named}
 use Rattle.model.specs.World.{World, Object, Lock, Token, IsWorld, IsObject, IsLock, IsToken, DiffersInName, DiffersInId, DiffersInPlace, DiffersInDigest, object_named, find_token, with_lock, without_lock, with_object, with_token, without_expired, has_id, one_more, nothing, name_of}
 use Rattle.model.specs.RepoState.{lock_at, locks_of, size_of, has_room}
-use Rattle.model.specs.Forms.{LockForm, Request, asks_batch, asks_get, asks_put, asks_verify, asks_lock, asks_list, asks_verify_locks, asks_unlock, lock_form, batch_form, put_form, verify_form, list_form, verify_locks_form, unlock_form, is_if_given, members_of, required, optional, as_name, request_of}
+use Rattle.model.specs.Forms.{LockForm, Request, asks_batch, asks_get, asks_put, asks_verify, asks_lock, asks_list, asks_verify_locks, asks_unlock, lock_form, batch_form, put_form, verify_form, list_form, verify_locks_form, unlock_form, is_if_given, members_of, required_member, optional, as_name, request_of}
 use Rattle.model.specs.Heads.{Target, head_verdict, query_of, content_length, body_length}
 use Rattle.model.specs.Callers.{Caller, bearer, caller_by, lock_question, push_question}
 use Rattle.model.specs.Cases.{Setting, Case, case_in, DeskRequest}
@@ -79,7 +79,7 @@ form_in_range : (body : List ℕ) → IfOk (lock_form body) IsLockForm
 unfolding lock_form
 form_in_range body =
     then_any IsLockForm (ok_or (members_of body) rule.J1) _ (λ members.
-    then_any IsLockForm (required as_str (codes "path") members) _ (λ path.
+    then_any IsLockForm (required_member as_str (codes "path") members) _ (λ path.
     then_any IsLockForm (optional as_name (codes "ref") members) _ (λ ref. form_is path ref)))
 
 request_in_range : (form : Form) (parameter query body : List ℕ) → IfOk (request_of form parameter query body) IsRequest
@@ -470,11 +470,11 @@ left_by_denial old (Some (Err d)) denial e = refl
 left_by_denial old None denial e = refl
 
 denial_leaves : (old : World) (e : Exchange) (denial : Denial) (new : World) → Carries old e new → e.given ≡ Some (Err denial) → new ≡ old
-denial_leaves old e denial new (by_verdict given is) told = is ∙ left_by_denial old (judgement old e) denial (sym given ∙ told)
-denial_leaves old e denial new (by_refusal given sure is) told = is
+denial_leaves old e denial new (by_verdict given is) given_is = is ∙ left_by_denial old (judgement old e) denial (sym given ∙ given_is)
+denial_leaves old e denial new (by_refusal given sure is) given_is = is
 
 pub denials_change_nothing : DenialsChangeNothing
-denials_change_nothing old e denial new step told = denial_leaves old e denial new step.carries told
+denials_change_nothing old e denial new step given_is = denial_leaves old e denial new step.carries given_is
 
 left_by_silence : (old : World) (answer : Option Answer) → answer ≡ None → after old answer ≡ old
 left_by_silence old (Some (Ok granted)) e = absurd (none-some (Ok granted) (sym e))
@@ -482,11 +482,11 @@ left_by_silence old (Some (Err d)) e = refl
 left_by_silence old None e = refl
 
 silence_leaves : (old : World) (e : Exchange) (new : World) → Carries old e new → e.given ≡ None → new ≡ old
-silence_leaves old e new (by_verdict given is) told = is ∙ left_by_silence old (judgement old e) (sym given ∙ told)
-silence_leaves old e new (by_refusal given sure is) told = is
+silence_leaves old e new (by_verdict given is) given_is = is ∙ left_by_silence old (judgement old e) (sym given ∙ given_is)
+silence_leaves old e new (by_refusal given sure is) given_is = is
 
 pub silence_changes_nothing : SilenceChangesNothing
-silence_changes_nothing old e new step told = silence_leaves old e new step.carries told
+silence_changes_nothing old e new step given_is = silence_leaves old e new step.carries given_is
 
 -- the world after an exchange is the one after its answer
 after_given : (old : World) (e : Exchange) (new : World) → Carries old e new → new ≡ after old e.given

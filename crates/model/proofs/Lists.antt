@@ -16,9 +16,9 @@ found_none : {A : Type 0} (b : Bool) (x : A) (rest : Option A) → b ≡ false �
 found_none true x rest off e = absurd (true≢false off)
 found_none false x rest off e = e
 
-none_behind : {A : Type 0} (p : A → Bool) (x y : A) (ys placed_ys : List A) → (find p placed_ys ≡ None → find p (x ∷ ys) ≡ None)
+none_after : {A : Type 0} (p : A → Bool) (x y : A) (ys placed_ys : List A) → (find p placed_ys ≡ None → find p (x ∷ ys) ≡ None)
     → find p (y ∷ placed_ys) ≡ None → find p (x ∷ y ∷ ys) ≡ None
-none_behind p x y ys placed_ys deep h =
+none_after p x y ys placed_ys deep h =
     let there = not_found (p y) y (find p placed_ys) h in
     let deeper = not_found (p x) x (find p ys) (deep there.1) in
     found_none (p x) x (find p (y ∷ ys)) deeper.0 (found_none (p y) y (find p ys) there.0 deeper.1)
@@ -27,7 +27,7 @@ none_placed : {A : Type 0} (before : A → A → Bool) (p : A → Bool) (x : A) 
 none_placed before p x [] e = e
 none_placed before p x (y ∷ ys) e =
     cond_both (before x y) (x ∷ y ∷ ys) (y ∷ insert_by before x ys) (λ l. find p l ≡ None → find p (x ∷ y ∷ ys) ≡ None) (λ _ h. h)
-    (λ _. none_behind p x y ys (insert_by before x ys) (none_placed before p x ys)) e
+    (λ _. none_after p x y ys (insert_by before x ys) (none_placed before p x ys)) e
 
 pub none_rising : {A : Type 0} (before : A → A → Bool) (p : A → Bool) (xs : List A) → find p (sort_by before xs) ≡ None → find p xs ≡ None
 none_rising before p [] e = e

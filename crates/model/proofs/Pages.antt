@@ -53,37 +53,37 @@ rise_append (x ∷ xs) ys a b all = (each_append (IsBelow x) xs ys a.0 all.0, ri
 
 -- ---- the first of them, and the one after
 
-abbrev Behind : ℕ → List Lock → Option Lock → Type 0
-Behind n left None = (l : Lock) → In left l → In (take n left) l
-Behind n left (Some m) =
+abbrev IsRest : ℕ → List Lock → Option Lock → Type 0
+IsRest n left None = (l : Lock) → In left l → In (take n left) l
+IsRest n left (Some m) =
     (length (take n left) ≡ n) × AllByRecursion (λ k. k.id < m.id) (take n left) × In left m × ((l : Lock) → In left l → In (take n left) l ⊎ (m.id ≤ l.id))
 
 least_first : (k : Lock) (left : List Lock) (l : Lock) → AllByRecursion (IsBelow k) left → In (k ∷ left) l → k.id ≤ l.id
 least_first k left l all (inl e) = omega (arith, ap (λ (j : Lock). j.id) e)
 least_first k left l all (inr is) = let below = each_in (IsBelow k) left l all is in omega (arith, below)
 
-one_behind : (k m : Lock) (n : ℕ) (left : List Lock) → AllByRecursion (IsBelow k) left → Behind n left (Some m) → (l : Lock) → In (k ∷ left) l
+one_after : (k m : Lock) (n : ℕ) (left : List Lock) → AllByRecursion (IsBelow k) left → IsRest n left (Some m) → (l : Lock) → In (k ∷ left) l
     → ((k ≡ l) ⊎ In (take n left) l) ⊎ (m.id ≤ l.id)
-one_behind k m n left all b l (inl e) = inl (inl e)
-one_behind k m n left all b l (inr is) = moved (b.3 l is)
+one_after k m n left all b l (inl e) = inl (inl e)
+one_after k m n left all b l (inr is) = moved (b.3 l is)
   where
     moved : In (take n left) l ⊎ (m.id ≤ l.id) → ((k ≡ l) ⊎ In (take n left) l) ⊎ (m.id ≤ l.id)
     moved (inl x) = inl (inr x)
     moved (inr x) = inr x
 
-all_taken : (k : Lock) (n : ℕ) (left : List Lock) → Behind n left None → (l : Lock) → In (k ∷ left) l → (k ≡ l) ⊎ In (take n left) l
+all_taken : (k : Lock) (n : ℕ) (left : List Lock) → IsRest n left None → (l : Lock) → In (k ∷ left) l → (k ≡ l) ⊎ In (take n left) l
 all_taken k n left b l (inl e) = inl e
 all_taken k n left b l (inr is) = inr (b l is)
 
-one_more : (k : Lock) (n : ℕ) (left : List Lock) (o : Option Lock) → AllByRecursion (IsBelow k) left → Behind n left o → Behind (suc n) (k ∷ left) o
+one_more : (k : Lock) (n : ℕ) (left : List Lock) (o : Option Lock) → AllByRecursion (IsBelow k) left → IsRest n left o → IsRest (suc n) (k ∷ left) o
 one_more k n left None all b = all_taken k n left b
-one_more k n left (Some m) all b = (omega (arith, b.0), (each_in (IsBelow k) left m all b.2, b.1), inr b.2, one_behind k m n left all b)
+one_more k n left (Some m) all b = (omega (arith, b.0), (each_in (IsBelow k) left m all b.2, b.1), inr b.2, one_after k m n left all b)
 
-behind_is : (n : ℕ) (left : List Lock) → Rise left → Behind n left (first (drop n left))
-behind_is zero [] r = λ l is. is
-behind_is zero (k ∷ left) r = (refl, tt, inl refl, λ l is. inr (least_first k left l r.0 is))
-behind_is (suc n) [] r = λ l is. is
-behind_is (suc n) (k ∷ left) r = one_more k n left (first (drop n left)) r.0 (behind_is n left r.1)
+rest_is : (n : ℕ) (left : List Lock) → Rise left → IsRest n left (first (drop n left))
+rest_is zero [] r = λ l is. is
+rest_is zero (k ∷ left) r = (refl, tt, inl refl, λ l is. inr (least_first k left l r.0 is))
+rest_is (suc n) [] r = λ l is. is
+rest_is (suc n) (k ∷ left) r = one_more k n left (first (drop n left)) r.0 (rest_is n left r.1)
 
 -- ---- a page
 
@@ -104,14 +104,14 @@ module _ (locks left : List Lock) (cursor limit : ℕ) (r : Rise left) (all : Al
   page_shown : All (Contains locks) (take limit left)
   page_shown = All-from_recursion (Contains locks) (take limit left) (each_take (Contains locks) limit left (each_of (Contains locks) left (λ l is. into locks l (was l is))))
 
-  in_or_behind : (m : Lock) → Behind limit left (Some m) → (l : Lock) → Contains locks l → cursor ≤ l.id → Contains (take limit left) l ⊎ (m.id ≤ l.id)
-  in_or_behind m b l is above = moved (b.3 l (is_left l (in_from locks l is) above))
+  in_or_after : (m : Lock) → IsRest limit left (Some m) → (l : Lock) → Contains locks l → cursor ≤ l.id → Contains (take limit left) l ⊎ (m.id ≤ l.id)
+  in_or_after m b l is above = moved (b.3 l (is_left l (in_from locks l is) above))
     where
       moved : In (take limit left) l ⊎ (m.id ≤ l.id) → Contains (take limit left) l ⊎ (m.id ≤ l.id)
       moved (inl x) = inl (into (take limit left) l x)
       moved (inr x) = inr x
 
-  full_below : (m : Lock) → Behind limit left (Some m) → (l : Lock) → Contains (take limit left) l ⊎ (m.id ≤ l.id)
+  full_below : (m : Lock) → IsRest limit left (Some m) → (l : Lock) → Contains (take limit left) l ⊎ (m.id ≤ l.id)
       → Contains (take limit left) l ⊎ IsFullBelow limit l.id (record { locks = take limit left; next = Some m.id })
   full_below m b l (inl x) = inl x
   full_below m b l (inr x) = inr (record {
@@ -119,7 +119,7 @@ module _ (locks left : List Lock) (cursor limit : ℕ) (r : Rise left) (all : Al
     below = All-from_recursion (λ (k : Lock). k.id < l.id) (take limit left) (each_weaker (λ k. k.id < m.id) (λ k. k.id < l.id) (take limit left) (λ k h. omega (arith, h, x)) b.1);
   })
 
-  page_parts : (o : Option Lock) → Behind limit left o → IsPage locks cursor limit (record { locks = take limit left; next = option_map (λ (l : Lock). l.id) o })
+  page_parts : (o : Option Lock) → IsRest limit left o → IsPage locks cursor limit (record { locks = take limit left; next = option_map (λ (l : Lock). l.id) o })
   page_parts None b = record {
     rise = page_rises;
     within = page_within;
@@ -133,12 +133,12 @@ module _ (locks left : List Lock) (cursor limit : ℕ) (r : Rise left) (all : Al
     within = page_within;
     from = page_from;
     among = page_shown;
-    least = λ l is above. full_below m b l (in_or_behind m b l is above);
+    least = λ l is above. full_below m b l (in_or_after m b l is above);
     next = record {
       above = All-from_recursion (λ (k : Lock). k.id < m.id) (take limit left) b.1;
       from = each_in (λ (l : Lock). cursor ≤ l.id) left m all b.2;
       some = (m, into locks m (was m b.2), refl);
-      least = in_or_behind m b;
+      least = in_or_after m b;
     };
   }
 
@@ -148,7 +148,7 @@ page_rise cursor limit locks r =
     page_parts locks (filter from locks) cursor limit (rise_filter from locks r)
     (each_weaker (λ l. from l ≡ true) (λ l. cursor ≤ l.id) (filter from locks) (λ l e. leb-true cursor l.id e) (each_passes from locks))
     (λ l is. in_before_filter from locks l is) (λ l is above. in_filter from locks l is (le-leb cursor l.id above))
-    (first (drop limit (filter from locks))) (behind_is limit (filter from locks) (rise_filter from locks r))
+    (first (drop limit (filter from locks))) (rest_is limit (filter from locks) (rise_filter from locks r))
 
 pub page_is_least : PageIsLeast
 page_is_least cursor limit locks all = page_rise cursor limit locks (rise_from locks all)

@@ -19,7 +19,7 @@ use Rattle.model.specs.Reading.{◌>>=◌, check, ok_or, none_or}
 use Rattle.model.specs.Policy.{Policy, Decision, allowed, denied, decide, repo_named}
 use Rattle.model.specs.World.{World, Lock, find_token, object_named, name_of}
 use Rattle.model.specs.RepoState.{size_of, has_room, lock_at}
-use Rattle.model.specs.Forms.{Request, asks_batch, asks_get, asks_put, asks_verify, asks_lock, asks_list, asks_verify_locks, asks_unlock, BatchForm, request_of, batch_keys, batch_form, put_form, verify_form, lock_form, list_form, verify_locks_form, unlock_form, members_of, if_given, optional, required, as_name, as_array_of, as_batch_object, operation_in, is_if_given, has_basic, object_limit, query_value, query_values, query_single, query_ref, read_if_given, limit_in, whole_if_given, is_size}
+use Rattle.model.specs.Forms.{Request, asks_batch, asks_get, asks_put, asks_verify, asks_lock, asks_list, asks_verify_locks, asks_unlock, BatchForm, request_of, batch_keys, batch_form, put_form, verify_form, lock_form, list_form, verify_locks_form, unlock_form, members_of, if_given, optional, required_member, as_name, as_array_of, as_batch_object, operation_in, is_if_given, has_basic, object_limit, query_value, query_values, query_single, query_ref, read_if_given, limit_in, whole_if_given, is_size}
 use Rattle.model.specs.Heads.{Target, RouteRow, head_verdict, head_verdict_in, check_framing, is_measured, is_clear, is_small, at_most, form_of, accepts, values, route_in, route_of_parts, served_routes, path_of, repo_text, row_fits}
 use Rattle.model.specs.Callers.{Caller, caller_by, bearer, pull_question, push_question, lock_question}
 use Rattle.model.specs.Cases.{Setting, Case, case_in, DeskRequest}
@@ -68,7 +68,7 @@ IsLateRule r = IsLate (by_rule r)
 late : {d : Denial} → is_rule is_early (Err d) ≡ false → is_rule is_of_head (Err d) ≡ false → is_rule is_h7 (Err d) ≡ false → is_store_refusal (Err d) ≡ false → IsLate d
 late a b c d = record { early = a; of_head = b; method = c; store = d }
 
--- a check, a required value, and a rule before others
+-- a check, a required_member value, and a rule before others
 check_late : (test : Bool) (e : Rule) → IsLateRule e → IfErr (check test e) IsLateRule
 check_late test e is = check_fails IsLateRule test e is
 
@@ -113,7 +113,7 @@ given_late kind (Some (object ms)) = kind_late (kind (object ms))
 optional_late : {A : Type 0} (kind : Data → Option A) (key : List ℕ) (members : Members) → IfErr (optional kind key members) IsLateRule
 optional_late kind key members = given_late kind (get_member key members)
 
-required_late : {A : Type 0} (kind : Data → Option A) (key : List ℕ) (members : Members) → IfErr (required kind key members) IsLateRule
+required_late : {A : Type 0} (kind : Data → Option A) (key : List ℕ) (members : Members) → IfErr (required_member kind key members) IsLateRule
 required_late kind key members = then_late (optional kind key members) (λ value. ok_or value rule.J1) (optional_late kind key members) (λ value. found_late value rule.J1 j1_late)
 
 members_late : (body : List ℕ) → IfErr (ok_or (members_of body) rule.J1) IsLateRule
@@ -146,11 +146,11 @@ keys_late : (body : List ℕ) → IfErr (batch_keys body) IsLateRule
 unfolding batch_keys
 keys_late body =
     then_late (ok_or (members_of body) rule.J1) _ (members_late body) (λ members.
-    then_late (required as_str (codes "operation") members) _ (required_late as_str (codes "operation") members) (λ name.
+    then_late (required_member as_str (codes "operation") members) _ (required_late as_str (codes "operation") members) (λ name.
     then_late (optional (as_array_of as_str) (codes "transfers") members) _ (optional_late (as_array_of as_str) (codes "transfers") members) (λ transfers.
     then_late (optional as_name (codes "ref") members) _ (optional_late as_name (codes "ref") members) (λ ref.
     then_late (optional as_str (codes "hash_algo") members) _ (optional_late as_str (codes "hash_algo") members) (λ hash.
-    then_late (required (as_array_of as_batch_object) (codes "objects") members) _ (required_late (as_array_of as_batch_object) (codes "objects") members) (λ objects. tt))))))
+    then_late (required_member (as_array_of as_batch_object) (codes "objects") members) _ (required_late (as_array_of as_batch_object) (codes "objects") members) (λ objects. tt))))))
 
 batch_late : (body : List ℕ) → IfErr (batch_form body) IsLateRule
 unfolding batch_form
@@ -169,8 +169,8 @@ verify_late : (query body : List ℕ) → IfErr (verify_form query body) IsLateR
 unfolding verify_form
 verify_late query body =
     then_late (ok_or (members_of body) rule.J1) _ (members_late body) (λ members.
-    then_late (required as_str (codes "oid") members) _ (required_late as_str (codes "oid") members) (λ oid.
-    then_late (required as_number (codes "size") members) _ (required_late as_number (codes "size") members) (λ n.
+    then_late (required_member as_str (codes "oid") members) _ (required_late as_str (codes "oid") members) (λ oid.
+    then_late (required_member as_number (codes "size") members) _ (required_late as_number (codes "size") members) (λ n.
     then_late (ok_or (as_u64 n) rule.J2) _ (found_late (as_u64 n) rule.J2 j2_late) (λ size.
     then_late (check (is_hex_64 oid && is_size size) rule.J2) _ (range_late (is_hex_64 oid && is_size size)) (λ in_range.
     then_late (query_ref query) _ (ref_late query) (λ ref. tt))))))
@@ -179,7 +179,7 @@ lock_late : (body : List ℕ) → IfErr (lock_form body) IsLateRule
 unfolding lock_form
 lock_late body =
     then_late (ok_or (members_of body) rule.J1) _ (members_late body) (λ members.
-    then_late (required as_str (codes "path") members) _ (required_late as_str (codes "path") members) (λ path.
+    then_late (required_member as_str (codes "path") members) _ (required_late as_str (codes "path") members) (λ path.
     then_late (optional as_name (codes "ref") members) _ (optional_late as_name (codes "ref") members) (λ ref.
     then_late (check (is_lock_path path && is_if_given is_ref ref) rule.J2) _ (range_late (is_lock_path path && is_if_given is_ref ref)) (λ in_range. tt))))
 

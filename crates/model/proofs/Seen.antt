@@ -126,9 +126,9 @@ module _ (setting : Setting) (caller : Caller) (repo : Repo) (objects : List Obj
 
   same_batch : (asked : BatchForm) → batch_verdict here asked ≡ batch_verdict there asked
   same_batch asked =
-      let told : List Offer → Answer = λ some. Ok (offers some) in
+      let given_is : List Offer → Answer = λ some. Ok (offers some) in
       same_then (may_batch there asked asked.operation) _ _ (λ x e.
-      ap told (same_offers asked asked.operation (all_shown (batch_shows asked asked.operation x e))))
+      ap given_is (same_offers asked asked.operation (all_shown (batch_shows asked asked.operation x e))))
 
   same_get : (name : List ℕ) → get_verdict here name ≡ get_verdict there name
   same_get name =

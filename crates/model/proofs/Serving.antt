@@ -219,23 +219,23 @@ message_grants old setting (message head body false) g e = absurd (no_denial (ea
 message_grants old setting bad_head g e = absurd (cc)
 
 pub grant_of : (old : World) (e : Exchange) (g : Grant) (new : World) → Carries old e new → e.given ≡ Some (Ok g) → IsGrant old e g
-grant_of old e g new (by_verdict given is) told =
-    let m = message_grants old e.setting e.asked g (sym given ∙ told) in
+grant_of old e g new (by_verdict given is) given_is =
+    let m = message_grants old e.setting e.asked g (sym given ∙ given_is) in
     record { head = m.0; body = m.1; asked = m.2; came = m.3 }
-grant_of old e g new (by_refusal given sure is) told = absurd (cc)
+grant_of old e g new (by_refusal given sure is) given_is = absurd (cc)
 
 pub serves_what_is_kept : ServesWhatIsKept
-serves_what_is_kept old e o new step told = let g = grant_of old e (serves o) new step.carries told in into old.objects o g.came.stored
+serves_what_is_kept old e o new step given_is = let g = grant_of old e (serves o) new step.carries given_is in into old.objects o g.came.stored
 
 pub served_has_its_name : ServedHasItsName
-served_has_its_name old e o new w step told =
-    let g = grant_of old e (serves o) new step.carries told in
+served_has_its_name old e o new w step given_is =
+    let g = grant_of old e (serves o) new step.carries given_is in
     (each_in IsObject old.objects o (recursion_from_All IsObject old.objects w.objects) g.came.stored).name
 
 -- the served object is the one that the head asks for
 get_of : (old : World) (e : Exchange) (o : Object) (new : World) → Carries old e new → e.given ≡ Some (Ok (serves o)) → IsGetOf o e
-get_of old e o new carries told =
-    let g = grant_of old e (serves o) new carries told in
+get_of old e o new carries given_is =
+    let g = grant_of old e (serves o) new carries given_is in
     record {
       head = g.head;
       body = g.body;
@@ -248,12 +248,12 @@ get_of old e o new carries told =
     }
 
 pub serves_what_is_asked : ServesWhatIsAsked
-serves_what_is_asked old e o new step told = get_of old e o new step.carries told
+serves_what_is_asked old e o new step given_is = get_of old e o new step.carries given_is
 
 -- the stored object was uploaded
 put_of : (old : World) (e : Exchange) (o : Object) (new : World) → Carries old e new → e.given ≡ Some (Ok (stores o)) → IsPutOf o e
-put_of old e o new carries told =
-    let g = grant_of old e (stores o) new carries told in
+put_of old e o new carries given_is =
+    let g = grant_of old e (stores o) new carries given_is in
     record {
       head = g.head;
       target = g.came.target;
@@ -262,7 +262,7 @@ put_of old e o new carries told =
       form = g.came.form_is;
       repo = g.came.repo_is;
       name = g.came.name_is;
-      given = told;
+      given = given_is;
     }
 
 -- ---- steps and runs
@@ -339,6 +339,6 @@ nothing_before events o (inl x) = absurd x
 nothing_before events o (inr p) = p
 
 pub served_was_put : ServedWasPut
-served_was_put events old e o new run step told =
-    let g = grant_of old e (serves o) new step.carries told in
+served_was_put events old e o new run step given_is =
+    let g = grant_of old e (serves o) new step.carries given_is in
     nothing_before events o (run_old nothing events old o run g.came.stored)

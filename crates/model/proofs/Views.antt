@@ -59,7 +59,7 @@ pub record Known (world : World) (now : ℕ) (values : List (List ℕ)) (caller 
   pub text : List ℕ
   pub held : Token
   pub bears : bearer values ≡ Some text
-  pub stands : find_token text world ≡ Some held
+  pub present : find_token text world ≡ Some held
   pub good : nat_lt now held.expires ≡ true
   pub is : caller_as text held ≡ caller
 
@@ -70,7 +70,7 @@ or_caller c (Err e) = c
 known_good : (world : World) (now : ℕ) (values : List (List ℕ)) (caller : Caller) (text : List ℕ) (i : Token) (v : Bool)
     → bearer values ≡ Some text → find_token text world ≡ Some i → nat_lt now i.expires ≡ v
     → (check {E = Rule} v rule.A3 >>= λ good. Ok (caller_as text i)) ≡ Ok caller → Known world now values caller
-known_good world now values caller text i true b s g h = record { text = text; held = i; bears = b; stands = s; good = g; is = ap (or_caller caller) h }
+known_good world now values caller text i true b s g h = record { text = text; held = i; bears = b; present = s; good = g; is = ap (or_caller caller) h }
 known_good world now values caller text i false b s g h = absurd (cc)
 
 known_issued : (world : World) (now : ℕ) (values : List (List ℕ)) (caller : Caller) (text : List ℕ) (o : Option Token) → bearer values ≡ Some text → find_token text world ≡ o
@@ -92,7 +92,7 @@ itself text = (bytes_eq-Decides text text).1 refl
 -- the caller's token is in the view
 token_there : (world : World) (text : List ℕ) (i : Token) → IsWorld world → find_token text world ≡ Some i
     → find (λ (t : OwnToken). bytes_eq t.digest (sha256 text)) (tokens_of i.user i.repo world) ≡ Some (own_token i)
-token_there world text i w stands =
+token_there world text i w present =
     let p : OwnToken → Bool = λ t. bytes_eq t.digest (sha256 text) in
     let same : Token → Bool = λ j. bytes_eq (sha256 j.text) (sha256 text) in
     let q : Token → Bool = is_issued_to i.user i.repo in
@@ -101,16 +101,16 @@ token_there world text i w stands =
     find_rising (λ (a b : OwnToken). text_before a.digest b.digest) p (map own_token (filter q world.tokens))
     (only_map p own_token (filter q world.tokens) (only_filter same q world.tokens (only_of DiffersInDigest same world.tokens apart w.digests)))
     ∙ find_map p own_token (filter q world.tokens)
-    ∙ ap (option_map own_token) (find_filter same q world.tokens ∙ find_and same q world.tokens i stands (and_from _ _ (itself i.user) (itself i.repo)))
+    ∙ ap (option_map own_token) (find_filter same q world.tokens ∙ find_and same q world.tokens i present (and_from _ _ (itself i.user) (itself i.repo)))
 
 caller_there : (world : World) (policy : Policy) (now : ℕ) (bearers : List (List ℕ)) (text : List ℕ) (i : Token) → IsWorld world
     → bearer bearers ≡ Some text → find_token text world ≡ Some i → nat_lt now i.expires ≡ true
     → caller_in (view_of world policy i.user i.repo) now bearers ≡ Ok (caller_as text i)
-caller_there world policy now bearers text i w b stands good =
+caller_there world policy now bearers text i w b present good =
     let tokens = tokens_of i.user i.repo world in
     let made : List ℕ → OwnToken → Caller = λ t token. record { token = t; user = i.user; repo = i.repo; operation = token.operation; expires = token.expires } in
     ap (λ (o : Option (List ℕ)). ok_or {E = NoCaller} o no_caller >>= λ t. ok_or (find (λ (k : OwnToken). bytes_eq k.digest (sha256 t)) tokens) no_caller >>= λ token. check (nat_lt now token.expires) no_caller >>= λ good. Ok (made t token)) b
-    ∙ ap (λ (o : Option OwnToken). ok_or {E = NoCaller} o no_caller >>= λ token. check (nat_lt now token.expires) no_caller >>= λ good. Ok (made text token)) (token_there world text i w stands)
+    ∙ ap (λ (o : Option OwnToken). ok_or {E = NoCaller} o no_caller >>= λ token. check (nat_lt now token.expires) no_caller >>= λ good. Ok (made text token)) (token_there world text i w present)
     ∙ ap (λ (v : Bool). check {E = NoCaller} v no_caller >>= λ good. Ok (caller_as text i)) good
 
 -- ---- the plan
@@ -163,7 +163,7 @@ same_request world setting caller asked =
 -- a content that is sent is stored, with this name and this size
 pub record IsStored (world : World) (repo name : List ℕ) (size : ℕ) : Type 0 where
   pub object : Object
-  pub stands : object_named repo name world ≡ Some object
+  pub present : object_named repo name world ≡ Some object
   pub named : object.name ≡ name
   pub sized_so : length object.bytes ≡ size
 
@@ -176,7 +176,7 @@ stored_object : (world : World) (repo name : List ℕ) (size : ℕ) (o : Option 
 stored_object world repo name size None e h = absurd (none-some size h)
 stored_object world repo name size (Some o) e h = record {
   object = o;
-  stands = e;
+  present = e;
   named = (bytes_eq-Decides o.name name).0 (both_true (bytes_eq o.repo repo) (bytes_eq o.name name) (found_passes (λ (p : Object). bytes_eq p.repo repo && bytes_eq p.name name) world.objects o e)).1;
   sized_so = same_Some (length o.bytes) size h;
 }
@@ -247,12 +247,12 @@ same_reply world repo body (Ok (grants g)) is = refl
 same_reply world repo body (Ok (receives name)) is = refl
 same_reply world repo body (Ok (sends name size)) is =
     same_content is.object name size is.named is.sized_so
-    ∙ ap (λ (o : Option Object). reply_of (by_rules (ok_or o rule.X1) >>= λ p. Ok (serves p))) (sym is.stands)
+    ∙ ap (λ (o : Option Object). reply_of (by_rules (ok_or o rule.X1) >>= λ p. Ok (serves p))) (sym is.present)
 
-foretold : (world : World) (setting : Setting) (c : Caller) (asked : CallerRequest) → IsWorld world
+view_decides : (world : World) (setting : Setting) (c : Caller) (asked : CallerRequest) → IsWorld world
     → caller_in (view_of world setting.policy c.user c.repo) setting.now asked.bearers ≡ Ok c → caller_by world setting.now asked.bearers ≡ Ok c
     → foresee (view_of world setting.policy c.user c.repo) setting.now asked ≡ Ok (reply_of (desk_verdict world setting (to_desk c.repo asked) asked.body))
-foretold world setting c asked w there here =
+view_decides world setting c asked w there here =
     let view = view_of world setting.policy c.user c.repo in
     let tell : Reply → Result Reply NoCaller = λ r. Ok r in
     ap (λ (r : Result Caller NoCaller). r >>= λ caller. Ok (plan_reply c.repo asked.body (plan_in view setting.now caller asked))) there
@@ -264,8 +264,8 @@ foretold world setting c asked w there here =
 pub views_foretell : ViewsForetell
 views_foretell world setting caller asked w h =
     let k = known world setting.now asked.bearers caller h in
-    foretold world setting caller asked w
-    (subst (λ (c : Caller). caller_in (view_of world setting.policy c.user c.repo) setting.now asked.bearers ≡ Ok c) k.is (caller_there world setting.policy setting.now asked.bearers k.text k.held w k.bears k.stands k.good)) h
+    view_decides world setting caller asked w
+    (subst (λ (c : Caller). caller_in (view_of world setting.policy c.user c.repo) setting.now asked.bearers ≡ Ok c) k.is (caller_there world setting.policy setting.now asked.bearers k.text k.held w k.bears k.present k.good)) h
 
 -- ---- what a view shows
 

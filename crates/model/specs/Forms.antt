@@ -34,9 +34,9 @@ if_given kind (Some value) = ok_or (kind value) J1 >>= λ x. Ok (Some x)
 abbrev pub optional : {A : Type 0} → (Data → Option A) → List ℕ → Members → Result (Option A) Rule
 optional kind key members = if_given kind (get_member key members)
 
--- the value of a required key
-abbrev pub required : {A : Type 0} → (Data → Option A) → List ℕ → Members → Result A Rule
-required kind key members = optional kind key members >>= λ value. ok_or value J1
+-- the value of a required_member key
+abbrev pub required_member : {A : Type 0} → (Data → Option A) → List ℕ → Members → Result A Rule
+required_member kind key members = optional kind key members >>= λ value. ok_or value J1
 
 -- the value of a key of an inner object, if it is of this kind
 abbrev pub inside : {A : Type 0} → (Data → Option A) → List ℕ → Members → Option A
@@ -199,11 +199,11 @@ pub record BatchKeys : Type 0 where
 unfoldable pub batch_keys : List ℕ → Result BatchKeys Rule
 batch_keys body = do
   members ← ok_or (members_of body) J1
-  operation ← required as_str (codes "operation") members
+  operation ← required_member as_str (codes "operation") members
   transfers ← optional (as_array_of as_str) (codes "transfers") members
   ref ← optional as_name (codes "ref") members
   hash_algo ← optional as_str (codes "hash_algo") members
-  objects ← required (as_array_of as_batch_object) (codes "objects") members
+  objects ← required_member (as_array_of as_batch_object) (codes "objects") members
   Ok (record { operation = operation; transfers = transfers; ref = ref; hash_algo = hash_algo; objects = objects })
 
 -- the body of a batch request
@@ -234,8 +234,8 @@ put_form parameter query = do
 unfoldable pub verify_form : List ℕ → List ℕ → Result VerifyForm Rule
 verify_form query body = do
   members ← ok_or (members_of body) J1
-  oid ← required as_str (codes "oid") members
-  number ← required as_number (codes "size") members
+  oid ← required_member as_str (codes "oid") members
+  number ← required_member as_number (codes "size") members
   size ← ok_or (as_u64 number) J2
   in_range ← check (is_hex_64 oid && is_size size) J2
   ref ← query_ref query
@@ -245,7 +245,7 @@ verify_form query body = do
 unfoldable pub lock_form : List ℕ → Result LockForm Rule
 lock_form body = do
   members ← ok_or (members_of body) J1
-  path ← required as_str (codes "path") members
+  path ← required_member as_str (codes "path") members
   ref ← optional as_name (codes "ref") members
   in_range ← check (is_lock_path path && is_if_given is_ref ref) J2
   Ok (record { path = path; ref = ref })

@@ -90,7 +90,7 @@ pub fn walk_law()
 {}
 
 /// The reply to a user is the one that the user's view foretells, in every world with that view, and no reply
-/// is foretold to anyone else. The contents that such worlds serve have one SHA-256. A view shows only what the
+/// is view_decides to anyone else. The contents that such worlds serve have one SHA-256. A view shows only what the
 /// user sees. A message leaves each view of a repository that it does not ask about, and so do the messages of a
 /// session.
 pub fn view_law()

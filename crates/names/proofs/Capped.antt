@@ -3,7 +3,7 @@ use Rattle.std.proofs.Common.{◌≡◌, ℕ, ◌+◌, ◌-◌, ◌<◌, ◌≤�
 use Rattle.std.specs.Io.KnownBytes.{Consumes, IsAtEnd}
 use Rattle.std.proofs.lemmas.List.{take-append-le, take_all}
 use Rattle.std.proofs.Math.Seq.{take-append-add}
-use Rattle.names.specs.Streams.{capped}
+use Rattle.names.specs.Streams.{cap_known}
 
 front : (room n : ℕ) (xs ys buf back : List ℕ) → n ≤ room → n ≤ length buf → xs ≡ take n buf ++ ys → take room xs ≡ take n (buf ++ back) ++ take (room - n) ys
 front room n xs ys buf back fits within e =
@@ -13,12 +13,12 @@ front room n xs ys buf back fits within e =
     ∙ ap (λ l. l ++ take (room - n) ys) (sym (take-append-le n buf back within))
 
 consumes : (room n : ℕ) (old new : Option (List ℕ)) (buf back : List ℕ) → n ≤ room → n ≤ length buf
-    → Consumes old new (take n buf) → Consumes (capped room old) (capped (room - n) new) (take n (buf ++ back))
+    → Consumes old new (take n buf) → Consumes (cap_known room old) (cap_known (room - n) new) (take n (buf ++ back))
 consumes room n None new buf back fits within e = tt
 consumes room n (Some xs) None buf back fits within e = e
 consumes room n (Some xs) (Some ys) buf back fits within e = front room n xs ys buf back fits within e
 
-at_end : (most : ℕ) (known : Option (List ℕ)) → IsAtEnd known → IsAtEnd (capped most known)
+at_end : (most : ℕ) (known : Option (List ℕ)) → IsAtEnd known → IsAtEnd (cap_known most known)
 at_end most None e = tt
 at_end most (Some xs) e = ap (take most) e ∙ take_all most [] (omega arith)
 
@@ -26,8 +26,8 @@ at_end most (Some xs) e = ap (take most) e ∙ take_all most [] (omega arith)
 pub capped_read : (room n rest : ℕ) (old new : Option (List ℕ)) (buf back : List ℕ) → rest ≡ room - n → n ≤ room → n ≤ length buf
     → (0 < length (buf ++ back) → 0 < length buf)
     → Consumes old new (take n buf) × (n ≡ 0 → 0 < length buf → IsAtEnd new)
-    → Consumes (capped room old) (capped rest new) (take n (buf ++ back))
-    × (n ≡ 0 → 0 < length (buf ++ back) → IsAtEnd (capped rest new))
+    → Consumes (cap_known room old) (cap_known rest new) (take n (buf ++ back))
+    × (n ≡ 0 → 0 < length (buf ++ back) → IsAtEnd (cap_known rest new))
 capped_read room n rest old new buf back e fits within has_room read =
     let taken = consumes room n old new buf back fits within read.0 in
     (rw e taken, λ none some. at_end rest new (read.1 none (has_room some)))

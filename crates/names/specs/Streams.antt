@@ -10,5 +10,5 @@ abbrev pub HasGrown : ℕ → ℕ → Type 0
 HasGrown old new = new ≡ min (old + 1) (2 ^ 64 - 1)
 
 -- the known bytes, cut to at most this many
-abbrev pub capped : ℕ → Option (List ℕ) → Option (List ℕ)
-capped most known = option_map (take most) known
+abbrev pub cap_known : ℕ → Option (List ℕ) → Option (List ℕ)
+cap_known most known = option_map (take most) known

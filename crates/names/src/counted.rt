@@ -1,7 +1,7 @@
 //! Adapts any reader of the standard library to a source, and any writer to a sink.
 
 ghost use Rattle.std.specs.Prelude.{◌≡◌, ◌≤◌, ◌-◌};
-ghost use Rattle.names.specs.Streams.{capped, most_handed_out};
+ghost use Rattle.names.specs.Streams.{cap_known, most_handed_out};
 
 use crate::streams::one_more;
 use crate::{DeviceFault, Sink, Source};
@@ -51,7 +51,7 @@ impl<T> Counted<T> {
 impl<R: Read> Source for Counted<R> {
     ghost use Rattle.names.specs.Counted.{device, handed_out, failures};
 
-    ghost left = { λ s. capped (most_handed_out - handed_out s) (R.remaining (device s)) };
+    ghost left = { λ s. cap_known (most_handed_out - handed_out s) (R.remaining (device s)) };
 
     ghost budget = { λ s. most_handed_out - handed_out s };
 

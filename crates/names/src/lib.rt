@@ -14,6 +14,7 @@
 
 mod civil;
 mod counted;
+mod limits;
 mod memory;
 mod numbers;
 mod objects;
@@ -24,6 +25,7 @@ mod texts;
 
 pub use civil::moment_text;
 pub use counted::Counted;
+pub use limits::{ALLOW_LIMIT, LARGEST_OBJECT};
 pub use memory::{FailAfter, SliceSource, VecSink};
 pub use numbers::{LockId, Moment};
 pub use objects::{Oid, Size};

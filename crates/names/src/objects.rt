@@ -4,6 +4,7 @@ ghost use Rattle.std.specs.Prelude.{◌≡◌, ◌≤◌, ◌↔◌, ℕ, List, 
 ghost use Rattle.std.specs.List.{list_all};
 ghost use Rattle.names.specs.Texts.{is_hex_digit, is_hex_64, largest_object};
 
+use crate::limits::LARGEST_OBJECT;
 use std::fmt;
 use std::marker::Model;
 
@@ -93,7 +94,7 @@ impl Size {
         ensures accepted { IsSome result ↔ (bytes ≤ largest_object) }
         ensures value { IfSome result (λ size. size ≡ bytes) }
     {
-        if bytes <= 268_435_456 {
+        if bytes <= LARGEST_OBJECT {
             Some(Size { bytes })
         } else {
             None

@@ -1,4 +1,4 @@
--- The crate's values as values of the model.
+-- The crate's values as values of the definitions.
 use Rattle.std.specs.Prelude.{◌≡◌, ◌≤◌, Bool, ◌&&◌, List, IsTrue, length, map, string_bytes, option_map}
 use Rattle.names.specs.Names.{user_text, repo_text, ref_text, path_text}
 use Rattle.model.specs.Policy as model
@@ -17,11 +17,11 @@ use Rattle.policy.specs.declared.questions.Verdict.{Verdict}
 use Rattle.policy.specs.declared.questions.Verdict.TheVariants.{Allow, Deny}
 use Rattle.policy.specs.declared.policies.Policy.{Policy}
 
--- a repository, as the model's
+-- a repository, as the definitions have it
 abbrev pub repo_view : Repo → model.Repo
 repo_view r = record { name = repo_text r.name; default_ref = ref_text r.default_ref; quota = r.quota }
 
--- a row, as the model's
+-- a row, as the definitions have it
 abbrev pub row_view : Row → model.Row
 row_view r = record {
   effect = r.effect;
@@ -32,7 +32,7 @@ row_view r = record {
   rights = r.rights.items;
 }
 
--- a policy, as the model's
+-- a policy, as the definitions have it
 abbrev pub policy_view : Policy → model.Policy
 policy_view p = record {
   base = string_bytes p.base;
@@ -41,7 +41,7 @@ policy_view p = record {
   rows = map row_view p.rows.items;
 }
 
--- a question, as the model's
+-- a question, as the definitions have it
 abbrev pub question_view : Question → model.Question
 question_view q = record {
   user = user_text q.user.now;
@@ -57,7 +57,7 @@ is_about row q =
     model.held_by row.users q.user && model.held_by row.repos q.repo
     && model.held_if_named row.refs q.ref && model.held_if_named row.paths q.path
 
--- an answer, as the model's
+-- an answer, as the definitions have it
 abbrev pub decision_view : Verdict → model.Decision
 decision_view (Allow n) = model.allowed n
 decision_view (Deny n) = model.denied n

@@ -23,5 +23,6 @@ pub use faults::{Fault, FaultCode, Place, PolicyFault};
 pub use keys::Key;
 pub use policies::Policy;
 pub use questions::{Question, Verdict};
+pub use reading::LONGEST_FILE;
 pub use repos::Repo;
 pub use sentences::Sentence;

@@ -24,7 +24,7 @@ use toml::{Table, Value};
 const LARGEST_QUOTA: u64 = 1_099_511_627_776;
 
 /// The longest policy file, in bytes.
-const LONGEST_FILE: usize = 1_048_576;
+pub const LONGEST_FILE: usize = 1_048_576;
 
 /// The longest lifetime of a token, in seconds.
 const LONGEST_LIFE: u64 = 86_400;

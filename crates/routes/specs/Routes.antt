@@ -1,4 +1,4 @@
--- A route, in the model's terms.
+-- A route, in the terms of the definitions.
 use Rattle.std.specs.Prelude.{[], ◌∷◌, ◌++◌}
 use Rattle.names.specs.Texts.{slash}
 use Rattle.model.specs.Heads as model

@@ -7,11 +7,11 @@ use Rattle.routes.specs.declared.table.Resource.{Resource}
 use Rattle.routes.specs.declared.table.Resource.TheVariants.{Locks}
 use Rattle.routes.specs.Patterns.{row_at}
 
--- the row of the model's table for a resource
+-- the row of the definitions' table for a resource
 abbrev pub row_of : Resource → RouteRow
 row_of Locks = record { rest = literal (codes "locks") ∷ []; requests = (codes "POST", form.Lock) ∷ []; is_json = Bool.true }
 
--- all resources, in the order of the model's table
+-- all resources, in the order of the definitions' table
 abbrev pub resources : List Resource
 resources = Locks ∷ []
 

@@ -8,6 +8,7 @@ ghost use Rattle.routes.specs.Table.{table};
 use crate::target::{part_at, path_of, without_git};
 use matchit::{InsertError, Router};
 use model::ServedForm;
+use names::ALLOW_LIMIT;
 use std::alloc::{AllocError, Global};
 
 /// A resource in a repository: a row of the table of routes.
@@ -61,7 +62,7 @@ impl Resource {
     /// reply to any other method (RFC 9110, Allow).
     pub fn allow(self) -> &'static str
         ensures methods { result.now ≡ comma_list (map (λ r. r.0) (row_of self).requests) }
-        ensures short { length result.now ≤ 128 }
+        ensures short { length result.now ≤ ALLOW_LIMIT }
     {
         match self {
             Resource::Locks => "POST",

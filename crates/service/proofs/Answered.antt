@@ -24,10 +24,10 @@ use Rattle.wire.specs.Writes.{IsBeginning}
 use Rattle.wire.specs.declared.reply.ReplyHead as wire
 use Rattle.wire.specs.declared.reply.Content.TheVariants.{Json}
 use Rattle.tables.specs.declared.Store.{Store}
-use Rattle.worlds.specs.Left.{Leads, Gives}
-use Rattle.worlds.proofs.Leading.{ends_still, denial_changes_none}
+use Rattle.refinement.specs.Left.{Leads, Gives}
+use Rattle.refinement.proofs.Leading.{ends_still, denial_changes_none}
 use Rattle.desk.specs.Done.{Answers}
-use Rattle.desk.specs.Told.{IsReplyOf, body_text}
+use Rattle.desk.specs.Replies.{IsReplyOf, body_text}
 use Rattle.desk.specs.declared.replies.Reply.{Reply}
 use Rattle.service.specs.Judging.{Asks, target_seen}
 use Rattle.service.specs.Messages.{IsRefused, IsWhole, IsCutOff, whole_message}
@@ -49,7 +49,7 @@ pub verdict_is : (world : World) (setting : Setting) (h : RequestHead) (t : judg
     → verdict world setting h body ≡ desk_verdict world setting (request_made h t body) body
 verdict_is world setting h t body is = verdict_at world setting h body (target_seen t) is.target
 
--- the request passed to the desk equals the one in the model
+-- the request passed to the desk equals the one in the definitions
 pub made_as : (h : RequestHead) (t : judging.Target) (bearers : List (List ℕ)) (repo body : List ℕ) → Asks h t → values (codes "authorization") h ≡ bearers
     → repo ≡ (target_seen t).repo → length body ≡ t.size
     → ◌≡◌ {A = DeskRequest} (record { bearers = bearers; repo = repo; left = length body; request = request_of (form_of_served t.form) [] t.query.now body }) (request_made h t body)

@@ -20,7 +20,7 @@ use Rattle.model.specs.Stream.{BeginsWithHead, BeginsWith, with_message, with_ba
 use Rattle.model.proofs.Refusals.{IsHeadRule, head_fails, verdict_refused, early_at}
 use Rattle.model.proofs.Streamed.{first_is_first}
 use Rattle.model.proofs.Tests.{both_true}
-use Rattle.tokens.specs.Bearers.{the_one}
+use Rattle.tokens.specs.Bearers.{single_value}
 use Rattle.service.proofs.Judged.{not_framed}
 use Rattle.service.specs.Judging.{Asks, IsDenied, target_seen}
 use Rattle.service.specs.Messages.{IsRefused, IsWhole, IsCutOff}
@@ -89,7 +89,7 @@ framed_if_judged h t is = at (check_framing h) refl
 two : (n : ℕ) → nat_le (suc (suc n)) 1 ≡ false
 two n = grind (arith, nat_tests)
 
-the_first : (vs : List (List ℕ)) → at_most 1 vs ≡ true → vs ≡ the_one (first vs)
+the_first : (vs : List (List ℕ)) → at_most 1 vs ≡ true → vs ≡ single_value (first vs)
 the_first [] is = refl
 the_first (v ∷ []) is = refl
 the_first (v ∷ w ∷ vs) is = absurd (true≢false (sym is ∙ two (length vs)))
@@ -128,7 +128,7 @@ is_whole bytes len h m b within is body fits total bearer last =
     record {
       begins = with_message h after b asked (rest ∙ ap (λ n. drop n after) (sym wanted));
       asks = is;
-      bearers = the_first (values (codes "authorization") h) (one_authorization h (framed_if_judged h (target_seen m.target) is.target)) ∙ ap the_one (sym bearer);
+      bearers = the_first (values (codes "authorization") h) (one_authorization h (framed_if_judged h (target_seen m.target) is.target)) ∙ ap single_value (sym bearer);
       size = size;
       last = sym last;
       some = omega (arith, total, some_len bytes len (shorter bytes h after b.reads.reads));

@@ -16,11 +16,11 @@ use Rattle.model.specs.Sessions.{Session, IsSession, IsPartOf, text_of, text_if,
 use Rattle.model.proofs.Progress.{run_append, begun, IsNextExchange, goes_on, ends_unfinished, ends_closed, breaks_off}
 use Rattle.model.proofs.Apart.{sessions_leave_views}
 use Rattle.model.proofs.Left.{bound_one}
-use Rattle.wire.proofs.Wholes.{appends_both}
+use Rattle.wire.proofs.Appended.{appends_both}
 use Rattle.tables.specs.declared.Store.{Store}
-use Rattle.worlds.specs.Standing.{Holds}
-use Rattle.worlds.specs.Left.{IsBoundedBy, Leads}
-use Rattle.worlds.proofs.Leading.{leads_none}
+use Rattle.refinement.specs.Representation.{Holds}
+use Rattle.refinement.specs.Left.{IsBoundedBy, Leads}
+use Rattle.refinement.proofs.Leading.{leads_none}
 use Rattle.service.specs.Turns.{IsTurn, Takes}
 use Rattle.service.specs.Served.{IsServing, IsServed, IsRefusal, IsUnserved, IsEndedBy, HasNoBadHead, end_seen, end_by}
 use Rattle.service.specs.declared.session.End.{End}
@@ -206,14 +206,14 @@ open_by bytes exchanges false end.ReadFailed is = is
 open_by bytes exchanges false end.WriteFailed is = is
 
 module _ {S : Type 0} (g : Ghosts S) (setting : Setting) (bytes : List ℕ) (world : World) (old new : Store S) (was is : Option (List ℕ)) where
-  pub served_by : (served : Served) (failed : Bool) (told : Served) → IsEndedBy served failed told → IsServed g setting bytes world old new was is served → IsServed g setting bytes world old new was is told
-  served_by served failed told by s =
+  pub served_by : (served : Served) (failed : Bool) (last_served : Served) → IsEndedBy served failed last_served → IsServed g setting bytes world old new was is served → IsServed g setting bytes world old new was is last_served
+  served_by served failed last_served by s =
       let with_count : ℕ → Session = λ n. record { setting = setting; bytes = bytes; exchanges = s.exchanges; written = s.written; answered = n } in
       record {
         exchanges = s.exchanges;
         written = s.written;
         kept = s.kept;
-        session = subst (λ (n : ℕ). IsSession (with_count n) (end_seen told.end) world s.kept) (sym by.0)
+        session = subst (λ (n : ℕ). IsSession (with_count n) (end_seen last_served.end) world s.kept) (sym by.0)
             (subst (λ (e : End). IsSession (with_count served.answered) (end_seen e) world s.kept) (sym by.1) (ends_by (with_count served.answered) world s.kept failed served.end s.session));
         bad_head = subst (HasNoBadHead bytes s.exchanges) (sym by.1) (open_by bytes s.exchanges failed served.end s.bad_head);
         taken = s.taken;

@@ -1,6 +1,7 @@
 -- What the service reports of a head: what it asks for, or the rule that refuses it.
 use Rattle.std.specs.Prelude.{◌≡◌, ◌≤◌, true, false, length, [], codes, Result, Ok, Err}
 use Rattle.httparse.specs.Grammar.{RequestHead}
+use Rattle.names.specs.declared.limits.TheConstants.{ALLOW_LIMIT}
 use Rattle.model.specs.Heads as model
 use Rattle.model.specs.Heads.{head_verdict, form_of_served, is_method, query_of, content_length}
 use Rattle.model.specs.Answers.{by_rule}
@@ -9,7 +10,7 @@ use Rattle.routes.specs.Routes.{route_seen}
 use Rattle.service.specs.declared.judging.Target.{Target}
 use Rattle.service.specs.declared.judging.Denied.{Denied}
 
--- the target in the model's terms: no route has a parameter
+-- the target in the terms of the definitions: no route has a parameter
 abbrev pub target_seen : Target → model.Target
 target_seen t = record { repo = (route_seen t.route).repo; parameter = []; form = form_of_served t.form }
 
@@ -24,7 +25,7 @@ pub record Asks (h : RequestHead) (t : Target) : Type 0 where
 pub record IsDenied (h : RequestHead) (d : Denied) : Type 0 where
   pub rule : head_verdict h ≡ Err d.rule
   pub methods : d.allow.now ≡ allow (message h [] true) (Err (by_rule d.rule))
-  pub short : length d.allow.now ≤ 128
+  pub short : length d.allow.now ≤ ALLOW_LIMIT
 
 -- `judge`'s result is correct for this head
 abbrev pub IsJudged : RequestHead → Result Target Denied → Type 0

@@ -1,6 +1,7 @@
 -- The message at the front of a stream, as the service reports it.
 use Rattle.std.specs.Prelude.{◌≡◌, ◌<◌, ◌≤◌, true, false, List, ℕ, [], length, drop, codes, option_map, Some, Ok, Err}
 use Rattle.httparse.specs.Grammar.{RequestHead, MayBecomeRequest}
+use Rattle.names.specs.declared.limits.TheConstants.{ALLOW_LIMIT}
 use Rattle.model.specs.World.{World}
 use Rattle.model.specs.Heads.{values, asks_close}
 use Rattle.model.specs.Cases.{Setting}
@@ -9,7 +10,7 @@ use Rattle.model.specs.Verdict.{early_verdict}
 use Rattle.model.specs.Steps as model
 use Rattle.model.specs.Steps.{verdict_on, is_of_head, closes_after, allow}
 use Rattle.model.specs.Stream.{BeginsWith, IsUnfinished}
-use Rattle.tokens.specs.Bearers.{the_one}
+use Rattle.tokens.specs.Bearers.{single_value}
 use Rattle.service.specs.Judging.{Asks}
 use Rattle.service.specs.declared.judging.Denied.{Denied}
 use Rattle.service.specs.declared.message.Message.{Message}
@@ -24,7 +25,7 @@ pub record IsRefused (bytes : List ℕ) (asked : model.Message) (d : Denied) : T
   pub verdict : (world : World) (setting : Setting) → verdict_on world setting asked ≡ Some (Err (by_rule d.rule))
   pub of_head : is_of_head d.rule ≡ true
   pub methods : d.allow.now ≡ allow asked (Err (by_rule d.rule))
-  pub short : length d.allow.now ≤ 128
+  pub short : length d.allow.now ≤ ALLOW_LIMIT
 
 -- a head and its whole body
 abbrev pub whole_message : RequestHead → List ℕ → model.Message
@@ -34,7 +35,7 @@ whole_message head body = model.message head body true
 pub record IsWhole (bytes : List ℕ) (head : RequestHead) (m : Message) : Type 0 where
   pub begins : BeginsWith bytes (whole_message head m.body.now) (drop m.len bytes)
   pub asks : Asks head m.target
-  pub bearers : values (codes "authorization") head ≡ the_one (option_map (λ v. v.now) m.authorization)
+  pub bearers : values (codes "authorization") head ≡ single_value (option_map (λ v. v.now) m.authorization)
   pub size : length m.body.now ≡ m.target.size
   pub last : asks_close head ≡ m.is_last
   pub some : 0 < m.len

@@ -2,7 +2,7 @@
 use Rattle.std.specs.Prelude.{ℕ, Bool, List, None, ◌++◌}
 use Rattle.model.specs.Replies as model
 use Rattle.model.specs.Replies.{json, head_text}
-use Rattle.desk.specs.Told.{body_text}
+use Rattle.desk.specs.Replies.{body_text}
 use Rattle.desk.specs.declared.replies.Reply.{Reply}
 
 -- the status and the body of the reply

@@ -14,12 +14,12 @@ use Rattle.model.specs.Views.{SameViews}
 use Rattle.model.specs.Bounds.{bound_of_run}
 use Rattle.model.specs.Laws.{NoneAsks}
 use Rattle.tables.specs.declared.Store.{Store}
-use Rattle.worlds.specs.Left.{Leads}
+use Rattle.refinement.specs.Left.{Leads}
 use Rattle.service.specs.declared.session.End.{End}
 use Rattle.service.specs.declared.session.End.TheVariants.{InputEnded, Closed, ReadFailed, WriteFailed}
 use Rattle.service.specs.declared.session.Served.{Served}
 
--- why the connection ended, in the model's terms
+-- why the connection ended, in the terms of the definitions
 abbrev pub end_seen : End → model.End
 end_seen InputEnded = model.InputEnded
 end_seen Closed = model.Closed
@@ -57,14 +57,14 @@ pub record IsServed
 -- ---- no memory to read the input
 
 -- a session that read nothing
-abbrev pub unread : Setting → List ℕ → ℕ → model.Session
-unread setting written answered =
+abbrev pub unread_session : Setting → List ℕ → ℕ → model.Session
+unread_session setting written answered =
     record { setting = setting; bytes = []; exchanges = []; written = written; answered = answered }
 
 -- only the store refusal was written, or a prefix of it
 pub record IsRefusal (was is : Option (List ℕ)) (served : Served) : Type 0 where
   pub written : List ℕ
-  pub writes : (setting : Setting) → WritesRefusal (unread setting written served.answered) (end_seen served.end)
+  pub writes : (setting : Setting) → WritesRefusal (unread_session setting written served.answered) (end_seen served.end)
   pub taken : Appends was is written
 
 -- a session that wrote only the store refusal and changed nothing
@@ -72,7 +72,7 @@ pub record IsUnserved
     {S : Type 0} (g : Ghosts S) (setting : Setting) (world : World) (old new : Store S)
     (was is : Option (List ℕ)) (served : Served) : Type 0 where
   pub written : List ℕ
-  pub session : IsUnread (unread setting written served.answered) (end_seen served.end) world world
+  pub session : IsUnread (unread_session setting written served.answered) (end_seen served.end) world world
   pub taken : Appends was is written
   pub leads : Leads g old new world (λ bound. bound)
 

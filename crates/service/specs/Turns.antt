@@ -13,8 +13,8 @@ use Rattle.model.specs.Bounds.{bound_after}
 use Rattle.model.specs.Sessions.{text_of}
 use Rattle.wire.specs.Writes.{IsBeginning}
 use Rattle.tables.specs.declared.Store.{Store}
-use Rattle.worlds.specs.Left.{Leads}
-use Rattle.desk.specs.Told.{IsReplyOf}
+use Rattle.refinement.specs.Left.{Leads}
+use Rattle.desk.specs.Replies.{IsReplyOf}
 use Rattle.desk.specs.declared.replies.Reply.{Reply}
 use Rattle.service.specs.declared.turn.Turn.{Turn}
 use Rattle.service.specs.declared.turn.Turn.TheVariants.{Unfinished, CutOff, Answered, Closed, WriteFailed}

@@ -10,7 +10,7 @@ ghost use Rattle.wire.specs.Fields.{Shows};
 ghost use Rattle.service.specs.Judging.{IsJudged};
 
 use model::ServedForm;
-use names::Rule;
+use names::{ALLOW_LIMIT, Rule};
 use routes::{Resource, Route, Routes, query_of};
 use wire::Head;
 
@@ -105,7 +105,7 @@ fn refused_by(rule: Rule) -> Denied
 fn not_served(resource: Resource) -> Denied
     ensures rule { result.rule ≡ H7 }
     ensures allow { result.allow.now ≡ comma_list (map (λ r. r.0) (row_of resource).requests) }
-    ensures short { length result.allow.now ≤ 128 }
+    ensures short { length result.allow.now ≤ ALLOW_LIMIT }
 {
     Denied {
         rule: Rule::H7,

@@ -4,12 +4,12 @@ ghost use Rattle.std.specs.Prelude.{◌≡◌, ◌≤◌, length, OnOk, IfErr};
 ghost use Rattle.std.specs.Io.KnownBytes.{Appends};
 ghost use Rattle.names.specs.Streams.{HasGrown};
 ghost use Rattle.wire.specs.Writes.{IsBeginning};
-ghost use Rattle.desk.specs.Told.{body_text};
+ghost use Rattle.desk.specs.Replies.{body_text};
 ghost use Rattle.service.specs.Sending.{sent_text};
 
 use desk::{Body, Reply};
-use names::Sink;
-use wire::{ALLOW_LIMIT, Content, ReplyHead, WriteFault, write_reply};
+use names::{ALLOW_LIMIT, Sink};
+use wire::{Content, ReplyHead, WriteFault, write_reply};
 
 /// The text of a body.
 fn body_of(body: &Body) -> &str
@@ -36,7 +36,8 @@ pub(crate) fn send<K: Sink>(
     requires { length allow.now ≤ ALLOW_LIMIT }
     ensures ok { OnOk result (Appends (K.taken sink.old) (K.taken sink.new) (sent_text reply.now allow.now close)) }
     ensures good { OnOk result (K.failed sink.new ≡ K.failed sink.old) }
-    ensures part { IfErr result (λ e. IsBeginning (K.taken sink.old) (K.taken sink.new) (sent_text reply.now allow.now close) e.written) }
+    ensures part { IfErr result (λ e. IsBeginning (K.taken sink.old) (K.taken sink.new)
+        (sent_text reply.now allow.now close) e.written) }
     ensures fault { IfErr result (λ _. HasGrown (K.failed sink.old) (K.failed sink.new)) }
 {
     let body = body_of(&reply.body).as_bytes();

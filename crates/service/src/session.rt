@@ -3,7 +3,7 @@
 ghost use Rattle.std.specs.Prelude.{◌≡◌, ◌≢◌, ◌≤◌, IfOk, length};
 ghost use Rattle.std.specs.Io.KnownBytes.{IsAtEnd};
 ghost use Rattle.names.specs.Streams.{HasGrown};
-ghost use Rattle.worlds.specs.Left.{From};
+ghost use Rattle.refinement.specs.Left.{From};
 ghost use Rattle.desk.specs.Asking.{setting_of};
 ghost use Rattle.service.specs.Served.{IsServed, IsRefusal, IsCountedAs, IsEndedBy, Serves};
 
@@ -103,7 +103,7 @@ fn answer_all<S: Alter, K: Sink>(
 fn refuse_all<K: Sink>(sink: &mut K) -> Served
     ensures counted { IsCountedAs (K.failed sink.old) (K.failed sink.new) result.end }
     ensures known { result.end ≢ End.ReadFailed }
-    ensures told { IsRefusal (K.taken sink.old) (K.taken sink.new) result }
+    ensures refusal { IsRefusal (K.taken sink.old) (K.taken sink.new) result }
 {
     match send(sink, &Reply::store_refused(), "", true) {
         Ok(()) => Served {

@@ -4,8 +4,8 @@ ghost use Rattle.std.specs.Prelude.{◌≡◌, ◌≤◌, ◌||◌, length, code
 ghost use Rattle.httparse.specs.Grammar.{RequestHead};
 ghost use Rattle.names.specs.Texts.{last_moment};
 ghost use Rattle.model.specs.Heads.{values};
-ghost use Rattle.worlds.specs.Left.{From};
-ghost use Rattle.tokens.specs.Bearers.{the_one};
+ghost use Rattle.refinement.specs.Left.{From};
+ghost use Rattle.tokens.specs.Bearers.{single_value};
 ghost use Rattle.desk.specs.Asking.{setting_of};
 ghost use Rattle.service.specs.Judging.{Asks};
 ghost use Rattle.service.specs.Messages.{whole_message};
@@ -14,14 +14,14 @@ ghost use Rattle.service.specs.Turns.{IsAnswered, IsSent, IsCounted, IsWithin, T
 
 use crate::message::{Message, Next, next_message};
 use crate::sending::send;
-use desk::{Asked, Reply, answer};
+use desk::{Reply, RepoRequest, answer};
 use httparse::spans::HeaderSpan;
-use names::{Moment, Sink};
+use names::{ALLOW_LIMIT, Moment, Sink};
 use policy::Policy;
 use routes::Routes;
 use std::alloc::Global;
 use tables::{Alter, Store};
-use wire::{ALLOW_LIMIT, FIELD_ROOM};
+use wire::FIELD_ROOM;
 
 /// What serves a connection: the policy, the routes, and the moment at which it came.
 #[derive(Clone, Copy)]
@@ -58,7 +58,7 @@ fn answer_message<S: Alter>(
     ensures { From S.Store store.old store.new (λ world. (head : RequestHead)
         → Asks head message.entry.now.target
         → values (codes "authorization") head
-        ≡ the_one (option_map (λ v. v.now) message.entry.now.authorization)
+        ≡ single_value (option_map (λ v. v.now) message.entry.now.authorization)
         → length message.entry.now.body.now ≡ message.entry.now.target.size
         → IsAnswered S.Store world (setting_of setting.entry.now.policy.now setting.entry.now.now)
         (whole_message head message.entry.now.body.now) store.old store.new result) }
@@ -66,7 +66,7 @@ fn answer_message<S: Alter>(
     let Ok(repo) = message.target.route.repo_text(alloc) else {
         return Reply::store_refused();
     };
-    let asked = Asked {
+    let asked = RepoRequest {
         authorization: message.authorization,
         repo: repo.as_str(),
         form: message.target.form,

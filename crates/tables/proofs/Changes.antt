@@ -24,7 +24,7 @@ use Rattle.tables.specs.Rows.{Repo, repo_row, repo_in, Token, Lock, Tables, Part
 use Rattle.tables.specs.Statements.{Write, add_lock, add_repo, set_made, remove_lock, add_token, remove_expired, write_text, write_params, with_lock, with_repo, with_made_at, without_lock, with_token, without_expired, has_id, has_expired, writing}
 use Rattle.tables.specs.Runs.{IsOurs, IsKept, Steps, IsWritten, tables_in}
 use Rattle.tables.proofs.Meanings.{IsCommand, add_lock_is, lock_terms, add_repo_is, repo_terms, set_made_is, made_columns, remove_lock_is, add_token_is, token_terms, remove_expired_is}
-use Rattle.typed_rows.specs.Queries.{unordered, is_given}
+use Rattle.typed_rows.specs.Queries.{plain_query, is_given}
 use Rattle.typed_rows.proofs.Typed.{appended, keys_rise, typed_by, retyped}
 use Rattle.typed_rows.proofs.Writes.{removes, replaces, how_many, gone, changed}
 use Rattle.tables.proofs.Parts.{keyed, back, found, alone, own, rows_are, typed_at, typed_after, tables_after}
@@ -68,7 +68,7 @@ module _ (old new : State) (kept : IsKept old.now) (inside : old.in_transaction 
       (ap (λ xs. with_rows p xs (tables_in old)) (last.is ∙ ap (λ xs. xs ++ at (next_key (id_of p) xs) ∷ []) (sym (rows_are p old.now.trees))))
 
   -- the rows that pass the test were removed
-  dropped : (sql : List ℕ) (params : Row) (tests : List Term) → IsCommand sql (Delete (place_of p) (record { lets = []; body = unordered tests (col 1 0 ∷ []) (tree_of p) }))
+  dropped : (sql : List ℕ) (params : Row) (tests : List Term) → IsCommand sql (Delete (place_of p) (record { lets = []; body = plain_query tests (col 1 0 ∷ []) (tree_of p) }))
       → (passes : RowOf p → Bool) → ((x : RowOf p) → list_all (holds (params ∷ encode p x ∷ [])) tests ≡ passes x) → (count : ℕ) → Executes sql params old new (Ok count)
       → Steps (λ t. with_rows p (delete_where passes (rows_of p t)) t) old new × (count ≡ length (filter passes (rows_in p old.now.trees)))
   dropped sql params tests m passes tested count h =

@@ -12,7 +12,7 @@ use Rattle.sqlite.specs.Collation.TheVariants.{Binary}
 use Rattle.sqlite.specs.Listing.{understood, reads_listing}
 use Rattle.sqlite_tied.specs.Compute.{everything}
 use Rattle.sqlite.proofs.Callers.{IsPlain, command_of}
-use Rattle.typed_rows.specs.Queries.{query_of, unordered, sorted_by, is_given}
+use Rattle.typed_rows.specs.Queries.{query_of, plain_query, sorted_by, is_given}
 use Rattle.tables.specs.Layout.{custody}
 use Rattle.tables.specs.Rows.{Lock, Token}
 use Rattle.tables.specs.Statements.{meta, made_by, lock_at, lock_with_id, locks_in, locks_from, token, tokens_of, read_text, add_lock, add_repo, set_made, remove_lock, add_token, remove_expired, write_text, reading, writing}
@@ -88,11 +88,11 @@ add_repo_is name made = record { plain = (refl, refl); is = refl }
 abbrev pub made_columns : List Term
 made_columns = col 1 0 ∷ col 1 0 ∷ col 1 1 ∷ col 0 1 ∷ col 1 3 ∷ []
 
-pub set_made_is : (rowid made : ℤ) → IsCommand (write_text (set_made rowid made)) (Update 1 (record { lets = []; body = unordered (is_given 0 0 ∷ []) made_columns 1 }))
+pub set_made_is : (rowid made : ℤ) → IsCommand (write_text (set_made rowid made)) (Update 1 (record { lets = []; body = plain_query (is_given 0 0 ∷ []) made_columns 1 }))
 unfolding writing understood everything
 set_made_is rowid made = record { plain = (refl, refl); is = refl }
 
-pub remove_lock_is : (repo : List ℕ) (id : ℕ) → IsCommand (write_text (remove_lock repo id)) (Delete 6 (record { lets = []; body = unordered (is_given 1 0 ∷ is_given 2 1 ∷ []) (col 1 0 ∷ []) 10 }))
+pub remove_lock_is : (repo : List ℕ) (id : ℕ) → IsCommand (write_text (remove_lock repo id)) (Delete 6 (record { lets = []; body = plain_query (is_given 1 0 ∷ is_given 2 1 ∷ []) (col 1 0 ∷ []) 10 }))
 unfolding writing understood everything
 remove_lock_is repo id = record { plain = (refl, refl); is = refl }
 
@@ -103,6 +103,6 @@ pub add_token_is : (t : Token) → IsCommand (write_text (add_token t)) (Insert 
 unfolding writing understood everything
 add_token_is t = record { plain = (refl, refl); is = refl }
 
-pub remove_expired_is : (moment : ℤ) → IsCommand (write_text (remove_expired moment)) (Delete 2 (record { lets = []; body = unordered (op2 (Compare Le Binary) (col 1 5) (col 0 0) ∷ []) (col 1 0 ∷ []) 3 }))
+pub remove_expired_is : (moment : ℤ) → IsCommand (write_text (remove_expired moment)) (Delete 2 (record { lets = []; body = plain_query (op2 (Compare Le Binary) (col 1 5) (col 0 0) ∷ []) (col 1 0 ∷ []) 3 }))
 unfolding writing understood everything
 remove_expired_is moment = record { plain = (refl, refl); is = refl }

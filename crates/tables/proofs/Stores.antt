@@ -10,7 +10,7 @@ use Rattle.tables.specs.Rows.{Tables, tables_of}
 use Rattle.tables.specs.Runs.{IsReady, IsKept}
 use Rattle.typed_rows.specs.Transactions.{Keeps}
 use Rattle.tables.specs.Calls.{Looks, Commits, Transacts}
-use Rattle.tables.specs.Shown.{IsHonest, IsOpen, Stands, Moves, Adds, Makes, Answers, Reads, Changes}
+use Rattle.tables.specs.Shown.{IsHonest, IsOpen, HasTables, Moves, Adds, Makes, Answers, Reads, Changes}
 
 module _ {S : Type 0} (g : Ghosts S) (old new : Store S) where
   -- a call after which the store shows what it did
@@ -18,7 +18,7 @@ module _ {S : Type 0} (g : Ghosts S) (old new : Store S) where
   keeps_moves honest keeps = record {
     was_honest = honest;
     was_open = λ k. (keeps k).was_open;
-    stands = λ ready clean is_open. let same = keeps clean in subst IsKept (sym (same.now is_open)) (ready (honest clean) (same.was_open is_open));
+    ready = λ ready clean is_open. let same = keeps clean in subst IsKept (sym (same.now is_open)) (ready (honest clean) (same.was_open is_open));
     shows = λ k _ is_open. ap (λ (d : Database). tables_of d.trees) ((keeps k).now is_open);
   }
 
@@ -37,7 +37,7 @@ module _ {S : Type 0} (g : Ghosts S) (old new : Store S) where
         known = known;
       }
 
-  was_open : (IsHonest g new → Stands g old → IsOpen g old) → IsHonest g new → IsOpen g old
+  was_open : (IsHonest g new → HasTables g old → IsOpen g old) → IsHonest g new → IsOpen g old
   was_open if_ready k = go (state g old.conn).is_open refl
     where
       go : (b : Bool) → (state g old.conn).is_open ≡ b → IsTrue (state g old.conn).is_open
@@ -45,7 +45,7 @@ module _ {S : Type 0} (g : Ghosts S) (old new : Store S) where
       go false is = if_ready k (λ _ is_open. absurd (let e : false ≡ true = sym is ∙ is_open in cc))
 
   module _ {T : Type 0} (f : Tables → Tables) where
-    outcomes : (r : Result T StoreFault) → Commits g (IsReady (state g old.conn)) old.conn new.conn r f → Stands g old → Adds g f old new
+    outcomes : (r : Result T StoreFault) → Commits g (IsReady (state g old.conn)) old.conn new.conn r f → HasTables g old → Adds g f old new
     outcomes r commits ready = record {
       was_honest = commits.clean;
       outcomes = λ k t left. elim ((commits.stop ready).crash k left.0.trees left.2) [
@@ -62,7 +62,7 @@ module _ {S : Type 0} (g : Ghosts S) (old new : Store S) where
           moves = record {
             was_honest = commits.clean;
             was_open = λ k _. opened k;
-            stands = λ ready clean _. (commits.ok clean ready).1.kept;
+            ready = λ ready clean _. (commits.ok clean ready).1.kept;
             shows = λ k ready _. (commits.ok k ready).1.tables;
           };
           was_open = opened;

@@ -9,12 +9,12 @@ ghost use Rattle.sqlite_catalog.specs.Listing.{IsSound};
 ghost use Rattle.sqlite_trees.specs.Objects.{catalog_tree};
 ghost use Rattle.tables.specs.Layout.{custody};
 ghost use Rattle.tables.specs.Runs.{first_meta, fresh};
-ghost use Rattle.tables.specs.Shown.{connection, committed, IsHonest, IsOpen, HasNoTable, HasOurs, IsForeign, Stands, shown, Leaves, IsSafe, Rests, AddsFresh};
+ghost use Rattle.tables.specs.Shown.{connection, committed, IsHonest, IsOpen, HasNoTable, HasOurs, IsForeign, HasTables, shown, Leaves, IsSafe, Rests, AddsFresh};
 
 use crate::fault::StoreFault;
 use crate::storage::Storage;
 use crate::{Store, schema};
-use sqlite::{Alter, Connection, File, FileFrom, FileStore, MemStore, Start};
+use sqlite::{Alter, Connection, FileFrom, FileStore, MemStore, Start};
 use std::alloc::Global;
 use std::rt::HostRuntime;
 
@@ -34,29 +34,13 @@ impl Store<MemStore> {
     }
 }
 
-impl Store<FileStore<File>> {
-    /// Opens the file at the path, or creates it. No clause says what a nonempty file holds: a program that states
-    /// a theorem opens by `open_from`.
+impl<S: Start> Store<FileStore<FileFrom<S>>> {
+    /// Opens the file at the path, or creates it. `start` represents the contents of the file and its log, as a stop
+    /// may have left them; the store then has the database that they hold, and no table if they hold nothing.
     ///
     /// # Errors
     ///
     /// `Refused` or `Memory`; `:memory:` and URIs are refused.
-    pub fn open(rt: &HostRuntime, path: &str) -> Result<Store<FileStore<File>>, StoreFault>
-        ensures memory { path.now ≡ codes ":memory:" → IsErr result }
-        ensures opened { IfOk result
-            (λ store. IsHonest over_files store → IsOpen over_files store) }
-    {
-        Ok(Store::adopt(Connection::open(rt, path)?))
-    }
-}
-
-impl<S: Start> Store<FileStore<FileFrom<S>>> {
-    /// The same, with `start` for the contents of the file and its log, as a stop may have left them. It finds the
-    /// database that they hold, and no table if they hold nothing.
-    ///
-    /// # Errors
-    ///
-    /// Those of `open`.
     pub fn open_from(
         rt: &HostRuntime,
         path: &str,
@@ -104,7 +88,7 @@ impl<S: Storage> Store<S> {
     /// `UnknownSchema` for any other database; `Refused`; `Memory`. The database is unchanged, but if it had no
     /// table, a stop may still leave the six tables.
     pub fn create_or_check(&mut self, alloc: Global) -> Result<(), StoreFault>
-        ensures stands { OnOk result (Stands S.Store self.new) }
+        ensures ready { OnOk result (HasTables S.Store self.new) }
         ensures version { IsHonest S.Store self.new
             → OnOk result (IsOpen S.Store self.new
             → (shown S.Store self.new).meta ≡ first_meta ∷ []) }

@@ -17,7 +17,7 @@ use crate::fault::StoreFault;
 use crate::read::read;
 use crate::storage::Storage;
 use crate::write::finish;
-use schemas::same_schema;
+use schema_compare::same_schema;
 use sqlite::{Alter, Connection, Error, Row, Transaction};
 use sqlite_schema::schema::Schema;
 use std::alloc::Global;
@@ -161,7 +161,7 @@ pub(crate) fn create_or_check<S: Storage>(
     alloc: Global,
     conn: &mut Connection<S>,
 ) -> Result<(), StoreFault>
-    ensures stands { OnOk result (IsReady (state S.Store conn.new)) }
+    ensures ready { OnOk result (IsReady (state S.Store conn.new)) }
     ensures version { HasCleanDisk (state S.Store conn.new)
         → OnOk result (IsTrue (state S.Store conn.new).is_open
         → (tables_in (state S.Store conn.new)).meta ≡ first_meta ∷ []) }
@@ -181,7 +181,8 @@ pub(crate) fn create_or_check<S: Storage>(
     ensures empty { HasCleanDisk (state S.Store conn.new)
         → (state S.Store conn.old).committed.trees catalog_tree ≡ []
         → OnOk result (HasNoTable (state S.Store conn.old)) }
-    ensures survives { Survives (state S.Store conn.old) (state S.Store conn.new) (LeadsIfBlank (state S.Store conn.old)) }
+    ensures survives { Survives (state S.Store conn.old) (state S.Store conn.new)
+        (LeadsIfBlank (state S.Store conn.old)) }
 {
     if !conn.is_autocommit() {
         return Err(StoreFault::Refused);

@@ -9,7 +9,8 @@ use sqlite_trees::memory::MemStore;
 /// Storage for the tables of a database that may already hold some: memory, or a file and its log.
 pub trait Storage: Alter {
     // The rows of each committed table are in the order of their rowids.
-    ghost in_order: { (s : Self) → IsTrue (Self.Store.view s).is_open → (Self.Store.view s).trees ≡ (Self.Store.view s).committed → IsInOrder (Self.Store.view s) };
+    ghost in_order: { (s : Self) → IsTrue (Self.Store.view s).is_open
+        → (Self.Store.view s).trees ≡ (Self.Store.view s).committed → IsInOrder (Self.Store.view s) };
 }
 
 impl Storage for MemStore {

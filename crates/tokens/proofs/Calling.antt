@@ -14,9 +14,9 @@ use Rattle.tables.specs.Rows.{Tables}
 use Rattle.tables.specs.Statements.{has_digest}
 use Rattle.tables.specs.Steps.{TokenFields, token_fields, read_token}
 use Rattle.tables.specs.declared.rows.TokenRow.{TokenRow}
-use Rattle.worlds.specs.Standing.{token_kept, token_row, StandsFor}
-use Rattle.worlds.proofs.Lookups.{token_found}
-use Rattle.worlds.proofs.Same.{same_operation, same_pos}
+use Rattle.refinement.specs.Representation.{token_kept, token_row, Represents}
+use Rattle.refinement.proofs.Lookups.{token_found}
+use Rattle.refinement.proofs.Same.{same_operation, same_pos}
 use Rattle.tokens.specs.declared.callers.Caller.{Caller}
 use Rattle.tokens.specs.Callers.{IsCalling, IsGoodAt}
 
@@ -46,7 +46,7 @@ refused_expired : (world : World) (now : ℕ) (values : List (List ℕ)) (text :
     → caller_by world now values ≡ Err A3
 refused_expired world now values text i bears known past = rw (bears, known, past) refl
 
-pub unknown_token : (t : Tables) (world : World) (now : ℕ) (values : List (List ℕ)) (text digest : List ℕ) → StandsFor t world → IsWorld world → bearer values ≡ Some text → digest ≡ sha256 text
+pub unknown_token : (t : Tables) (world : World) (now : ℕ) (values : List (List ℕ)) (text digest : List ℕ) → Represents t world → IsWorld world → bearer values ≡ Some text → digest ≡ sha256 text
     → option_map read_token None ≡ option_map token_fields (find (has_digest digest) t.tokens) → caller_by world now values ≡ Err A2
 unknown_token t world now values text digest s w bears is e =
     let none : find (has_digest (sha256 text)) t.tokens ≡ None = ap (λ d. find (has_digest d) t.tokens) (sym is) ∙ none_of_map read_token token_fields (find (has_digest digest) t.tokens) e in
@@ -82,7 +82,7 @@ calling world now values text i found (Err rule) bears known k late =
     let after : i.expires ≤ now = omega (arith, late.0, k.expires) in
     refused_expired world now values text i bears known (lt_false now i.expires after) ∙ ap Err (sym late.1)
 
-pub known_token : (t : Tables) (world : World) (now : ℕ) (values : List (List ℕ)) (text digest : List ℕ) (found : TokenRow) (r : Result Caller Rule) → StandsFor t world → IsWorld world
+pub known_token : (t : Tables) (world : World) (now : ℕ) (values : List (List ℕ)) (text digest : List ℕ) (found : TokenRow) (r : Result Caller Rule) → Represents t world → IsWorld world
     → bearer values ≡ Some text → digest ≡ sha256 text → option_map read_token (Some found) ≡ option_map token_fields (find (has_digest digest) t.tokens)
     → IsGoodAt found now r → IsCalling world now values r
 known_token t world now values text digest found r s w bears is e good =

@@ -1,4 +1,4 @@
--- A requested token, in the tables and in the model.
+-- A requested token, in the tables and in the definitions.
 use Rattle.std.proofs.Common.{◌≡◌, ◌∙◌, ◌+◌, ℕ, ℤ, pos, Bool, true, false, not, nat_le, List, length, filter, Option, Some, None, is_some, Result, Ok, Err, refl, sym, ap, subst, IsTrue, IfOk, OnOk, OnErr}
 use Rattle.std.specs.Prelude.{IsErrAnd, MatchResult}
 use Rattle.std.proofs.lemmas.Bool.{leb-true}
@@ -18,10 +18,10 @@ use Rattle.tables.specs.Steps.{has_token, after_add}
 use Rattle.tables.specs.Shown.{IsHonest, IsOpen, shown, Makes, Fails}
 use Rattle.tables.specs.declared.Store.{Store}
 use Rattle.tables.specs.declared.fault.StoreFault.{StoreFault}
-use Rattle.worlds.specs.Standing.{Holds, token_kept, token_row}
-use Rattle.worlds.specs.Left.{Leads, Ends}
-use Rattle.worlds.proofs.Leading.{still_then, ends_made, ends_failed, takes_made, takes_failed, takes_still}
-use Rattle.worlds.proofs.Tokens.{token_known, none_is, some_is, would_add, holds_token, holds_if_known, holds_pruned, expired_counted, expired_gone}
+use Rattle.refinement.specs.Representation.{Holds, token_kept, token_row}
+use Rattle.refinement.specs.Left.{Leads, Ends}
+use Rattle.refinement.proofs.Leading.{still_then, ends_made, ends_failed, takes_made, takes_failed, takes_still}
+use Rattle.refinement.proofs.Tokens.{token_known, none_is, some_is, would_add, holds_token, holds_if_known, holds_pruned, expired_counted, expired_gone}
 use Rattle.tokens.specs.Issuing.{Keeps, Issues, Refuses, denial_of, report_of, token_asked, token_until}
 use Rattle.tokens.specs.Pruning.{Prunes}
 use Rattle.tokens.specs.declared.issuing.TokenFault.{TokenFault}
@@ -39,11 +39,11 @@ module _ {S : Type 0} (g : Ghosts S) (old new : Store S) (world : World) (h : Ho
       let i = token_until asked text expires in
       let s = h.shows (made.moves.was_honest honest) (made.was_open honest) in
       let none = none_is (find_token text world) (sym (token_known (shown g old) world text s h.laws) ∙ ap (λ (r : row.Token). has_token r.digest (shown g old)) (sym kept) ∙ free.1) in
-      (none, ends_made g old new changed world (with_token i world) (after_add k) h.stands made (holds_token g old new world k i made.moves free.1 kept in_range none h))
+      (none, ends_made g old new changed world (with_token i world) (after_add k) h.ready made (holds_token g old new world k i made.moves free.1 kept in_range none h))
   keeps_by asked text expires k (Ok false) kept there made miss =
       let s = h.shows (made.moves.was_honest honest) (made.was_open honest) in (
         sym (token_known (shown g old) world text s h.laws) ∙ ap (λ (r : row.Token). has_token r.digest (shown g old)) (sym kept) ∙ there.1,
-        ends_made g old new unchanged world world (after_add k) h.stands made (holds_if_known g old new world k made.moves there.1 h),
+        ends_made g old new unchanged world world (after_add k) h.ready made (holds_if_known g old new world k made.moves there.1 h),
       )
   keeps_by asked text expires k (Err fault) kept there made miss = λ in_range none.
       ends_failed g old new world (with_token (token_until asked text expires) world) (after_add k) miss (λ s. would_add (shown g old) world k (token_until asked text expires) s h.laws kept in_range none) h
@@ -53,11 +53,11 @@ module _ {S : Type 0} (g : Ghosts S) (old new : Store S) (world : World) (h : Ho
       → OnOk r (Makes g (tables.without_expired (pos now)) old new) → OnErr r (Fails g (tables.without_expired (pos now)) old new) → Prunes g world now old new r
   prunes_by now (Ok n) is made miss =
       let counted = is.1 ∙ expired_counted (shown g old) world now (h.shows (made.moves.was_honest honest) (made.was_open honest)) in
-      takes_made g old new world (without_expired now world) (prunes now (Some n)) (tables.without_expired (pos now)) h.stands made (by_success (ap Some counted) refl) (holds_pruned g old new world now made.moves h)
+      takes_made g old new world (without_expired now world) (prunes now (Some n)) (tables.without_expired (pos now)) h.ready made (by_success (ap Some counted) refl) (holds_pruned g old new world now made.moves h)
   prunes_by now (Err fault) is made miss =
       takes_failed g old new world (prunes now None) (tables.without_expired (pos now)) refl (by_fault refl refl) miss (λ s. (keeps_without_expired now world h.laws, expired_gone (shown g old) world now s)) h
 
--- ---- the model's answer
+-- ---- the answer of the definitions
 
 -- a granted token passed both checks
 passed : (there : Option Token) (in_time : Bool) (asked granted : Token) → (none_or there (λ _. already_issued) >>= λ _. check in_time expires_too_late >>= λ _. Ok asked) ≡ Ok granted

@@ -8,9 +8,9 @@ use Rattle.tables.specs.Rows as row
 use Rattle.tables.specs.Rows.{Tables}
 use Rattle.tables.specs.Statements.{is_held_by}
 use Rattle.tables.specs.Steps.{TokenFields, token_fields}
-use Rattle.worlds.specs.Standing.{StandsFor, token_kept, token_row}
-use Rattle.worlds.proofs.Tokens.{filter_alike}
-use Rattle.tokens.specs.Holding.{is_of, told_of}
+use Rattle.refinement.specs.Representation.{Represents, token_kept, token_row}
+use Rattle.refinement.proofs.Tokens.{filter_alike}
+use Rattle.tokens.specs.Holding.{is_of, fields_of_token}
 
 twice : {A B C : Type 0} (f : B → C) (g : A → B) (xs : List A) → map f (map g xs) ≡ map (λ x. f (g x)) xs
 twice f g [] = refl
@@ -20,16 +20,16 @@ held_alike : (user repo : List ℕ) (i : Token) → is_held_by user repo (token_
 held_alike user repo i = rw (is_eq-slice_cmp i.user user, is_eq-slice_cmp i.repo repo) refl
 
 -- the rows of the user's tokens represent the user's tokens, in any order
-pub held_told : (t : Tables) (world : World) (user repo : List ℕ) → StandsFor t world
-    → IsPermutation (map token_fields (filter (is_held_by user repo) t.tokens)) (map told_of (filter (is_of user repo) world.tokens))
-held_told t world user repo s =
+pub held_listed : (t : Tables) (world : World) (user repo : List ℕ) → Represents t world
+    → IsPermutation (map token_fields (filter (is_held_by user repo) t.tokens)) (map fields_of_token (filter (is_of user repo) world.tokens))
+held_listed t world user repo s =
     let held : row.Token → Bool = is_held_by user repo in
     let rows = IsPermutation-map token_fields (filter held (map token_kept t.tokens)) (filter held (map token_row world.tokens))
     (IsPermutation-filter held (map token_kept t.tokens) (map token_row world.tokens) s.tokens) in
     let left : map token_fields (filter held (map token_kept t.tokens)) ≡ map token_fields (filter held t.tokens) =
     ap (map token_fields) (filter-map held token_kept t.tokens) ∙ twice token_fields token_kept (filter held t.tokens) in
-    let right : map token_fields (filter held (map token_row world.tokens)) ≡ map told_of (filter (is_of user repo) world.tokens) =
+    let right : map token_fields (filter held (map token_row world.tokens)) ≡ map fields_of_token (filter (is_of user repo) world.tokens) =
     ap (map token_fields) (filter-map held token_row world.tokens) ∙ twice token_fields token_row (filter (λ i. held (token_row i)) world.tokens)
-    ∙ ap (map told_of) (filter_alike (λ i. held (token_row i)) (is_of user repo) world.tokens (held_alike user repo)) in
-    subst (λ (xs : List TokenFields). IsPermutation xs (map told_of (filter (is_of user repo) world.tokens))) left
+    ∙ ap (map fields_of_token) (filter_alike (λ i. held (token_row i)) (is_of user repo) world.tokens (held_alike user repo)) in
+    subst (λ (xs : List TokenFields). IsPermutation xs (map fields_of_token (filter (is_of user repo) world.tokens))) left
     (subst (λ (xs : List TokenFields). IsPermutation (map token_fields (filter held (map token_kept t.tokens))) xs) right rows)

@@ -9,7 +9,7 @@ use Rattle.model.specs.Callers.{caller_by}
 use Rattle.tables.specs.declared.rows.TokenRow.{TokenRow}
 use Rattle.tokens.specs.declared.callers.Caller.{Caller}
 
--- the caller, as in the model
+-- the caller, as in the definitions
 pub record IsHolder (c : Caller) (who : model.Caller) : Type 0 where
   pub user : user_text c.user ≡ who.user
   pub repo : repo_text c.repo ≡ who.repo

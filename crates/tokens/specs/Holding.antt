@@ -9,5 +9,5 @@ abbrev pub is_of : List ℕ → List ℕ → Token → Bool
 is_of user repo t = bytes_eq t.user user && bytes_eq t.repo repo
 
 -- the reported fields of a token: its digest replaces its text
-abbrev pub told_of : Token → TokenFields
-told_of t = record { digest = sha256 t.text; user = t.user; repo = t.repo; op = code_of t.operation; expires = pos t.expires }
+abbrev pub fields_of_token : Token → TokenFields
+fields_of_token t = record { digest = sha256 t.text; user = t.user; repo = t.repo; op = code_of t.operation; expires = pos t.expires }

@@ -10,13 +10,13 @@ use Rattle.model.specs.Steps.{issues}
 use Rattle.model.specs.Bounds.{Ending, changed, unchanged, failed, world_by}
 use Rattle.tables.specs.declared.Store.{Store}
 use Rattle.tables.specs.declared.fault.StoreFault.{StoreFault}
-use Rattle.worlds.specs.Left.{Ends, Takes}
+use Rattle.refinement.specs.Left.{Ends, Takes}
 use Rattle.tokens.specs.declared.requests.TokenRequest.{TokenRequest}
 use Rattle.tokens.specs.declared.issuing.TokenFault.{TokenFault}
 use Rattle.tokens.specs.declared.issuing.TokenFault.TheVariants.{AlreadyIssued, ExpiresTooLate}
 use Rattle.tokens.specs.declared.issuing.TokenFault.TheVariants as fault
 
--- the request, in the model's terms
+-- the request, in the terms of the definitions
 abbrev pub token_asked : TokenRequest → model.TokenRequest
 token_asked r = record {
   text = encode_lower r.random.now;
@@ -43,7 +43,7 @@ denial_of AlreadyIssued verdict = verdict ≡ Err already_issued
 denial_of ExpiresTooLate verdict = verdict ≡ Err expires_too_late
 denial_of (fault.Store f) verdict = ⊤
 
--- the model would issue a token with this text
+-- the definitions would issue a token with this text
 abbrev pub Offers : World → TokenRequest → List ℕ → Type 0
 Offers world asked text = (token : Token) × (token_verdict world (token_asked asked) ≡ Ok token) × (token.text ≡ text)
 

@@ -5,7 +5,7 @@ use Rattle.model.specs.World.{World, without_expired}
 use Rattle.model.specs.Steps.{prunes}
 use Rattle.tables.specs.declared.Store.{Store}
 use Rattle.tables.specs.declared.fault.StoreFault.{StoreFault}
-use Rattle.worlds.specs.Left.{Takes}
+use Rattle.refinement.specs.Left.{Takes}
 
 -- n tokens were removed, in a step to the world without them; or the store refused, and the world is unchanged
 abbrev pub Prunes : {S : Type 0} (g : Ghosts S) → World → ℕ → Store S → Store S → Result ℕ StoreFault → Type 0

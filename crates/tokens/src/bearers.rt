@@ -4,8 +4,8 @@ ghost use Rattle.std.specs.Prelude.{◌≡◌, ◌≢◌, option_map, Some, IfOk
 ghost use Rattle.std.specs.List.{list_all};
 ghost use Rattle.sha2.specs.Sha256.{sha256};
 ghost use Rattle.model.specs.Callers.{bearer, is_visible};
-ghost use Rattle.worlds.specs.Left.{Reads};
-ghost use Rattle.tokens.specs.Bearers.{the_one};
+ghost use Rattle.refinement.specs.Left.{Reads};
+ghost use Rattle.tokens.specs.Bearers.{single_value};
 ghost use Rattle.tokens.specs.Callers.{IsCalling};
 
 use crate::callers::{Caller, good_at};
@@ -28,7 +28,7 @@ fn are_visible(text: &[u8]) -> bool
 /// The token's text in the value of an `Authorization` field: `Bearer` in any case, one space, and
 /// one or more visible characters.
 fn bearer_in(value: &[u8]) -> Option<&[u8]>
-    ensures { option_map (λ text. text.now) result ≡ bearer (the_one (Some value.now)) }
+    ensures { option_map (λ text. text.now) result ≡ bearer (single_value (Some value.now)) }
 {
     let (scheme, text) = value.split_at(value.len().min(7));
     if scheme.eq_ignore_ascii_case(b"bearer ") && !text.is_empty() && are_visible(text) {
@@ -57,7 +57,7 @@ pub fn caller<S: Alter>(
 ) -> Result<Result<Caller, Rule>, StoreFault>
     ensures known { result ≢ Err StoreFault.UnknownSchema }
     ensures world { Reads S.Store store.old store.new (λ world.
-        IfOk result (IsCalling world now (the_one (option_map (λ v. v.now) authorization.entry)))) }
+        IfOk result (IsCalling world now (single_value (option_map (λ v. v.now) authorization.entry)))) }
 {
     let Some(value) = authorization else {
         return Ok(Err(Rule::A1));

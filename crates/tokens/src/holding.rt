@@ -3,8 +3,8 @@
 ghost use Rattle.std.specs.Prelude.{◌≢◌, map, filter, IfOk, IsPermutation};
 ghost use Rattle.names.specs.Names.{user_text, repo_text};
 ghost use Rattle.tables.specs.Steps.{read_token};
-ghost use Rattle.worlds.specs.Left.{Reads};
-ghost use Rattle.tokens.specs.Holding.{is_of, told_of};
+ghost use Rattle.refinement.specs.Left.{Reads};
+ghost use Rattle.tokens.specs.Holding.{is_of, fields_of_token};
 
 use names::{RepoName, UserName};
 use std::alloc::Global;
@@ -25,7 +25,7 @@ pub fn of<S: Alter>(
     ensures known { result ≢ Err StoreFault.UnknownSchema }
     ensures world { Reads S.Store store.old store.new (λ world.
         IfOk result (λ found. IsPermutation (map read_token found.items)
-        (map told_of
+        (map fields_of_token
         (filter (is_of (user_text user.entry.now) (repo_text repo.entry.now)) world.tokens)))) }
 {
     store.tokens_of(alloc, user, repo)

@@ -5,7 +5,7 @@ ghost use Rattle.hex.specs.Hex.{encode_lower};
 ghost use Rattle.names.specs.Texts.{last_moment, is_hex_64};
 ghost use Rattle.model.specs.World.{find_token};
 ghost use Rattle.model.specs.Operator.{token_verdict};
-ghost use Rattle.worlds.specs.Left.{From, Reads};
+ghost use Rattle.refinement.specs.Left.{From, Reads};
 ghost use Rattle.tokens.specs.Issuing.{Issues, Refuses, Keeps, Offers, denial_of, token_asked, token_until};
 ghost use Rattle.tokens.specs.declared.issuing.TokenFault.TheVariants.{Store as by_store};
 

@@ -1,7 +1,7 @@
 //! Removes tokens.
 
 ghost use Rattle.std.specs.Prelude.{◌≢◌};
-ghost use Rattle.worlds.specs.Left.{From};
+ghost use Rattle.refinement.specs.Left.{From};
 ghost use Rattle.tokens.specs.Pruning.{Prunes};
 
 use names::Moment;

@@ -23,8 +23,8 @@ query_of filter project tree = record {
 }
 
 -- the same without an order
-abbrev pub unordered : List Term → List Term → ℕ → Query
-unordered tests project tree = record (query_of tests project tree) { order = [] }
+abbrev pub plain_query : List Term → List Term → ℕ → Query
+plain_query tests project tree = record (query_of tests project tree) { order = [] }
 
 -- the same in the order of a column and then of the rowid, with at most `limit` rows
 abbrev pub sorted_by : ℕ → ℤ → List Term → List Term → ℕ → Query

@@ -15,7 +15,7 @@ use Rattle.httparse.specs.declared.spans.HeaderSpan.{HeaderSpan}
 use Rattle.model.specs.Orders.{first}
 use Rattle.model.specs.Heads.{values, items, asks_close}
 use Rattle.wire.specs.declared.head.Head.{Head}
-use Rattle.wire.specs.Fields.{covered, is_named, values_at, Shows, head_bytes, field_spans, values_shown, lists_close, is_closing_field}
+use Rattle.wire.specs.Fields.{bytes_of_span, is_named, values_at, Shows, head_bytes, field_spans, values_shown, lists_close, is_closing_field}
 
 leb_true : (a b : ℕ) → a ≤ b → nat_le a b ≡ true
 leb_true a b h = grind (arith, nat_tests)
@@ -26,14 +26,14 @@ head_same e = cc
 tail_same : {A : Type 0} {x y : A} {xs ys : List A} → x ∷ xs ≡ y ∷ ys → xs ≡ ys
 tail_same e = cc
 
-pub covered_is : (bytes : List ℕ) (s : Span) (n : ℕ) → IsWithin n s → n ≤ length bytes → covered bytes s ≡ span_bytes bytes s
+pub covered_is : (bytes : List ℕ) (s : Span) (n : ℕ) → IsWithin n s → n ≤ length bytes → bytes_of_span bytes s ≡ span_bytes bytes s
 covered_is bytes s n within fits =
     let low : nat_le s.start s.end ≡ true = leb_true s.start s.end within.0 in
     let high : nat_le s.end (length bytes) ≡ true = leb_true s.end (length bytes) (omega (arith, within.1, fits)) in
     rw (low, high) refl
 
 abbrev value_at : List ℕ → HeaderSpan → List ℕ
-value_at bytes f = covered bytes f.value
+value_at bytes f = bytes_of_span bytes f.value
 
 -- one more field, on both sides
 one_more : (bytes : List ℕ) (v w : Bool) (f : HeaderSpan) (g : Field) (fs : List HeaderSpan) (gs : List Field) → v ≡ w → value_at bytes f ≡ field_value g
@@ -51,8 +51,8 @@ values_same bytes name [] [] n fits within e = refl
 values_same bytes name [] (g ∷ gs) n fits within e = absurd (cc)
 values_same bytes name (f ∷ fs) [] n fits within e = absurd (cc)
 values_same bytes name (f ∷ fs) (g ∷ gs) n fits within e =
-    let named : covered bytes f.name ≡ g.name = covered_is bytes f.name n within.0.0 fits ∙ ap (λ (p : List ℕ × List ℕ). p.0) (head_same e) in
-    let value : covered bytes f.value ≡ field_value g = covered_is bytes f.value n within.0.1 fits ∙ ap (λ (p : List ℕ × List ℕ). p.1) (head_same e) in
+    let named : bytes_of_span bytes f.name ≡ g.name = covered_is bytes f.name n within.0.0 fits ∙ ap (λ (p : List ℕ × List ℕ). p.0) (head_same e) in
+    let value : bytes_of_span bytes f.value ≡ field_value g = covered_is bytes f.value n within.0.1 fits ∙ ap (λ (p : List ℕ × List ℕ). p.1) (head_same e) in
     one_more bytes (is_named bytes name f) (str_eq_ignore_ascii_case g.name name) f g (filter (is_named bytes name) fs) (filter (λ h. str_eq_ignore_ascii_case h.name name) gs)
     (ap (λ k. str_eq_ignore_ascii_case k name) named) value (values_same bytes name fs gs n fits within.1 (tail_same e))
 
@@ -62,7 +62,7 @@ shown_are h head name s =
     values_same (head_bytes h) name (field_spans h) head.fields h.spans.len section.len_fits
     (recursion_from_All (IsHeaderWithin h.spans.len) (field_spans h) section.headers_fit) s.fields_are
 
-pub first_value : (bytes name : List ℕ) (fields : List HeaderSpan) → first (values_at bytes fields name) ≡ option_map (λ (f : HeaderSpan). covered bytes f.value) (find (is_named bytes name) fields)
+pub first_value : (bytes name : List ℕ) (fields : List HeaderSpan) → first (values_at bytes fields name) ≡ option_map (λ (f : HeaderSpan). bytes_of_span bytes f.value) (find (is_named bytes name) fields)
 first_value bytes name [] = refl
 first_value bytes name (f ∷ fs) =
     elim (is_named bytes name f) as (λ v. first (map (value_at bytes) (cond v (f ∷ filter (is_named bytes name) fs) (filter (is_named bytes name) fs))) ≡ option_map (value_at bytes) (cond v (Some f) (find (is_named bytes name) fs))) [
@@ -99,9 +99,9 @@ close_in value more =
 
 one_more_closing : (bytes : List ℕ) (v : Bool) (f : HeaderSpan) (fs rest : List HeaderSpan)
     → list_any (is_closing_field bytes) fs ≡ list_any close (items (map (value_at bytes) rest))
-    → ((v && lists_close (covered bytes f.value)) || list_any (is_closing_field bytes) fs) ≡ list_any close (items (map (value_at bytes) (cond v (f ∷ rest) rest)))
+    → ((v && lists_close (bytes_of_span bytes f.value)) || list_any (is_closing_field bytes) fs) ≡ list_any close (items (map (value_at bytes) (cond v (f ∷ rest) rest)))
 one_more_closing bytes true f fs rest e =
-    ap (λ b. lists_close (covered bytes f.value) || b) e ∙ sym (close_in (covered bytes f.value) (map (value_at bytes) rest))
+    ap (λ b. lists_close (bytes_of_span bytes f.value) || b) e ∙ sym (close_in (bytes_of_span bytes f.value) (map (value_at bytes) rest))
 one_more_closing bytes false f fs rest e = e
 
 closing : (bytes : List ℕ) (fields : List HeaderSpan)

@@ -1,5 +1,6 @@
 pub mod Fronts
 pub mod FieldLemmas
 pub mod Lengths
+pub mod Appended
 pub mod Wholes
 pub mod Heads

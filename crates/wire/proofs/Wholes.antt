@@ -4,6 +4,7 @@ use Rattle.std.specs.Io.KnownBytes.{Appends}
 use Rattle.std.proofs.Math.Seq.{take-add, take-append-add}
 use Rattle.std.proofs.lemmas.List.{take-append-le}
 use Rattle.wire.specs.Writes.{IsBeginning}
+use Rattle.wire.proofs.Appended.{appends_both}
 
 pub appends_more : (old mid new : Option (List ℕ)) (text : List ℕ) (at n : ℕ) → Appends old mid (take at text)
     → Appends mid new (take n (drop at text)) → Appends old new (take (at + n) text)
@@ -17,13 +18,6 @@ pub appends_rest : (old mid new : Option (List ℕ)) (text piece : List ℕ) (at
     → Appends mid new (take n piece) → Appends old new (take (at + n) text)
 appends_rest old mid new text piece at n e a b =
     let P : List ℕ → Type 0 = λ p. Appends mid new (take n p) in appends_more old mid new text at n a (subst P e b)
-
--- one text after another
-pub appends_both : (old mid new : Option (List ℕ)) (front back : List ℕ) → Appends old mid front → Appends mid new back → Appends old new (front ++ back)
-appends_both None mid new front back a b = tt
-appends_both (Some xs) None new front back a b = absurd a
-appends_both (Some xs) (Some ys) None front back a b = b
-appends_both (Some xs) (Some ys) (Some zs) front back a b = b ∙ ap (λ l. l ++ back) a ∙ append_assoc xs front back
 
 pub begins_front : (old new : Option (List ℕ)) (front back : List ℕ) (n : ℕ) → IsBeginning old new front n → IsBeginning old new (front ++ back) n
 begins_front old new front back n is = record {

@@ -27,17 +27,17 @@ Shows h head = Covers h.bytes.now h.fields.now h.spans head
 -- ---- spans
 
 -- the bytes that the span covers; empty if it reaches past the end
-abbrev pub covered : List ℕ → Span → List ℕ
-covered bytes span =
+abbrev pub bytes_of_span : List ℕ → Span → List ℕ
+bytes_of_span bytes span =
     if nat_le span.start span.end && nat_le span.end (length bytes) then span_bytes bytes span else []
 
 -- the field has that name, in any case
 abbrev pub is_named : List ℕ → List ℕ → HeaderSpan → Bool
-is_named bytes name field = str_eq_ignore_ascii_case (covered bytes field.name) name
+is_named bytes name field = str_eq_ignore_ascii_case (bytes_of_span bytes field.name) name
 
 -- the values of the fields with that name
 abbrev pub values_at : List ℕ → List HeaderSpan → List ℕ → List (List ℕ)
-values_at bytes fields name = map (λ (f : HeaderSpan). covered bytes f.value) (filter (is_named bytes name) fields)
+values_at bytes fields name = map (λ (f : HeaderSpan). bytes_of_span bytes f.value) (filter (is_named bytes name) fields)
 
 -- the values of the fields with that name, as the `Head` value has them
 abbrev pub values_shown : Head → List ℕ → List (List ℕ)
@@ -55,4 +55,4 @@ lists_close value = list_any is_close (slice_split (λ b. b == comma) value)
 
 -- a Connection field that lists close
 abbrev pub is_closing_field : List ℕ → HeaderSpan → Bool
-is_closing_field bytes field = is_named bytes (codes "connection") field && lists_close (covered bytes field.value)
+is_closing_field bytes field = is_named bytes (codes "connection") field && lists_close (bytes_of_span bytes field.value)

@@ -1,4 +1,4 @@
--- The head of a reply, in the model's terms.
+-- The head of a reply, in the terms of the definitions.
 use Rattle.std.specs.Prelude.{ℕ, List, []}
 use Rattle.model.specs.Replies.{Body, empty, json, content, type_line, head_lines}
 use Rattle.wire.specs.declared.reply.ReplyHead.{ReplyHead}

@@ -10,13 +10,10 @@ ghost use Rattle.model.specs.Heads.{is_length, is_method, lengths, content_lengt
 ghost use Rattle.wire.specs.Fields.{Shows};
 
 use crate::head::Head;
-use names::Rule;
+use names::{LARGEST_OBJECT, Rule};
 
 /// The longest body of a POST, in bytes.
 pub const LARGEST_FORM: u64 = 1_048_576;
-
-/// The longest body of a PUT, in bytes: the largest object.
-pub const LARGEST_OBJECT: u64 = 268_435_456;
 
 impl<'a> Head<'a> {
     /// Returns the size of the body in bytes: the value of `Content-Length`, or 0 if the head has none.

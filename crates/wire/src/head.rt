@@ -1,7 +1,7 @@
 //! Reads the head of a message from the bytes that hold it.
 
 ghost use Rattle.std.specs.Prelude.{◌≡◌, option_map, count_by, find};
-ghost use Rattle.wire.specs.Fields.{covered, is_named, is_close, lists_close, is_closing_field};
+ghost use Rattle.wire.specs.Fields.{bytes_of_span, is_named, is_close, lists_close, is_closing_field};
 
 use crate::ows::trim_ows;
 use httparse::spans::{HeaderSpan, RequestSpans, Span};
@@ -43,7 +43,7 @@ impl<'a> Head<'a> {
     pub fn method(&self) -> &'a [u8]
         ensures { (head : RequestHead) → Shows self.now head → result.now ≡ head.method }
     {
-        covered(self.bytes, self.spans.method)
+        bytes_of_span(self.bytes, self.spans.method)
     }
 
     /// Returns the target: a path, and perhaps a query after a question mark. It is UTF-8, and not
@@ -51,7 +51,7 @@ impl<'a> Head<'a> {
     pub fn target(&self) -> &'a [u8]
         ensures { (head : RequestHead) → Shows self.now head → result.now ≡ head.target }
     {
-        covered(self.bytes, self.spans.path)
+        bytes_of_span(self.bytes, self.spans.path)
     }
 
     /// Whether the version is HTTP/1.0. The only other version is HTTP/1.1.
@@ -77,7 +77,7 @@ impl<'a> Head<'a> {
             ≡ first (values name.now head) }
     {
         match first_of(self.bytes, self.field_spans(), name) {
-            Some(field) => Some(covered(self.bytes, field.value)),
+            Some(field) => Some(bytes_of_span(self.bytes, field.value)),
             None => None,
         }
     }
@@ -109,8 +109,8 @@ impl<'a> Head<'a> {
 }
 
 /// The bytes that the span covers; empty if it reaches past the end.
-fn covered(bytes: &[u8], span: Span) -> &[u8]
-    ensures { result.now ≡ covered bytes.now span }
+fn bytes_of_span(bytes: &[u8], span: Span) -> &[u8]
+    ensures { result.now ≡ bytes_of_span bytes.now span }
 {
     bytes.get(span.start..span.end).unwrap_or(&[])
 }
@@ -119,7 +119,7 @@ fn covered(bytes: &[u8], span: Span) -> &[u8]
 fn is_named(bytes: &[u8], field: &HeaderSpan, name: &str) -> bool
     ensures { result ≡ is_named bytes.now name.now field.now }
 {
-    covered(bytes, field.name).eq_ignore_ascii_case(name.as_bytes())
+    bytes_of_span(bytes, field.name).eq_ignore_ascii_case(name.as_bytes())
 }
 
 /// The number of fields with that name.
@@ -157,5 +157,5 @@ fn lists_close(value: &[u8]) -> bool
 fn is_closing_field(bytes: &[u8], field: &HeaderSpan) -> bool
     ensures { result ≡ is_closing_field bytes.now field.now }
 {
-    is_named(bytes, field, "connection") && lists_close(covered(bytes, field.value))
+    is_named(bytes, field, "connection") && lists_close(bytes_of_span(bytes, field.value))
 }

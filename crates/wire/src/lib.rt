@@ -19,7 +19,7 @@ mod reply;
 mod write;
 
 pub use cut::{Cut, FIELD_LIMIT, FIELD_ROOM, HEAD_LIMIT, first_head, front_of};
-pub use framing::{LARGEST_FORM, LARGEST_OBJECT};
+pub use framing::LARGEST_FORM;
 pub use head::Head;
-pub use reply::{ALLOW_LIMIT, Content, ReplyHead};
+pub use reply::{Content, ReplyHead};
 pub use write::{WriteFault, write_reply, write_whole};

@@ -12,9 +12,7 @@ ghost use Rattle.names.specs.Texts.{is_empty};
 use arrayvec::ArrayString;
 use http::StatusCode;
 use itoa::Buffer;
-
-/// The longest list of methods in a reply, in bytes.
-pub const ALLOW_LIMIT: usize = 128;
+use names::ALLOW_LIMIT;
 
 /// Room for the longest head.
 pub(crate) const HEAD_ROOM: usize = 512;

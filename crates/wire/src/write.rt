@@ -6,8 +6,8 @@ ghost use Rattle.names.specs.Streams.{HasGrown};
 ghost use Rattle.wire.specs.Replies.{head_of};
 ghost use Rattle.wire.specs.Writes.{IsBeginning};
 
-use crate::reply::{ALLOW_LIMIT, ReplyHead};
-use names::Sink;
+use crate::reply::ReplyHead;
+use names::{ALLOW_LIMIT, Sink};
 use thiserror::Error;
 
 /// A write failed; the sink took a prefix of the text.

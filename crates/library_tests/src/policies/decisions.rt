@@ -37,7 +37,7 @@ pub fn expect_verdicts(
     source: &str,
     verdicts: &[(Asked, Verdict)],
 ) {
-    let policy = sure(rt, Policy::read(rt.alloc(), source));
+    let policy = unwrap(rt, Policy::read(rt.alloc(), source));
     for (asked, want) in verdicts {
         assert_eq!(rt; ask(rt, &policy, asked), *want);
     }

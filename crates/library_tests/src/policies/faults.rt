@@ -87,7 +87,7 @@ const RESTS: &[(&str, &str)] = &[
 ];
 
 #[test]
-fn where_no_array_or_no_table_stands(rt: HostRuntime) {
+fn values_of_the_wrong_kind(rt: HostRuntime) {
     for &(rest, expected) in RESTS {
         expect_parts(&rt, TOP, rest, "", expected);
     }
@@ -289,7 +289,7 @@ fn in_words(rt: HostRuntime) {
         key: Some(Key::TokenSeconds),
     };
     assert_eq!(rt; fault, Some(PolicyFault::Refused(first)));
-    let words = sure(&rt, Sentence(first).to_string(rt.alloc()));
+    let words = unwrap(&rt, Sentence(first).to_string(rt.alloc()));
     assert_eq!(rt;
         words.as_str(),
         "at the top, `token_seconds` is out of range: expected a whole number from 1 to 86400"

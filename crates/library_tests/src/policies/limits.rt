@@ -3,7 +3,7 @@ use super::*;
 
 /// `count` copies of the text.
 fn copies(rt: &(impl Abort + Alloc<A = Global>), text: &str, count: usize) -> String {
-    sure(rt, text.repeat(rt.alloc(), count))
+    unwrap(rt, text.repeat(rt.alloc(), count))
 }
 
 /// `count` repositories, each with another name.
@@ -13,8 +13,8 @@ fn repos(rt: &(impl Abort + Alloc<A = Global>), count: u32) -> String {
         let repo = format!(in rt.alloc();
             "[[repo]]\nname = \"studio/film-{number}\"\ndefault_ref = \"refs/heads/main\"\nquota = 1\n"
         );
-        let repo = sure(rt, repo);
-        sure(rt, repos.push_str(repo.as_str()));
+        let repo = unwrap(rt, repo);
+        unwrap(rt, repos.push_str(repo.as_str()));
     }
     repos
 }

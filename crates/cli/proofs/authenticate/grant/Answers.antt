@@ -1,6 +1,6 @@
 use Rattle.std.proofs.Common.{string_bytes}
 use Rattle.std.proofs.lemmas.Result.{err_from_is_err_and}
-use Rattle.worlds.proofs.Leading.{reads_lead, takes_then}
+use Rattle.refinement.proofs.Leading.{reads_lead, takes_then}
 use Rattle.cli.proofs.authenticate.grant.Goals as goal
 
 pub returns : goal.returns

@@ -1,6 +1,6 @@
 use Rattle.std.proofs.Common.{Ok, sym, subst}
 use Rattle.model.specs.Answers.{Answer, by_rule}
-use Rattle.worlds.proofs.Leading.{reads_lead}
+use Rattle.refinement.proofs.Leading.{reads_lead}
 use Rattle.tokens.specs.Callers.{IsCalling}
 use Rattle.desk.specs.Asking.{setting_of, request_seen}
 use Rattle.desk.specs.Done.{Answers}

@@ -7,11 +7,11 @@ use Rattle.policy.specs.Values.{policy_view, repo_view}
 use Rattle.forms.specs.Requests.{request_asked}
 use Rattle.forms.specs.Given.{IsRefusedBy}
 use Rattle.forms.specs.declared.refusal.Refusal.{Refusal}
-use Rattle.worlds.proofs.Leading.{from_weaker, leads_none}
+use Rattle.refinement.proofs.Leading.{from_weaker, leads_none}
 use Rattle.desk.specs.Asking.{setting_of, request_seen}
-use Rattle.desk.specs.Admission.{admitted}
+use Rattle.desk.specs.Admission.{admission_result}
 use Rattle.desk.specs.Done.{Answers}
-use Rattle.desk.specs.Told.{IsReplyOf}
+use Rattle.desk.specs.Replies.{IsReplyOf}
 use Rattle.desk.proofs.Verdicts.{taken_up, not_taken, admitted_alike, denied_done, refused_done, refused_early}
 use Rattle.tables.specs.declared.fault.StoreFault.TheVariants.{Memory}
 use Rattle.desk.proofs.answering.answer_caller.Goals as goal
@@ -34,8 +34,8 @@ returns-in_ok-refusal-in-Err-Rule g c =
     let asked = request_seen c.args.asked.now in
     let rule = c.in-Err-Rule.rule in
     let reply = c.in_ok-refusal-in-Err-Rule.field-0 in
-    let given : admitted policy (repo_text c.args.caller.now.repo) (is_upload c.args.caller.now.operation) asked.repo asked.request ≡ Err rule =
-    subst (λ (e : Refusal). IsRefusedBy e (admitted policy (repo_text c.args.caller.now.repo) (is_upload c.args.caller.now.operation) asked.repo asked.request)) c.in-Err-Rule.field-0-is c.in-Err-Rule.ensures in
+    let given : admission_result policy (repo_text c.args.caller.now.repo) (is_upload c.args.caller.now.operation) asked.repo asked.request ≡ Err rule =
+    subst (λ (e : Refusal). IsRefusedBy e (admission_result policy (repo_text c.args.caller.now.repo) (is_upload c.args.caller.now.operation) asked.repo asked.request)) c.in-Err-Rule.field-0-is c.in-Err-Rule.ensures in
     let shows : IsReplyOf reply (Err (by_rule rule)) = subst (λ (r : Rule). IsReplyOf reply (Err (by_rule r))) c.in-Err-Rule.rule-is c.in_ok-refusal-in-Err-Rule.ensures in
     record {
       honest = λ k. k;

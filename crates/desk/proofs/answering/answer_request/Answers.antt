@@ -4,7 +4,7 @@ use Rattle.model.specs.Cases.{case_in}
 use Rattle.model.specs.Locks.{lock_verdict}
 use Rattle.policy.specs.Values.{repo_view}
 use Rattle.forms.specs.Requests.{lock_asked}
-use Rattle.worlds.proofs.Leading.{from_weaker}
+use Rattle.refinement.proofs.Leading.{from_weaker}
 use Rattle.desk.specs.Asking.{setting_of}
 use Rattle.desk.specs.Admission.{case_verdict}
 use Rattle.desk.specs.Done.{Answers}

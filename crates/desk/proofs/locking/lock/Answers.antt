@@ -2,7 +2,7 @@ use Rattle.std.proofs.Common.{◌∙◌, sym, ap, subst}
 use Rattle.model.specs.declared.Right.TheVariants as right
 use Rattle.model.specs.Answers.{Answer, by_row}
 use Rattle.policy.specs.Values.{policy_view, decision_view}
-use Rattle.worlds.proofs.Leading.{from_weaker, leads_none}
+use Rattle.refinement.proofs.Leading.{from_weaker, leads_none}
 use Rattle.desk.specs.Done.{Answers}
 use Rattle.desk.proofs.Verdicts.{allowed_is, denied_is, denied_done, refused_early}
 use Rattle.desk.proofs.locking.lock.Goals as goal

@@ -2,11 +2,11 @@ use Rattle.std.proofs.Common.{subst}
 use Rattle.names.specs.Names.{repo_text}
 use Rattle.model.specs.World.{World}
 use Rattle.tables.specs.Shown.{IsHonest}
-use Rattle.worlds.specs.Standing.{Holds}
-use Rattle.worlds.proofs.Holding.{holds_still}
-use Rattle.worlds.proofs.Leading.{leads_still}
+use Rattle.refinement.specs.Representation.{Holds}
+use Rattle.refinement.proofs.Holding.{holds_still}
+use Rattle.refinement.proofs.Leading.{leads_still}
 use Rattle.desk.specs.Locking.{IsReadyAfter}
-use Rattle.desk.proofs.Making.{WasAsked, told_by, refused_by, counts}
+use Rattle.desk.proofs.Making.{WasAsked, reported_by, refused_by, counts}
 use Rattle.desk.proofs.Verdicts.{done_then, passed_on, refused_early}
 use Rattle.desk.proofs.locking.make_lock.Given.{Over}
 use Rattle.desk.proofs.locking.make_lock.Goals as goal
@@ -18,12 +18,12 @@ asked g c honest world h =
     let e = c.in_ok-creation.ensures in
     let still = holds_still g.S.Store c.args.store.now c.made.new.self world c.in_ok-made.ensures.same h in
     let was_honest = e.made.moves.was_honest honest in
-    let answers = c.in_ok-made.ensures.answers was_honest h.stands in
+    let answers = c.in_ok-made.ensures.answers was_honest h.ready in
     let count = counts g.S.Store c.args.store.now world (repo_text w.repo.now) c.in_ok-made.made (c.in_ok-made.ensures.same.was_honest was_honest) answers.0 h answers.1 in
     record {
       honest = honest;
       makes = e.made;
-      outcome = (e.answers honest still.stands).1;
+      outcome = (e.answers honest still.ready).1;
       ready_for = subst (λ n. IsReadyAfter n w c.in_ok-ready.ready) count c.in_ok-ready.ensures;
       holds = still;
     }
@@ -34,7 +34,7 @@ returns g c = record {
   each = λ honest world h.
       done_then g.S.Store c.args.store.now c.made.new.self c.create_lock.new.self world _ c.reply_to.result
       (leads_still g.S.Store c.args.store.now c.made.new.self world c.in_ok-made.ensures.same c.in_ok-made.ensures.adds h)
-      (told_by g.S.Store c.made.new.self c.create_lock.new.self world c.args.wanted.now c.in_ok-creation.creation c.in_ok-ready.ready c.reply_to.result (asked g c honest world h) c.reply_to.ensures.told c.reply_to.ensures.refused);
+      (reported_by g.S.Store c.made.new.self c.create_lock.new.self world c.args.wanted.now c.in_ok-creation.creation c.in_ok-ready.ready c.reply_to.result (asked g c honest world h) c.reply_to.ensures.reports c.reply_to.ensures.refused);
 }
 
 pub returns-in_err-creation : goal.returns-in_err-creation

@@ -12,8 +12,8 @@ returns-in-Err c h shows =
 
 pub returns-in_default : goal.returns-in_default
 returns-in_default c h shows =
-    let told = c.refused_by-in_default in
-    refused h told.result H6 told.ensures.rule told.ensures.allow (not_routed h (c.in-Ok.ensures h shows).0 (c.in_default.ensures h shows)) refl
+    let refusal = c.refused_by-in_default in
+    refused h refusal.result H6 refusal.ensures.rule refusal.ensures.allow (not_routed h (c.in-Ok.ensures h shows).0 (c.in_default.ensures h shows)) refl
 
 pub returns-in_default-form_of : goal.returns-in_default-form_of
 returns-in_default-form_of c h shows =
@@ -24,9 +24,9 @@ returns-in_default-form_of c h shows =
 
 pub returns-then-not-accepts : goal.returns-then-not-accepts
 returns-then-not-accepts c h shows =
-    let told = c.refused_by-then-not-accepts in
+    let refusal = c.refused_by-then-not-accepts in
     let served = rw (c.method.ensures h shows) at (sym c.in-Some-form_of.ensures) in
-    refused h told.result H8 told.ensures.rule told.ensures.allow
+    refused h refusal.result H8 refusal.ensures.rule refusal.ensures.allow
     (not_accepted h (route_seen c.in-Some.route) (form_of_served c.in-Some-form_of.form) (c.in-Ok.ensures h shows).0 (c.in-Some.ensures h shows).0 served (sym (c.if-not-accepts.ensures h shows))) refl
 
 pub returns : goal.returns

@@ -1,6 +1,6 @@
 use Rattle.std.proofs.Common.{◌≡◌, ◌+◌, ◌≤◌, length}
 use Rattle.desk.specs.Asking.{setting_of}
-use Rattle.worlds.specs.Left.{From}
+use Rattle.refinement.specs.Left.{From}
 use Rattle.service.specs.Served.{IsServing}
 use Rattle.service.proofs.session.answer_all.Given as goal
 

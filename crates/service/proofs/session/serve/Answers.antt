@@ -2,8 +2,8 @@ use Rattle.std.proofs.Common.{inl, inr, refl, subst, sym, List, ℕ}
 use Rattle.std.specs.Io.KnownBytes.{Consumes}
 use Rattle.desk.specs.Asking.{setting_of}
 use Rattle.model.specs.Sessions.{WritesRefusal}
-use Rattle.worlds.proofs.Leading.{from_weaker}
-use Rattle.service.specs.Served.{unread, end_seen}
+use Rattle.refinement.proofs.Leading.{from_weaker}
+use Rattle.service.specs.Served.{unread_session, end_seen}
 use Rattle.service.specs.declared.session.End.{End}
 use Rattle.service.proofs.Serving.{unserved, served_by}
 use Rattle.service.proofs.session.serve.Goals as goal
@@ -13,7 +13,7 @@ returns-in_default-clause-session g c = record {
   honest = λ k. k;
   each = λ honest world h. inr (
     refl,
-    unserved g.S.Store (setting_of c.args.policy.now c.args.now) world c.args.store.now (g.K.Sink.taken c.args.sink.now) (g.K.Sink.taken c.refuse_all.new.sink) c.refuse_all.result c.refuse_all.ensures.told h,
+    unserved g.S.Store (setting_of c.args.policy.now c.args.now) world c.args.store.now (g.K.Sink.taken c.args.sink.now) (g.K.Sink.taken c.refuse_all.new.sink) c.refuse_all.result c.refuse_all.ensures.refusal h,
   );
 }
 
@@ -22,7 +22,7 @@ returns-in_default-read_all-clause-session g c = record {
   honest = λ k. k;
   each = λ honest world h. inr (
     c.in_default-read_all.ensures.refused,
-    unserved g.S.Store (setting_of c.args.policy.now c.args.now) world c.args.store.now (g.K.Sink.taken c.args.sink.now) (g.K.Sink.taken c.refuse_all-in_default-read_all.new.sink) c.refuse_all-in_default-read_all.result c.refuse_all-in_default-read_all.ensures.told h,
+    unserved g.S.Store (setting_of c.args.policy.now c.args.now) world c.args.store.now (g.K.Sink.taken c.args.sink.now) (g.K.Sink.taken c.refuse_all-in_default-read_all.new.sink) c.refuse_all-in_default-read_all.result c.refuse_all-in_default-read_all.ensures.refusal h,
   );
 }
 
@@ -41,12 +41,12 @@ returns-clause-session g c =
 
 pub returns-in_default-clause-input_ended : goal.returns-in_default-clause-input_ended
 returns-in_default-clause-input_ended g c e =
-    let r = c.refuse_all.ensures.told in
+    let r = c.refuse_all.ensures.refusal in
     let setting = setting_of c.args.policy.now c.args.now in
-    absurd (subst (λ (end : End). WritesRefusal (unread setting r.written c.refuse_all.result.answered) (end_seen end)) e (r.writes setting))
+    absurd (subst (λ (end : End). WritesRefusal (unread_session setting r.written c.refuse_all.result.answered) (end_seen end)) e (r.writes setting))
 
 pub returns-in_default-read_all-clause-input_ended : goal.returns-in_default-read_all-clause-input_ended
 returns-in_default-read_all-clause-input_ended g c e =
-    let r = c.refuse_all-in_default-read_all.ensures.told in
+    let r = c.refuse_all-in_default-read_all.ensures.refusal in
     let setting = setting_of c.args.policy.now c.args.now in
-    absurd (subst (λ (end : End). WritesRefusal (unread setting r.written c.refuse_all-in_default-read_all.result.answered) (end_seen end)) e (r.writes setting))
+    absurd (subst (λ (end : End). WritesRefusal (unread_session setting r.written c.refuse_all-in_default-read_all.result.answered) (end_seen end)) e (r.writes setting))

@@ -4,8 +4,8 @@ use Rattle.model.specs.Cases.{DeskRequest}
 use Rattle.model.specs.Steps.{after}
 use Rattle.model.specs.Verdict.{verdict, desk_verdict}
 use Rattle.model.specs.Bounds.{answer_ending}
-use Rattle.worlds.specs.Left.{Gives}
-use Rattle.worlds.proofs.Leading.{from_weaker, leads_none, ends_still}
+use Rattle.refinement.specs.Left.{Gives}
+use Rattle.refinement.proofs.Leading.{from_weaker, leads_none, ends_still}
 use Rattle.desk.specs.Asking.{setting_of}
 use Rattle.desk.specs.Done.{Answers}
 use Rattle.service.proofs.Answered.{verdict_is, made_as, late_verdict, answered_by, answered_none}

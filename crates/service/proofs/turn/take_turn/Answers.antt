@@ -1,7 +1,7 @@
 use Rattle.std.proofs.Common.{◌∙◌, sym, refl, true, drop}
 use Rattle.std.proofs.lemmas.Bool.{true≢false}
 use Rattle.policy.proofs.InRange.{IsPolicy-policy_view}
-use Rattle.worlds.proofs.Leading.{from_weaker, leads_none}
+use Rattle.refinement.proofs.Leading.{from_weaker, leads_none}
 use Rattle.desk.specs.Asking.{setting_of}
 use Rattle.service.proofs.Answered.{sent, refused_turn, refused_text, whole_turn, whole_closes, whole_text, cut_turn}
 use Rattle.service.proofs.turn.take_turn.Goals as goal
@@ -31,7 +31,7 @@ returns-in-Refused-clause-turn g c = record {
       let d = c.in-Refused.denied in
       let refused = c.in-Refused.ensures in
       let store = c.args.store.now in
-      let tells = c.head_refused.ensures.told refused.1.of_head in
+      let tells = c.head_refused.ensures.shows refused.1.of_head in
       let turn = refused_turn g.S.Store setting c.args.bytes.now world store store refused.0 d (IsPolicy-policy_view s.policy.now) s.in_range refused.1 (leads_none g.S.Store store world h) in
       sent g.S.Store setting c.args.bytes.now world store store _ _ _ refused.1.next world _ true 0 c.deliver.result turn
       (refused_text refused.0 d c.args.bytes.now c.head_refused.result refused.1 tells) refl refused.1.closes (λ no. absurd (true≢false no)) c.deliver.ensures.sent;

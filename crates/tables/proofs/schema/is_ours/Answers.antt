@@ -1,6 +1,6 @@
 use Rattle.std.proofs.Common.{◌≡◌, true, refl, sym, ap, ◌∙◌}
 use Rattle.sqlite_trees.specs.View.{doubt}
-use Rattle.schemas.specs.Plain.{is_plain}
+use Rattle.schema_compare.specs.Plain.{is_plain}
 use Rattle.tables.proofs.Stages.{custody_is_plain}
 use Rattle.tables.proofs.schema.is_ours.Goals as goal
 
@@ -12,4 +12,4 @@ clean = refl
 pub returns-clause-same : goal.returns-clause-same
 returns-clause-same c =
     let ours = c.schema.ensures.value ∙ (c.in_ok-create.ensures.ok clean record { schema_is = c.in-Ok.ensures.empty.2; empty = tt }).1.kept.schema in
-    (λ same. c.same_schema.ensures.same same ∙ ours, λ is. c.same_schema.ensures.told (ap is_plain is ∙ custody_is_plain) (is ∙ sym ours))
+    (λ same. c.same_schema.ensures.same same ∙ ours, λ is. c.same_schema.ensures.complete (ap is_plain is ∙ custody_is_plain) (is ∙ sym ours))

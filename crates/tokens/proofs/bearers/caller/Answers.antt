@@ -3,7 +3,7 @@ use Rattle.names.specs.declared.rules.Rule.TheVariants.{A2}
 use Rattle.model.specs.Callers.{caller_by}
 use Rattle.tables.specs.Shown.{shown}
 use Rattle.tables.specs.Steps.{read_token}
-use Rattle.tokens.specs.Bearers.{the_one}
+use Rattle.tokens.specs.Bearers.{single_value}
 use Rattle.tokens.specs.Callers.{IsCalling}
 use Rattle.tokens.proofs.Calling.{unknown_token, known_token}
 use Rattle.tokens.proofs.bearers.caller.Goals as goal
@@ -13,11 +13,11 @@ returns-in_default-2-clause-world g c = record {
   same = c.token.ensures.same;
   adds = c.token.ensures.adds;
   each = λ honest world h.
-      let s = h.shows (c.token.ensures.same.was_honest honest) (c.in_ok-token.ensures.answers honest h.stands).0 in
-      let values = ap (λ o. the_one (option_map (λ v. v.now) o)) c.in-Some.is in
+      let s = h.shows (c.token.ensures.same.was_honest honest) (c.in_ok-token.ensures.answers honest h.ready).0 in
+      let values = ap (λ o. single_value (option_map (λ v. v.now) o)) c.in-Some.is in
       subst (λ (vs : List (List ℕ)). caller_by world c.args.now vs ≡ Err A2) (sym values)
       (unknown_token (shown g.S.Store c.args.store.now) world c.args.now (c.in-Some.value.now ∷ []) c.in-Some-bearer_in.text.now c.digest_of.result s h.laws
-      (sym c.in-Some-bearer_in.ensures) c.digest_of.ensures (ap (option_map read_token) (sym c.in_default-2.is) ∙ (c.in_ok-token.ensures.answers honest h.stands).1));
+      (sym c.in-Some-bearer_in.ensures) c.digest_of.ensures (ap (option_map read_token) (sym c.in_default-2.is) ∙ (c.in_ok-token.ensures.answers honest h.ready).1));
 }
 
 pub returns-clause-world : goal.returns-clause-world
@@ -25,9 +25,9 @@ returns-clause-world g c = record {
   same = c.token.ensures.same;
   adds = c.token.ensures.adds;
   each = λ honest world h.
-      let s = h.shows (c.token.ensures.same.was_honest honest) (c.in_ok-token.ensures.answers honest h.stands).0 in
-      let values = ap (λ o. the_one (option_map (λ v. v.now) o)) c.in-Some.is in
+      let s = h.shows (c.token.ensures.same.was_honest honest) (c.in_ok-token.ensures.answers honest h.ready).0 in
+      let values = ap (λ o. single_value (option_map (λ v. v.now) o)) c.in-Some.is in
       subst (λ (vs : List (List ℕ)). IsCalling world c.args.now vs c.good_at.result) (sym values)
       (known_token (shown g.S.Store c.args.store.now) world c.args.now (c.in-Some.value.now ∷ []) c.in-Some-bearer_in.text.now c.digest_of.result c.in-Some-2.token c.good_at.result s h.laws
-      (sym c.in-Some-bearer_in.ensures) c.digest_of.ensures (ap (option_map read_token) (sym c.in-Some-2.is) ∙ (c.in_ok-token.ensures.answers honest h.stands).1) c.good_at.ensures);
+      (sym c.in-Some-bearer_in.ensures) c.digest_of.ensures (ap (option_map read_token) (sym c.in-Some-2.is) ∙ (c.in_ok-token.ensures.answers honest h.ready).1) c.good_at.ensures);
 }

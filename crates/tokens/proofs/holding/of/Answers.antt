@@ -4,8 +4,8 @@ use Rattle.names.specs.Names.{user_text, repo_text}
 use Rattle.tables.specs.Shown.{shown, IsOpen}
 use Rattle.tables.specs.Statements.{is_held_by}
 use Rattle.tables.specs.Steps.{TokenFields, AreTokensOf, read_token}
-use Rattle.tokens.specs.Holding.{is_of, told_of}
-use Rattle.tokens.proofs.Listed.{held_told}
+use Rattle.tokens.specs.Holding.{is_of, fields_of_token}
+use Rattle.tokens.proofs.Listed.{held_listed}
 use Rattle.tokens.proofs.holding.of.Goals as goal
 
 pub returns-clause-world : goal.returns-clause-world
@@ -16,10 +16,10 @@ returns-clause-world g c = record {
       let t = shown g.S.Store c.args.store.now in
       let user = user_text c.args.user.now in
       let repo = repo_text c.args.repo.now in
-      let told = map told_of (filter (is_of user repo) world.tokens) in
+      let listed = map fields_of_token (filter (is_of user repo) world.tokens) in
       IfOk-weaker c.tokens_of.result
       (λ found. IsOpen g.S.Store c.args.store.now × AreTokensOf found.items (filter (is_held_by user repo) t.tokens))
-      (λ found. IsPermutation (map read_token found.items) told)
-      (λ found is. subst (λ (xs : List TokenFields). IsPermutation xs told) (sym is.1) (held_told t world user repo (h.shows (c.tokens_of.ensures.same.was_honest honest) is.0)))
-      (c.tokens_of.ensures.answers honest h.stands);
+      (λ found. IsPermutation (map read_token found.items) listed)
+      (λ found is. subst (λ (xs : List TokenFields). IsPermutation xs listed) (sym is.1) (held_listed t world user repo (h.shows (c.tokens_of.ensures.same.was_honest honest) is.0)))
+      (c.tokens_of.ensures.answers honest h.ready);
 }

@@ -3,7 +3,7 @@ use Rattle.sha2.specs.Sha256.{sha256}
 use Rattle.tables.specs.Shown.{shown}
 use Rattle.tables.specs.Statements.{has_digest}
 use Rattle.tables.specs.Steps.{read_token, token_fields}
-use Rattle.worlds.proofs.Tokens.{some_alike, token_known}
+use Rattle.refinement.proofs.Tokens.{some_alike, token_known}
 use Rattle.tokens.proofs.issuing.is_known.Goals as goal
 
 pub returns-clause-world : goal.returns-clause-world
@@ -12,9 +12,9 @@ returns-clause-world g c = record {
   adds = c.token.ensures.adds;
   each = λ honest world h.
       let t = shown g.S.Store c.args.store.now in
-      let s = h.shows (c.in_ok-token.ensures.same.was_honest honest) (c.in_ok-token.ensures.answers honest h.stands).0 in
+      let s = h.shows (c.in_ok-token.ensures.same.was_honest honest) (c.in_ok-token.ensures.answers honest h.ready).0 in
       let digest = c.digest-digest.ensures ∙ ap sha256 c.as_bytes.ensures.value in
-      let found = (c.in_ok-token.ensures.answers honest h.stands).1 in
+      let found = (c.in_ok-token.ensures.answers honest h.ready).1 in
       c.is_some.ensures
       ∙ some_alike read_token token_fields c.in_ok-token.field-0 (find (has_digest c.digest-digest.result) t.tokens) found
       ∙ ap (λ (d : List ℕ). is_some (find (has_digest d) t.tokens)) digest

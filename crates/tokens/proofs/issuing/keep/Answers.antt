@@ -3,7 +3,7 @@ use Rattle.sha2.specs.Sha256.{sha256}
 use Rattle.names.specs.Names.{user_text, repo_text}
 use Rattle.tables.specs.Rows as row
 use Rattle.tables.specs.Steps.{code_of}
-use Rattle.worlds.proofs.Leading.{was_by}
+use Rattle.refinement.proofs.Leading.{was_by}
 use Rattle.tokens.proofs.Kept.{keeps_by}
 use Rattle.tokens.proofs.issuing.keep.Goals as goal
 
@@ -19,5 +19,5 @@ returns-clause-world g c =
     record {
       honest = was_by g.S.Store _ old new r e.made e.failed;
       each = λ honest world h.
-          keeps_by g.S.Store old new world h honest asked c.args.text.now c.args.expires (row_of c.digest-digest.result) r (ap row_of digest) (e.answers honest h.stands) e.made e.failed;
+          keeps_by g.S.Store old new world h honest asked c.args.text.now c.args.expires (row_of c.digest-digest.result) r (ap row_of digest) (e.answers honest h.ready) e.made e.failed;
     }

@@ -1,4 +1,4 @@
-use Rattle.worlds.proofs.Leading.{was_by}
+use Rattle.refinement.proofs.Leading.{was_by}
 use Rattle.tokens.proofs.Kept.{prunes_by}
 use Rattle.tokens.proofs.pruning.prune.Goals as goal
 
@@ -10,5 +10,5 @@ returns-clause-world g c =
     let e = c.remove_expired.ensures in
     record {
       honest = was_by g.S.Store _ old new r e.made e.failed;
-      each = λ honest world h. prunes_by g.S.Store old new world h honest c.args.now r (e.answers honest h.stands) e.made e.failed;
+      each = λ honest world h. prunes_by g.S.Store old new world h honest c.args.now r (e.answers honest h.ready) e.made e.failed;
     }

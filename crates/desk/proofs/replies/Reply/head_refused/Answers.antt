@@ -3,8 +3,8 @@ use Rattle.model.specs.Answers.{by_rule}
 use Rattle.model.specs.Replies.{json}
 use Rattle.desk.proofs.replies.Reply.head_refused.Goals as goal
 
-pub returns-in-Some-clause-told : goal.returns-in-Some-clause-told
-returns-in-Some-clause-told c of_head = record {
+pub returns-in-Some-clause-shows : goal.returns-in-Some-clause-shows
+returns-in-Some-clause-shows c of_head = record {
   status = c.status.ensures (Err (by_rule c.args.rule)) refl;
   body = ap json (sym c.in-Some.ensures.text);
   refusal = search rules;

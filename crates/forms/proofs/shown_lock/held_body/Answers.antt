@@ -1,0 +1,18 @@
+use Rattle.std.proofs.Common.{◌∙◌}
+use Rattle.std.proofs.lemmas.Result.{IfOk-weaker}
+use Rattle.model.proofs.Moments.{moment_is_text}
+use Rattle.forms.specs.declared.shown_lock.LockTexts.{LockTexts}
+use Rattle.forms.proofs.Texts.{AreTextsOf, conflict_is}
+use Rattle.forms.proofs.shown_lock.held_body.Goals as goal
+
+pub returns : goal.returns
+returns c =
+    let t : LockTexts = record { id = c.as_str.result; locked_at = c.as_str-2.result; owner = c.as_str-3.result; path = c.as_str-4.result } in
+    let are : AreTextsOf t c.args.lock.now = record {
+      id = c.as_str.ensures.value ∙ c.in_ok-id.ensures.ok;
+      at = c.as_str-2.ensures.value ∙ moment_is_text _ _ c.in_ok-locked_at.ensures;
+      owner = c.as_str-3.ensures.value;
+      path = c.as_str-4.ensures.value;
+    } in
+    IfOk-weaker c.held_text.result _ _
+    (λ text is. is ∙ conflict_is t c.args.lock.now c.as_str-5.result.now are (c.as_str-5.ensures.value ∙ c.in_ok-message.ensures)) c.held_text.ensures

@@ -1,0 +1,63 @@
+-- The world that a store holds after a call.
+use Rattle.std.proofs.Common.{◌≡◌, ℕ, pos, ◌+◌, sym, subst, ap, ◌∙◌, refl}
+use Rattle.sqlite_trees.specs.declared.store.Store.{Ghosts}
+use Rattle.model.specs.World.{World, Lock, with_lock}
+use Rattle.model.proofs.Keeping.{IsNewLock, keeps_with_lock}
+use Rattle.tables.specs.Rows as row
+use Rattle.tables.specs.Rows.{Tables}
+use Rattle.tables.specs.Shown.{IsHonest, shown, Moves}
+use Rattle.tables.specs.Steps.{outcome_of, created, held, used_up, Outcome, after_outcome, after_create, with_new_lock, LockFields}
+use Rattle.tables.specs.declared.Store.{Store}
+use Rattle.refinement.specs.Representation.{Represents, Holds, lock_kept, lock_row}
+use Rattle.refinement.proofs.Changes.{new_lock_represented}
+
+module _ {S : Type 0} (g : Ghosts S) (old new : Store S) where
+  -- a call that leaves the tables unchanged leaves the world unchanged
+  pub holds_still : (world : World) → Moves g (λ t. t) old new → Holds g old world → Holds g new world
+  holds_still world moves h = record {
+    ready = moves.ready h.ready;
+    laws = h.laws;
+    shows = λ honest open_now. subst (λ (t : Tables). Represents t world) (sym (moves.shows honest h.ready open_now))
+        (h.shows (moves.was_honest honest) (moves.was_open honest open_now));
+  }
+
+  unchanged : (asked : row.Lock) (t : Tables) (o : Outcome) → o ≡ outcome_of asked t → after_outcome asked o t ≡ t → after_create asked t ≡ t
+  unfolding after_create
+  unchanged asked t o e same = ap (λ p. after_outcome asked p t) (sym e) ∙ same
+
+  -- a lock request on a locked path leaves the world unchanged
+  pub holds_if_held : (world : World) (asked : row.Lock) (f : LockFields) → Moves g (after_create asked) old new
+      → (IsHonest g new → held f ≡ outcome_of asked (shown g old)) → Holds g old world → Holds g new world
+  holds_if_held world asked f moves e h = record {
+    ready = moves.ready h.ready;
+    laws = h.laws;
+    shows = λ honest open_now. subst (λ (t : Tables). Represents t world)
+        (sym (moves.shows honest h.ready open_now ∙ unchanged asked (shown g old) (held f) (e honest) refl))
+        (h.shows (moves.was_honest honest) (moves.was_open honest open_now));
+  }
+
+  pub holds_if_used : (world : World) (asked : row.Lock) → Moves g (after_create asked) old new
+      → (IsHonest g new → used_up ≡ outcome_of asked (shown g old)) → Holds g old world → Holds g new world
+  holds_if_used world asked moves e h = record {
+    ready = moves.ready h.ready;
+    laws = h.laws;
+    shows = λ honest open_now. subst (λ (t : Tables). Represents t world)
+        (sym (moves.shows honest h.ready open_now ∙ unchanged asked (shown g old) used_up (e honest) refl))
+        (h.shows (moves.was_honest honest) (moves.was_open honest open_now));
+  }
+
+  as_created : (asked : row.Lock) (t : Tables) (n : ℕ) → created (pos n) ≡ outcome_of asked t → after_create asked t ≡ with_new_lock asked (pos n) t
+  unfolding after_create
+  as_created asked t n e = ap (λ p. after_outcome asked p t) (sym e)
+
+  -- the world has the lock that was made
+  pub holds_created : (world : World) (asked : row.Lock) (n : ℕ) (l : Lock) → Moves g (after_create asked) old new
+      → created (pos n) ≡ outcome_of asked (shown g old) → lock_kept (record asked { id = pos n }) ≡ lock_row l → asked.repo ≡ l.repo
+      → n ≡ world.made l.repo + 1 → IsNewLock world l → Holds g old world → Holds g new (with_lock l world)
+  holds_created world asked n l moves e row repo next is h = record {
+    ready = moves.ready h.ready;
+    laws = keeps_with_lock world l is h.laws;
+    shows = λ honest open_now. subst (λ (t : Tables). Represents t (with_lock l world))
+        (sym (moves.shows honest h.ready open_now ∙ as_created asked (shown g old) n e))
+        (new_lock_represented (shown g old) world asked (pos n) l (h.shows (moves.was_honest honest) (moves.was_open honest open_now)) row repo (ap pos next));
+  }

@@ -1,0 +1,164 @@
+-- Successive calls, and what a stop leaves of the store that they borrow.
+use Rattle.std.proofs.Common.{◌≡◌, inl, inr, Bool, true, false, cond, List, [], ◌∷◌, ◌++◌, Option, Some, Result, Ok, Err, OnOk, OnErr, refl, sym, ap, subst}
+use Rattle.std.proofs.lemmas.Bool.{true≢false}
+use Rattle.sqlite_trees.specs.declared.store.Store.{Ghosts}
+use Rattle.model.specs.World.{World, IsWorld}
+use Rattle.model.specs.Answers.{Answer, Denial, is_store_refusal}
+use Rattle.model.specs.Bounds.{Bound, Ending, changed, unchanged, failed, is_changed, world_by, answer_ending, ending_of, intended_world, bound_after, bound_of_run}
+use Rattle.model.specs.Steps.{Exchange, Event, exchanged, judgement, after, IsExchange, IsStep, Run}
+use Rattle.model.proofs.Left.{reports_are_true}
+use Rattle.tables.specs.Rows.{Tables}
+use Rattle.tables.specs.Shown.{IsHonest, IsOpen, IsDurable, HasTables, Moves, AddsNothing, Makes, Fails, shown}
+use Rattle.tables.specs.declared.Store.{Store}
+use Rattle.tables.proofs.Moved.{moves_none, nothing_none}
+use Rattle.refinement.specs.Representation.{Represents, Holds}
+use Rattle.refinement.specs.Left.{IsBoundedBy, Leads, Ends, Gives, Takes, From, Reads}
+use Rattle.refinement.proofs.Holding.{holds_still}
+
+-- the bound of a run, with one more event
+one_event_more : (old mid : World) (events : List Event) (event : Event) (bound : Bound) → Run old events mid
+    → bound_of_run old (events ++ event ∷ []) bound ≡ bound_after mid event (bound_of_run old events bound)
+one_event_more old mid [] event bound run = ap (λ (w : World). bound_after w event bound) (sym run)
+one_event_more old mid (first ∷ events) event bound run =
+    let so_far = bound_after old first bound in
+    subst (λ (w : World). bound_of_run w (events ++ event ∷ []) so_far ≡ bound_after mid event (bound_of_run w events so_far)) (reports_are_true old first run.0 run.1)
+    (one_event_more run.0 mid events event so_far run.2)
+
+module _ {S : Type 0} (g : Ghosts S) where
+  -- ---- from the contract of a call on the tables
+
+  -- the disk was honest before a call that made a step, or failed to
+  pub was_by : {T E : Type 0} (f : Tables → Tables) (a b : Store S) (r : Result T E) → OnOk r (Makes g f a b) → OnErr r (Fails g f a b) → IsHonest g b → IsHonest g a
+  was_by f a b (Ok x) made miss = made.moves.was_honest
+  was_by f a b (Err e) made miss = miss.moves.was_honest
+
+  -- ---- bounds
+
+  -- one more world
+  more : (s : Store S) (world : World) (bound : Bound) → IsBoundedBy g s bound → IsBoundedBy g s (world ∷ bound)
+  more s world bound b = record { safe = b.safe; among = λ k t left. inr (b.among k t left) }
+
+  -- a stop leaves the world of a durable store, so any bound with that world holds
+  first : (s : Store S) (world : World) (bound : Bound) → (IsHonest g s → IsOpen g s) → IsDurable g s → Holds g s world → IsBoundedBy g s (world ∷ bound)
+  first s world bound is_open d h = record {
+    safe = d.safe;
+    among = λ k t left. inl (h.laws, subst (λ (u : Tables). Represents u world) (sym (d.only k t left)) (h.shows k (is_open k)));
+  }
+
+  -- ---- calls that leave the tables unchanged
+
+  -- no call was made on the store
+  pub leads_none : (a : Store S) (world : World) → Holds g a world → Leads g a a world (λ bound. bound)
+  leads_none a world h = record { holds = h; left = λ bound b. b }
+
+  -- a call that only reads
+  pub leads_still : (a b : Store S) (world : World) → Moves g (λ t. t) a b → AddsNothing g a b → Holds g a world → Leads g a b world (λ bound. bound)
+  leads_still a b world moves adds h = record {
+    holds = holds_still g a b world moves h;
+    left = λ bound was. record {
+      safe = λ k. adds.safe k (was.safe (adds.was_honest k));
+      among = λ k t left. was.among (adds.was_honest k) t (adds.outcomes k t left);
+    };
+  }
+
+  -- one call after another
+  pub leads_then : (a b c : Store S) (mid kept : World) (f h : Bound → Bound) → Leads g a b mid f → Leads g b c kept h → Leads g a c kept (λ bound. h (f bound))
+  leads_then a b c mid kept f h p q = record { holds = q.holds; left = λ bound was. q.left (f bound) (p.left bound was) }
+
+  -- calls that only read, before one that may do more
+  pub still_then : (a b c : Store S) (world kept : World) (next : Bound → Bound) → Leads g a b world (λ bound. bound) → Leads g b c kept next → Leads g a c kept next
+  still_then a b c world kept next p q = leads_then a b c world kept (λ bound. bound) next p q
+
+  -- ---- how a call ends
+
+  -- it made no change, and nothing was tried
+  pub ends_still : (a b : Store S) (ending : Ending) (world made : World) → is_changed ending ≡ false → Leads g a b world (λ bound. bound) → Ends g a b ending world made world
+  ends_still a b changed world made quiet p = absurd (true≢false quiet)
+  ends_still a b unchanged world made quiet p = record { holds = p.holds; left = λ bound was. more b world bound (p.left bound was) }
+  ends_still a b failed world made quiet p = record { holds = p.holds; left = λ bound was. more b made (world ∷ bound) (more b world bound (p.left bound was)) }
+
+  -- a change was tried, and refused
+  pub ends_failed : (a b : Store S) (world made : World) (f : Tables → Tables) → Fails g f a b → (Represents (shown g a) world → IsWorld made × Represents (f (shown g a)) made) → Holds g a world
+      → Ends g a b failed world made world
+  ends_failed a b world made f fails would h = record {
+    holds = holds_still g a b world fails.moves h;
+    left = λ bound was. record {
+      safe = λ k. (fails.adds h.ready).safe k (was.safe (fails.moves.was_honest k));
+      among = λ k t left. elim ((fails.adds h.ready).outcomes k t left) [
+        | inl old ↦ inr (inr (was.among (fails.moves.was_honest k) t old))
+        | inr new ↦ let it = would (h.shows (fails.moves.was_honest k) new.0) in inl (it.0, subst (λ (u : Tables). Represents u made) (sym new.1) it.1)
+      ];
+    };
+  }
+
+  -- the transaction was committed, whatever it changed
+  pub ends_made : (a b : Store S) (ending : Ending) (world made : World) (f : Tables → Tables) → HasTables g a → Makes g f a b → Holds g b (world_by ending world made) → Ends g a b ending world made (world_by ending world made)
+  ends_made a b changed world made f s m h = record { holds = h; left = λ bound was. first b made [] m.is_open (m.durable s) h }
+  ends_made a b unchanged world made f s m h = record { holds = h; left = λ bound was. first b world bound m.is_open (m.durable s) h }
+  ends_made a b failed world made f s m h = record { holds = h; left = λ bound was. more b made (world ∷ bound) (first b world bound m.is_open (m.durable s) h) }
+
+  -- a denial makes no change
+  pub denial_changes_none : (world : World) (denial : Denial) → is_changed (answer_ending world (Some (Err denial))) ≡ false
+  denial_changes_none world denial = at (is_store_refusal (Err denial))
+    where
+      at : (v : Bool) → is_changed (cond v failed unchanged) ≡ false
+      at true = refl
+      at false = refl
+
+  -- ---- steps
+
+  -- an event that changed nothing, and for which nothing was tried
+  pub takes_still : (a b : Store S) (world : World) (event : Event) → is_changed (ending_of world event) ≡ false → IsStep world event world → Leads g a b world (λ bound. bound) → Takes g a b world event world
+  takes_still a b world event quiet step p = record { step = step; leads = ends_still a b (ending_of world event) world (intended_world world event) quiet p }
+
+  -- an event that the store refused
+  pub takes_failed : (a b : Store S) (world : World) (event : Event) (f : Tables → Tables) → ending_of world event ≡ failed → IsStep world event world → Fails g f a b
+      → (Represents (shown g a) world → IsWorld (intended_world world event) × Represents (f (shown g a)) (intended_world world event)) → Holds g a world → Takes g a b world event world
+  takes_failed a b world event f refused step fails would h = record {
+    step = step;
+    leads = subst (λ (e : Ending). Ends g a b e world (intended_world world event) world) (sym refused) (ends_failed a b world (intended_world world event) f fails would h);
+  }
+
+  -- an event that was committed: it leads to the world that its report says
+  pub takes_made : (a b : Store S) (world kept : World) (event : Event) (f : Tables → Tables) → HasTables g a → Makes g f a b → IsStep world event kept → Holds g b kept → Takes g a b world event kept
+  takes_made a b world kept event f s m step h =
+      let is = reports_are_true world event kept step in
+      record {
+        step = step;
+        leads = subst (λ (w : World). Leads g a b w (bound_after world event)) (sym is)
+            (ends_made a b (ending_of world event) world (intended_world world event) f s m (subst (λ (w : World). Holds g b w) is h));
+      }
+
+  -- after calls that only read
+  pub takes_then : (a b c : Store S) (world kept : World) (event : Event) → Leads g a b world (λ bound. bound) → Takes g b c world event kept → Takes g a c world event kept
+  takes_then a b c world kept event p q = record { step = q.step; leads = still_then a b c world kept (bound_after world event) p q.leads }
+
+  -- a message with this answer
+  pub gives_takes : (a b : Store S) (world : World) (e : Exchange) (verdict given : Answer) → judgement world e ≡ Some verdict → e.given ≡ Some given → IsExchange world e (after world (Some given))
+      → Gives g a b world verdict given → Takes g a b world (exchanged e) (after world (Some given))
+  gives_takes a b world e verdict given is gave step p = record {
+    step = step;
+    leads = subst (λ (v : Option Answer). Ends g a b (answer_ending world v) world (after world (judgement world e)) (after world (Some given))) (sym gave)
+        (subst (λ (v : Option Answer). Ends g a b (answer_ending world (Some given)) world (after world v) (after world (Some given))) (sym is) p);
+  }
+
+  -- the events of a run, and one more event
+  pub run_takes : (a b c : Store S) (world mid kept : World) (events : List Event) (event : Event) → Run world events mid → Leads g a b mid (bound_of_run world events) → Takes g b c mid event kept
+      → Leads g a c kept (bound_of_run world (events ++ event ∷ []))
+  run_takes a b c world mid kept events event run p q = record {
+    holds = q.leads.holds;
+    left = λ bound was. subst (IsBoundedBy g c) (sym (one_event_more world mid events event bound run)) (q.leads.left (bound_of_run world events bound) (p.left bound was));
+  }
+
+  -- ---- contracts
+
+  pub reads_none : (a : Store S) (P : World → Type 0) → (IsHonest g a → (world : World) → Holds g a world → P world) → Reads g a a P
+  reads_none a P each = record { same = moves_none g a; adds = nothing_none g a; each = each }
+
+  -- a call that only reads leads from a world to itself
+  pub reads_lead : (a b : Store S) (P : World → Type 0) (world : World) → Reads g a b P → Holds g a world → Leads g a b world (λ bound. bound)
+  reads_lead a b P world r h = leads_still a b world r.same r.adds h
+
+  -- a weaker claim about each world
+  pub from_weaker : (a b : Store S) (P Q : World → Type 0) → ((world : World) → P world → Q world) → From g a b P → From g a b Q
+  from_weaker a b P Q all p = record { honest = p.honest; each = λ k world h. all world (p.each k world h) }

@@ -1,0 +1,79 @@
+-- Tables represent one world, up to the order of its lists and the texts of its tokens.
+use Rattle.std.proofs.Common.{◌≡◌, ◌∙◌, inl, inr, ℕ, ℤ, pos, List, [], ◌∷◌, map, cond, refl, sym, ap, ap₂, subst, IsPermutation}
+use Rattle.std.specs.Ordering.{int_eq}
+use Rattle.std.proofs.lemmas.List.Sorted.{IsPermutation-refl, IsPermutation-trans, IsPermutation-sym, IsPermutation-map}
+use Rattle.sha2.specs.Sha256.{sha256}
+use Rattle.names.specs.declared.operations.Operation.{Operation}
+use Rattle.names.specs.declared.operations.Operation.TheVariants.{Download, Upload}
+use Rattle.model.specs.World.{World, Object, Lock, Token}
+use Rattle.model.specs.Bounds.{TokenDigest, token_digest, SameWorld, Bound, IsWithin}
+use Rattle.tables.specs.Rows as row
+use Rattle.tables.specs.Rows.{Tables}
+use Rattle.tables.specs.Steps.{code_of}
+use Rattle.refinement.specs.Representation.{Represents, lock_kept, lock_row, token_kept, token_row}
+use Rattle.refinement.specs.Left.{IsAmong}
+
+nat_of : ℤ → ℕ
+nat_of (pos n) = n
+nat_of _ = 0
+
+-- the lock of a row, and the part of a token that a row stores
+lock_of : row.Lock → Lock
+lock_of r = record { repo = r.repo; id = nat_of r.id; ref = r.ref_name; path = r.path; owner = r.owner; at = nat_of r.moment }
+
+operation_in : ℤ → Operation
+operation_in code = cond (int_eq code (pos 1)) Download Upload
+
+token_of : row.Token → TokenDigest
+token_of r = record { digest = r.digest; user = r.user; repo = r.repo; operation = operation_in r.op; expires = nat_of r.expires }
+
+lock_back : (l : Lock) → lock_of (lock_row l) ≡ l
+unfolding lock_of nat_of
+lock_back l = refl
+
+operation_back : (o : Operation) → operation_in (code_of o) ≡ o
+unfolding operation_in
+operation_back Download = refl
+operation_back Upload = refl
+
+pub same_operation : (a b : Operation) → code_of a ≡ code_of b → a ≡ b
+same_operation a b e = sym (operation_back a) ∙ ap operation_in e ∙ operation_back b
+
+token_back : (t : Token) → token_of (token_row t) ≡ token_digest t
+unfolding token_of nat_of
+token_back t = ap (λ (o : Operation). record { digest = sha256 t.text; user = t.user; repo = t.repo; operation = o; expires = t.expires }) (operation_back t.operation)
+
+map_back : {A B C : Type 0} (f : B → C) (g : A → B) (h : A → C) (xs : List A) → ((x : A) → f (g x) ≡ h x) → map f (map g xs) ≡ map h xs
+map_back f g h [] back = refl
+map_back f g h (x ∷ xs) back = ap₂ (λ y ys. y ∷ ys) (back x) (map_back f g h xs back)
+
+-- if rows represent two lists, the lists are the same, as far as a row shows
+same_lists : {A B C : Type 0} (f : B → C) (g : A → B) (h : A → C) (rows : List B) (xs ys : List A) → ((x : A) → f (g x) ≡ h x)
+    → IsPermutation rows (map g xs) → IsPermutation rows (map g ys) → IsPermutation (map h xs) (map h ys)
+same_lists {C = C} f g h rows xs ys back p q =
+    let both = IsPermutation-map f (map g xs) (map g ys) (IsPermutation-trans (map g xs) rows (map g ys) (IsPermutation-sym rows (map g xs) p) q) in
+    subst (λ (zs : List C). IsPermutation zs (map h ys)) (map_back f g h xs back)
+    (subst (λ (zs : List C). IsPermutation (map f (map g xs)) zs) (map_back f g h ys back) both)
+
+map_itself : {A : Type 0} (xs : List A) → map (λ x. x) xs ≡ xs
+map_itself [] = refl
+map_itself (x ∷ xs) = ap (λ ys. x ∷ ys) (map_itself xs)
+
+pub same_pos : (a b : ℕ) → pos a ≡ pos b → a ≡ b
+unfolding nat_of
+same_pos a b e = ap nat_of e
+
+pub same_world : (t : Tables) (a b : World) → Represents t a → Represents t b → SameWorld a b
+same_world t a b p q = record {
+  objects = subst (λ (os : List Object). IsPermutation a.objects os) (p.objects ∙ sym q.objects) (IsPermutation-refl a.objects);
+  locks = subst (λ (ls : List Lock). IsPermutation ls b.locks) (map_itself a.locks) (subst (λ (ls : List Lock). IsPermutation (map (λ l. l) a.locks) ls) (map_itself b.locks)
+      (same_lists lock_of lock_row (λ l. l) (map lock_kept t.locks) a.locks b.locks lock_back p.locks q.locks));
+  made = λ repo. same_pos (a.made repo) (b.made repo) (sym (p.made repo) ∙ q.made repo);
+  tokens = same_lists token_of token_row token_digest (map token_kept t.tokens) a.tokens b.tokens token_back p.tokens q.tokens;
+}
+
+-- each world that the tables represent is within the bound
+pub is_within : (t : Tables) (bound : Bound) (world : World) → Represents t world → IsAmong t bound → IsWithin bound world
+is_within t (one ∷ bound) world s (inl here) = inl (same_world t one world here.1 s)
+is_within t (one ∷ bound) world s (inr rest) = inr (is_within t bound world s rest)
+is_within t [] world s none = absurd none

@@ -1,0 +1,105 @@
+-- A store that `start` accepted is in a world, and a stop leaves that world.
+use Rattle.std.proofs.Common.{◌≡◌, ◌∙◌, ◌⊎◌, inl, inr, IsTrue, [], ◌∷◌, Result, Ok, Err, OnOk, refl, sym, ap, subst}
+use Rattle.std.proofs.Math.Logic.{∥∥₁_map}
+use Rattle.sqlite_disk.specs.declared.Disk as disk
+use Rattle.sqlite_trees.specs.declared.store.Store.{Ghosts}
+use Rattle.sqlite_trees.specs.Tree.{Trees}
+use Rattle.sqlite_catalog.specs.Listing.{IsSound}
+use Rattle.sqlite_wal.specs.Recovery.{Image}
+use Rattle.sqlite_store.specs.declared.store.FileStore.{FileStore}
+use Rattle.sqlite_store.specs.FileStore as files
+use Rattle.sqlite.specs.Effect.{Database}
+use Rattle.sqlite.specs.Files.{over_files}
+use Rattle.sqlite.specs.Schema.{Schema}
+use Rattle.sqlite.proofs.Theorems.{opens_again}
+use Rattle.model.specs.World.{World, IsWorld, nothing}
+use Rattle.model.specs.Bounds.{Bound}
+use Rattle.model.proofs.Keeping.{makes_world}
+use Rattle.tables.specs.Layout.{custody}
+use Rattle.tables.specs.Making.{no_schema}
+use Rattle.tables.specs.Rows.{Tables, tables_of}
+use Rattle.tables.specs.Runs.{fresh}
+use Rattle.tables.specs.Shown.{IsHonest, IsSafe, HasTables, shown, committed, HasNoTable, HasOurs, Rests, Leaves}
+use Rattle.tables.specs.declared.Store.{Store}
+use Rattle.tables.proofs.Opened.{kept_is_sound}
+use Rattle.refinement.specs.Representation.{Represents}
+use Rattle.refinement.specs.Left.{IsAmong, IsBoundedBy}
+use Rattle.refinement.specs.Opening.{HoldsAmong, IsAt, IsAtOne}
+use Rattle.refinement.proofs.Changes.{fresh_represented}
+
+has_tables : custody ≡ no_schema → ⊥
+has_tables e = let t = ap (λ (s : Schema). s.tables) e in cc
+
+module _ {S : Type 0} (g : Ghosts S) (old new : Store S) where
+  -- the contract of `create_or_check` on a store that it accepted
+  pub record Accepts : Type 0 where
+    pub ready : HasTables g new
+    pub ok : IsHonest g new → (HasNoTable g old × (shown g new ≡ fresh)) ⊎ Rests g old new
+    pub safe : IsHonest g new → IsSafe g new
+    pub only : IsHonest g new → (t : Tables) → Leaves g new t → (HasNoTable g old × (t ≡ fresh)) ⊎ (HasOurs g old × (t ≡ shown g old))
+
+  pub accepts : {T E : Type 0} (r : Result T E) → OnOk r (HasTables g new) → (IsHonest g new → OnOk r ((HasNoTable g old × (shown g new ≡ fresh)) ⊎ Rests g old new)) → (IsHonest g new → OnOk r (IsSafe g new))
+      → (IsHonest g new → OnOk r ((t : Tables) → Leaves g new t → (HasNoTable g old × (t ≡ fresh)) ⊎ (HasOurs g old × (t ≡ shown g old)))) → OnOk r Accepts
+  accepts (Ok x) ready ok safe only = record { ready = ready; ok = ok; safe = safe; only = only }
+  accepts (Err e) ready ok safe only = tt
+
+  both_none : HasNoTable g old → HasOurs g old → ⊥
+  both_none none ours = has_tables (sym ours.schema ∙ none)
+
+  pub is_new : Accepts → HasNoTable g old → IsAt g new nothing
+  is_new a none = record {
+    holds = record {
+      ready = a.ready;
+      laws = makes_world [] nothing refl;
+      shows = λ k o. elim (a.ok k) [
+        | inl made ↦ subst (λ (t : Tables). Represents t nothing) (sym made.1) fresh_represented
+        | inr rests ↦ absurd (has_tables (sym (a.ready k o).schema ∙ ap (λ (d : Database). d.schema) (rests.now o) ∙ none))
+      ];
+    };
+    left = record {
+      safe = a.safe;
+      among = λ k t left. elim (a.only k t left) [
+        | inl made ↦ inl (makes_world [] nothing refl, subst (λ (u : Tables). Represents u nothing) (sym made.1) fresh_represented)
+        | inr ours ↦ absurd (both_none none ours.0)
+      ];
+    };
+  }
+
+  pub is_found : Accepts → (world : World) → IsWorld world → (IsHonest g new → HasOurs g old × Represents (shown g old) world) → IsAt g new world
+  is_found a world laws was = record {
+    holds = record {
+      ready = a.ready;
+      laws = laws;
+      shows = λ k o. elim (a.ok k) [
+        | inl made ↦ absurd (both_none made.0 (was k).0)
+        | inr rests ↦ subst (λ (d : Database). Represents (tables_of d.trees) world) (sym (rests.now o)) (was k).1
+      ];
+    };
+    left = record {
+      safe = a.safe;
+      among = λ k t left. elim (a.only k t left) [
+        | inl made ↦ absurd (both_none made.0 (was k).0)
+        | inr ours ↦ inl (laws, subst (λ (u : Tables). Represents u world) (sym ours.1) (was k).1)
+      ];
+    };
+  }
+
+  pub is_one : Accepts → HasOurs g old → (bound : Bound) → IsAmong (tables_of (committed g old)) bound → IsAtOne g new bound
+  is_one a ours [] among = among
+  is_one a ours (world ∷ bound) (inl here) = inl (is_found a world here.0 (λ _. (ours, subst (λ (d : Database). Represents (tables_of d.trees) world) (sym ours.settled) here.1)))
+  is_one a ours (world ∷ bound) (inr rest) = inr (is_one a ours bound rest)
+
+-- the next open can read what a stop leaves of a store
+pub left_image : {D : Type 0} {g : disk.Ghosts D} (s : Store (FileStore D g)) (bound : Bound) → IsHonest over_files s → IsBoundedBy over_files s bound → IsTrue (files.view s.conn.store).is_numbered
+    → (image : Image) → (files.state s.conn.store).may_leave image → HoldsAmong image bound
+left_image s bound honest b numbered image may =
+    let sound : (db : Trees) → files.recovers s.conn.store db → IsSound custody db =
+    λ db found. let kept = b.safe honest db found in subst (λ (t : Trees). IsSound custody t) (sym kept.2) (kept_is_sound kept.0 kept.1) in
+    ∥∥₁_map (opens_again s.conn.store numbered (λ db found. (custody, sound db found)) image may) (λ db.
+    let kept = b.safe honest db.0 db.1 in
+    let left : Leaves over_files s (tables_of db.0) = (kept.0, kept.1, subst (files.recovers s.conn.store) kept.2 db.1, ap tables_of kept.2) in
+    (db.0, db.2, (sound db.0 db.1, b.among honest (tables_of db.0) left)))
+
+pub both_ok : {T E P Q R : Type 0} (r : Result T E) → (P → Q → R) → OnOk r P → OnOk r Q → OnOk r R
+both_ok (Ok x) f p q = f p q
+both_ok (Err e) f p q = tt

@@ -1,0 +1,3 @@
+pub mod Representation
+pub mod Left
+pub mod Opening

@@ -1,0 +1,45 @@
+-- The worlds that tables represent.
+use Rattle.std.specs.Prelude.{◌≡◌, ℕ, pos, List, [], ◌∷◌, map, IsPermutation}
+use Rattle.sha2.specs.Sha256.{sha256}
+use Rattle.sqlite_trees.specs.declared.store.Store.{Ghosts}
+use Rattle.model.specs.World.{World, IsWorld, Lock, Token, total}
+use Rattle.tables.specs.Rows as row
+use Rattle.tables.specs.Rows.{Tables}
+use Rattle.tables.specs.Runs.{first_meta}
+use Rattle.tables.specs.Steps.{code_of, made_of, used_of}
+use Rattle.tables.specs.Shown.{IsHonest, IsOpen, HasTables, shown}
+use Rattle.tables.specs.declared.Store.{Store}
+
+-- a row of `locks`, without its place in the table
+abbrev pub lock_kept : row.Lock → row.Lock
+lock_kept l = record l { rowid = pos 0 }
+
+-- a row of `tokens`, without its place in the table
+abbrev pub token_kept : row.Token → row.Token
+token_kept t = record t { rowid = pos 0 }
+
+-- the row of a lock
+abbrev pub lock_row : Lock → row.Lock
+lock_row l = record { rowid = pos 0; repo = l.repo; id = pos l.id; ref_name = l.ref; path = l.path; owner = l.owner; moment = pos l.at }
+
+-- the row of an issued token, which stores only the digest
+abbrev pub token_row : Token → row.Token
+token_row t = record { rowid = pos 0; digest = sha256 t.text; user = t.user; repo = t.repo; op = code_of t.operation; expires = pos t.expires }
+
+-- the rows are those of the world's locks and tokens, in any order; there are no objects, uploads or chunks; each
+-- repository has its counts
+pub record Represents (t : Tables) (world : World) : Type 0 where
+  pub meta : t.meta ≡ first_meta ∷ []
+  pub locks : IsPermutation (map lock_kept t.locks) (map lock_row world.locks)
+  pub made : (repo : List ℕ) → made_of repo t ≡ pos (world.made repo)
+  pub used : (repo : List ℕ) → used_of repo t ≡ pos (total repo world)
+  pub tokens : IsPermutation (map token_kept t.tokens) (map token_row world.tokens)
+  pub uploads : t.uploads ≡ []
+  pub chunks : t.chunks ≡ []
+  pub objects : world.objects ≡ []
+
+-- the store holds the world: while the disk is honest and the store open, its tables represent it
+pub record Holds {S : Type 0} (g : Ghosts S) (s : Store S) (world : World) : Type 0 where
+  pub ready : HasTables g s
+  pub laws : IsWorld world
+  pub shows : IsHonest g s → IsOpen g s → Represents (shown g s) world

@@ -1,0 +1,8 @@
+//! The worlds that a database represents: how the rows of the tables correspond to the world of the definitions,
+//! which world each change of the rows leads to, what a stop leaves of it, and the world of a database
+//! when it is opened.
+#![tactic(auto)]
+
+mod opening;
+
+pub use opening::{bound_law, open_from, same_law, start, stop_law};

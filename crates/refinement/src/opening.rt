@@ -1,0 +1,88 @@
+//! Opens a store: in the world of a new server, or in the one that its database holds.
+
+ghost use Rattle.std.specs.Prelude.{◌≡◌, [], IfOk, OnOk, IsTrue};
+ghost use Rattle.sqlite_trees.specs.Objects.{catalog_tree};
+ghost use Rattle.sqlite_wal.specs.Files.{image_at};
+ghost use Rattle.sqlite_wal.specs.Recovery.{Image};
+ghost use Rattle.sqlite_store.specs.FileStore.{state, view};
+ghost use Rattle.sqlite.specs.Files.{over_files, IsNothing};
+ghost use Rattle.model.specs.World.{World, IsWorld, nothing};
+ghost use Rattle.model.specs.Bounds.{Bound, IsWithin, SameWorld};
+ghost use Rattle.tables.specs.Rows.{Tables};
+ghost use Rattle.tables.specs.Shown.{connection, committed, IsHonest, HasNoTable, HasOurs, shown};
+ghost use Rattle.refinement.specs.Representation.{Represents};
+ghost use Rattle.refinement.specs.Left.{IsBoundedBy, IsLeft};
+ghost use Rattle.refinement.specs.Opening.{AreAmong, HoldsAmong, IsAt, IsAtOne};
+
+use sqlite::{FileFrom, FileStore, Start};
+use sqlite_disk::Disk;
+use std::alloc::Global;
+use std::rt::HostRuntime;
+use tables::{Alter, Storage, Store, StoreFault};
+
+/// Creates the tables of a database that has none, and accepts one that has them. The store then holds
+/// the world of a new server, or the one that the tables represent, and a stop leaves only that world.
+///
+/// # Errors
+///
+/// Those of `Store::create_or_check`, which leave the database unchanged.
+pub fn start<S: Storage>(alloc: Global, store: &mut Store<S>) -> Result<(), StoreFault>
+    ensures honest { IsHonest S.Store store.new → IsHonest S.Store store.old }
+    ensures fresh { HasNoTable S.Store store.old → OnOk result (IsAt S.Store store.new nothing) }
+    ensures empty { IsHonest S.Store store.new → committed S.Store store.old catalog_tree ≡ []
+        → OnOk result (IsAt S.Store store.new nothing) }
+    ensures found { (world : World) → IsWorld world
+        → (IsHonest S.Store store.new
+        → HasOurs S.Store store.old × Represents (shown S.Store store.old) world)
+        → OnOk result (IsAt S.Store store.new world) }
+    ensures again { IsHonest S.Store store.new → (bound : Bound)
+        → AreAmong (committed S.Store store.old) bound
+        → OnOk result (IsAtOne S.Store store.new bound) }
+{
+    store.create_or_check(alloc)
+}
+
+/// Opens the file at the path and accepts its tables as [`start`] does. `first` represents the contents
+/// of the file and its log. The store then holds the empty world if the file is empty or has only the
+/// first page of a new database, and one of some worlds if a stop left one of them in the file.
+///
+/// # Errors
+///
+/// Those of `Store::open_from` and of [`start`].
+pub fn open_from<S: Start>(
+    rt: &HostRuntime,
+    path: &str,
+    first: S,
+) -> Result<Store<FileStore<FileFrom<S>>>, StoreFault>
+    ensures blank { IsNothing (image_at S.Start)
+        → IfOk result (λ store. IsHonest over_files store → IsAt over_files store nothing) }
+    ensures empty { (image_at S.Start).db ≡ []
+        → IfOk result (λ store. IsHonest over_files store → IsAt over_files store nothing) }
+    ensures again { (bound : Bound) → HoldsAmong (image_at S.Start) bound
+        → IfOk result (λ store. IsHonest over_files store → ∥ IsAtOne over_files store bound ∥₁) }
+{
+    let mut store = Store::open_from(rt, path, first)?;
+    start(rt.alloc(), &mut store)?;
+    Ok(store)
+}
+
+/// A stop leaves of a store over files a database whose tables represent one of the worlds of the
+/// store's bound.
+pub fn stop_law<D: Disk>(store: &Store<FileStore<D>>)
+    ensures { (bound : Bound) → IsHonest over_files store.now
+        → IsBoundedBy over_files store.now bound
+        → IsTrue (view (connection store.now).store).is_numbered
+        → (image : Image) → (state (connection store.now).store).may_leave image
+        → HoldsAmong image bound }
+{}
+
+/// Each world that a stop may leave of a store is within the store's bound.
+pub fn bound_law<S: Alter>(store: &Store<S>)
+    ensures { (bound : Bound) → IsHonest S.Store store.now → IsBoundedBy S.Store store.now bound
+        → (world : World) → IsLeft S.Store store.now world → IsWithin bound world }
+{}
+
+/// Two worlds that the same tables represent count as the same.
+pub fn same_law()
+    ensures { (t : Tables) (a b : World) → Represents t a → Represents t b → SameWorld a b }
+{}

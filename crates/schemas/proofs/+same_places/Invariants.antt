@@ -1,5 +1,0 @@
-use Rattle.std.proofs.Common.{length}
-use Rattle.schemas.proofs.+same_places.Given as goal
-
-abbrev pub decreases-same_places : goal.decreases-same_places
-decreases-same_places l = length l.a.now

@@ -1,0 +1,31 @@
+//! Tests of the crates that need a database, and of the whole program, through their public items.
+//!
+//! | Of | Module |
+//! |---|---|
+//! | `schema_compare` | `schema_compare_tests` |
+//! | `tables` | `tables_tests` |
+//! | `tokens` | `tokens_tests` |
+//! | `desk` | `desk_tests` |
+//! | `service` | `service_tests` |
+//! | `cli` | `program_tests` |
+//!
+//! `harness` and `server` have the helpers. A program over a database takes minutes to prove and to
+//! compile before its first test: hence one crate for all of these tests.
+#![tactic(auto)]
+
+#[cfg(test)]
+mod desk_tests;
+#[cfg(test)]
+mod harness;
+#[cfg(test)]
+mod program_tests;
+#[cfg(test)]
+mod schema_compare_tests;
+#[cfg(test)]
+mod server;
+#[cfg(test)]
+mod service_tests;
+#[cfg(test)]
+mod tables_tests;
+#[cfg(test)]
+mod tokens_tests;

@@ -1,0 +1,277 @@
+//! Arguments, values and databases that the program refuses, in their order, and its help.
+
+use super::program::{prepare, read, remove, run, write};
+use super::transcript::{POLICY, perform, play};
+use crate::harness::{Tester, unwrap};
+
+/// The version; arguments that are not a command, and values out of range. They create no database.
+const WORDS: &str = r#"
+# the second line is that of `rt version`
+$ --version
+| custody 0.1.0
+| rattle-kit-13b logic dac8208d650f15bf
+$ -V
+| custody 0.1.0
+$ lock
+error error: unrecognized subcommand 'lock'
+error
+error Usage: custody <COMMAND>
+error
+error For more information, try '--help'.
+status 2
+$ session --db @/db
+error error: the following required arguments were not provided:
+error   --policy <FILE>
+error
+error Usage: custody session --db <FILE> --policy <FILE>
+error
+error For more information, try '--help'.
+status 2
+missing db
+$ session --db @/db --policy @/policy --colour red
+error error: unexpected argument '--colour' found
+error
+error Usage: custody session --db <FILE> --policy <FILE>
+error
+error For more information, try '--help'.
+status 2
+missing db
+# a moment is 1 to 18 digits in range
+$ session --db @/db --policy @/policy --now ''
+error custody: bad value for --now
+status 2
+missing db
+$ session --db @/db --policy @/policy --now x
+error custody: bad value for --now
+status 2
+missing db
+$ session --db @/db --policy @/policy --now +5
+error custody: bad value for --now
+status 2
+missing db
+$ session --db @/db --policy @/policy --now ~5
+error custody: bad value for --now
+status 2
+missing db
+$ session --db @/db --policy @/policy --now 5s
+error custody: bad value for --now
+status 2
+missing db
+$ session --db @/db --policy @/policy --now 253402300800
+error custody: bad value for --now
+status 2
+missing db
+$ session --db @/db --policy @/policy --now 999999999999999999
+error custody: bad value for --now
+status 2
+missing db
+$ session --db @/db --policy @/policy --now 0000000000000000005
+error custody: bad value for --now
+status 2
+missing db
+$ prune --db @/db --now x
+error custody: bad value for --now
+status 2
+missing db
+$ session --db @/db --policy @/policy --now 0
+$ session --db @/db --policy @/policy --now 253402300799
+$ session --db @/db --policy @/policy --now 000000000000000005
+"#;
+
+#[test]
+fn words_and_values_are_refused(rt: HostRuntime) {
+    perform(&rt, &rt, "words", POLICY, WORDS);
+}
+
+/// Commands that have two faults, next to each other in the order of docs/COMMANDS.md: the first
+/// one is reported.
+const FAULTS: &str = r#"
+# the words before the user
+$ authenticate --db @/db --policy @/policy --user Ann --now 5 --random @/a studio/film push
+error error: invalid value 'push' for '<OPERATION>'
+error   [possible values: download, upload]
+error
+error For more information, try '--help'.
+status 2
+# the user before the moment
+$ authenticate --db @/db --policy @/policy --user Ann --now x --random @/a studio/film upload
+error custody: bad value for --user
+status 2
+# the moment before the policy
+$ authenticate --db @/db --policy @/nowhere --user ann --now x --random @/a studio/film upload
+error custody: bad value for --now
+status 2
+$ session --db @/db --policy @/nowhere --now x
+error custody: bad value for --now
+status 2
+# the policy before R1
+$ authenticate --db @/db --policy @/nowhere --user ann --now 5 --random @/a studio/other upload
+error custody: policy not read
+status 1
+# R1 before the random bytes
+$ authenticate --db @/db --policy @/policy --user ann --now 5 --random @/nowhere studio/other upload
+error custody: R1: no such repository
+status 1
+# the random bytes before the database
+$ authenticate --db @ --policy @/policy --user ann --now 5 --random @/nowhere studio/film upload
+error custody: random bytes not read
+status 1
+# the policy before the database
+$ session --db @ --policy @/nowhere --now 5
+error custody: policy not read
+status 1
+# the moment before the database
+$ prune --db @ --now x
+error custody: bad value for --now
+status 2
+# the database before K2
+$ authenticate --db @ --policy @/policy --user ann --now 253402300799 --random @/a studio/film upload
+error custody: store G2
+status 1
+missing db
+# K1 before K2
+token a ann studio/film
+$ authenticate --db @/db --policy @/policy --user bob --now 253402300799 --random @/a studio/film upload
+error custody: K1: token already issued
+status 1
+"#;
+
+#[test]
+fn the_first_fault_is_reported(rt: HostRuntime) {
+    perform(&rt, &rt, "faults", POLICY, FAULTS);
+}
+
+/// Databases that cannot be opened.
+const CLOSED: &str = r#"
+$ session --db @/nowhere/db --policy @/policy --now 5
+error custody: store G2
+status 1
+missing nowhere
+$ session --db '' --policy @/policy --now 5
+error custody: store G2
+status 1
+$ session --db :memory: --policy @/policy --now 5
+error custody: store G2
+status 1
+$ session --db @ --policy @/policy --now 5
+error custody: store G2
+status 1
+$ prune --db @ --now 5
+error custody: store G2
+status 1
+# a file that is no database
+file db 40 65
+$ session --db @/db --policy @/policy --now 5
+error custody: store G2
+status 1
+$ prune --db @/db --now 5
+error custody: store G2
+status 1
+"#;
+
+/// A database of another version.
+const OTHER: &str = r#"
+$ session --db @/db --policy @/policy --now 5
+error custody: store G1
+status 1
+$ authenticate --db @/db --policy @/policy --user ann --now 5 --random @/a studio/film upload
+error custody: store G1
+status 1
+$ prune --db @/db --now 5
+error custody: store G1
+status 1
+"#;
+
+/// The file that `sqlite3` writes, with pages of 512 bytes, if `meta` is created with version 2:
+/// its pieces, each with the number of zeros after it.
+const VERSION_2: &[(&[u8], usize)] = &[
+    (
+        b"SQLite format 3\x00\x02\x00\x01\x01\x00@  \x00\x00\x00\x02\x00\x00\x00\x02",
+        11,
+    ),
+    (b"\x01\x00\x00\x00\x04", 11),
+    (b"\x01", 35),
+    (b"\x02\x00.c\x01\x0d\x00\x00\x00\x01\x01x\x00\x01x", 266),
+    (
+        b"\x81\x05\x01\x07\x17\x15\x15\x01\x81mtablemetameta\x02CREATE TABLE meta (one INTEGER PRIMARY KEY CHECK (one = 1), version INTEGER NOT NULL CHECK (version = 2)) STRICT\x0d\x00\x00\x00\x01\x01\xfa\x00\x01\xfa",
+        496,
+    ),
+    (b"\x04\x01\x03\x00\x01\x02", 0),
+];
+
+/// The bytes of that file.
+fn version_2(rt: &impl Tester) -> Vec<u8> {
+    let mut file = Vec::new(rt.alloc());
+    for (piece, count) in VERSION_2 {
+        let zeros = unwrap(rt, vec![in rt.alloc(); 0; *count]);
+        unwrap(rt, file.extend_from_slice(piece));
+        unwrap(rt, file.extend_from_slice(zeros.as_slice()));
+    }
+    file
+}
+
+#[test]
+fn another_database_is_left(rt: HostRuntime) {
+    prepare(&rt, &rt, "closed", POLICY);
+    play(&rt, &rt, "closed", CLOSED);
+    assert!(rt; read(&rt, &rt, "closed", "db").as_slice() == [65; 40].as_slice());
+    let file = version_2(&rt);
+    prepare(&rt, &rt, "closed", POLICY);
+    write(&rt, &rt, "closed", "db", file.as_slice());
+    play(&rt, &rt, "closed", OTHER);
+    assert!(rt; read(&rt, &rt, "closed", "db").as_slice() == file.as_slice());
+    remove(&rt, "closed");
+}
+
+/// Arguments that ask for help, and what the help names: each command, or each argument and value that
+/// the command takes, as docs/COMMANDS.md has them.
+const HELPS: &[(&str, &[&str])] = &[
+    ("--help", &["session", "authenticate", "prune"]),
+    (
+        "session --help",
+        &["--db <FILE>", "--policy <FILE>", "--now <N>"],
+    ),
+    (
+        "authenticate --help",
+        &[
+            "--db <FILE>",
+            "--policy <FILE>",
+            "--user <U>",
+            "--now <N>",
+            "--random <FILE>",
+            "<PATH>",
+            "<OPERATION>",
+            "download",
+            "upload",
+        ],
+    ),
+    ("prune --help", &["--db <FILE>", "--now <N>"]),
+];
+
+/// Asserts that the text has each of the parts.
+fn expect_parts(rt: &impl Tester, text: &[u8], parts: &[&str]) {
+    let text = unwrap(rt, str::from_utf8(text));
+    for part in parts {
+        assert!(rt; text.contains(*part), "{part}");
+    }
+}
+
+#[test]
+fn help_is_printed(rt: HostRuntime) {
+    for (line, parts) in HELPS {
+        let ran = run(&rt, &rt, "help", line, "");
+        assert!(rt; ran.status == 0 && ran.errors.is_empty(), "{line}");
+        expect_parts(&rt, ran.output.as_slice(), parts);
+    }
+}
+
+#[test]
+fn no_words_are_answered_by_help(rt: HostRuntime) {
+    let ran = run(&rt, &rt, "help", "", "");
+    assert!(rt; ran.status == 2 && ran.output.is_empty());
+    expect_parts(
+        &rt,
+        ran.errors.as_slice(),
+        &["session", "authenticate", "prune"],
+    );
+}

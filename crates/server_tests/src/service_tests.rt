@@ -1,0 +1,12 @@
+//! Tests of `service`: connections, from their bytes to the replies.
+
+mod bodies;
+mod callers;
+mod connections;
+mod framing;
+mod heads;
+mod judging;
+mod memory;
+mod policies;
+mod stores;
+mod worked;

@@ -1,0 +1,289 @@
+//! What the store keeps, finds and removes, and which files it accepts as its own.
+//!
+//! The helpers have no clause, so a test's proof does not include those of each call.
+
+use super::files::{Step, run, take_steps};
+use crate::harness::{Tester, in_memory, lock_path, moment, ref_name, repo, unwrap, user};
+use names::{LockId, Operation};
+use sqlite::Connection;
+use tables::{Alter, Creation, NewLock, NewToken, Store, StoreFault};
+
+const FILM: &str = "studio/film";
+
+const MAIN: &str = "refs/heads/main";
+
+/// The id of the lock that is made; 0 if the path is locked, and 1,000 if no id is left.
+fn lock<S: Alter>(rt: &impl Tester, store: &mut Store<S>, path: &str) -> u32 {
+    let film = repo(rt, FILM);
+    let main = ref_name(rt, MAIN);
+    let path = lock_path(rt, path);
+    let ann = user(rt, "ann");
+    let lock = NewLock {
+        repo: &film,
+        ref_name: &main,
+        path: &path,
+        owner: &ann,
+        moment: moment(rt, 253402300799),
+    };
+    match unwrap(rt, store.create_lock(&lock)) {
+        Creation::Created(id) => id.get(),
+        Creation::Held(_) => 0,
+        Creation::UsedUp => 1000,
+    }
+}
+
+/// The lock id of this number, which is not 0.
+fn id_of(rt: &impl Tester, number: u32) -> LockId {
+    unwrap(rt, LockId::from_number(number).ok_or(()))
+}
+
+fn unlock<S: Alter>(rt: &impl Tester, store: &mut Store<S>, id: u32) -> usize {
+    unwrap(rt, store.remove_lock(&repo(rt, FILM), id_of(rt, id)))
+}
+
+fn made<S: Alter>(rt: &impl Tester, store: &mut Store<S>, name: &str) -> u32 {
+    unwrap(rt, store.made(&repo(rt, name)))
+}
+
+fn id_at<S: Alter>(rt: &impl Tester, store: &mut Store<S>, name: &str, path: &str) -> u32 {
+    let film = repo(rt, FILM);
+    let name = ref_name(rt, name);
+    let path = lock_path(rt, path);
+    unwrap(rt, store.lock_at(&film, &name, &path)).map_or(0, |row| row.id.get())
+}
+
+fn has_path<S: Alter>(rt: &impl Tester, store: &mut Store<S>, id: u32, path: &str) -> bool {
+    let film = repo(rt, FILM);
+    let id = id_of(rt, id);
+    unwrap(rt, store.lock_with_id(&film, id)).is_some_and(|row| row.path.as_str() == path
+        && row.owner.as_str() == "ann"
+        && row.moment.get() == 253402300799)
+}
+
+fn count_in<S: Alter>(rt: &impl Tester, store: &mut Store<S>) -> usize {
+    unwrap(rt, store.locks_in(rt.alloc(), &repo(rt, FILM))).len()
+}
+
+fn count_from<S: Alter>(rt: &impl Tester, store: &mut Store<S>, id: u32) -> usize {
+    let film = repo(rt, FILM);
+    let id = id_of(rt, id);
+    unwrap(rt, store.locks_from(rt.alloc(), &film, id)).len()
+}
+
+/// The paths of the locks from this id on, joined.
+fn paths_from<S: Alter>(rt: &impl Tester, store: &mut Store<S>, id: u32) -> String {
+    let mut text = String::new(rt.alloc());
+    let film = repo(rt, FILM);
+    let id = id_of(rt, id);
+    for row in unwrap(rt, store.locks_from(rt.alloc(), &film, id)) {
+        unwrap(rt, text.push_str(row.path.as_str()));
+    }
+    text
+}
+
+fn add<S: Alter>(rt: &impl Tester, store: &mut Store<S>, byte: u8, expires: u64) -> bool {
+    let ann = user(rt, "ann");
+    let film = repo(rt, FILM);
+    let token = NewToken {
+        digest: &[byte; 32],
+        user: &ann,
+        repo: &film,
+        operation: Operation::Upload,
+        expires: moment(rt, expires),
+    };
+    unwrap(rt, store.add_token(&token))
+}
+
+/// When the token of this byte expires; 0 if none is stored, and -1 if it is another user's.
+fn expiry<S: Alter>(rt: &impl Tester, store: &mut Store<S>, byte: u8) -> i64 {
+    let Some(row) = unwrap(rt, store.token(&[byte; 32])) else {
+        return 0;
+    };
+    if row.digest.as_slice() == [byte; 32].as_slice()
+        && row.user.as_str() == "ann"
+        && row.repo.as_str() == FILM
+        && row.operation == Operation::Upload
+    {
+        return row.expires.get() as i64;
+    }
+    -1
+}
+
+fn count_of<S: Alter>(rt: &impl Tester, store: &mut Store<S>, name: &str) -> usize {
+    let film = repo(rt, FILM);
+    let name = user(rt, name);
+    unwrap(rt, store.tokens_of(rt.alloc(), &name, &film)).len()
+}
+
+fn prune<S: Alter>(rt: &impl Tester, store: &mut Store<S>, second: u64) -> usize {
+    unwrap(rt, store.remove_expired(moment(rt, second)))
+}
+
+#[test]
+fn ids_rise_and_are_not_used_again(rt: HostRuntime) {
+    let mut store = in_memory(&rt);
+    assert!(rt; lock(&rt, &mut store, "a") == 1);
+    assert!(rt; lock(&rt, &mut store, "b") == 2);
+    assert!(rt; unlock(&rt, &mut store, 2) == 1);
+    assert!(rt; unlock(&rt, &mut store, 2) == 0);
+    assert!(rt; lock(&rt, &mut store, "b") == 3);
+    assert!(rt; lock(&rt, &mut store, "a") == 0);
+    assert!(rt; made(&rt, &mut store, FILM) == 3);
+    assert!(rt; made(&rt, &mut store, "studio/score") == 0);
+}
+
+#[test]
+fn locks_are_found_and_listed(rt: HostRuntime) {
+    let mut store = in_memory(&rt);
+    for path in &["c", "b", "a"] {
+        lock(&rt, &mut store, path);
+    }
+    assert!(rt; id_at(&rt, &mut store, MAIN, "b") == 2);
+    assert!(rt; id_at(&rt, &mut store, "refs/heads/dev", "b") == 0);
+    assert!(rt; has_path(&rt, &mut store, 2, "b"));
+    assert!(rt; !has_path(&rt, &mut store, 4, "b"));
+    assert!(rt; count_in(&rt, &mut store) == 3);
+    assert!(rt; paths_from(&rt, &mut store, 1).as_str() == "cba");
+    assert!(rt; paths_from(&rt, &mut store, 2).as_str() == "ba");
+}
+
+#[test]
+fn a_window_has_at_most_64_locks(rt: HostRuntime) {
+    let mut store = in_memory(&rt);
+    for n in 0..70u32 {
+        let path = unwrap(&rt, format!(in rt.alloc(); "art/{n}"));
+        lock(&rt, &mut store, path.as_str());
+    }
+    assert!(rt; count_from(&rt, &mut store, 1) == 64);
+    assert!(rt; count_from(&rt, &mut store, 8) == 63);
+    assert!(rt; count_in(&rt, &mut store) == 70);
+}
+
+#[test]
+fn tokens_are_kept_until_they_expire(rt: HostRuntime) {
+    let mut store = in_memory(&rt);
+    assert!(rt; add(&rt, &mut store, 0xAA, 100));
+    assert!(rt; !add(&rt, &mut store, 0xAA, 200));
+    assert!(rt; add(&rt, &mut store, 0xBB, 101));
+    assert!(rt; expiry(&rt, &mut store, 0xAA) == 100);
+    assert!(rt; count_of(&rt, &mut store, "ann") == 2);
+    assert!(rt; count_of(&rt, &mut store, "bob") == 0);
+    assert!(rt; prune(&rt, &mut store, 99) == 0);
+    assert!(rt; prune(&rt, &mut store, 100) == 1);
+    assert!(rt; expiry(&rt, &mut store, 0xAA) == 0);
+    assert!(rt; expiry(&rt, &mut store, 0xBB) == 101);
+}
+
+/// Adds a lock and a token.
+pub(crate) fn fill<S: Alter>(rt: &impl Tester, store: &mut Store<S>) {
+    lock(rt, store, "a");
+    add(rt, store, 0xAA, 100);
+}
+
+/// The lock's id, the number of locks made, and the token's expiry.
+pub(crate) fn found<S: Alter>(rt: &impl Tester, store: &mut Store<S>) -> (u32, u32, i64) {
+    (
+        id_at(rt, store, MAIN, "a"),
+        made(rt, store, FILM),
+        expiry(rt, store, 0xAA),
+    )
+}
+
+/// The ids of the locks on two paths and on the first again, as [`lock`] returns them.
+pub(crate) fn last_locks<S: Alter>(rt: &impl Tester, store: &mut Store<S>) -> (u32, u32, u32) {
+    (
+        lock(rt, store, "a"),
+        lock(rt, store, "b"),
+        lock(rt, store, "a"),
+    )
+}
+
+/// Files, and the steps for each.
+const FILES: &[(&str, &[Step])] = &[
+    // A file is read again.
+    ("again.db", &[Step::Fill, Step::Find(1, 1, 100)]),
+    // A file with another schema is left unchanged.
+    (
+        "second.db",
+        &[
+            Step::Run(
+                "CREATE TABLE meta (one INTEGER PRIMARY KEY CHECK (one = 1), version INTEGER NOT NULL CHECK (version = 2)) STRICT; INSERT INTO meta VALUES (1, 2)",
+            ),
+            Step::Leave,
+        ],
+    ),
+    (
+        "without_meta.db",
+        &[
+            Step::Run(
+                "CREATE TABLE repos (name TEXT NOT NULL PRIMARY KEY, made INTEGER NOT NULL CHECK (made >= 0 AND made <= 4294967295), used INTEGER NOT NULL CHECK (used >= 0)) STRICT",
+            ),
+            Step::Leave,
+        ],
+    ),
+    // Tables without their version are refused.
+    (
+        "no_version.db",
+        &[
+            Step::Fill,
+            Step::Run("DELETE FROM meta"),
+            Step::Check(Err(StoreFault::UnknownSchema)),
+        ],
+    ),
+    // The last id is given once. A lock without an id holds no path: the second path is free at the
+    // second turn.
+    (
+        "last.db",
+        &[
+            Step::Check(Ok(())),
+            Step::Run("INSERT INTO repos VALUES ('studio/film', 4294967294, 0)"),
+            Step::Lock(4294967295, 1000, 0),
+            Step::Lock(0, 1000, 0),
+        ],
+    ),
+    // A file that is not a database is refused.
+    (
+        "no.db",
+        &[
+            Step::Write("no database, but a text of some length"),
+            Step::Check(Err(StoreFault::Refused)),
+        ],
+    ),
+    ("nowhere/at.db", &[Step::Check(Err(StoreFault::Refused))]),
+    (":memory:", &[Step::Check(Err(StoreFault::Refused))]),
+];
+
+#[test]
+fn files_are_read_again_or_refused(rt: HostRuntime) {
+    for (path, steps) in FILES {
+        take_steps(&rt, &rt, path, steps);
+    }
+}
+
+/// Whether a store accepts a connection on which the statements were run.
+fn is_taken_over(rt: &impl Tester, sql: &str) -> bool {
+    let mut conn = unwrap(rt, Connection::open_in_memory(rt.alloc()));
+    unwrap(rt, run(&mut conn, sql));
+    let mut store = Store::adopt(conn);
+    store.create_or_check(rt.alloc()).is_ok() && lock(rt, &mut store, "a") == 1
+}
+
+#[test]
+fn a_connection_is_taken_over(rt: HostRuntime) {
+    assert!(rt; is_taken_over(&rt, ""));
+    assert!(rt; !is_taken_over(&rt, "CREATE TABLE a (b INTEGER)"));
+}
+
+const FAULTS: &[(StoreFault, &str)] = &[
+    (StoreFault::UnknownSchema, "store G1"),
+    (StoreFault::Refused, "store G2"),
+    (StoreFault::Memory, "no memory"),
+];
+
+#[test]
+fn faults_are_printed(rt: HostRuntime) {
+    for (fault, want) in FAULTS {
+        let outcome = unwrap(&rt, fault.to_string(rt.alloc()));
+        assert!(rt; outcome.as_str() == *want);
+    }
+}

@@ -1,5 +1,0 @@
-use Rattle.worlds.proofs.Same.{same_world}
-use Rattle.worlds.proofs.opening.same_law.Goals as goal
-
-pub returns : goal.returns
-returns c t a b p q = same_world t a b p q

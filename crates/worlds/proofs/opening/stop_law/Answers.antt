@@ -1,5 +1,0 @@
-use Rattle.worlds.proofs.TakenUp.{left_image}
-use Rattle.worlds.proofs.opening.stop_law.Goals as goal
-
-pub returns : goal.returns
-returns g c bound honest bounded numbered image may = left_image c.args.store.now bound honest bounded numbered image may

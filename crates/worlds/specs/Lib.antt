@@ -1,3 +1,0 @@
-pub mod Standing
-pub mod Left
-pub mod Opening
