@@ -17,7 +17,7 @@ use Rattle.model.specs.Callers as model
 use Rattle.model.specs.Callers.{caller_by, lock_question}
 use Rattle.model.specs.Cases.{Setting, DeskRequest, case_in}
 use Rattle.model.specs.Answers.{Answer, Denial, Plan, by_rule, by_row, by_rules, permit, store_refusal}
-use Rattle.model.specs.Locks.{lock_verdict, new_lock}
+use Rattle.model.specs.Locks.{place_verdict, lock_verdict, new_lock}
 use Rattle.model.specs.Objects.{finish}
 use Rattle.model.specs.Verdict.{plan_to, plan_for, caller_plan, desk_verdict}
 use Rattle.model.specs.Steps.{after}
@@ -36,7 +36,8 @@ use Rattle.desk.specs.Done.{Answers, given_by}
 use Rattle.desk.specs.Replies.{IsReplyOf}
 use Rattle.desk.specs.declared.replies.Reply.{Reply}
 use Rattle.desk.specs.Admission.{admission_result, case_verdict, caller_verdict}
-use Rattle.desk.specs.Locking.{IsWantedBy, lock_wanted, question_on, placed_verdict, allowed_verdict}
+use Rattle.locks.specs.Creating.{state_of, lock_wanted, placed_verdict}
+use Rattle.desk.specs.Locking.{IsWantedBy, question_on, allowed_verdict}
 use Rattle.tables.specs.declared.new_rows.NewLock.{NewLock}
 
 -- successive checks by rules are one check by the first of them that fails
@@ -91,7 +92,7 @@ admitted_alike policy c who repo_asked asked h = ap₂ (λ own operation. admiss
 pub verdict_alike : (world : World) (setting : Setting) (who : model.Caller) (r : policy_repo.Repo) (user : UserName) (asked : LockRequest) (w : NewLock)
     → user_text user ≡ who.user → IsWantedBy r user setting.now asked w
     → allowed_verdict world setting.policy w ≡ lock_verdict (case_in world setting who (repo_view r)) (lock_asked asked)
-verdict_alike world setting who r user asked w is_user is = ap₂ (λ (q : Question) (l : kept.Lock). permit setting.policy q 403 >>= λ may. placed_verdict world l) question place
+verdict_alike world setting who r user asked w is_user is = ap₂ (λ (q : Question) (l : kept.Lock). permit setting.policy q 403 >>= λ may. place_verdict (state_of l.repo world) l) question place
   where
     place : lock_wanted world w ≡ new_lock (case_in world setting who (repo_view r)) (lock_asked asked)
     place = rw (is.repo, is.ref, is.path, is.owner, is.at, is_user) refl
@@ -137,7 +138,7 @@ done_then g old mid new world given r p done = record {
 -- ---- what the policy says of a lock
 
 -- if the policy allows the lock, its place decides
-pub allowed_is : (world : World) (policy : Policy) (w : NewLock) (n : ℕ) → allowed n ≡ decide policy (question_on w) → allowed_verdict world policy w ≡ placed_verdict world (lock_wanted world w)
+pub allowed_is : (world : World) (policy : Policy) (w : NewLock) (n : ℕ) → allowed n ≡ decide policy (question_on w) → allowed_verdict world policy w ≡ placed_verdict world w
 allowed_is world policy w n is = rw (← is) refl
 
 pub denied_is : (world : World) (policy : Policy) (w : NewLock) (n : ℕ) → denied n ≡ decide policy (question_on w) → allowed_verdict world policy w ≡ Err (by_row n right.Lock 403)

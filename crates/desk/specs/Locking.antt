@@ -7,9 +7,8 @@ use Rattle.names.specs.declared.texts.UserName.{UserName}
 use Rattle.model.specs.Reading.{◌>>=◌, check}
 use Rattle.model.specs.World.{World, Lock}
 use Rattle.model.specs.Policy.{Policy, Question}
-use Rattle.model.specs.RepoState.{RepoState, repo_state}
 use Rattle.model.specs.Answers.{Answer, makes_lock, by_lock, by_rules, permit}
-use Rattle.model.specs.Locks.{place_verdict, ref_or_default}
+use Rattle.model.specs.Locks.{ref_or_default}
 use Rattle.model.specs.declared.Right.TheVariants as right
 use Rattle.forms.specs.Requests.{lock_asked}
 use Rattle.forms.specs.ShownLocks.{IsOf}
@@ -21,23 +20,9 @@ use Rattle.tables.specs.declared.rows.LockRow.{LockRow}
 use Rattle.tables.specs.declared.new_rows.NewLock.{NewLock}
 use Rattle.tables.specs.declared.rows.Creation.{Creation}
 use Rattle.tables.specs.declared.rows.Creation.TheVariants.{Created, Held, UsedUp}
+use Rattle.locks.specs.Creating.{placed_verdict}
 use Rattle.desk.specs.declared.replies.Reply.{Reply}
 use Rattle.desk.specs.Replies.{IsReplyOf}
-
--- the state of the repository of this name; a policy repository's locks do not depend on its quota or default ref
-abbrev pub state_of : List ℕ → World → RepoState
-state_of name world = repo_state (record { name = name; default_ref = []; quota = 0 }) world
-
--- the lock that the world gets for this attempt
-abbrev pub lock_wanted : World → NewLock → Lock
-lock_wanted world w = record {
-  repo = repo_text w.repo.now;
-  id = world.made (repo_text w.repo.now) + 1;
-  ref = ref_text w.ref_name.now;
-  path = path_text w.path.now;
-  owner = user_text w.owner.now;
-  at = w.moment;
-}
 
 -- the lock has the id, the moment, the owner and the path of the row
 pub record IsOfRow (row : LockRow) (l : Lock) : Type 0 where
@@ -84,10 +69,6 @@ pub record IsWantedBy (r : Repo) (user : UserName) (now : ℕ) (asked : LockRequ
   pub owner : user_text w.owner.now ≡ user_text user
   pub at : w.moment ≡ now
 
--- the verdict on the lock's place
-abbrev pub placed_verdict : World → Lock → Answer
-placed_verdict world l = place_verdict (state_of l.repo world) l
-
 -- the question to the policy
 abbrev pub question_on : NewLock → Question
 question_on w = record {
@@ -101,4 +82,4 @@ question_on w = record {
 -- the policy's denial, or the verdict on the place
 abbrev pub allowed_verdict : World → Policy → NewLock → Answer
 allowed_verdict world policy w =
-    permit policy (question_on w) 403 >>= λ may. placed_verdict world (lock_wanted world w)
+    permit policy (question_on w) 403 >>= λ may. placed_verdict world w

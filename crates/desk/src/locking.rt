@@ -8,7 +8,8 @@ ghost use Rattle.model.specs.Policy.{decide};
 ghost use Rattle.policy.specs.Values.{policy_view, decision_view};
 ghost use Rattle.refinement.specs.Left.{From};
 ghost use Rattle.desk.specs.Replies.{IsReplyOf};
-ghost use Rattle.desk.specs.Locking.{ShowsRow, IsReadyAfter, ReportsHeld, ReportsCreation, MadeNothing, IsWantedBy, lock_wanted, question_on, placed_verdict, allowed_verdict};
+ghost use Rattle.desk.specs.Locking.{ShowsRow, IsReadyAfter, ReportsHeld, ReportsCreation, MadeNothing, IsWantedBy, question_on, allowed_verdict};
+ghost use Rattle.locks.specs.Creating.{placed_verdict};
 ghost use Rattle.desk.specs.Done.{Answers};
 
 use crate::replies::Reply;
@@ -87,11 +88,11 @@ pub(crate) fn make_lock<S: Alter>(
 ) -> Result<Reply, StoreFault>
     ensures { From S.Store store.old store.new (λ world.
         Answers S.Store store.old store.new world
-        (placed_verdict world (lock_wanted world wanted.entry.now)) result) }
+        (placed_verdict world wanted.entry.now) result) }
 {
-    let made = store.made(wanted.repo)?;
+    let made = locks::made(store, wanted.repo)?;
     let ready = free_reply(alloc, made, wanted)?;
-    let creation = store.create_lock(wanted)?;
+    let creation = locks::create(store, wanted)?;
     reply_to(alloc, &creation, ready)
 }
 

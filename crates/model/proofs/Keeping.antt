@@ -343,7 +343,7 @@ keeps_without_expired now world w = record {
   digests = AllPairs-filter DiffersInDigest (λ i. nat_lt now i.expires) world.tokens w.digests;
 }
 
-keeps_without_lock : (l : Lock) (world : World) → IsWorld world → IsWorld (without_lock l world)
+pub keeps_without_lock : (l : Lock) (world : World) → IsWorld world → IsWorld (without_lock l world)
 keeps_without_lock l world w = record {
   objects = w.objects;
   names = w.names;

@@ -77,6 +77,10 @@ module _ {S : Type 0} (g : Ghosts S) where
   ends_still a b unchanged world made quiet p = record { holds = p.holds; left = λ bound was. more b world bound (p.left bound was) }
   ends_still a b failed world made quiet p = record { holds = p.holds; left = λ bound was. more b made (world ∷ bound) (more b world bound (p.left bound was)) }
 
+  -- a call that changed nothing is reported as failed
+  pub ends_reported : (a b : Store S) (world made : World) → Ends g a b unchanged world made world → Ends g a b failed world made world
+  ends_reported a b world made p = record { holds = p.holds; left = λ bound was. more b made (world ∷ bound) (p.left bound was) }
+
   -- a change was tried, and refused
   pub ends_failed : (a b : Store S) (world made : World) (f : Tables → Tables) → Fails g f a b → (Represents (shown g a) world → IsWorld made × Represents (f (shown g a)) made) → Holds g a world
       → Ends g a b failed world made world

@@ -5,5 +5,7 @@ pub mod Outcomes
 pub mod Holding
 pub mod Tokens
 pub mod Leading
+pub mod Removing
+pub mod Rising
 pub mod Same
 pub mod TakenUp

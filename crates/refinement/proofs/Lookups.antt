@@ -1,15 +1,20 @@
 -- What the calls read from the tables is what the world has.
-use Rattle.std.proofs.Common.{◌≡◌, ℕ, Bool, true, ◌&&◌, List, [], ◌∷◌, find, filter, cond, nat_lt, Option, Some, option_map, bytes_eq, refl, sym, ap, ◌∙◌}
+use Rattle.std.proofs.Common.{◌≡◌, ℕ, pos, Bool, true, ◌&&◌, ◌==◌, List, [], ◌∷◌, find, filter, cond, nat_lt, Option, Some, None, option_map, IfSome, bytes_eq, refl, sym, ap, ◌∙◌, arith}
+use Rattle.std.specs.Ordering.{int_eq}
+use Rattle.std.proofs.lemmas.Bool.Decides.{nat_tests}
+use Rattle.std.proofs.lemmas.Int.{ints}
 use Rattle.std.proofs.lemmas.Map.Text.{is_eq-slice_cmp}
 use Rattle.std.proofs.lemmas.Slice.Eq.{bytes_eq-Decides}
 use Rattle.sha2.specs.Sha256.{sha256}
 use Rattle.model.proofs.Tests.{both_true}
-use Rattle.model.proofs.Lists.{find_rising, find_filter, only_left}
+use Rattle.model.proofs.Lists.{find_rising, find_filter, only_left, in_found, into}
+use Rattle.model.proofs.Ordered.{locks_are_those}
 use Rattle.model.proofs.Views.{only_of}
-use Rattle.model.specs.World.{World, IsWorld, Lock, Token, DiffersInPlace, DiffersInDigest, find_token}
+use Rattle.model.specs.World as model
+use Rattle.model.specs.World.{World, IsWorld, Lock, Token, DiffersInId, DiffersInPlace, DiffersInDigest, find_token}
 use Rattle.model.specs.RepoState.{locks_of}
 use Rattle.tables.specs.Rows.{Tables}
-use Rattle.tables.specs.Statements.{is_at, has_digest}
+use Rattle.tables.specs.Statements.{is_at, has_id, has_digest}
 use Rattle.refinement.specs.Representation.{lock_kept, token_kept, lock_row, token_row, Represents}
 use Rattle.refinement.proofs.Found.{same_found, Excludes}
 
@@ -52,6 +57,53 @@ lock_found t world repo ref path s w =
     (λ x y differ a b. one_place repo ref path x y differ (sym (row_on repo ref path x) ∙ a) (sym (row_on repo ref path y) ∙ b)) w.places
     ∙ ap (option_map lock_row) (find_alike (λ l. is_at repo ref path (lock_row l)) (is_on repo ref path) world.locks (row_on repo ref path)
     ∙ sym (found_in world repo ref path w))
+
+-- a lock that is found in a repository is the repository's
+pub found_own : (world : World) (repo : List ℕ) (p : Lock → Bool) → IfSome (find p (locks_of repo world)) (λ l. l.repo ≡ repo)
+found_own world repo p = at (find p (locks_of repo world)) refl
+  where
+    at : (o : Option Lock) → find p (locks_of repo world) ≡ o → IfSome o (λ l. l.repo ≡ repo)
+    at None e = tt
+    at (Some l) e = ((locks_are_those world repo l).0 (into (locks_of repo world) l (in_found p (locks_of repo world) l e))).1
+
+-- ---- by an id
+
+same_number : (a b : ℕ) → int_eq (pos a) (pos b) ≡ (a == b)
+same_number a b = grind (arith, ints, nat_tests)
+
+number_is : (a b : ℕ) → (a == b) ≡ true → a ≡ b
+number_is a b h = grind (arith, nat_tests)
+
+pub row_numbered : (repo : List ℕ) (id : ℕ) (l : Lock) → has_id repo (pos id) (lock_row l) ≡ model.has_id repo id l
+row_numbered repo id l = rw (is_eq-slice_cmp l.repo repo, same_number l.id id) refl
+
+one_number : (repo : List ℕ) (id : ℕ) → Excludes (model.has_id repo id) DiffersInId
+one_number repo id x y differ a b =
+    let p = both_true _ _ a in let q = both_true _ _ b in
+    differ (same_is x.repo repo p.0 ∙ sym (same_is y.repo repo q.0)) (number_is x.id id p.1 ∙ sym (number_is y.id id q.1))
+
+-- the lock with an id, among the locks of a repository
+abbrev pub lock_numbered : List ℕ → ℕ → World → Option Lock
+lock_numbered repo id world = find (λ l. l.id == id) (locks_of repo world)
+
+-- it is the same lock among all locks, whatever their order
+pub numbered_in : (world : World) (repo : List ℕ) (id : ℕ) → IsWorld world → lock_numbered repo id world ≡ find (model.has_id repo id) world.locks
+numbered_in world repo id w =
+    let numbered : Lock → Bool = λ l. l.id == id in
+    let in_repo : Lock → Bool = λ l. bytes_eq l.repo repo in
+    find_rising (λ (a b : Lock). nat_lt a.id b.id) numbered (filter in_repo world.locks)
+    (only_left numbered in_repo world.locks (only_of DiffersInId (model.has_id repo id) world.locks (one_number repo id) w.ids))
+    ∙ find_filter numbered in_repo world.locks
+
+pub number_found : (t : Tables) (world : World) (repo : List ℕ) (id : ℕ) → Represents t world → IsWorld world
+    → option_map lock_kept (find (has_id repo (pos id)) t.locks) ≡ option_map lock_row (lock_numbered repo id world)
+number_found t world repo id s w =
+    same_found lock_kept lock_row (has_id repo (pos id)) DiffersInId t.locks world.locks s.locks
+    (λ x y differ a b. one_number repo id x y differ (sym (row_numbered repo id x) ∙ a) (sym (row_numbered repo id y) ∙ b)) w.ids
+    ∙ ap (option_map lock_row) (find_alike (λ l. has_id repo (pos id) (lock_row l)) (model.has_id repo id) world.locks (row_numbered repo id)
+    ∙ sym (numbered_in world repo id w))
+
+-- ---- by a digest
 
 one_digest : (text : List ℕ) → Excludes (λ (i : Token). bytes_eq (sha256 i.text) (sha256 text)) DiffersInDigest
 one_digest text x y differ a b = differ (same_is (sha256 x.text) (sha256 text) a ∙ sym (same_is (sha256 y.text) (sha256 text) b))

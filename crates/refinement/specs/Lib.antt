@@ -1,3 +1,4 @@
 pub mod Representation
 pub mod Left
 pub mod Opening
+pub mod Removal

@@ -5,6 +5,7 @@
 //! | `schema_compare` | `schema_compare_tests` |
 //! | `tables` | `tables_tests` |
 //! | `tokens` | `tokens_tests` |
+//! | `locks` | `locks_tests` |
 //! | `desk` | `desk_tests` |
 //! | `service` | `service_tests` |
 //! | `cli` | `program_tests` |
@@ -17,6 +18,8 @@
 mod desk_tests;
 #[cfg(test)]
 mod harness;
+#[cfg(test)]
+mod locks_tests;
 #[cfg(test)]
 mod program_tests;
 #[cfg(test)]

@@ -1,0 +1,24 @@
+use Rattle.std.proofs.Common.{◌≡◌, filter, map}
+use Rattle.std.proofs.lemmas.Result.{IfOk-weaker}
+use Rattle.names.specs.Names.{repo_text}
+use Rattle.model.specs.RepoState.{locks_of}
+use Rattle.tables.specs.Shown.{shown, IsOpen}
+use Rattle.tables.specs.Statements.{is_in, by_id}
+use Rattle.tables.specs.Steps.{AreLocksOf}
+use Rattle.locks.specs.Finding.{lock_seen}
+use Rattle.locks.proofs.Found.{locks_seen}
+use Rattle.locks.proofs.finding.all.Goals as goal
+
+pub returns-clause-world : goal.returns-clause-world
+returns-clause-world g c = record {
+  same = c.locks_in.ensures.same;
+  adds = c.locks_in.ensures.adds;
+  each = λ honest world h.
+      let t = shown g.S.Store c.args.store.now in
+      let repo = repo_text c.args.repo.now in
+      IfOk-weaker c.locks_in.result
+      (λ found. IsOpen g.S.Store c.args.store.now × AreLocksOf found.items (by_id (filter (is_in repo) t.locks)))
+      (λ found. map (lock_seen repo) found.items ≡ locks_of repo world)
+      (λ found is. locks_seen t world repo found.items (h.shows (c.locks_in.ensures.same.was_honest honest) is.0) h.laws is.1)
+      (c.locks_in.ensures.answers honest h.ready);
+}

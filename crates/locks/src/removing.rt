@@ -1,0 +1,27 @@
+//! Removes locks.
+
+ghost use Rattle.std.specs.Prelude.{◌≢◌, Err};
+ghost use Rattle.names.specs.Names.{repo_text};
+ghost use Rattle.refinement.specs.Left.{From};
+ghost use Rattle.locks.specs.Removing.{Removes};
+
+use names::{LockId, RepoName};
+use tables::{Alter, Store, StoreFault};
+
+/// Removes the lock with the id, and returns whether there was one. Its id is not used again.
+///
+/// # Errors
+///
+/// `Refused` or `Memory`, which leave the contents of the store unchanged; but the lock may be gone
+/// after a stop.
+pub fn remove<S: Alter>(
+    store: &mut Store<S>,
+    repo: &RepoName,
+    id: LockId,
+) -> Result<bool, StoreFault>
+    ensures known { result ≢ Err StoreFault.UnknownSchema }
+    ensures world { From S.Store store.old store.new (λ world.
+        Removes S.Store world (repo_text repo.now) id store.old store.new result) }
+{
+    Ok(store.remove_lock(repo, id)? > 0)
+}

@@ -1,0 +1,188 @@
+-- The rows of a repository's locks in the order of their ids, and the locks of the world.
+use Rattle.std.proofs.Common.{◌≡◌, ◌∙◌, ◌<◌, ℕ, zero, suc, ℤ, pos, ◌≤ℤ◌, Bool, true, false, ◌&&◌, nat_le, nat_lt, cond, List, [], ◌∷◌, map, filter, bytes_eq, refl, sym, ap, subst, IsPermutation, arith, Ordering, Less, Equal, Greater, is_lt, is_gt, IsSorted, add-one}
+use Rattle.std.specs.Prelude.{int_le}
+use Rattle.std.specs.Bool.{⊤}
+use Rattle.std.specs.List.{AllByRecursion}
+use Rattle.std.specs.Ordering.{int_cmp, ordering_then}
+use Rattle.std.specs.Cmp.{IsTotalOrder}
+use Rattle.std.proofs.lemmas.Bool.Decides.{nat_tests}
+use Rattle.std.proofs.lemmas.Int.{ints}
+use Rattle.std.proofs.lemmas.Cmp.{int_cmp_total, on_total}
+use Rattle.std.proofs.lemmas.List.Sorted.{IsPermutation-map, IsPermutation-trans, IsPermutation-sym, IsPermutation-refl, IsPermutation-cons, IsPermutation-middle}
+use Rattle.std.proofs.lemmas.Map.Text.{is_eq-slice_cmp}
+use Rattle.sqlite_trees.specs.Tree.{IsAscending}
+use Rattle.sqlite_trees.proofs.ListLemmas.{IsPermutation-filter, filter-map}
+use Rattle.sqlite_keyed.specs.Lists.{insert_sorted}
+use Rattle.sqlite_keyed.proofs.SortLemmas.{sorted_unique}
+use Rattle.model.specs.Orders.{insert_by, sort_by}
+use Rattle.model.specs.World.{World, IsWorld, Lock}
+use Rattle.model.specs.RepoState.{locks_of}
+use Rattle.model.specs.Pages.{IsBelow}
+use Rattle.model.proofs.Lists.{each_filter}
+use Rattle.model.proofs.Pages.{Rise, rise_from, locks_rise}
+use Rattle.tables.specs.Rows as row
+use Rattle.tables.specs.Rows.{Tables}
+use Rattle.tables.specs.Statements.{is_in, is_from, id_cmp, by_id}
+use Rattle.refinement.specs.Representation.{lock_kept, lock_row, Represents}
+use Rattle.refinement.proofs.Tokens.{filter_alike}
+
+-- ---- the order of the definitions only moves elements
+
+inserted : {A : Type 0} (before : A → A → Bool) (x : A) (ys : List A) → IsPermutation (insert_by before x ys) (x ∷ ys)
+inserted before x [] = IsPermutation-refl _
+inserted {A} before x (y ∷ ys) = at (before x y) (inserted before x ys)
+  where
+    at : (v : Bool) → IsPermutation (insert_by before x ys) (x ∷ ys) → IsPermutation (cond v (x ∷ y ∷ ys) (y ∷ insert_by before x ys)) (x ∷ y ∷ ys)
+    at true rest = IsPermutation-refl _
+    at false rest = IsPermutation-trans _ _ _ (IsPermutation-cons y _ _ rest) (IsPermutation-middle (y ∷ []) x ys)
+
+was_sorted : {A : Type 0} (before : A → A → Bool) (xs : List A) → IsPermutation (sort_by before xs) xs
+was_sorted before [] = IsPermutation-refl _
+was_sorted before (x ∷ xs) = IsPermutation-trans _ _ _ (inserted before x (sort_by before xs)) (IsPermutation-cons x _ _ (was_sorted before xs))
+
+-- ---- the rows rise by their ids
+
+abbrev AreRising : List row.Lock → Type 0
+AreRising [] = ⊤
+AreRising (x ∷ xs) = AllByRecursion (λ y. x.id ≤ℤ y.id) xs × AreRising xs
+
+all_inserted : (P : row.Lock → Type 0) (new : row.Lock) (xs : List row.Lock) → P new → AllByRecursion P xs → AllByRecursion P (insert_sorted id_cmp new xs)
+all_inserted P new [] h all = (h, tt)
+all_inserted P new (x ∷ xs) h all = at (is_gt (id_cmp new x)) (all_inserted P new xs h all.1)
+  where
+    at : (v : Bool) → AllByRecursion P (insert_sorted id_cmp new xs) → AllByRecursion P (cond v (x ∷ insert_sorted id_cmp new xs) (new ∷ x ∷ xs))
+    at true rest = (all.0, rest)
+    at false rest = (h, all)
+
+after_by : (a b c d : ℤ) → is_gt (ordering_then (int_cmp a b) (int_cmp c d)) ≡ true → b ≤ℤ a
+after_by a b c d h = grind (arith, ints)
+
+before_by : (a b c d : ℤ) → is_gt (ordering_then (int_cmp a b) (int_cmp c d)) ≡ false → a ≤ℤ b
+before_by a b c d h = grind (arith, ints)
+
+up_to : (a b c : ℤ) → a ≤ℤ b → b ≤ℤ c → a ≤ℤ c
+up_to a b c p q = omega (arith, ints, p, q)
+
+all_above : (a b : ℤ) (xs : List row.Lock) → a ≤ℤ b → AllByRecursion (λ y. b ≤ℤ y.id) xs → AllByRecursion (λ y. a ≤ℤ y.id) xs
+all_above a b [] p all = tt
+all_above a b (x ∷ xs) p all = (up_to a b x.id p all.0, all_above a b xs p all.1)
+
+insert_rises : (new : row.Lock) (xs : List row.Lock) → AreRising xs → AreRising (insert_sorted id_cmp new xs)
+insert_rises new [] up = (tt, tt)
+insert_rises new (x ∷ xs) up = at (is_gt (id_cmp new x)) refl (insert_rises new xs up.1)
+  where
+    at : (v : Bool) → is_gt (id_cmp new x) ≡ v → AreRising (insert_sorted id_cmp new xs) → AreRising (cond v (x ∷ insert_sorted id_cmp new xs) (new ∷ x ∷ xs))
+    at true e rest = (all_inserted (λ y. x.id ≤ℤ y.id) new xs (after_by new.id x.id new.rowid x.rowid e) up.0, rest)
+    at false e rest = let low = before_by new.id x.id new.rowid x.rowid e in ((low, all_above new.id x.id xs low up.0), up)
+
+by_id_rises : (xs : List row.Lock) → AreRising (by_id xs)
+by_id_rises [] = tt
+by_id_rises (x ∷ xs) = insert_rises x (by_id xs) (by_id_rises xs)
+
+placed_row : (new : row.Lock) (xs : List row.Lock) → IsPermutation (insert_sorted id_cmp new xs) (new ∷ xs)
+placed_row new [] = IsPermutation-refl _
+placed_row new (x ∷ xs) = at (is_gt (id_cmp new x)) (placed_row new xs)
+  where
+    at : (v : Bool) → IsPermutation (insert_sorted id_cmp new xs) (new ∷ xs) → IsPermutation (cond v (x ∷ insert_sorted id_cmp new xs) (new ∷ x ∷ xs)) (new ∷ x ∷ xs)
+    at true rest = IsPermutation-trans _ _ _ (IsPermutation-cons x _ _ rest) (IsPermutation-middle (x ∷ []) new xs)
+    at false rest = IsPermutation-refl _
+
+by_id_moves : (xs : List row.Lock) → IsPermutation (by_id xs) xs
+by_id_moves [] = IsPermutation-refl _
+by_id_moves (x ∷ xs) = IsPermutation-trans _ _ _ (placed_row x (by_id xs)) (IsPermutation-cons x _ _ (by_id_moves xs))
+
+-- ---- one order
+
+abbrev row_cmp : row.Lock → row.Lock → Ordering
+row_cmp a b = int_cmp a.id b.id
+
+row_total : IsTotalOrder row_cmp
+row_total = on_total (λ (l : row.Lock). l.id) int_cmp_total
+
+less : (a b : ℕ) → a < b → int_cmp (pos a) (pos b) ≡ Less
+less a b h = grind (arith, ints)
+
+all_less : (x : Lock) (ls : List Lock) → AllByRecursion (IsBelow x) ls → AllByRecursion (λ r. row_cmp (lock_row x) r ≡ Less) (map lock_row ls)
+all_less x [] all = tt
+all_less x (y ∷ ys) all = (less x.id y.id all.0, all_less x ys all.1)
+
+strict : (ls : List Lock) → Rise ls → IsAscending (λ a b. row_cmp a b ≡ Less) (map lock_row ls)
+strict [] up = tt
+strict (x ∷ xs) up = (all_less x xs up.0, strict xs up.1)
+
+not_less : (a b : ℤ) → a ≤ℤ b → is_lt (int_cmp b a) ≡ false
+not_less a b h = grind (arith, ints)
+
+sorted_kept : (ls : List row.Lock) → AreRising ls → IsSorted row_cmp (map lock_kept ls)
+sorted_kept [] up k d p q = absurd (omega (arith, q))
+sorted_kept (x ∷ []) up zero d p q = absurd (omega (arith, q))
+sorted_kept (x ∷ []) up (suc k) d p q = absurd (omega (arith, q))
+sorted_kept (x ∷ y ∷ ys) up zero d p q = not_less x.id y.id up.0.0
+sorted_kept (x ∷ y ∷ ys) up (suc k) d p q = rw add-one (rw add-one at (sorted_kept (y ∷ ys) up.1 k d (omega arith) (omega arith)))
+
+-- ---- the locks of a repository
+
+module _ (P : row.Lock → Bool) (Q : Lock → Bool) (alike : (l : Lock) → P (lock_row l) ≡ Q l) (blind : (r : row.Lock) → P (lock_kept r) ≡ P r) where
+  same_rows : (t : Tables) (world : World) → Represents t world → IsPermutation (map lock_row (filter Q world.locks)) (map lock_kept (filter P t.locks))
+  same_rows t world s =
+      let left : filter P (map lock_row world.locks) ≡ map lock_row (filter Q world.locks) = filter-map P lock_row world.locks ∙ ap (map lock_row) (filter_alike (λ l. P (lock_row l)) Q world.locks alike) in
+      let right : filter P (map lock_kept t.locks) ≡ map lock_kept (filter P t.locks) = filter-map P lock_kept t.locks ∙ ap (map lock_kept) (filter_alike (λ r. P (lock_kept r)) P t.locks blind) in
+      let rows = IsPermutation-sym (filter P (map lock_kept t.locks)) (filter P (map lock_row world.locks)) (IsPermutation-filter P (map lock_kept t.locks) (map lock_row world.locks) s.locks) in
+      subst (λ (xs : List row.Lock). IsPermutation (map lock_row (filter Q world.locks)) xs) right
+      (subst (λ (xs : List row.Lock). IsPermutation xs (filter P (map lock_kept t.locks))) left rows)
+
+  -- the rows in rising ids are those of the locks in rising ids
+  rows_rise : (t : Tables) (world : World) (locks : List Lock) → Represents t world → Rise locks → IsPermutation locks (filter Q world.locks)
+      → map lock_kept (by_id (filter P t.locks)) ≡ map lock_row locks
+  rows_rise t world locks s rise same =
+      let rows = filter P t.locks in
+      let some = filter Q world.locks in
+      sorted_unique row_cmp row_total (map lock_row locks) (map lock_kept (by_id rows)) (strict locks rise)
+      (IsPermutation-trans (map lock_row locks) (map lock_row some) (map lock_kept (by_id rows)) (IsPermutation-map lock_row locks some same)
+      (IsPermutation-trans (map lock_row some) (map lock_kept rows) (map lock_kept (by_id rows)) (same_rows t world s)
+      (IsPermutation-map lock_kept rows (by_id rows) (IsPermutation-sym (by_id rows) rows (by_id_moves rows)))))
+      (sorted_kept (by_id rows) (by_id_rises rows))
+
+in_alike : (repo : List ℕ) (l : Lock) → is_in repo (lock_row l) ≡ bytes_eq l.repo repo
+in_alike repo l = is_eq-slice_cmp l.repo repo
+
+-- the rows of the repository, in rising ids
+pub all_rows : (t : Tables) (world : World) (repo : List ℕ) → Represents t world → IsWorld world
+    → map lock_kept (by_id (filter (is_in repo) t.locks)) ≡ map lock_row (locks_of repo world)
+all_rows t world repo s w =
+    rows_rise (is_in repo) (λ l. bytes_eq l.repo repo) (in_alike repo) (λ r. refl) t world (locks_of repo world) s (rise_from (locks_of repo world) (locks_rise world repo w))
+    (was_sorted (λ a b. nat_lt a.id b.id) (filter (λ l. bytes_eq l.repo repo) world.locks))
+
+int_le_pos : (a b : ℕ) → int_le (pos a) (pos b) ≡ nat_le a b
+int_le_pos a b = grind (arith, nat_tests)
+
+from_alike : (repo : List ℕ) (id : ℕ) (l : Lock) → is_from repo (pos id) (lock_row l) ≡ (bytes_eq l.repo repo && nat_le id l.id)
+from_alike repo id l = rw (is_eq-slice_cmp l.repo repo, int_le_pos id l.id) refl
+
+filter_both : {A : Type 0} (p q : A → Bool) (xs : List A) → filter q (filter p xs) ≡ filter (λ x. p x && q x) xs
+filter_both p q [] = refl
+filter_both {A} p q (x ∷ xs) = at (p x) (filter_both p q xs)
+  where
+    at : (v : Bool) → filter q (filter p xs) ≡ filter (λ y. p y && q y) xs
+        → filter q (cond v (x ∷ filter p xs) (filter p xs)) ≡ cond (v && q x) (x ∷ filter (λ y. p y && q y) xs) (filter (λ y. p y && q y) xs)
+    at true rest = ap (λ ys. cond (q x) (x ∷ ys) ys) rest
+    at false rest = rest
+
+rise_filter : (p : Lock → Bool) (xs : List Lock) → Rise xs → Rise (filter p xs)
+rise_filter p [] up = tt
+rise_filter p (x ∷ xs) up = at (p x) (rise_filter p xs up.1)
+  where
+    at : (v : Bool) → Rise (filter p xs) → Rise (cond v (x ∷ filter p xs) (filter p xs))
+    at true rest = (each_filter (IsBelow x) p xs up.0, rest)
+    at false rest = rest
+
+-- the rows of the repository from an id on, in rising ids
+pub rows_from : (t : Tables) (world : World) (repo : List ℕ) (id : ℕ) → Represents t world → IsWorld world
+    → map lock_kept (by_id (filter (is_from repo (pos id)) t.locks)) ≡ map lock_row (filter (λ l. nat_le id l.id) (locks_of repo world))
+rows_from t world repo id s w =
+    let own : Lock → Bool = λ l. bytes_eq l.repo repo in
+    let late : Lock → Bool = λ l. nat_le id l.id in
+    rows_rise (is_from repo (pos id)) (λ l. own l && late l) (from_alike repo id) (λ r. refl) t world (filter late (locks_of repo world)) s
+    (rise_filter late (locks_of repo world) (rise_from (locks_of repo world) (locks_rise world repo w)))
+    (subst (IsPermutation (filter late (locks_of repo world))) (filter_both own late world.locks)
+    (IsPermutation-filter late (locks_of repo world) (filter own world.locks) (was_sorted (λ a b. nat_lt a.id b.id) (filter own world.locks))))
