@@ -1,5 +1,5 @@
 -- A request for a lock.
-use Rattle.std.specs.Prelude.{◌≡◌, ◌+◌, ℕ, nat_lt, List, [], Some, Ok, Err, ⊤}
+use Rattle.std.specs.Prelude.{◌≡◌, ◌+◌, ℕ, nat_lt, Some, Ok, Err, ⊤}
 use Rattle.names.specs.Names.{repo_text, ref_text, path_text, user_text}
 use Rattle.names.specs.Texts.{last_lock_id}
 use Rattle.names.specs.declared.rules.Rule.TheVariants.{L5}
