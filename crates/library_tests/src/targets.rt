@@ -8,11 +8,17 @@ use routes::{Resource, Routes, path_of, query_of};
 const LOCKS: &[(&str, &str, &str)] = &[
     ("/studio/film.git/info/lfs/locks", "studio", "film"),
     ("/studio/film.git/info/lfs/locks?", "studio", "film"),
+    ("/studio/film.git/info/lfs/locks?a", "studio", "film"),
     ("/studio/film.git/info/lfs/locks?a=/b?c", "studio", "film"),
     ("/a/b.git.git/info/lfs/locks", "a", "b.git"),
     ("/a/.git/info/lfs/locks", "a", ""),
     // Not valid names, and yet a route.
     ("/STUDIO/%66ilm.git/info/lfs/locks", "STUDIO", "%66ilm"),
+    (
+        "/STUDIO/%66ilm.git.git/info/lfs/locks",
+        "STUDIO",
+        "%66ilm.git",
+    ),
     ("/../...git/info/lfs/locks", "..", ".."),
     ("/{owner}/{name}.git/info/lfs/locks", "{owner}", "{name}"),
     ("/info/lfs.git/info/lfs/locks", "info", "lfs"),
