@@ -1,5 +1,5 @@
 -- The rows that are found are locks of the world.
-use Rattle.std.proofs.Common.{◌≡◌, ◌∙◌, ℕ, pos, List, Option, Some, None, option_map, IfSome, find, map, filter, take, zero, suc, nat_le, [], ◌∷◌, refl, sym, ap, ap₂, subst}
+use Rattle.std.proofs.Common.{◌≡◌, ◌∙◌, ℕ, pos, List, Option, Some, None, option_map, IfSome, find, map, filter, take, zero, suc, nat_le, [], ◌∷◌, refl, sym, ap, ap₂}
 use Rattle.model.specs.World.{World, IsWorld, Lock}
 use Rattle.tables.specs.Rows as row
 use Rattle.tables.specs.Rows.{Tables}

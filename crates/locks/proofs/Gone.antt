@@ -1,8 +1,8 @@
 -- From the result of removing a lock in the tables to the world without it.
-use Rattle.std.proofs.Common.{◌≡◌, ◌∙◌, ◌<◌, ℕ, pos, Bool, true, false, nat_lt, length, filter, List, Option, Some, None, is_some, Result, Ok, Err, IfOk, OnOk, OnErr, refl, sym, ap, subst}
+use Rattle.std.proofs.Common.{◌≡◌, ◌∙◌, ℕ, pos, Bool, true, false, nat_lt, length, filter, List, Option, Some, None, is_some, Ok, Err, refl, sym, subst}
 use Rattle.sqlite_trees.specs.declared.store.Store.{Ghosts}
 use Rattle.model.specs.World.{World, Lock}
-use Rattle.model.specs.Bounds.{Ending, changed, unchanged, failed, world_by}
+use Rattle.model.specs.Bounds.{changed, unchanged}
 use Rattle.tables.specs.Statements.{has_id, without_lock}
 use Rattle.tables.specs.Shown.{IsHonest, IsOpen, shown, Makes, Fails}
 use Rattle.tables.specs.declared.fault.StoreFault.{StoreFault}

@@ -1,12 +1,12 @@
 -- From the result of making a lock in the tables to the verdict on its place.
-use Rattle.std.proofs.Common.{◌≡◌, ◌∙◌, ◌<◌, ◌+◌, ℕ, pos, true, false, nat_lt, Some, None, Option, Result, Ok, Err, IfOk, OnOk, OnErr, IfSome, List, refl, sym, ap, subst, arith}
+use Rattle.std.proofs.Common.{◌≡◌, ◌∙◌, ◌<◌, ◌+◌, ℕ, pos, true, false, nat_lt, Some, None, Option, Result, Ok, Err, IfOk, OnOk, OnErr, IfSome, refl, sym, ap, subst, arith}
 use Rattle.std.proofs.lemmas.Bool.Decides.{nat_tests}
 use Rattle.sqlite_trees.specs.declared.store.Store.{Ghosts}
 use Rattle.names.specs.Names.{repo_text, ref_text, path_text}
 use Rattle.names.specs.Texts.{last_lock_id}
 use Rattle.names.specs.declared.rules.Rule.TheVariants.{L5}
 use Rattle.model.specs.World.{World, IsWorld, Lock, with_lock}
-use Rattle.model.specs.Answers.{Answer, makes_lock, by_lock, by_rule, store_refusal}
+use Rattle.model.specs.Answers.{Answer, makes_lock, by_lock, by_rule}
 use Rattle.model.specs.Steps.{after}
 use Rattle.model.specs.Bounds.{changed, unchanged}
 use Rattle.model.proofs.Keeping.{IsNewLock, counted_itself, keeps_with_lock}
@@ -21,13 +21,13 @@ use Rattle.tables.specs.declared.rows.Creation.{Creation}
 use Rattle.tables.specs.declared.rows.Creation.TheVariants.{Created, Held, UsedUp}
 use Rattle.refinement.specs.Representation.{Holds, Represents, lock_kept}
 use Rattle.refinement.specs.Left.{Gives}
-use Rattle.refinement.proofs.Lookups.{lock_in, found_own}
+use Rattle.refinement.proofs.Lookups.{found_own}
 use Rattle.refinement.proofs.Changes.{new_lock_represented}
 use Rattle.refinement.proofs.Outcomes.{outcome_number, outcome_created, outcome_held, outcome_used}
 use Rattle.refinement.proofs.Leading.{ends_made, ends_failed}
 use Rattle.refinement.proofs.Holding.{holds_if_held, holds_if_used, holds_created}
-use Rattle.locks.specs.Finding.{lock_seen}
-use Rattle.locks.specs.Creating.{lock_wanted, placed_verdict, answer_of, Creates}
+use Rattle.locks.specs.Finding.{lock_seen, lock_on}
+use Rattle.locks.specs.Creating.{lock_wanted, placed_verdict, Creates}
 use Rattle.locks.proofs.Found.{seen_is}
 
 less : (a b : ℕ) → a < b → nat_lt a b ≡ true
@@ -36,7 +36,7 @@ less a b h = grind (arith, nat_tests)
 module _ (world : World) (w : NewLock) where
   -- the lock on the path of the attempt
   abbrev there : Option Lock
-  there = lock_in (repo_text w.repo.now) (ref_text w.ref_name.now) (path_text w.path.now) world
+  there = lock_on (repo_text w.repo.now) (ref_text w.ref_name.now) (path_text w.path.now) world
 
   granted : there ≡ None → nat_lt (world.made (repo_text w.repo.now)) last_lock_id ≡ true → placed_verdict world w ≡ Ok (makes_lock (lock_wanted world w))
   granted free left = rw (free, left) refl

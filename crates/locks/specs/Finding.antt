@@ -1,9 +1,10 @@
 -- The locks that are found.
-use Rattle.std.specs.Prelude.{ℕ, ◌&&◌, ◌==◌, List, find, Option, bytes_eq}
+use Rattle.std.specs.Prelude.{ℕ, List}
 use Rattle.names.specs.Names.{ref_text, path_text, user_text}
-use Rattle.model.specs.World.{World, Lock}
-use Rattle.model.specs.RepoState.{locks_of}
+use Rattle.model.specs.World.{Lock}
 use Rattle.tables.specs.declared.rows.LockRow.{LockRow}
+-- the lock on a path of a ref, and the lock with an id
+pub use Rattle.refinement.specs.Lookup.{lock_on, lock_with}
 
 -- the row as a lock of the repository
 abbrev pub lock_seen : List ℕ → LockRow → Lock
@@ -15,11 +16,3 @@ lock_seen repo row = record {
   owner = user_text row.owner;
   at = row.moment;
 }
-
--- the repository's lock on the path of the ref
-abbrev pub lock_on : List ℕ → List ℕ → List ℕ → World → Option Lock
-lock_on repo ref path world = find (λ l. bytes_eq l.ref ref && bytes_eq l.path path) (locks_of repo world)
-
--- the repository's lock with the id
-abbrev pub lock_with : List ℕ → ℕ → World → Option Lock
-lock_with repo id world = find (λ l. l.id == id) (locks_of repo world)

@@ -2,7 +2,7 @@
 use Rattle.std.specs.Prelude.{◌≡◌, ℕ, true, false, List, is_some, Bool, Result, Ok, Err}
 use Rattle.sqlite_trees.specs.declared.store.Store.{Ghosts}
 use Rattle.model.specs.World.{World}
-use Rattle.model.specs.Bounds.{Ending, changed, unchanged, failed}
+use Rattle.model.specs.Bounds.{changed, unchanged, failed}
 use Rattle.tables.specs.declared.Store.{Store}
 use Rattle.tables.specs.declared.fault.StoreFault.{StoreFault}
 use Rattle.refinement.specs.Left.{Ends}

@@ -16,6 +16,7 @@ use Rattle.model.specs.RepoState.{locks_of}
 use Rattle.tables.specs.Rows.{Tables}
 use Rattle.tables.specs.Statements.{is_at, has_id, has_digest}
 use Rattle.refinement.specs.Representation.{lock_kept, token_kept, lock_row, token_row, Represents}
+use Rattle.refinement.specs.Lookup.{lock_on, lock_with}
 use Rattle.refinement.proofs.Found.{same_found, Excludes}
 
 find_alike : {A : Type 0} (p q : A → Bool) (xs : List A) → ((x : A) → p x ≡ q x) → find p xs ≡ find q xs
@@ -37,12 +38,8 @@ one_place repo ref path x y differ a b =
     let p = both_true _ _ a in let q = both_true _ _ b in let r = both_true _ _ p.1 in let s = both_true _ _ q.1 in
     differ (same_is x.repo repo p.0 ∙ sym (same_is y.repo repo q.0)) (same_is x.ref ref r.0 ∙ sym (same_is y.ref ref s.0)) (same_is x.path path r.1 ∙ sym (same_is y.path path s.1))
 
--- the lock on a path of a ref, among the locks of a repository
-abbrev pub lock_in : List ℕ → List ℕ → List ℕ → World → Option Lock
-lock_in repo ref path world = find (λ l. bytes_eq l.ref ref && bytes_eq l.path path) (locks_of repo world)
-
--- it is the same lock among all locks, whatever their order
-found_in : (world : World) (repo ref path : List ℕ) → IsWorld world → lock_in repo ref path world ≡ find (is_on repo ref path) world.locks
+-- the lock on a path of a ref is the same lock among all locks, whatever their order
+found_in : (world : World) (repo ref path : List ℕ) → IsWorld world → lock_on repo ref path world ≡ find (is_on repo ref path) world.locks
 found_in world repo ref path w =
     let on_place : Lock → Bool = λ l. bytes_eq l.ref ref && bytes_eq l.path path in
     let in_repo : Lock → Bool = λ l. bytes_eq l.repo repo in
@@ -51,7 +48,7 @@ found_in world repo ref path w =
     ∙ find_filter on_place in_repo world.locks
 
 pub lock_found : (t : Tables) (world : World) (repo ref path : List ℕ) → Represents t world → IsWorld world
-    → option_map lock_kept (find (is_at repo ref path) t.locks) ≡ option_map lock_row (lock_in repo ref path world)
+    → option_map lock_kept (find (is_at repo ref path) t.locks) ≡ option_map lock_row (lock_on repo ref path world)
 lock_found t world repo ref path s w =
     same_found lock_kept lock_row (is_at repo ref path) DiffersInPlace t.locks world.locks s.locks
     (λ x y differ a b. one_place repo ref path x y differ (sym (row_on repo ref path x) ∙ a) (sym (row_on repo ref path y) ∙ b)) w.places
@@ -82,12 +79,8 @@ one_number repo id x y differ a b =
     let p = both_true _ _ a in let q = both_true _ _ b in
     differ (same_is x.repo repo p.0 ∙ sym (same_is y.repo repo q.0)) (number_is x.id id p.1 ∙ sym (number_is y.id id q.1))
 
--- the lock with an id, among the locks of a repository
-abbrev pub lock_numbered : List ℕ → ℕ → World → Option Lock
-lock_numbered repo id world = find (λ l. l.id == id) (locks_of repo world)
-
--- it is the same lock among all locks, whatever their order
-pub numbered_in : (world : World) (repo : List ℕ) (id : ℕ) → IsWorld world → lock_numbered repo id world ≡ find (model.has_id repo id) world.locks
+-- the lock with an id is the same lock among all locks, whatever their order
+pub numbered_in : (world : World) (repo : List ℕ) (id : ℕ) → IsWorld world → lock_with repo id world ≡ find (model.has_id repo id) world.locks
 numbered_in world repo id w =
     let numbered : Lock → Bool = λ l. l.id == id in
     let in_repo : Lock → Bool = λ l. bytes_eq l.repo repo in
@@ -96,7 +89,7 @@ numbered_in world repo id w =
     ∙ find_filter numbered in_repo world.locks
 
 pub number_found : (t : Tables) (world : World) (repo : List ℕ) (id : ℕ) → Represents t world → IsWorld world
-    → option_map lock_kept (find (has_id repo (pos id)) t.locks) ≡ option_map lock_row (lock_numbered repo id world)
+    → option_map lock_kept (find (has_id repo (pos id)) t.locks) ≡ option_map lock_row (lock_with repo id world)
 number_found t world repo id s w =
     same_found lock_kept lock_row (has_id repo (pos id)) DiffersInId t.locks world.locks s.locks
     (λ x y differ a b. one_number repo id x y differ (sym (row_numbered repo id x) ∙ a) (sym (row_numbered repo id y) ∙ b)) w.ids

@@ -12,7 +12,8 @@ use Rattle.tables.specs.Rows.{Tables}
 use Rattle.tables.specs.Statements.{is_at}
 use Rattle.tables.specs.Steps.{LockFields, lock_fields, made_of, held, used_up, created, outcome_by, outcome_of, greatest_id}
 use Rattle.refinement.specs.Representation.{lock_kept, lock_row, Represents}
-use Rattle.refinement.proofs.Lookups.{lock_found, lock_in}
+use Rattle.refinement.specs.Lookup.{lock_on}
+use Rattle.refinement.proofs.Lookups.{lock_found}
 
 created_by : (o : Option row.Lock) (made n : ℤ) → created n ≡ outcome_by o made → (o ≡ None) × (int_eq made greatest_id ≡ false) × (n ≡ made +ℤ pos 1)
 created_by (Some l) made n e = absurd (cc)
@@ -65,27 +66,27 @@ all_made made n e is =
     let same : n ≡ last_lock_id = omega (arith, ints, last) in ap (λ k. nat_lt k last_lock_id) same
 
 pub outcome_created : (t : Tables) (world : World) (asked : row.Lock) (n : ℕ) → Represents t world → IsWorld world → created (pos n) ≡ outcome_of asked t
-    → (lock_in asked.repo asked.ref_name asked.path world ≡ None) × (world.made asked.repo < last_lock_id) × (n ≡ world.made asked.repo + 1)
+    → (lock_on asked.repo asked.ref_name asked.path world ≡ None) × (world.made asked.repo < last_lock_id) × (n ≡ world.made asked.repo + 1)
 outcome_created t world asked n s w e =
     let by = created_by (find (is_at asked.repo asked.ref_name asked.path) t.locks) (made_of asked.repo t) (pos n) e in
     let count : pos n ≡ pos (world.made asked.repo) +ℤ pos 1 = by.2 ∙ ap (λ m. m +ℤ pos 1) (s.made asked.repo) in (
-      none_there _ (lock_in asked.repo asked.ref_name asked.path world) by.0 (lock_found t world asked.repo asked.ref_name asked.path s w),
+      none_there _ (lock_on asked.repo asked.ref_name asked.path world) by.0 (lock_found t world asked.repo asked.ref_name asked.path s w),
       below_last (made_of asked.repo t) (world.made asked.repo) (s.made asked.repo) (w.made asked.repo) by.1,
       omega (arith, ints, count),
     )
 
 pub outcome_held : (t : Tables) (world : World) (asked : row.Lock) (f : LockFields) → Represents t world → IsWorld world → held f ≡ outcome_of asked t
-    → (l : Lock) × (lock_in asked.repo asked.ref_name asked.path world ≡ Some l) × (f ≡ lock_fields (lock_row l))
+    → (l : Lock) × (lock_on asked.repo asked.ref_name asked.path world ≡ Some l) × (f ≡ lock_fields (lock_row l))
 outcome_held t world asked f s w e =
     let by = held_by (find (is_at asked.repo asked.ref_name asked.path) t.locks) (made_of asked.repo t) f e in
-    let there = some_there _ (lock_in asked.repo asked.ref_name asked.path world) by.0 by.1 (lock_found t world asked.repo asked.ref_name asked.path s w) in
+    let there = some_there _ (lock_on asked.repo asked.ref_name asked.path world) by.0 by.1 (lock_found t world asked.repo asked.ref_name asked.path s w) in
     (there.0, there.1, by.2 ∙ ap lock_fields there.2)
 
 pub outcome_used : (t : Tables) (world : World) (asked : row.Lock) → Represents t world → IsWorld world → used_up ≡ outcome_of asked t
-    → (lock_in asked.repo asked.ref_name asked.path world ≡ None) × (nat_lt (world.made asked.repo) last_lock_id ≡ false)
+    → (lock_on asked.repo asked.ref_name asked.path world ≡ None) × (nat_lt (world.made asked.repo) last_lock_id ≡ false)
 outcome_used t world asked s w e =
     let by = used_by (find (is_at asked.repo asked.ref_name asked.path) t.locks) (made_of asked.repo t) e in (
-      none_there _ (lock_in asked.repo asked.ref_name asked.path world) by.0 (lock_found t world asked.repo asked.ref_name asked.path s w),
+      none_there _ (lock_on asked.repo asked.ref_name asked.path world) by.0 (lock_found t world asked.repo asked.ref_name asked.path s w),
       all_made (made_of asked.repo t) (world.made asked.repo) (s.made asked.repo) by.1,
     )
 

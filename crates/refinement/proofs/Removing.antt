@@ -15,7 +15,8 @@ use Rattle.tables.specs.Shown.{shown, Moves}
 use Rattle.tables.specs.declared.Store.{Store}
 use Rattle.refinement.specs.Removal.{without_found}
 use Rattle.refinement.specs.Representation.{Represents, Holds, lock_kept, lock_row}
-use Rattle.refinement.proofs.Lookups.{lock_numbered, numbered_in, number_found, found_own, row_numbered}
+use Rattle.refinement.specs.Lookup.{lock_with}
+use Rattle.refinement.proofs.Lookups.{numbered_in, number_found, found_own, row_numbered}
 use Rattle.refinement.proofs.Tokens.{filter_alike, some_alike}
 
 -- the world without the locks of the repository that have the id
@@ -56,10 +57,10 @@ all_stay {A} p (x ∷ xs) none = at (p x) (all_stay p xs) none
 same_id : (a b : ℕ) → (a == b) ≡ true → a ≡ b
 same_id a b h = grind (arith, nat_tests)
 
-dropped_is : (world : World) (repo : List ℕ) (id : ℕ) → IsWorld world → dropped repo id world ≡ without_found (lock_numbered repo id world) world
-dropped_is world repo id w = at (lock_numbered repo id world) refl
+dropped_is : (world : World) (repo : List ℕ) (id : ℕ) → IsWorld world → dropped repo id world ≡ without_found (lock_with repo id world) world
+dropped_is world repo id w = at (lock_with repo id world) refl
   where
-    at : (o : Option Lock) → lock_numbered repo id world ≡ o → dropped repo id world ≡ without_found o world
+    at : (o : Option Lock) → lock_with repo id world ≡ o → dropped repo id world ≡ without_found o world
     at None e = ap (λ (ls : List Lock). record world { locks = ls }) (all_stay (model.has_id repo id) world.locks (sym (numbered_in world repo id w) ∙ e))
     at (Some l) e =
         let numbered : Lock → Bool = λ k. k.id == id in
@@ -69,7 +70,7 @@ dropped_is world repo id w = at (lock_numbered repo id world) refl
 
 -- the world without the lock of an id is a world, and the tables without its row represent it
 pub would_remove : (t : Tables) (world : World) (repo : List ℕ) (id : ℕ) → Represents t world → IsWorld world
-    → IsWorld (without_found (lock_numbered repo id world) world) × Represents (without_lock repo (pos id) t) (without_found (lock_numbered repo id world) world)
+    → IsWorld (without_found (lock_with repo id world) world) × Represents (without_lock repo (pos id) t) (without_found (lock_with repo id world) world)
 would_remove t world repo id s w =
     let is = dropped_is world repo id w in (
       subst IsWorld is (keeps_dropped repo id world w),
@@ -87,17 +88,17 @@ some_pass {A} p (x ∷ xs) = at (p x) (some_pass p xs)
 
 -- a row is removed exactly if the world has the lock
 pub removed_any : (t : Tables) (world : World) (repo : List ℕ) (id n : ℕ) → Represents t world → IsWorld world → n ≡ length (filter (has_id repo (pos id)) t.locks)
-    → nat_lt 0 n ≡ is_some (lock_numbered repo id world)
+    → nat_lt 0 n ≡ is_some (lock_with repo id world)
 removed_any t world repo id n s w e =
     ap (nat_lt 0) e ∙ some_pass (has_id repo (pos id)) t.locks
-    ∙ some_alike lock_kept lock_row (find (has_id repo (pos id)) t.locks) (lock_numbered repo id world) (number_found t world repo id s w)
+    ∙ some_alike lock_kept lock_row (find (has_id repo (pos id)) t.locks) (lock_with repo id world) (number_found t world repo id s w)
 
 -- the lock with the id is removed
 pub holds_removed : {S : Type 0} (g : Ghosts S) (old new : Store S) (world : World) (repo : List ℕ) (id : ℕ) → Moves g (without_lock repo (pos id)) old new → Holds g old world
-    → Holds g new (without_found (lock_numbered repo id world) world)
+    → Holds g new (without_found (lock_with repo id world) world)
 holds_removed g old new world repo id moves h = record {
   ready = moves.ready h.ready;
   laws = subst IsWorld (dropped_is world repo id h.laws) (keeps_dropped repo id world h.laws);
-  shows = λ honest open_now. subst (λ (t : Tables). Represents t (without_found (lock_numbered repo id world) world)) (sym (moves.shows honest h.ready open_now))
+  shows = λ honest open_now. subst (λ (t : Tables). Represents t (without_found (lock_with repo id world) world)) (sym (moves.shows honest h.ready open_now))
       (would_remove (shown g old) world repo id (h.shows (moves.was_honest honest) (moves.was_open honest open_now)) h.laws).1;
 }

@@ -1,5 +1,5 @@
 -- The rows of a repository's locks in the order of their ids, and the locks of the world.
-use Rattle.std.proofs.Common.{◌≡◌, ◌∙◌, ◌<◌, ℕ, zero, suc, ℤ, pos, ◌≤ℤ◌, Bool, true, false, ◌&&◌, nat_le, nat_lt, cond, List, [], ◌∷◌, map, filter, bytes_eq, refl, sym, ap, subst, IsPermutation, arith, Ordering, Less, Equal, Greater, is_lt, is_gt, IsSorted, add-one}
+use Rattle.std.proofs.Common.{◌≡◌, ◌∙◌, ◌<◌, ℕ, zero, suc, ℤ, pos, ◌≤ℤ◌, Bool, true, false, ◌&&◌, nat_le, nat_lt, cond, List, [], ◌∷◌, map, filter, bytes_eq, refl, ap, subst, IsPermutation, arith, Ordering, Less, is_lt, is_gt, IsSorted, add-one}
 use Rattle.std.specs.Prelude.{int_le}
 use Rattle.std.specs.Bool.{⊤}
 use Rattle.std.specs.List.{AllByRecursion}

@@ -1,4 +1,4 @@
-use Rattle.std.proofs.Common.{◌≡◌, ◌∙◌, pos, ℕ}
+use Rattle.std.proofs.Common.{◌≡◌, ◌∙◌, pos}
 use Rattle.std.proofs.lemmas.Result.{IfOk-weaker}
 use Rattle.names.specs.Names.{repo_text}
 use Rattle.tables.specs.Shown.{shown, IsOpen}

@@ -1,0 +1,6 @@
+pub mod Joined
+pub mod Ending
+pub mod Parted
+pub mod Walked
+pub mod Read
+pub mod Seen

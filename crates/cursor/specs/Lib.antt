@@ -1,0 +1,4 @@
+pub mod Wanted
+pub mod Paging
+pub mod Owners
+pub mod Walking
