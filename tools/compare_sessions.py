@@ -21,7 +21,7 @@ import time
 sys.dont_write_bytecode = True
 from protocol_reading import REQUESTS, Refused, Server, denial
 
-SERVED = {"Lock"}
+SERVED = {"Lock", "List", "VerifyLocks", "Unlock"}
 POLICY = """base = "https://lfs.example"
 token_seconds = 3600
 
@@ -35,12 +35,14 @@ name = "a/b"
 default_ref = "refs/x"
 quota = 0
 """
-# Rows by which most locks are allowed: effect, users, repositories, refs, paths, rights.
+# Rows by which most requests are allowed: effect, users, repositories, refs, paths, rights.
 USUAL_ROWS = [
     ("deny", ["bob"], ["studio/film"], ["refs/heads/release/"], ["*"], ["lock", "push"]),
-    ("deny", ["*"], ["*"], ["*"], ["secret/", "art/x"], ["lock"]),
-    ("allow", ["ann"], ["*"], ["*"], ["*"], ["lock", "list"]),
-    ("allow", ["bob"], ["studio/"], ["refs/heads/main", "refs/heads/release"], ["art/", "a"], ["lock"]),
+    ("deny", ["*"], ["*"], ["*"], ["secret/"], ["lock"]),
+    ("deny", ["bob"], ["*"], ["*"], ["art/x"], ["lock", "list", "force"]),
+    ("allow", ["ann"], ["*"], ["*"], ["*"], ["lock", "list", "pull", "push"]),
+    ("allow", ["bob"], ["studio/"], ["refs/heads/main", "refs/heads/release"], ["art/", "a"], ["lock", "force"]),
+    ("allow", ["bob"], ["studio/"], ["*"], ["*"], ["pull", "push", "list"]),
 ]
 # What the lists of other rows hold.
 ENTRIES = [
@@ -48,8 +50,9 @@ ENTRIES = [
     ["*", "studio/", "studio/film", "a/b", "a/", "film/"],
     ["*", "refs/", "refs/heads/", "refs/heads/main", "refs/heads/release/", "refs/heads/release", "refs/x"],
     ["*", "art/", "art/hero.psd", "art/x", "a", "secret/", "art"],
-    ["lock", "lock", "pull", "push", "list", "force"],
 ]
+# The rights that rows name.
+RIGHTS = ["lock", "pull", "push", "list", "force"]
 
 BASE = "https://lfs.example"
 REPOS = {"studio/film": {"ref": "refs/heads/main", "quota": 1000000}, "a/b": {"ref": "refs/x", "quota": 0}}
@@ -74,14 +77,15 @@ class Maker:
 
     def rows(self):
         """The rows of a policy."""
-        if self.random.random() < 0.3:
+        if self.random.random() < 0.5:
             return USUAL_ROWS
         some = lambda entries: [self.random.choice(entries) for _ in range(self.random.choice([1, 1, 2, 3]))]
         effect = lambda: self.random.choice(["allow", "allow", "deny"])
-        return [(effect(), *map(some, ENTRIES)) for _ in range(self.random.choice([0, 1, 3, 6, 10]))]
+        rights = lambda: self.random.sample(RIGHTS, self.random.choice([1, 2, 5]))
+        return [(effect(), *map(some, ENTRIES), rights()) for _ in range(self.random.choice([0, 1, 3, 6, 10]))]
 
     def one(self, usual, *others):
-        return usual if self.random.random() < 0.85 else self.random.choice(others)
+        return usual if self.random.random() < 0.93 else self.random.choice(others)
 
     def path(self):
         part = lambda: self.random.choice(
@@ -105,10 +109,8 @@ class Maker:
             ]
         )
         return self.one(
-            "art/hero.psd",
-            "art/x",
-            "art/y",
-            "a",
+            self.random.choice(["art/hero.psd", "art/x", "art/y", "art/z", "a", "b"]),
+            "b c",
             "secret/a",
             "a" * self.random.choice([1023, 1024, 1025]),
             "/".join(part() for _ in range(self.random.randrange(1, 5))),
@@ -180,7 +182,7 @@ class Maker:
         )
 
     def fields(self, length):
-        letter = self.one("a", *"bcdefg")
+        letter = self.one(self.random.choice("aaab"), *"bcdefg")
         choose = self.random.choice
         fields = [
             self.one(
@@ -251,12 +253,12 @@ class Maker:
         values = {
             "ref": self.ref(),
             "refspec": self.ref(),
-            "path": self.one("art/x", "a", "art/hero.psd", "a%2Fb", "%FF", "../a", "a+b"),
-            "id": self.one("1", "2", "3", "01", "0", "4294967295", "4294967296", "x"),
-            "cursor": self.one("1", "2", "3", "01", "4294967296", "x"),
-            "limit": self.one("1", "2", "100", "0", "-5", "1000", "99999999999", "1.5", "+1"),
+            "path": self.one(self.random.choice(["art/x", "a", "art%2Fhero.psd"]), "b+c", "%FF", "../a"),
+            "id": self.one(self.random.choice("1234"), "01", "0", "4294967295", "4294967296", "x"),
+            "cursor": self.one(self.random.choice("1234"), "01", "4294967296", "x"),
+            "limit": self.one(self.random.choice("123"), "100", "0", "-5", "1000", "99999999999", "1.5", "+1"),
         }
-        pairs = [f"{key}={self.one(values[key], '')}" for key in keys if self.random.random() < 0.4]
+        pairs = [f"{key}={self.one(values[key], '')}" for key in keys if self.random.random() < 0.3]
         pairs += [self.one("x=1", "x", "&", "%", "=") for _ in range(self.random.choice([0, 0, 1]))]
         pairs += pairs[:1] if self.random.random() < 0.05 else []
         return "?" + "&".join(pairs) if pairs else ""
@@ -265,7 +267,7 @@ class Maker:
         """The body of some members, each there or not."""
         some = [it for it in members if self.random.random() < 0.7]
         self.random.shuffle(some)
-        return self.one("{" + ",".join(some) + "}", "{" + ",".join(members) + "}", "[]", "", "{" + ",".join(some))
+        return self.one("{" + ",".join(some) + "}", "{" + ",".join(members) + "}", "{}", "[]", "", "{" + ",".join(some))
 
     def batch(self):
         def entry():
@@ -286,8 +288,10 @@ class Maker:
         """The method, the rest of the target, and the body of a request."""
         bytes_, name = self.content()
         ref = f'"ref":{{"name":"{self.ref()}"}}'
-        ident = self.one("1", "2", "3", "4", "9", "01", "x", "4294967296")
-        limit = '"limit":' + self.one("1", "0", "-1", "200", "1.5", "null", '"1"', "-0", "9223372036854775808")
+        ident = self.one(self.random.choice("123456789"), "01", "x", "4294967296")
+        limit = '"limit":' + self.one(self.random.choice("123"), "0", "-1", "200", "1.5", "null", '"1"', "-0", "9223372036854775808")
+        cursor = self.one(self.random.choice(["", "1", "2", "3"]), "01", "x", "4294967296")
+        force = '"force":' + self.one(self.random.choice(["true", "false"]), "null", "1", '"true"')
         oid, size = f'"oid":"{name}"', f'"size":{self.size(len(bytes_))}'
         return {
             "Batch": lambda: ("POST", "objects/batch", self.batch()),
@@ -296,13 +300,12 @@ class Maker:
             "Verify": lambda: ("POST", f"verify{self.query('ref')}", self.keys(oid, size, ref)),
             "Lock": lambda: ("POST", "locks", self.body()),
             "List": lambda: ("GET", "locks" + self.query("path", "id", "refspec", "cursor", "limit"), ""),
-            "VerifyLocks": lambda: ("POST", "locks/verify", self.keys(f'"cursor":"{ident}"', limit, ref)),
-            "Unlock": lambda: ("POST", f"locks/{ident}/unlock", self.keys('"force":true', ref)),
+            "VerifyLocks": lambda: ("POST", "locks/verify", self.keys(f'"cursor":"{cursor}"', limit, ref)),
+            "Unlock": lambda: ("POST", f"locks/{ident}/unlock", self.keys(force, ref)),
         }[form]()
 
     def message(self):
-        others = sorted(REQUESTS) if SERVED == {"Lock"} else sorted(SERVED)
-        method, rest, body = self.request(self.one(self.random.choice(sorted(SERVED)), *others))
+        method, rest, body = self.request(self.one(self.random.choice(["Lock", *sorted(SERVED)]), *sorted(REQUESTS)))
         body = body if isinstance(body, bytes) else body.encode("utf-8", "surrogatepass")
         method = self.one(method, "GET", "PUT", "DELETE", "post", "HEAD", "P(ST", "PUT")
         target = self.one(
@@ -406,7 +409,7 @@ def compare(program, room, make, until):
     """Serves connections until then. Returns how many agreed, how often each code was sent, and what differed."""
     agreed, seen = 0, {}
     while time.time() < until:
-        if agreed % 40 == 0:
+        if agreed % 100 == 0:
             rows = make.rows()
             database, server = new_database(program, room, agreed, rows), new_server(rows)
         stream = make.connection()

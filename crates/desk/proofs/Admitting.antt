@@ -12,7 +12,7 @@ use Rattle.forms.specs.Given.{IsRefusedBy, Reads}
 use Rattle.policy.specs.declared.repos.Repo as policy_repo
 use Rattle.desk.specs.Admission.{admission_result, admission_view}
 
--- a form that is not read is not admission_result
+-- a request whose form is refused is not admitted
 pub refused_form : (policy : Policy) (own : List ℕ) (covers : Bool) (repo_asked : List ℕ) (asked : Result Request Rule) (r : Repo) (e : Refusal)
     → bytes_eq own repo_asked ≡ true → repo_named repo_asked policy ≡ Some r → IsRefusedBy e asked → IsRefusedBy e (admission_result policy own covers repo_asked asked)
 refused_form policy own covers repo_asked asked r (refusal.Rule rule) own_is there is = rw (own_is, there, is) refl

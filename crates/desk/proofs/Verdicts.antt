@@ -5,25 +5,22 @@ use Rattle.std.specs.Bool.{⊤}
 use Rattle.sqlite_trees.specs.declared.store.Store.{Ghosts}
 use Rattle.names.specs.declared.rules.Rule.{Rule}
 use Rattle.names.specs.declared.rules.Rule.TheVariants as rule
-use Rattle.names.specs.Names.{user_text, repo_text}
-use Rattle.names.specs.declared.texts.UserName.{UserName}
+use Rattle.names.specs.Names.{repo_text}
 use Rattle.model.specs.declared.Right.TheVariants as right
 use Rattle.model.specs.Reading.{◌>>=◌, check, ok_or}
 use Rattle.model.specs.World as kept
 use Rattle.model.specs.World.{World}
-use Rattle.model.specs.Policy.{Policy, Repo, Question, allowed, denied, decide, repo_named}
+use Rattle.model.specs.Policy.{Policy, Repo, Question, repo_named}
 use Rattle.model.specs.Forms.{Request, needs_upload, is_upload}
 use Rattle.model.specs.Callers as model
 use Rattle.model.specs.Callers.{caller_by, lock_question}
 use Rattle.model.specs.Cases.{Setting, DeskRequest, case_in}
-use Rattle.model.specs.Answers.{Answer, Denial, Plan, by_rule, by_row, by_rules, permit, store_refusal}
+use Rattle.model.specs.Answers.{Answer, Denial, Plan, by_rule, by_rules, permit, store_refusal}
 use Rattle.model.specs.Locks.{place_verdict, lock_verdict, new_lock}
 use Rattle.model.specs.Objects.{finish}
 use Rattle.model.specs.Verdict.{plan_to, plan_for, caller_plan, desk_verdict}
 use Rattle.model.specs.Steps.{after}
 use Rattle.model.specs.Bounds.{failed, left_by, answer_ending}
-use Rattle.policy.specs.Values.{repo_view}
-use Rattle.policy.specs.declared.repos.Repo as policy_repo
 use Rattle.forms.specs.Requests.{lock_asked}
 use Rattle.forms.specs.declared.lock.LockRequest.{LockRequest}
 use Rattle.tables.specs.declared.Store.{Store}
@@ -36,8 +33,10 @@ use Rattle.desk.specs.Done.{Answers, given_by}
 use Rattle.desk.specs.Replies.{IsReplyOf}
 use Rattle.desk.specs.declared.replies.Reply.{Reply}
 use Rattle.desk.specs.Admission.{admission_result, case_verdict, caller_verdict}
-use Rattle.locks.specs.Creating.{state_of, lock_wanted, placed_verdict}
+use Rattle.locks.specs.Creating.{state_of, lock_wanted}
 use Rattle.desk.specs.Locking.{IsWantedBy, question_on, allowed_verdict}
+use Rattle.desk.specs.Rights.{IsUserOf, case_policy, case_seen}
+use Rattle.desk.specs.declared.cases.Case.{Case}
 use Rattle.tables.specs.declared.new_rows.NewLock.{NewLock}
 
 -- successive checks by rules are one check by the first of them that fails
@@ -89,21 +88,20 @@ pub admitted_alike : (policy : Policy) (c : Caller) (who : model.Caller) (repo_a
 admitted_alike policy c who repo_asked asked h = ap₂ (λ own operation. admission_result policy own (is_upload operation) repo_asked asked) h.repo h.operation
 
 -- the attempt that the code makes is the lock that the request of the definitions asks for
-pub verdict_alike : (world : World) (setting : Setting) (who : model.Caller) (r : policy_repo.Repo) (user : UserName) (asked : LockRequest) (w : NewLock)
-    → user_text user ≡ who.user → IsWantedBy r user setting.now asked w
-    → allowed_verdict world setting.policy w ≡ lock_verdict (case_in world setting who (repo_view r)) (lock_asked asked)
-verdict_alike world setting who r user asked w is_user is = ap₂ (λ (q : Question) (l : kept.Lock). permit setting.policy q 403 >>= λ may. place_verdict (state_of l.repo world) l) question place
+pub verdict_alike : (world : World) (case : Case) (who : model.Caller) (asked : LockRequest) (w : NewLock) → IsUserOf case who → IsWantedBy case asked w
+    → allowed_verdict world (case_policy case) w ≡ lock_verdict (case_seen world case who) (lock_asked asked)
+verdict_alike world case who asked w is_user is = ap₂ (λ (q : Question) (l : kept.Lock). permit (case_policy case) q 403 >>= λ may. place_verdict (state_of l.repo world) l) question place
   where
-    place : lock_wanted world w ≡ new_lock (case_in world setting who (repo_view r)) (lock_asked asked)
+    place : lock_wanted world w ≡ new_lock (case_seen world case who) (lock_asked asked)
     place = rw (is.repo, is.ref, is.path, is.owner, is.at, is_user) refl
 
-    question : question_on w ≡ lock_question right.Lock who.user (new_lock (case_in world setting who (repo_view r)) (lock_asked asked))
+    question : question_on w ≡ lock_question right.Lock who.user (new_lock (case_seen world case who) (lock_asked asked))
     question = rw (is.repo, is.ref, is.path, is.owner, is_user) refl
 
--- the answer to an allowed lock needs no content
-pub lock_finished : (world : World) (repo body : List ℕ) (answer : Answer) → (plan_to answer >>= λ plan. finish world repo body plan) ≡ answer
-lock_finished world repo body (Ok grant) = refl
-lock_finished world repo body (Err denial) = refl
+-- an answer that needs no content is the verdict
+pub answer_finished : (world : World) (repo body : List ℕ) (answer : Answer) → (plan_to answer >>= λ plan. finish world repo body plan) ≡ answer
+answer_finished world repo body (Ok grant) = refl
+answer_finished world repo body (Err denial) = refl
 
 -- ---- answers, as they are given
 
@@ -134,12 +132,3 @@ done_then g old mid new world given r p done = record {
   shows = done.shows;
   gives = still_then g old mid new world (after world (Some (given_by given r))) (left_by (answer_ending world (Some (given_by given r))) world (after world (Some given))) p done.gives;
 }
-
--- ---- what the policy says of a lock
-
--- if the policy allows the lock, its place decides
-pub allowed_is : (world : World) (policy : Policy) (w : NewLock) (n : ℕ) → allowed n ≡ decide policy (question_on w) → allowed_verdict world policy w ≡ placed_verdict world w
-allowed_is world policy w n is = rw (← is) refl
-
-pub denied_is : (world : World) (policy : Policy) (w : NewLock) (n : ℕ) → denied n ≡ decide policy (question_on w) → allowed_verdict world policy w ≡ Err (by_row n right.Lock 403)
-denied_is world policy w n is = rw (← is) refl

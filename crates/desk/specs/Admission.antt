@@ -1,4 +1,4 @@
--- Which requests are admission_result.
+-- Which requests are admitted.
 use Rattle.std.specs.Prelude.{ℕ, Bool, not, ◌||◌, List, Result, Ok, bytes_eq}
 use Rattle.std.specs.Borrow.{Bor}
 use Rattle.names.specs.declared.rules.Rule.{Rule}
@@ -32,7 +32,7 @@ admission_result policy own covers_upload repo_asked asked = do
 abbrev pub admission_view : Bor Repo × Request → model.Repo × form.Request
 admission_view (repo, request) = (repo_view repo.now, request_asked request)
 
--- the verdict on an admission_result request
+-- the verdict on an admitted request
 abbrev pub case_verdict : World → Case → form.Request → DeskRequest → List ℕ → Answer
 case_verdict world c request asked body = plan_for c asked.left request >>= λ plan. finish world asked.repo body plan
 

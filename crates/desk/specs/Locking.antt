@@ -1,9 +1,8 @@
 -- A request for a lock.
-use Rattle.std.specs.Prelude.{◌≡◌, ◌+◌, ℕ, nat_lt, Some, Ok, Err, ⊤}
+use Rattle.std.specs.Prelude.{◌≡◌, ◌+◌, ℕ, nat_lt, [], Some, Ok, Err, ⊤}
 use Rattle.names.specs.Names.{repo_text, ref_text, path_text, user_text}
 use Rattle.names.specs.Texts.{last_lock_id}
 use Rattle.names.specs.declared.rules.Rule.TheVariants.{L5}
-use Rattle.names.specs.declared.texts.UserName.{UserName}
 use Rattle.model.specs.Reading.{◌>>=◌, check}
 use Rattle.model.specs.World.{World, Lock}
 use Rattle.model.specs.Policy.{Policy, Question}
@@ -14,14 +13,14 @@ use Rattle.forms.specs.Requests.{lock_asked}
 use Rattle.forms.specs.ShownLocks.{IsOf}
 use Rattle.forms.specs.declared.shown_lock.ShownLock.{ShownLock}
 use Rattle.forms.specs.declared.lock.LockRequest.{LockRequest}
-use Rattle.policy.specs.Values.{repo_view}
-use Rattle.policy.specs.declared.repos.Repo.{Repo}
 use Rattle.tables.specs.declared.rows.LockRow.{LockRow}
 use Rattle.tables.specs.declared.new_rows.NewLock.{NewLock}
 use Rattle.tables.specs.declared.rows.Creation.{Creation}
 use Rattle.tables.specs.declared.rows.Creation.TheVariants.{Created, Held, UsedUp}
 use Rattle.locks.specs.Creating.{placed_verdict}
 use Rattle.desk.specs.declared.replies.Reply.{Reply}
+use Rattle.desk.specs.declared.cases.Case.{Case}
+use Rattle.desk.specs.Rights.{case_repo, case_user}
 use Rattle.desk.specs.Replies.{IsReplyOf}
 
 -- the lock has the id, the moment, the owner and the path of the row
@@ -38,6 +37,17 @@ ShowsRow row shown = (l : Lock) → IsOfRow row l → IsOf shown l
 -- the verdict on a lock on a free path, after `made` others: it is made, or L5 if no id is left
 abbrev pub free_verdict : ℕ → Lock → Answer
 free_verdict made l = by_rules (check (nat_lt made last_lock_id) L5) >>= λ room. Ok (makes_lock l)
+
+-- the part of the row's lock that a client sees
+abbrev pub lock_part : LockRow → Lock
+lock_part row = record {
+  repo = [];
+  id = row.id;
+  ref = [];
+  path = path_text row.path;
+  owner = user_text row.owner;
+  at = row.moment;
+}
 
 -- the reply is that to the lock of this attempt on a free path, after `made` others
 abbrev pub IsReadyAfter : ℕ → NewLock → Reply → Type 0
@@ -62,12 +72,12 @@ MadeNothing (Held row) = ⊤
 MadeNothing UsedUp = ⊤
 
 -- the attempt is what the request asks, in this repository and for this user
-pub record IsWantedBy (r : Repo) (user : UserName) (now : ℕ) (asked : LockRequest) (w : NewLock) : Type 0 where
-  pub repo : repo_text w.repo.now ≡ (repo_view r).name
-  pub ref : ref_text w.ref_name.now ≡ ref_or_default (lock_asked asked).ref (repo_view r)
+pub record IsWantedBy (case : Case) (asked : LockRequest) (w : NewLock) : Type 0 where
+  pub repo : repo_text w.repo.now ≡ (case_repo case).name
+  pub ref : ref_text w.ref_name.now ≡ ref_or_default (lock_asked asked).ref (case_repo case)
   pub path : path_text w.path.now ≡ (lock_asked asked).path
-  pub owner : user_text w.owner.now ≡ user_text user
-  pub at : w.moment ≡ now
+  pub owner : user_text w.owner.now ≡ case_user case
+  pub at : w.moment ≡ case.now
 
 -- the question to the policy
 abbrev pub question_on : NewLock → Question

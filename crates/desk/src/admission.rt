@@ -1,4 +1,4 @@
-//! Which requests are admission_result: by a token for the repository, in a repository that exists.
+//! Which requests are admitted: by a token for the repository, in a repository that exists.
 
 ghost use Rattle.std.specs.Prelude.{◌≡◌};
 ghost use Rattle.names.specs.Names.{repo_text};
@@ -37,7 +37,8 @@ fn needs_upload(request: &Request) -> bool
     ensures { result ≡ needs_upload (request_asked request.now) }
 {
     match request {
-        Request::Lock(_) => true,
+        Request::Lock(_) | Request::VerifyLocks(_) | Request::Unlock(_) => true,
+        Request::List(_) => false,
     }
 }
 

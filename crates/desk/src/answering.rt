@@ -1,13 +1,12 @@
 //! The way of a request: identify the caller, admit the request, carry it out.
 ghost use Rattle.std.specs.Prelude.{◌≡◌, ℕ, List, IfOk, Some, Err};
 ghost use Rattle.model.specs.World.{World};
-ghost use Rattle.model.specs.Forms.{asks_lock};
 ghost use Rattle.model.specs.Callers as model;
 ghost use Rattle.model.specs.Cases.{DeskRequest, case_in};
 ghost use Rattle.model.specs.Answers.{by_rule};
 ghost use Rattle.model.specs.Steps.{after};
 ghost use Rattle.policy.specs.Values.{repo_view};
-ghost use Rattle.forms.specs.Requests.{request_asked, lock_asked};
+ghost use Rattle.forms.specs.Requests.{request_asked};
 ghost use Rattle.refinement.specs.Left.{From};
 ghost use Rattle.tokens.specs.Callers.{IsHolder};
 ghost use Rattle.desk.specs.Replies.{IsReplyOf};
@@ -16,9 +15,13 @@ ghost use Rattle.desk.specs.Asking.{setting_of, request_seen, verdict_seen};
 ghost use Rattle.desk.specs.Admission.{case_verdict, caller_verdict};
 
 use crate::admission::{RepoRequest, admit};
-use crate::locking::{lock, wanted_by};
+use crate::cases::Case;
+use crate::listing::list;
+use crate::locking::lock;
 use crate::replies::Reply;
-use forms::{Answer, LockRequest, Refusal, Request};
+use crate::unlocking::unlock;
+use crate::verifying::verify_locks;
+use forms::{Answer, Refusal, Request};
 use names::{Moment, Rule};
 use policy::{Policy, Repo};
 use std::alloc::{AllocError, Global};
@@ -86,16 +89,7 @@ fn answer_caller<S: Alter>(
     }
 }
 
-/// The lock request in the request.
-fn lock_in(request: &Request) -> &LockRequest
-    ensures { request_asked request.now ≡ asks_lock (lock_asked result.now) }
-{
-    match request {
-        Request::Lock(asked) => asked,
-    }
-}
-
-/// Answers an admission_result request.
+/// Answers an admitted request.
 ///
 /// # Errors
 ///
@@ -117,6 +111,16 @@ fn answer_request<S: Alter>(
         (request_asked request.entry.now) asked body)
         result) }
 {
-    let wanted = wanted_by(repo, &caller.user, now, lock_in(request));
-    lock(store, alloc, policy, &wanted)
+    let case = Case {
+        policy,
+        now,
+        repo,
+        user: &caller.user,
+    };
+    match request {
+        Request::Lock(asked) => lock(store, alloc, &case, asked),
+        Request::List(asked) => list(store, alloc, &case, asked),
+        Request::VerifyLocks(asked) => verify_locks(store, alloc, &case, asked),
+        Request::Unlock(asked) => unlock(store, alloc, &case, asked),
+    }
 }

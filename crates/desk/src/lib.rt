@@ -3,8 +3,14 @@
 
 mod admission;
 mod answering;
+mod cases;
+mod listing;
 mod locking;
+mod pages;
 mod replies;
+mod rights;
+mod unlocking;
+mod verifying;
 
 pub use admission::RepoRequest;
 pub use answering::answer;

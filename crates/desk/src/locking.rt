@@ -1,28 +1,32 @@
 //! The request for a lock (Git LFS API, File Locking, "Create Lock").
 
-ghost use Rattle.std.specs.Prelude.{◌≡◌, ◌+◌, ◌<◌, IfOk, OnErr, MatchOption, Err};
+ghost use Rattle.std.specs.Prelude.{◌≡◌, ◌+◌, ◌<◌, IfOk, OnErr, MatchOption};
 ghost use Rattle.names.specs.Texts.{last_lock_id};
-ghost use Rattle.model.specs.Answers.{by_row};
-ghost use Rattle.model.specs.declared.Right.TheVariants as right;
-ghost use Rattle.model.specs.Policy.{decide};
-ghost use Rattle.policy.specs.Values.{policy_view, decision_view};
+ghost use Rattle.model.specs.Callers as model;
+ghost use Rattle.model.specs.Locks.{lock_verdict};
+ghost use Rattle.policy.specs.Values.{question_view};
+ghost use Rattle.forms.specs.Requests.{lock_asked};
+ghost use Rattle.forms.specs.ShownLocks.{lock_shown};
 ghost use Rattle.refinement.specs.Left.{From};
-ghost use Rattle.desk.specs.Replies.{IsReplyOf};
-ghost use Rattle.desk.specs.Locking.{ShowsRow, IsReadyAfter, ReportsHeld, ReportsCreation, MadeNothing, IsWantedBy, question_on, allowed_verdict};
 ghost use Rattle.locks.specs.Creating.{placed_verdict};
+ghost use Rattle.desk.specs.Locking.{ShowsRow, lock_part, IsReadyAfter, ReportsHeld, ReportsCreation, MadeNothing, IsWantedBy, question_on};
+ghost use Rattle.desk.specs.Rights.{IsUserOf, case_seen};
 ghost use Rattle.desk.specs.Done.{Answers};
 
+use crate::cases::Case;
 use crate::replies::Reply;
+use crate::rights::{denial_reply, permit, ref_or_default};
 use forms::{Answer, DenialStatus, LockRequest, ShownLock};
 use model::Right;
-use names::{LockId, Moment, Rule, UserName};
-use policy::{Policy, Question, Repo, Verdict, decide};
+use names::{LockId, Rule};
+use policy::Question;
 use std::alloc::{AllocError, Global};
 use tables::{Alter, Creation, LockRow, NewLock, Store, StoreFault};
 
 /// The part of a row that a client sees.
-fn shown(row: &LockRow) -> ShownLock<'_>
-    ensures { ShowsRow row.now result }
+pub(crate) fn shown(row: &LockRow) -> ShownLock<'_>
+    ensures row { ShowsRow row.now result }
+    ensures parts { lock_shown result ≡ lock_part row.now }
 {
     ShownLock {
         id: row.id,
@@ -81,7 +85,7 @@ fn reply_to(alloc: Global, creation: &Creation, ready: Reply) -> Result<Reply, S
 /// # Errors
 ///
 /// A [`StoreFault`], which leaves the contents of the store unchanged.
-pub(crate) fn make_lock<S: Alter>(
+fn make_lock<S: Alter>(
     store: &mut Store<S>,
     alloc: Global,
     wanted: &NewLock<'_>,
@@ -96,57 +100,33 @@ pub(crate) fn make_lock<S: Alter>(
     reply_to(alloc, &creation, ready)
 }
 
-/// The lock that the request asks for, in this repository and for this user.
-pub(crate) fn wanted_by<'a>(
-    repo: &'a Repo,
-    owner: &'a UserName,
-    now: Moment,
-    asked: &'a LockRequest,
-) -> NewLock<'a>
-    ensures { IsWantedBy repo.entry.now owner.entry.now now asked.entry.now result }
+/// The lock that the request asks for.
+fn wanted_by<'a>(case: &Case<'a>, asked: &'a LockRequest) -> NewLock<'a>
+    ensures { IsWantedBy case.entry.now asked.entry.now result }
 {
     NewLock {
-        repo: repo.name(),
-        ref_name: match &asked.ref_name {
-            Some(name) => name,
-            None => repo.default_ref(),
-        },
+        repo: case.repo.name(),
+        ref_name: ref_or_default(case, asked.ref_name.as_ref()),
         path: &asked.path,
-        owner,
-        moment: now,
+        owner: case.user,
+        moment: case.now,
     }
 }
 
-/// The policy's verdict on the lock.
-fn verdict_on(policy: &Policy, wanted: &NewLock<'_>) -> Verdict
-    ensures { decision_view result
-        ≡ decide (policy_view policy.entry.now) (question_on wanted.entry.now) }
+/// The question whether the caller may lock the path.
+fn question_on<'a>(wanted: &NewLock<'a>) -> Question<'a>
+    ensures { question_view result ≡ question_on wanted.entry.now }
 {
-    decide(
-        policy,
-        &Question {
-            user: wanted.owner,
-            repo: wanted.repo,
-            right: Right::Lock,
-            ref_name: Some(wanted.ref_name),
-            path: Some(wanted.path),
-        },
-    )
-}
-
-/// The reply to a lock that the policy denies.
-fn denied_reply(alloc: Global, row: u32) -> Result<Reply, AllocError>
-    ensures { IfOk result (λ reply. IsReplyOf reply (Err (by_row row right.Lock 403))) }
-{
-    let denial = Answer::DeniedByRow {
-        row,
+    Question {
+        user: wanted.owner,
+        repo: wanted.repo,
         right: Right::Lock,
-        status: DenialStatus::Forbidden,
-    };
-    Reply::telling(alloc, &denial)
+        ref_name: Some(wanted.ref_name),
+        path: Some(wanted.path),
+    }
 }
 
-/// Handles a lock request: 403 if the policy denies it, else the result of `make_lock`.
+/// Answers a request for a lock: the policy's denial, or the result of `make_lock`.
 ///
 /// # Errors
 ///
@@ -154,15 +134,16 @@ fn denied_reply(alloc: Global, row: u32) -> Result<Reply, AllocError>
 pub(crate) fn lock<S: Alter>(
     store: &mut Store<S>,
     alloc: Global,
-    policy: &Policy,
-    wanted: &NewLock<'_>,
+    case: &Case<'_>,
+    asked: &LockRequest,
 ) -> Result<Reply, StoreFault>
     ensures { From S.Store store.old store.new (λ world.
-        Answers S.Store store.old store.new world
-        (allowed_verdict world (policy_view policy.entry.now) wanted.entry.now) result) }
+        (who : model.Caller) → IsUserOf case.entry.now who → Answers S.Store store.old store.new world
+        (lock_verdict (case_seen world case.entry.now who) (lock_asked asked.entry.now)) result) }
 {
-    match verdict_on(policy, wanted) {
-        Verdict::Allow(_) => make_lock(store, alloc, wanted),
-        Verdict::Deny(row) => Ok(denied_reply(alloc, row)?),
+    let wanted = wanted_by(case, asked);
+    match permit(case.policy, &question_on(&wanted), DenialStatus::Forbidden) {
+        Ok(()) => make_lock(store, alloc, &wanted),
+        Err(denial) => Ok(denial_reply(alloc, denial)?),
     }
 }

@@ -3,15 +3,15 @@ use Rattle.std.proofs.Common.{◌≡◌, ℕ, Bool, true, false, ◌&&◌, List,
 use Rattle.std.specs.Str.{is_utf8, IsUtf8}
 use Rattle.std.proofs.lemmas.Bool.{true≢false}
 use Rattle.std.proofs.lemmas.Str.{IsUtf8-from_is_utf8, is_utf8-from_IsUtf8}
-use Rattle.serde_json.specs.Data.{Data, null, boolean, number, string, array, object}
+use Rattle.serde_json.specs.Data.{Num, Data, null, boolean, number, string, array, object, Members}
 use Rattle.serde_json.specs.Read.{read}
-use Rattle.serde_json.specs.Find.{as_object, as_str}
-use Rattle.names.specs.Texts.{is_lock_path, is_ref}
+use Rattle.serde_json.specs.Find.{as_object, as_str, as_number, as_bool}
+use Rattle.names.specs.Texts.{is_lock_path, is_ref, lock_id_in}
 use Rattle.names.specs.declared.rules.Rule.{Rule}
 use Rattle.names.specs.declared.rules.Rule.TheVariants.{J1, J2}
-use Rattle.model.specs.Reading.{◌>>=◌, check, ok_or}
-use Rattle.model.specs.Forms.{LockForm, lock_form, as_name, optional, required_member, is_if_given}
-use Rattle.forms.specs.Given.{lock_fields, in_range, value_of, within}
+use Rattle.model.specs.Reading.{◌>>=◌, check, ok_or, or_default}
+use Rattle.model.specs.Forms.{LockForm, lock_form, verify_locks_form, unlock_form, members_of, as_name, optional, is_if_given, if_not_empty, whole_if_given}
+use Rattle.forms.specs.Given.{VerifyLocksKeys, UnlockKeys, lock_fields, in_range, value_of, if_object, object_of, verify_locks_keys, verify_locks_in_range, unlock_keys, unlock_in_range, within}
 
 pub no_text : (body : List ℕ) → ¬ (IsUtf8 body) → None ≡ value_of body
 no_text body bad = at (is_utf8 body) refl
@@ -24,49 +24,7 @@ pub value_is : (body text : List ℕ) (o : Option Data) → text ≡ body → Is
 value_is body text o same utf8 e =
     sym (ap (λ v. if v then read body else None) (is_utf8-from_IsUtf8 body utf8) ∙ sym (ap read same) ∙ e)
 
-abbrev form : List ℕ → Option (List ℕ) → LockForm
-form path ref = record { path = path; ref = ref }
-
--- reading the fields and then testing their ranges gives what the interleaved checks of the definitions give
-chain : (p : Result (Option (List ℕ)) Rule) (r : Result (Option (List ℕ)) Rule)
-    → ((p >>= λ given. ok_or given J1) >>= λ path. r >>= λ ref. check (is_lock_path path && is_if_given is_ref ref) J2 >>= λ valid. Ok (form path ref))
-    ≡ ((p >>= λ given. ok_or given J1 >>= λ path. r >>= λ ref. Ok (form path ref)) >>= in_range)
-chain (Err e) r = refl
-chain (Ok None) r = refl
-chain (Ok (Some path)) (Err e) = refl
-chain (Ok (Some path)) (Ok ref) = refl
-
-by_value : (o : Option Data)
-    → (ok_or (option_and_then as_object o) J1 >>= λ members. required_member as_str (codes "path") members >>= λ path. optional as_name (codes "ref") members >>= λ ref. check (is_lock_path path && is_if_given is_ref ref) J2 >>= λ valid. Ok (form path ref))
-    ≡ (ok_or o J1 >>= λ d. lock_fields d >>= in_range)
-by_value None = refl
-by_value (Some null) = refl
-by_value (Some (boolean b)) = refl
-by_value (Some (number n)) = refl
-by_value (Some (string s)) = refl
-by_value (Some (array ds)) = refl
-by_value (Some (object ms)) = chain (optional as_str (codes "path") ms) (optional as_name (codes "ref") ms)
-
-pub lock_by_value : (body : List ℕ) → lock_form body ≡ (ok_or (value_of body) J1 >>= λ d. lock_fields d >>= in_range)
-unfolding lock_form
-lock_by_value body =
-    elim (is_utf8 body) as (λ v. (ok_or (if v then option_and_then as_object (read body) else None) J1 >>= λ members. required_member as_str (codes "path") members >>= λ path. optional as_name (codes "ref") members >>= λ ref. check (is_lock_path path && is_if_given is_ref ref) J2 >>= λ valid. Ok (form path ref))
-    ≡ (ok_or (if v then read body else None) J1 >>= λ d. lock_fields d >>= in_range)) [
-      | true ↦ by_value (read body)
-      | false ↦ refl
-    ]
-
--- the texts of a form are in range if each of them is
-pub joined : (path : List ℕ) (ref : Option (List ℕ)) → in_range (form path ref) ≡ (within is_lock_path path >>= λ p. within (is_if_given is_ref) ref >>= λ r. Ok (form p r))
-joined path ref =
-    elim (is_lock_path path) as (λ a. (check (a && is_if_given is_ref ref) J2 >>= λ valid. Ok (form path ref))
-    ≡ ((check a J2 >>= λ valid. Ok path) >>= λ p. within (is_if_given is_ref) ref >>= λ r. Ok (form p r))) [
-      | true ↦ elim (is_if_given is_ref ref) as (λ b. (check b J2 >>= λ valid. Ok (form path ref)) ≡ ((check b J2 >>= λ valid. Ok ref) >>= λ r. Ok (form path r))) [
-        | true ↦ refl
-        | false ↦ refl
-      ]
-      | false ↦ refl
-    ]
+-- ---- ranges
 
 -- a value that fails its test is refused
 pub fails : {A : Type 0} (test : A → Bool) (x : A) → (IsTrue (test x) → false ≡ true) → within test x ≡ Err J2
@@ -75,3 +33,98 @@ fails test x bad = at (test x) refl
     at : (b : Bool) → test x ≡ b → within test x ≡ Err J2
     at true e = absurd (true≢false (sym (bad e)))
     at false e = rw e refl
+
+-- a value is in range, and the steps after that
+pub one_within : {A B : Type 0} (test : A → Bool) (x : A) (more : A → Result B Rule)
+    → (check (test x) J2 >>= λ valid. more x) ≡ (within test x >>= more)
+one_within test x more =
+    elim (test x) as (λ b. (check b J2 >>= λ valid. more x) ≡ ((check b J2 >>= λ valid. Ok x) >>= more)) [
+      | true ↦ refl
+      | false ↦ refl
+    ]
+
+-- two values are in range if each of them is
+pub both_within : {A B C : Type 0} (first : A → Bool) (second : B → Bool) (x : A) (y : B) (more : A → B → Result C Rule)
+    → (check (first x && second y) J2 >>= λ valid. more x y) ≡ (within first x >>= λ a. within second y >>= λ b. more a b)
+both_within first second x y more =
+    elim (first x) as (λ v. (check (v && second y) J2 >>= λ valid. more x y)
+    ≡ ((check v J2 >>= λ valid. Ok x) >>= λ a. within second y >>= λ b. more a b)) [
+      | true ↦ one_within second y (more x)
+      | false ↦ refl
+    ]
+
+-- ---- shapes
+
+by_value : {A : Type 0} (more : Members → Result A Rule) (steps : Data → Result A Rule) → ((ms : Members) → more ms ≡ steps (object ms)) → (o : Option Data)
+    → (ok_or (option_and_then as_object o) J1 >>= more) ≡ (ok_or (option_and_then if_object o) J1 >>= steps)
+by_value more steps same None = refl
+by_value more steps same (Some null) = refl
+by_value more steps same (Some (boolean b)) = refl
+by_value more steps same (Some (number n)) = refl
+by_value more steps same (Some (string s)) = refl
+by_value more steps same (Some (array ds)) = refl
+by_value more steps same (Some (object ms)) = same ms
+
+-- what is read from the members of a body is what is read from its object
+by_object : {A : Type 0} (more : Members → Result A Rule) (steps : Data → Result A Rule) → ((ms : Members) → more ms ≡ steps (object ms)) → (body : List ℕ)
+    → (ok_or (members_of body) J1 >>= more) ≡ (ok_or (object_of body) J1 >>= steps)
+by_object more steps same body =
+    elim (is_utf8 body) as (λ v. (ok_or (if v then option_and_then as_object (read body) else None) J1 >>= more)
+    ≡ (ok_or (option_and_then if_object (if v then read body else None)) J1 >>= steps)) [
+      | true ↦ by_value more steps same (read body)
+      | false ↦ refl
+    ]
+
+-- ---- the requests: reading the keys and then testing their ranges gives what the interleaved checks of the definitions give
+
+abbrev form : List ℕ → Option (List ℕ) → LockForm
+form path ref = record { path = path; ref = ref }
+
+lock_chain : (p : Result (Option (List ℕ)) Rule) (r : Result (Option (List ℕ)) Rule)
+    → ((p >>= λ given. ok_or given J1) >>= λ path. r >>= λ ref. check (is_lock_path path && is_if_given is_ref ref) J2 >>= λ valid. Ok (form path ref))
+    ≡ ((p >>= λ given. ok_or given J1 >>= λ path. r >>= λ ref. Ok (form path ref)) >>= in_range)
+lock_chain (Err e) r = refl
+lock_chain (Ok None) r = refl
+lock_chain (Ok (Some path)) (Err e) = refl
+lock_chain (Ok (Some path)) (Ok ref) = refl
+
+pub lock_by_value : (body : List ℕ) → lock_form body ≡ (ok_or (object_of body) J1 >>= λ d. lock_fields d >>= in_range)
+unfolding lock_form
+lock_by_value body =
+    by_object _ _ (λ ms. lock_chain (optional as_str (codes "path") ms) (optional as_name (codes "ref") ms)) body
+
+-- the texts of a form are in range if each of them is
+pub joined : (path : List ℕ) (ref : Option (List ℕ)) → in_range (form path ref) ≡ (within is_lock_path path >>= λ p. within (is_if_given is_ref) ref >>= λ r. Ok (form p r))
+joined path ref = both_within is_lock_path (is_if_given is_ref) path ref (λ p r. Ok (form p r))
+
+abbrev verify_locks : Option (List ℕ) → Option (List ℕ) → Option Num → VerifyLocksKeys
+verify_locks ref cursor limit = record { ref = ref; cursor = cursor; limit = limit }
+
+verify_locks_chain : (r c : Result (Option (List ℕ)) Rule) (n : Result (Option Num) Rule)
+    → (r >>= λ ref. c >>= λ cursor. n >>= λ number. check (is_if_given is_ref ref) J2 >>= λ valid. whole_if_given number >>= λ limit. Ok (record { ref = ref; cursor = if_not_empty cursor; limit = limit }))
+    ≡ ((r >>= λ ref. c >>= λ cursor. n >>= λ limit. Ok (verify_locks ref cursor limit)) >>= verify_locks_in_range)
+verify_locks_chain (Err e) c n = refl
+verify_locks_chain (Ok ref) (Err e) n = refl
+verify_locks_chain (Ok ref) (Ok cursor) (Err e) = refl
+verify_locks_chain (Ok ref) (Ok cursor) (Ok n) =
+    one_within (is_if_given is_ref) ref (λ r. whole_if_given n >>= λ limit. Ok (record { ref = r; cursor = if_not_empty cursor; limit = limit }))
+
+pub verify_locks_by_value : (body : List ℕ) → verify_locks_form body ≡ (ok_or (object_of body) J1 >>= λ d. verify_locks_keys d >>= verify_locks_in_range)
+unfolding verify_locks_form
+verify_locks_by_value body =
+    by_object _ _ (λ ms. verify_locks_chain (optional as_name (codes "ref") ms) (optional as_str (codes "cursor") ms) (optional as_number (codes "limit") ms)) body
+
+abbrev unlock : Option Bool → Option (List ℕ) → UnlockKeys
+unlock force ref = record { force = force; ref = ref }
+
+unlock_chain : (parameter : List ℕ) (f : Result (Option Bool) Rule) (r : Result (Option (List ℕ)) Rule)
+    → (f >>= λ force. r >>= λ ref. check (is_if_given is_ref ref) J2 >>= λ valid. ok_or (lock_id_in parameter) J2 >>= λ id. Ok (record { id = id; force = or_default force false }))
+    ≡ ((f >>= λ force. r >>= λ ref. Ok (unlock force ref)) >>= unlock_in_range parameter)
+unlock_chain parameter (Err e) r = refl
+unlock_chain parameter (Ok force) (Err e) = refl
+unlock_chain parameter (Ok force) (Ok ref) = refl
+
+pub unlock_by_value : (parameter body : List ℕ) → unlock_form parameter body ≡ (ok_or (object_of body) J1 >>= λ d. unlock_keys d >>= unlock_in_range parameter)
+unfolding unlock_form
+unlock_by_value parameter body =
+    by_object _ _ (λ ms. unlock_chain parameter (optional as_bool (codes "force") ms) (optional as_name (codes "ref") ms)) body

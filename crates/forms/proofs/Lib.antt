@@ -1,3 +1,6 @@
 pub mod Bodies
+pub mod Queries
+pub mod Numbers
 pub mod Texts
+pub mod Pages
 pub mod Refusals

@@ -1,16 +1,23 @@
--- The steps that read a body: its value, the texts under its keys, and their ranges.
-use Rattle.std.specs.Prelude.{◌≡◌, ℕ, Bool, ◌&&◌, List, Option, None, Result, Ok, Err, codes, if◌then◌else◌, ⊤}
+-- The steps that read a request: the value of its body, the texts under its keys, and their ranges.
+use Rattle.std.specs.Prelude.{◌≡◌, ℕ, Bool, ◌&&◌, List, [], ◌∷◌, map, filter, Option, Some, None, Result, Ok, Err, codes, bytes_eq, if◌then◌else◌, is_some, option_and_then, option_map, String, string_bytes, ⊤}
+use Rattle.std.specs.Borrow.{Bor}
+use Rattle.std.specs.declared.alloc.Global.{Global}
 use Rattle.std.specs.Str.{is_utf8}
-use Rattle.serde_json.specs.Data.{Data}
-use Rattle.serde_json.specs.Find.{get, as_str}
+use Rattle.serde_json.specs.Data.{Data, Num}
+use Rattle.serde_json.specs.Find.{get, as_str, as_number, as_bool, as_object}
 use Rattle.serde_json.specs.Read.{read}
-use Rattle.names.specs.Texts.{is_lock_path, is_ref}
+use Rattle.serde_json.specs.View.{number_view, view}
+use Rattle.serde_json.specs.declared.number.Number.{Number}
+use Rattle.serde_json.specs.declared.value.Value.{Value}
+use Rattle.names.specs.Names.{ref_text}
+use Rattle.names.specs.Texts.{is_lock_path, is_ref, lock_id_in}
 use Rattle.names.specs.declared.rules.Rule.{Rule}
+use Rattle.names.specs.declared.texts.RefName.{RefName}
 use Rattle.names.specs.declared.rules.Rule.TheVariants.{J1, J2}
 use Rattle.forms.specs.declared.refusal.Refusal.{Refusal}
 use Rattle.forms.specs.declared.refusal.Refusal.TheVariants as refusal
-use Rattle.model.specs.Reading.{◌>>=◌, check, ok_or}
-use Rattle.model.specs.Forms.{LockForm, if_given, as_name, is_if_given}
+use Rattle.model.specs.Reading.{◌>>=◌, check, ok_or, or_default}
+use Rattle.model.specs.Forms.{LockForm, ListForm, VerifyLocksForm, UnlockForm, if_given, as_name, is_if_given, if_not_empty, decode_text, query_value, read_if_given, limit_in, whole_if_given}
 
 -- the result is what the definitions read: the same value, mapped by `view`, or the same rule
 abbrev pub Gives : {X Y : Type 0} → (X → Y) → Result X Rule → Result Y Rule → Type 0
@@ -27,13 +34,43 @@ abbrev pub Reads : {X Y : Type 0} → (X → Y) → Result X Refusal → Result 
 Reads view (Ok x) read = read ≡ Ok (view x)
 Reads view (Err e) read = IsRefusedBy e read
 
+-- the text that is given, if one is
+abbrev pub text_given : Option (Bor (List ℕ)) → Option (List ℕ)
+text_given o = option_map (λ s. s.now) o
+
+-- the same of an owned text
+abbrev pub string_given : Option (String Global) → Option (List ℕ)
+string_given o = option_map string_bytes o
+
+-- the same of a ref
+abbrev pub ref_given : Option RefName → Option (List ℕ)
+ref_given o = option_map ref_text o
+
+-- the number that is given, if one is
+abbrev pub number_given : Option (Bor Number) → Option Num
+number_given o = option_map (λ n. number_view n.now) o
+
+-- the JSON value that is given, if one is
+abbrev pub value_given : Option (Bor Value) → Option Data
+value_given o = option_map (λ v. view v.now) o
+
 -- the value, if it passes the test
 abbrev pub within : {A : Type 0} → (A → Bool) → A → Result A Rule
 within test x = check (test x) J2 >>= λ valid. Ok x
 
+-- ---- bodies
+
 -- the JSON value of a body, if any
 abbrev pub value_of : List ℕ → Option Data
 value_of body = if is_utf8 body then read body else None
+
+-- the value, if it is an object
+abbrev pub if_object : Data → Option Data
+if_object d = if is_some (as_object d) then Some d else None
+
+-- the JSON object of a body, if any
+abbrev pub object_of : List ℕ → Option Data
+object_of body = option_and_then if_object (value_of body)
 
 -- the path and the ref, not yet tested for range
 abbrev pub lock_fields : Data → Result LockForm Rule
@@ -46,3 +83,84 @@ lock_fields d = do
 -- the form, if its texts are in range
 abbrev pub in_range : LockForm → Result LockForm Rule
 in_range = within (λ form. is_lock_path form.path && is_if_given is_ref form.ref)
+
+-- the keys of a request for the locks of a ref, each of its kind
+pub record VerifyLocksKeys : Type 0 where
+  pub ref : Option (List ℕ)
+  pub cursor : Option (List ℕ)
+  pub limit : Option Num
+
+-- the ref, the cursor and the limit, not yet tested for range
+abbrev pub verify_locks_keys : Data → Result VerifyLocksKeys Rule
+verify_locks_keys d = do
+  ref ← if_given as_name (get (codes "ref") d)
+  cursor ← if_given as_str (get (codes "cursor") d)
+  limit ← if_given as_number (get (codes "limit") d)
+  Ok (record { ref = ref; cursor = cursor; limit = limit })
+
+-- the form, if its values are in range
+abbrev pub verify_locks_in_range : VerifyLocksKeys → Result VerifyLocksForm Rule
+verify_locks_in_range keys = do
+  ref ← within (is_if_given is_ref) keys.ref
+  limit ← whole_if_given keys.limit
+  Ok (record { ref = ref; cursor = if_not_empty keys.cursor; limit = limit })
+
+-- the keys of a request to release a lock, each of its kind
+pub record UnlockKeys : Type 0 where
+  pub force : Option Bool
+  pub ref : Option (List ℕ)
+
+-- whether force is given, and the ref, not yet tested for range
+abbrev pub unlock_keys : Data → Result UnlockKeys Rule
+unlock_keys d = do
+  force ← if_given as_bool (get (codes "force") d)
+  ref ← if_given as_name (get (codes "ref") d)
+  Ok (record { force = force; ref = ref })
+
+-- the form, if the ref and the parameter are in range
+abbrev pub unlock_in_range : List ℕ → UnlockKeys → Result UnlockForm Rule
+unlock_in_range parameter keys = do
+  valid ← check (is_if_given is_ref keys.ref) J2
+  id ← ok_or (lock_id_in parameter) J2
+  Ok (record { id = id; force = or_default keys.force Bool.false })
+
+-- ---- queries
+
+-- the values of a key among these pairs
+abbrev pub values_among : List ℕ → List (List ℕ × List ℕ) → List (List ℕ)
+values_among key pairs =
+    map (λ (p : List ℕ × List ℕ). decode_text p.1)
+    (filter (λ (p : List ℕ × List ℕ). bytes_eq (decode_text p.0) key) pairs)
+
+-- the only one of the values, if there are any; two are J2
+abbrev pub only : List (List ℕ) → Result (Option (List ℕ)) Rule
+only [] = Ok None
+only (value ∷ []) = Ok (Some value)
+only _ = Err J2
+
+-- the keys of a request for locks, as texts
+pub record ListKeys : Type 0 where
+  pub path : Option (List ℕ)
+  pub id : Option (List ℕ)
+  pub ref : Option (List ℕ)
+  pub cursor : Option (List ℕ)
+  pub limit : Option (List ℕ)
+
+-- the texts of a query, not yet tested for range
+abbrev pub list_keys : List ℕ → Result ListKeys Rule
+list_keys query = do
+  path ← query_value (codes "path") query
+  id ← query_value (codes "id") query
+  ref ← query_value (codes "refspec") query
+  cursor ← query_value (codes "cursor") query
+  limit ← query_value (codes "limit") query
+  Ok (record { path = path; id = id; ref = ref; cursor = cursor; limit = limit })
+
+-- the form, if its texts are in range
+abbrev pub list_in_range : ListKeys → Result ListForm Rule
+list_in_range keys = do
+  path ← within (is_if_given is_lock_path) keys.path
+  ref ← within (is_if_given is_ref) keys.ref
+  id ← read_if_given lock_id_in keys.id
+  limit ← read_if_given limit_in keys.limit
+  Ok (record { path = path; id = id; ref = ref; cursor = keys.cursor; limit = limit })

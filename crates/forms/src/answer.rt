@@ -5,7 +5,8 @@ ghost use Rattle.serde_json.specs.View.{view};
 ghost use Rattle.serde_json.specs.Written.{compact_text};
 ghost use Rattle.model.specs.Replies.{rule_status, rule_message, row_message, right_text, row_reason, with_code, message_json};
 
-use crate::shown_lock::{ShownLock, held_body, locked_body};
+use crate::page::{ShownPage, SplitPage, list_body, split_body};
+use crate::shown_lock::{ShownLock, held_body, lock_body};
 use http::StatusCode;
 use model::Right;
 use names::Rule;
@@ -43,6 +44,12 @@ pub enum Answer<'a> {
     Locked(&'a ShownLock<'a>),
     /// The path is already locked: L1, 409, with the lock that holds it.
     Held(&'a ShownLock<'a>),
+    /// A page of locks: 200.
+    Listed(&'a ShownPage<'a>),
+    /// A page of locks, the caller's own apart: 200.
+    Split(&'a SplitPage<'a>),
+    /// The lock was released: 200, with the lock.
+    Released(&'a ShownLock<'a>),
     /// The rule refuses: with its own status, or 403 if the rule has none.
     Denied(Rule),
     /// The policy denies.
@@ -68,6 +75,7 @@ impl Answer<'_> {
         match self {
             Answer::Locked(_) => StatusCode::CREATED,
             Answer::Held(_) => StatusCode::CONFLICT,
+            Answer::Listed(_) | Answer::Split(_) | Answer::Released(_) => StatusCode::OK,
             Answer::Denied(rule) => status_of_rule(*rule),
             Answer::DeniedByRow { status, .. } => status.status_code(),
         }
@@ -84,8 +92,11 @@ impl Answer<'_> {
             ≡ json (string_bytes text)) }
     {
         match self {
-            Answer::Locked(lock) => locked_body(alloc, lock),
+            Answer::Locked(lock) => lock_body(alloc, lock),
             Answer::Held(lock) => held_body(alloc, lock),
+            Answer::Listed(page) => list_body(alloc, page),
+            Answer::Split(page) => split_body(alloc, page),
+            Answer::Released(lock) => lock_body(alloc, lock),
             Answer::Denied(rule) => {
                 let message = rule_message(alloc, *rule)?;
                 message_body(alloc, message.as_str())

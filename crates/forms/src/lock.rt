@@ -1,14 +1,14 @@
 //! The body of a request for a lock (Git LFS API, File Locking, "Create Lock").
 
-ghost use Rattle.std.specs.Prelude.{◌≡◌, option_map};
+ghost use Rattle.std.specs.Prelude.{◌≡◌};
 ghost use Rattle.serde_json.specs.View.{view};
 ghost use Rattle.names.specs.Names.{path_text};
 ghost use Rattle.names.specs.Texts.{is_lock_path};
 ghost use Rattle.model.specs.Forms.{lock_form};
-ghost use Rattle.forms.specs.Given.{Gives, Reads, lock_fields, in_range, within};
+ghost use Rattle.forms.specs.Given.{Gives, Reads, lock_fields, in_range, text_given, within};
 ghost use Rattle.forms.specs.Requests.{lock_asked};
 
-use crate::body::{read_ref, ref_if_given, text_if_given, value_of};
+use crate::body::{object_of, read_ref, ref_if_given, text_if_given};
 use crate::refusal::Refusal;
 use names::{LockPath, RefName, Rule};
 use serde_json::Value;
@@ -31,28 +31,27 @@ pub struct LockRequest {
 pub(crate) fn read_lock(alloc: Global, body: &[u8]) -> Result<LockRequest, Refusal>
     ensures { Reads lock_asked result (lock_form body.now) }
 {
-    let value = value_of(alloc, body)?;
-    let (path, ref_name) = lock_fields(&value)?;
+    let object = object_of(alloc, body)?;
+    let (path, ref_name) = lock_fields(&object)?;
     lock_of(alloc, path, ref_name)
 }
 
-/// The path and the ref of a value, not yet tested for range.
+/// The path and the ref of an object, not yet tested for range.
 ///
 /// # Errors
 ///
-/// J1 if the value has the wrong shape.
-fn lock_fields(value: &Value) -> Result<(&str, Option<&str>), Rule>
+/// J1 if the path is missing, or one of them is of another kind.
+fn lock_fields(object: &Value) -> Result<(&str, Option<&str>), Rule>
     ensures { Gives
         (λ p. record {
           path = p.0.now;
-          ref = option_map
-              (λ s. s.now) p.1;
-        }) result (lock_fields (view value.now)) }
+          ref = text_given p.1;
+        }) result (lock_fields (view object.now)) }
 {
-    let Some(path) = text_if_given(value.get("path"))? else {
+    let Some(path) = text_if_given(object.get("path"))? else {
         return Err(Rule::J1);
     };
-    let name = ref_if_given(value.get("ref"))?;
+    let name = ref_if_given(object.get("ref"))?;
     Ok((path, name))
 }
 
@@ -63,7 +62,7 @@ fn lock_fields(value: &Value) -> Result<(&str, Option<&str>), Rule>
 /// J2 if one of them is out of range.
 fn lock_of(alloc: Global, path: &str, ref_name: Option<&str>) -> Result<LockRequest, Refusal>
     ensures { Reads lock_asked result (in_range
-        (record { path = path.now; ref = option_map (λ s. s.now) ref_name.entry })) }
+        (record { path = path.now; ref = text_given ref_name.entry })) }
 {
     let path = read_path(alloc, path)?;
     let ref_name = read_ref(alloc, ref_name)?;

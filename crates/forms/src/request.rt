@@ -5,8 +5,11 @@ ghost use Rattle.model.specs.Heads.{form_of_served};
 ghost use Rattle.forms.specs.Given.{Reads};
 ghost use Rattle.forms.specs.Requests.{request_asked};
 
+use crate::list::{ListRequest, read_list};
 use crate::lock::{LockRequest, read_lock};
 use crate::refusal::Refusal;
+use crate::unlock::{UnlockRequest, read_unlock};
+use crate::verify_locks::{VerifyLocksRequest, read_verify_locks};
 use model::ServedForm;
 use std::alloc::Global;
 
@@ -15,6 +18,13 @@ use std::alloc::Global;
 pub enum Request {
     /// Lock a path (Git LFS API, File Locking, "Create Lock").
     Lock(LockRequest),
+    /// List locks (Git LFS API, File Locking, "List Locks").
+    List(ListRequest),
+    /// List the locks of a ref, the caller's own apart (Git LFS API, File Locking, "List Locks for
+    /// Verification").
+    VerifyLocks(VerifyLocksRequest),
+    /// Release a lock (Git LFS API, File Locking, "Delete Lock").
+    Unlock(UnlockRequest),
 }
 
 /// Reads a request of the form.
@@ -39,5 +49,8 @@ pub fn read_form(
 {
     match form {
         ServedForm::Lock => Ok(Request::Lock(read_lock(alloc, body)?)),
+        ServedForm::List => Ok(Request::List(read_list(alloc, query)?)),
+        ServedForm::VerifyLocks => Ok(Request::VerifyLocks(read_verify_locks(alloc, body)?)),
+        ServedForm::Unlock => Ok(Request::Unlock(read_unlock(alloc, parameter, body)?)),
     }
 }

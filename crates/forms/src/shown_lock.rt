@@ -1,10 +1,11 @@
-//! A lock as a client sees it, and the bodies that show one (Git LFS API, File Locking, "Create Lock").
+//! A lock as a client sees it, and the bodies that show one (Git LFS API, File Locking, "Create Lock"
+//! and "Delete Lock").
 
 ghost use Rattle.std.specs.Prelude.{◌≡◌, IfOk, string_bytes};
 ghost use Rattle.serde_json.specs.View.{view};
 ghost use Rattle.serde_json.specs.Written.{compact_text};
-ghost use Rattle.model.specs.Replies.{lock_json, conflict_json};
-ghost use Rattle.forms.specs.ShownLocks.{lock_shown, json_of_texts, conflict_of_texts};
+ghost use Rattle.model.specs.Replies.{lock_data, lock_json, conflict_json};
+ghost use Rattle.forms.specs.ShownLocks.{data_of_texts, lock_shown};
 
 use crate::answer::rule_message;
 use names::{LockId, LockPath, Moment, Rule, UserName, moment_text};
@@ -33,39 +34,16 @@ struct LockTexts<'a> {
     path: &'a str,
 }
 
-/// The JSON value with the lock.
-fn locked_value(alloc: Global, lock: &LockTexts<'_>) -> Result<Value, AllocError>
-    ensures { IfOk result (λ value. view value ≡ json_of_texts lock.now) }
+/// The JSON value of the lock with these texts.
+fn value_of_texts(alloc: Global, lock: &LockTexts<'_>) -> Result<Value, AllocError>
+    ensures { IfOk result (λ value. view value ≡ data_of_texts lock.now) }
 {
-    json!(in alloc; {"lock": {"id": lock.id, "locked_at": lock.locked_at, "owner": {"name": lock.owner}, "path": lock.path}})
+    json!(in alloc; {"id": lock.id, "locked_at": lock.locked_at, "owner": {"name": lock.owner}, "path": lock.path})
 }
 
-/// `locked_value`, serialized.
-fn locked_text(alloc: Global, lock: &LockTexts<'_>) -> Result<String, AllocError>
-    ensures { IfOk result (λ text. string_bytes text ≡ compact_text (json_of_texts lock.now)) }
-{
-    locked_value(alloc, lock)?.to_string(alloc)
-}
-
-/// The JSON value with the lock and a message.
-fn held_value(alloc: Global, lock: &LockTexts<'_>, message: &str) -> Result<Value, AllocError>
-    ensures { IfOk result (λ value. view value ≡ conflict_of_texts lock.now message.now) }
-{
-    json!(in alloc; {"lock": {"id": lock.id, "locked_at": lock.locked_at, "owner": {"name": lock.owner}, "path": lock.path}, "message": message})
-}
-
-/// `held_value`, serialized.
-fn held_text(alloc: Global, lock: &LockTexts<'_>, message: &str) -> Result<String, AllocError>
-    ensures { IfOk result
-        (λ text. string_bytes text ≡ compact_text (conflict_of_texts lock.now message.now)) }
-{
-    held_value(alloc, lock, message)?.to_string(alloc)
-}
-
-/// The body for a lock that was made.
-pub(crate) fn locked_body(alloc: Global, lock: &ShownLock<'_>) -> Result<String, AllocError>
-    ensures { IfOk result
-        (λ text. string_bytes text ≡ compact_text (lock_json (lock_shown lock.now))) }
+/// The JSON value of the lock.
+pub(crate) fn lock_value(alloc: Global, lock: &ShownLock<'_>) -> Result<Value, AllocError>
+    ensures { IfOk result (λ value. view value ≡ lock_data (lock_shown lock.now)) }
 {
     let id = lock.id.to_string(alloc)?;
     let locked_at = moment_text(alloc, lock.locked_at)?;
@@ -75,7 +53,32 @@ pub(crate) fn locked_body(alloc: Global, lock: &ShownLock<'_>) -> Result<String,
         owner: lock.owner.as_str(),
         path: lock.path.as_str(),
     };
-    locked_text(alloc, &texts)
+    value_of_texts(alloc, &texts)
+}
+
+/// The JSON value with the lock.
+fn locked_value(alloc: Global, lock: &ShownLock<'_>) -> Result<Value, AllocError>
+    ensures { IfOk result (λ value. view value ≡ lock_json (lock_shown lock.now)) }
+{
+    let lock = lock_value(alloc, lock)?;
+    json!(in alloc; {"lock": lock})
+}
+
+/// The JSON value with the lock and the message of L1.
+fn held_value(alloc: Global, lock: &ShownLock<'_>) -> Result<Value, AllocError>
+    ensures { IfOk result (λ value. view value ≡ conflict_json (lock_shown lock.now)) }
+{
+    let lock = lock_value(alloc, lock)?;
+    let message = rule_message(alloc, Rule::L1)?;
+    json!(in alloc; {"lock": lock, "message": message})
+}
+
+/// The body for a lock that was made or released.
+pub(crate) fn lock_body(alloc: Global, lock: &ShownLock<'_>) -> Result<String, AllocError>
+    ensures { IfOk result
+        (λ text. string_bytes text ≡ compact_text (lock_json (lock_shown lock.now))) }
+{
+    locked_value(alloc, lock)?.to_string(alloc)
 }
 
 /// The body for a path that is already locked.
@@ -83,14 +86,5 @@ pub(crate) fn held_body(alloc: Global, lock: &ShownLock<'_>) -> Result<String, A
     ensures { IfOk result
         (λ text. string_bytes text ≡ compact_text (conflict_json (lock_shown lock.now))) }
 {
-    let id = lock.id.to_string(alloc)?;
-    let locked_at = moment_text(alloc, lock.locked_at)?;
-    let texts = LockTexts {
-        id: id.as_str(),
-        locked_at: locked_at.as_str(),
-        owner: lock.owner.as_str(),
-        path: lock.path.as_str(),
-    };
-    let message = rule_message(alloc, Rule::L1)?;
-    held_text(alloc, &texts, message.as_str())
+    held_value(alloc, lock)?.to_string(alloc)
 }

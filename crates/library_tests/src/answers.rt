@@ -1,7 +1,7 @@
 //! `forms`: answers as JSON.
 
 use crate::harness::{Tester, lock_path, moment, unwrap, user};
-use forms::{Action, Answer, DenialStatus, ShownLock};
+use forms::{Action, Answer, DenialStatus, ShownLock, ShownPage, SplitPage};
 use model::Right;
 use names::{LockId, Rule};
 use std::alloc::{AllocError, Global};
@@ -13,18 +13,26 @@ fn text_of(alloc: Global, answer: &Answer<'_>) -> Result<String, AllocError> {
     format!(in alloc; "{status} {body}")
 }
 
-/// The text of the reply that shows the lock: one that was made or, if `is_held`, one that already
-/// holds the path.
-fn lock_text(alloc: Global, lock: &ShownLock<'_>, is_held: bool) -> Result<String, AllocError> {
-    if is_held {
-        text_of(alloc, &Answer::Held(lock))
-    } else {
-        text_of(alloc, &Answer::Locked(lock))
+/// A reply that shows one lock: that it was made, that it already holds the path, or that it was
+/// released.
+#[derive(Clone, Copy)]
+enum Showing {
+    Locked,
+    Held,
+    Released,
+}
+
+/// The text of the reply that shows the lock.
+fn lock_text(alloc: Global, lock: &ShownLock<'_>, showing: Showing) -> Result<String, AllocError> {
+    match showing {
+        Showing::Locked => text_of(alloc, &Answer::Locked(lock)),
+        Showing::Held => text_of(alloc, &Answer::Held(lock)),
+        Showing::Released => text_of(alloc, &Answer::Released(lock)),
     }
 }
 
 /// The text of the reply to the lock of the example in `docs/PROTOCOL.md`, on this path.
-fn text_of_lock(rt: &impl Tester, path: &str, is_held: bool) -> String {
+fn text_of_lock(rt: &impl Tester, path: &str, showing: Showing) -> String {
     let owner = user(rt, "ann");
     let path = lock_path(rt, path);
     let lock = ShownLock {
@@ -33,32 +41,122 @@ fn text_of_lock(rt: &impl Tester, path: &str, is_held: bool) -> String {
         owner: &owner,
         path: &path,
     };
-    unwrap(rt, lock_text(rt.alloc(), &lock, is_held))
+    unwrap(rt, lock_text(rt.alloc(), &lock, showing))
 }
 
-/// A path, whether it is locked already, and the text of the reply.
-const LOCKS: &[(&str, bool, &str)] = &[
+/// A path, what the reply shows, and its text.
+const LOCKS: &[(&str, Showing, &str)] = &[
     (
         "art/hero.psd",
-        false,
+        Showing::Locked,
         r#"201 {"lock":{"id":"1","locked_at":"2016-05-17T15:49:06Z","owner":{"name":"ann"},"path":"art/hero.psd"}}"#,
     ),
     (
         "art/hero.psd",
-        true,
+        Showing::Held,
         r#"409 {"lock":{"id":"1","locked_at":"2016-05-17T15:49:06Z","owner":{"name":"ann"},"path":"art/hero.psd"},"message":"L1: the path is already locked"}"#,
     ),
     (
+        "art/hero.psd",
+        Showing::Released,
+        r#"200 {"lock":{"id":"1","locked_at":"2016-05-17T15:49:06Z","owner":{"name":"ann"},"path":"art/hero.psd"}}"#,
+    ),
+    (
         "\"\u{e9}\" & <b>",
-        false,
+        Showing::Locked,
         "201 {\"lock\":{\"id\":\"1\",\"locked_at\":\"2016-05-17T15:49:06Z\",\"owner\":{\"name\":\"ann\"},\"path\":\"\\\"\u{e9}\\\" & <b>\"}}",
     ),
 ];
 
 #[test]
 fn locks_are_shown_with_their_owner(rt: HostRuntime) {
-    for &(path, is_held, want) in LOCKS {
-        let text = text_of_lock(&rt, path, is_held);
+    for &(path, showing, want) in LOCKS {
+        let text = text_of_lock(&rt, path, showing);
+        assert_eq!(rt; text.as_str(), want);
+    }
+}
+
+/// The text of the reply with a page of the locks.
+fn list_text(
+    alloc: Global,
+    locks: &[ShownLock<'_>],
+    next: Option<LockId>,
+) -> Result<String, AllocError> {
+    text_of(alloc, &Answer::Listed(&ShownPage { locks, next }))
+}
+
+/// The text of the reply with a page of the locks, of which the first few are the caller's own.
+fn split_text(
+    alloc: Global,
+    locks: &[ShownLock<'_>],
+    own: usize,
+    next: Option<LockId>,
+) -> Result<String, AllocError> {
+    let (ours, theirs) = locks.split_at(own.min(locks.len()));
+    text_of(alloc, &Answer::Split(&SplitPage { ours, theirs, next }))
+}
+
+/// The text of the reply with a page of the first of two locks: the caller's own apart if their
+/// number is given.
+fn text_of_page(rt: &impl Tester, count: usize, own: Option<usize>, next: &str) -> String {
+    let owner = user(rt, "ann");
+    let path = lock_path(rt, "art/hero.psd");
+    let first = ShownLock {
+        id: unwrap(rt, LockId::read("1").ok_or(())),
+        locked_at: moment(rt, 1_463_500_146),
+        owner: &owner,
+        path: &path,
+    };
+    let second = ShownLock {
+        id: unwrap(rt, LockId::read("12").ok_or(())),
+        locked_at: moment(rt, 0),
+        ..first
+    };
+    let locks = [first, second];
+    let shown = &locks[..count.min(2)];
+    let next = LockId::read(next);
+    let text = match own {
+        None => list_text(rt.alloc(), shown, next),
+        Some(own) => split_text(rt.alloc(), shown, own, next),
+    };
+    unwrap(rt, text)
+}
+
+/// How many locks a page has, how many of them are the caller's own if those are apart, the next
+/// lock's id, and the text of the reply.
+const PAGES: &[(usize, Option<usize>, &str, &str)] = &[
+    (0, None, "", r#"200 {"locks":[]}"#),
+    (
+        1,
+        None,
+        "12",
+        r#"200 {"locks":[{"id":"1","locked_at":"2016-05-17T15:49:06Z","owner":{"name":"ann"},"path":"art/hero.psd"}],"next_cursor":"12"}"#,
+    ),
+    (
+        2,
+        None,
+        "",
+        r#"200 {"locks":[{"id":"1","locked_at":"2016-05-17T15:49:06Z","owner":{"name":"ann"},"path":"art/hero.psd"},{"id":"12","locked_at":"1970-01-01T00:00:00Z","owner":{"name":"ann"},"path":"art/hero.psd"}]}"#,
+    ),
+    (0, Some(0), "", r#"200 {"ours":[],"theirs":[]}"#),
+    (
+        2,
+        Some(1),
+        "4294967295",
+        r#"200 {"next_cursor":"4294967295","ours":[{"id":"1","locked_at":"2016-05-17T15:49:06Z","owner":{"name":"ann"},"path":"art/hero.psd"}],"theirs":[{"id":"12","locked_at":"1970-01-01T00:00:00Z","owner":{"name":"ann"},"path":"art/hero.psd"}]}"#,
+    ),
+    (
+        1,
+        Some(0),
+        "",
+        r#"200 {"ours":[],"theirs":[{"id":"1","locked_at":"2016-05-17T15:49:06Z","owner":{"name":"ann"},"path":"art/hero.psd"}]}"#,
+    ),
+];
+
+#[test]
+fn pages_are_shown_with_their_next_lock(rt: HostRuntime) {
+    for &(count, own, next, want) in PAGES {
+        let text = text_of_page(&rt, count, own, next);
         assert_eq!(rt; text.as_str(), want);
     }
 }
@@ -102,6 +200,15 @@ const RULES: &[(Rule, &str)] = &[
         r#"422 {"message":"J1: the body has the wrong shape"}"#,
     ),
     (Rule::J2, r#"422 {"message":"J2: a field is out of range"}"#),
+    (Rule::L2, r#"404 {"message":"L2: no such lock"}"#),
+    (
+        Rule::L3,
+        r#"403 {"message":"L3: the lock belongs to another user"}"#,
+    ),
+    (
+        Rule::L4,
+        r#"422 {"message":"L4: the cursor is no lock id"}"#,
+    ),
     (
         Rule::L5,
         r#"507 {"message":"L5: the lock ids are used up"}"#,

@@ -1,21 +1,88 @@
-//! `forms`: requests from JSON.
+//! `forms`: requests from parameters, queries and JSON.
 
 use crate::harness::{Tester, unwrap};
-use forms::{Refusal, Request, read_form};
+use forms::{
+    ListRequest, LockRequest, Refusal, Request, UnlockRequest, VerifyLocksRequest, read_form,
+};
 use model::ServedForm;
 use std::alloc::{AllocError, Global};
 
-/// The lock that a body requests, as `PATH` or `PATH at REF`, or the rule that refuses it.
-fn asked(alloc: Global, body: &[u8]) -> Result<String, AllocError> {
-    match read_form(alloc, ServedForm::Lock, "", "", body) {
-        Ok(Request::Lock(lock)) => {
-            let mut text = lock.path.to_string(alloc)?;
-            if let Some(name) = &lock.ref_name {
-                text.push_str(" at ")?;
-                text.push_str(name.as_str())?;
-            }
-            Ok(text)
-        }
+/// Appends a space and the text, if there is one, under its name.
+fn add(text: &mut String, name: &str, value: Option<&str>) -> Result<(), AllocError> {
+    if let Some(value) = value {
+        text.push_str(name)?;
+        text.push_str(value)?;
+    }
+    Ok(())
+}
+
+/// Appends the number, if there is one, under its name.
+fn add_limit(alloc: Global, text: &mut String, limit: Option<i64>) -> Result<(), AllocError> {
+    if let Some(limit) = limit {
+        let number = limit.to_string(alloc)?;
+        add(text, " limit=", Some(number.as_str()))?;
+    }
+    Ok(())
+}
+
+/// `PATH` or `PATH at REF`.
+fn lock_text(alloc: Global, lock: &LockRequest) -> Result<String, AllocError> {
+    let mut text = lock.path.to_string(alloc)?;
+    if let Some(name) = &lock.ref_name {
+        add(&mut text, " at ", Some(name.as_str()))?;
+    }
+    Ok(text)
+}
+
+/// `list`, and each key that is given.
+fn list_text(alloc: Global, list: &ListRequest) -> Result<String, AllocError> {
+    let mut text = String::from_str(alloc, "list")?;
+    if let Some(path) = &list.path {
+        add(&mut text, " path=", Some(path.as_str()))?;
+    }
+    if let Some(id) = list.id {
+        let number = id.to_string(alloc)?;
+        add(&mut text, " id=", Some(number.as_str()))?;
+    }
+    if let Some(name) = &list.ref_name {
+        add(&mut text, " ref=", Some(name.as_str()))?;
+    }
+    add(&mut text, " cursor=", list.cursor.as_deref())?;
+    add_limit(alloc, &mut text, list.limit)?;
+    Ok(text)
+}
+
+/// `verify`, and each key that is given.
+fn verify_locks_text(alloc: Global, asked: &VerifyLocksRequest) -> Result<String, AllocError> {
+    let mut text = String::from_str(alloc, "verify")?;
+    if let Some(name) = &asked.ref_name {
+        add(&mut text, " ref=", Some(name.as_str()))?;
+    }
+    add(&mut text, " cursor=", asked.cursor.as_deref())?;
+    add_limit(alloc, &mut text, asked.limit)?;
+    Ok(text)
+}
+
+/// `unlock ID` or `unlock ID by force`.
+fn unlock_text(alloc: Global, unlock: &UnlockRequest) -> Result<String, AllocError> {
+    let id = unlock.id;
+    let end = if unlock.force { " by force" } else { "" };
+    format!(in alloc; "unlock {id}{end}")
+}
+
+/// What a request asks, or the rule that refuses it.
+fn asked(
+    alloc: Global,
+    form: ServedForm,
+    parameter: &str,
+    query: &str,
+    body: &[u8],
+) -> Result<String, AllocError> {
+    match read_form(alloc, form, parameter, query, body) {
+        Ok(Request::Lock(lock)) => lock_text(alloc, &lock),
+        Ok(Request::List(list)) => list_text(alloc, &list),
+        Ok(Request::VerifyLocks(asked)) => verify_locks_text(alloc, &asked),
+        Ok(Request::Unlock(unlock)) => unlock_text(alloc, &unlock),
         Err(Refusal::Rule(rule)) => rule.to_string(alloc),
         Err(Refusal::Memory) => Err(AllocError),
     }
@@ -23,7 +90,7 @@ fn asked(alloc: Global, body: &[u8]) -> Result<String, AllocError> {
 
 /// Asserts that the body asks for this lock, or is refused by this rule.
 fn expect_asked(rt: &impl Tester, body: &[u8], want: &str) {
-    let found = unwrap(rt, asked(rt.alloc(), body));
+    let found = unwrap(rt, asked(rt.alloc(), ServedForm::Lock, "", "", body));
     assert!(rt; found.as_str() == want, "{body:?}");
 }
 
@@ -167,5 +234,157 @@ fn expect_of_size(rt: &impl Tester, path: usize, arrays: usize, rule: Option<&st
 fn paths_end_at_1024_bytes_and_nesting_at_127_levels(rt: HostRuntime) {
     for &(path, arrays, rule) in SIZES {
         expect_of_size(&rt, path, arrays, rule);
+    }
+}
+
+/// Queries, and what a request for locks with each of them asks.
+const LISTS: &[(&str, &str)] = &[
+    ("", "list"),
+    ("&&", "list"),
+    ("path=art/hero.psd", "list path=art/hero.psd"),
+    ("path=art%2Fhero.psd", "list path=art/hero.psd"),
+    ("path=a+b", "list path=a b"),
+    ("path=a%2Bb", "list path=a+b"),
+    ("path=a%2", "list path=a%2"),
+    ("path=a=b", "list path=a=b"),
+    ("path=%C3%A9", "list path=\u{e9}"),
+    ("path=%FF", "list path=\u{fffd}"),
+    ("&p%61th=a&", "list path=a"),
+    ("id=1", "list id=1"),
+    ("id=4294967295", "list id=4294967295"),
+    ("refspec=refs%2Fheads%2Fmain", "list ref=refs/heads/main"),
+    ("cursor=7", "list cursor=7"),
+    ("cursor=01", "list cursor=01"),
+    ("cursor=x", "list cursor=x"),
+    ("limit=0", "list limit=0"),
+    ("limit=-5", "list limit=-5"),
+    ("limit=-0", "list limit=0"),
+    ("limit=0000000007", "list limit=7"),
+    ("limit=9999999999", "list limit=9999999999"),
+    ("limit=-9999999999", "list limit=-9999999999"),
+    (
+        "limit=3&cursor=2&refspec=refs/a&id=1&path=a",
+        "list path=a id=1 ref=refs/a cursor=2 limit=3",
+    ),
+    // An empty value counts as missing, and an unknown key is ignored.
+    ("path=c&x=1&id=", "list path=c"),
+    ("path&id=&refspec=&cursor=&limit", "list"),
+    ("x=1&x=2&Path=/&ref=x", "list"),
+    // Values out of range.
+    ("path=/a", "J2"),
+    ("path=a%00", "J2"),
+    ("id=0", "J2"),
+    ("id=01", "J2"),
+    ("id=%2B1", "J2"),
+    ("id=4294967296", "J2"),
+    ("refspec=heads", "J2"),
+    ("limit=-", "J2"),
+    ("limit=+5", "J2"),
+    ("limit=%2B5", "J2"),
+    ("limit=--5", "J2"),
+    ("limit=5x", "J2"),
+    ("limit=1.0", "J2"),
+    ("limit=99999999999", "J2"),
+    ("limit=-99999999999", "J2"),
+    // A known key twice, whatever its values are.
+    ("path=a&path=a", "J2"),
+    ("path=&path=b", "J2"),
+    ("path=b&path=", "J2"),
+    ("path&path", "J2"),
+    ("path=a&p%61th=b", "J2"),
+    ("id=1&id=1", "J2"),
+    ("refspec=refs/a&refspec=refs/a", "J2"),
+    ("cursor=1&cursor=2", "J2"),
+    ("limit=1&path=a&limit=1", "J2"),
+];
+
+#[test]
+fn lists_are_asked_by_their_query(rt: HostRuntime) {
+    for &(query, want) in LISTS {
+        let found = unwrap(&rt, asked(rt.alloc(), ServedForm::List, "x", query, b"["));
+        assert!(rt; found.as_str() == want, "{query}");
+    }
+}
+
+/// Bodies, and what a request for the locks of a ref with each of them asks.
+const VERIFICATIONS: &[(&[u8], &str)] = &[
+    (b"{}", "verify"),
+    (br#"{"ref":null,"cursor":null,"limit":null}"#, "verify"),
+    (
+        br#"{"ref":{"name":"refs/heads/main"},"cursor":"7","limit":-3}"#,
+        "verify ref=refs/heads/main cursor=7 limit=-3",
+    ),
+    (br#"{"cursor":""}"#, "verify"),
+    (br#"{"cursor":"01"}"#, "verify cursor=01"),
+    (br#"{"limit":1}"#, "verify limit=1"),
+    (br#"{"limit":0}"#, "verify limit=0"),
+    (
+        br#"{"limit":9223372036854775807}"#,
+        "verify limit=9223372036854775807",
+    ),
+    (
+        br#"{"limit":-9223372036854775808}"#,
+        "verify limit=-9223372036854775808",
+    ),
+    (br#"{"limit":"1","limit":2}"#, "verify limit=2"),
+    (b"", "J1"),
+    (b"[]", "J1"),
+    (b"null", "J1"),
+    (br#"{"limit":"1"}"#, "J1"),
+    (br#"{"limit":true}"#, "J1"),
+    (br#"{"cursor":1}"#, "J1"),
+    (br#"{"ref":"refs/heads/main"}"#, "J1"),
+    (br#"{"ref":{"name":null}}"#, "J1"),
+    (br#"{"ref":{"name":"x"},"limit":1.0,"cursor":[]}"#, "J1"),
+    (br#"{"limit":1.0}"#, "J2"),
+    (br#"{"limit":1e0}"#, "J2"),
+    (br#"{"limit":-0}"#, "J2"),
+    (br#"{"limit":9223372036854775808}"#, "J2"),
+    (br#"{"limit":-9223372036854775809}"#, "J2"),
+    (br#"{"ref":{"name":"x"}}"#, "J2"),
+];
+
+#[test]
+fn verifications_are_asked_by_their_body(rt: HostRuntime) {
+    for &(body, want) in VERIFICATIONS {
+        let form = ServedForm::VerifyLocks;
+        let found = unwrap(&rt, asked(rt.alloc(), form, "x", "limit=5", body));
+        assert!(rt; found.as_str() == want, "{body:?}");
+    }
+}
+
+/// Parameters and bodies, and what a request to release a lock with each of them asks.
+const UNLOCKS: &[(&str, &[u8], &str)] = &[
+    ("1", b"{}", "unlock 1"),
+    (
+        "4294967295",
+        br#"{"force":true}"#,
+        "unlock 4294967295 by force",
+    ),
+    ("7", br#"{"force":false}"#, "unlock 7"),
+    ("7", br#"{"force":null,"ref":null}"#, "unlock 7"),
+    ("7", br#"{"ref":{"name":"refs/heads/main"}}"#, "unlock 7"),
+    ("7", b"", "J1"),
+    ("7", b"[]", "J1"),
+    ("7", br#"{"force":1}"#, "J1"),
+    ("7", br#"{"force":"true"}"#, "J1"),
+    ("7", br#"{"ref":{"name":1}}"#, "J1"),
+    ("7", br#"{"ref":{"name":"main"}}"#, "J2"),
+    ("", b"{}", "J2"),
+    ("x", b"{}", "J2"),
+    ("0", b"{}", "J2"),
+    ("01", b"{}", "J2"),
+    ("4294967296", b"{}", "J2"),
+    // The shape of the body is checked before the parameter.
+    ("x", b"[]", "J1"),
+    ("x", br#"{"ref":{"name":"main"},"force":0}"#, "J1"),
+];
+
+#[test]
+fn unlocks_are_asked_by_parameter_and_body(rt: HostRuntime) {
+    for &(parameter, body, want) in UNLOCKS {
+        let form = ServedForm::Unlock;
+        let found = unwrap(&rt, asked(rt.alloc(), form, parameter, "force=true", body));
+        assert!(rt; found.as_str() == want, "{parameter} {body:?}");
     }
 }

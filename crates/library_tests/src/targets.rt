@@ -47,6 +47,55 @@ fn targets_lead_to_the_locks_of_a_repository(rt: HostRuntime) {
     }
 }
 
+/// What follows the address of a repository, and the resource and the parameter that it leads to.
+const RESOURCES: &[(&str, Resource, &str)] = &[
+    ("/locks", Resource::Locks, ""),
+    ("/locks?id=1", Resource::Locks, ""),
+    ("/locks/verify", Resource::VerifyLocks, ""),
+    ("/locks/verify?a", Resource::VerifyLocks, ""),
+    ("/locks/1/unlock", Resource::Unlock, "1"),
+    ("/locks/1/unlock?/2/unlock", Resource::Unlock, "1"),
+    ("/locks/verify/unlock", Resource::Unlock, "verify"),
+    ("/locks/unlock/unlock", Resource::Unlock, "unlock"),
+    // Not the ids of locks, and yet a route.
+    ("/locks/%31/unlock", Resource::Unlock, "%31"),
+    ("/locks/{id}/unlock", Resource::Unlock, "{id}"),
+    ("/locks/../unlock", Resource::Unlock, ".."),
+    ("/locks/\u{e9}/unlock", Resource::Unlock, "\u{e9}"),
+];
+
+/// Whether this text after the address of a repository is a route to the resource, with the parameter.
+fn has_parameter(
+    rt: &impl Tester,
+    routes: &Routes,
+    rest: &str,
+    resource: Resource,
+    parameter: &str,
+) -> bool {
+    let target = unwrap(
+        rt,
+        format!(in rt.alloc(); "/studio/film.git/info/lfs{rest}"),
+    );
+    let Some(route) = routes.route_of(target.as_str()) else {
+        return false;
+    };
+    route.owner == "studio"
+        && route.name == "film"
+        && route.resource == resource
+        && route.parameter == parameter
+}
+
+#[test]
+fn targets_lead_to_a_resource_with_its_parameter(rt: HostRuntime) {
+    let routes = unwrap(&rt, Routes::new(rt.alloc()));
+    for &(rest, resource, parameter) in RESOURCES {
+        assert!(rt;
+            has_parameter(&rt, &routes, rest, resource, parameter),
+            "{rest}"
+        );
+    }
+}
+
 /// Targets that are not a route.
 const NO_ROUTES: &[&str] = &[
     "",
@@ -62,7 +111,18 @@ const NO_ROUTES: &[&str] = &[
     "/studio/film.git/info/lfs//locks",
     "/studio/film.git/info/lfs/locks/",
     "/studio/film.git/info/lfs/locks//",
-    "/studio/film.git/info/lfs/locks/verify",
+    "/studio/film.git/info/lfs/locks/verify/",
+    "/studio/film.git/info/lfs/locks/Verify",
+    "/studio/film.git/info/lfs/locks/1",
+    "/studio/film.git/info/lfs/locks/unlock",
+    "/studio/film.git/info/lfs/locks//unlock",
+    "/studio/film.git/info/lfs/locks/1/unlock/",
+    "/studio/film.git/info/lfs/locks/1/Unlock",
+    "/studio/film.git/info/lfs/locks/1/2/unlock",
+    "/studio/film.git/info/lfs/locks/1/verify",
+    "/studio/film/info/lfs/locks/1/unlock",
+    "/studio/film.git/info/lfs/objects/batch",
+    "/studio/film.git/info/lfs/verify",
     "/studio/film.git/info/lfs/lock",
     "/studio/film.git/info/lfs/lockss",
     "/studio/film.git/info/lfs/Locks",
@@ -117,20 +177,43 @@ fn paths_end_and_queries_begin_at_the_first_question_mark(rt: HostRuntime) {
     }
 }
 
-/// Methods that `/locks` does not serve.
-const NOT_SERVED: &[&[u8]] = &[b"", b"post", b"POS", b"POSTS", b"PUT", b"HEAD", b"OPTIONS"];
+/// Methods, and what each asks of a resource: docs/PROTOCOL.md, "Routes", as far as it is served.
+const METHODS: &[(Resource, &[u8], Option<ServedForm>)] = &[
+    (Resource::Locks, b"GET", Some(ServedForm::List)),
+    (Resource::Locks, b"POST", Some(ServedForm::Lock)),
+    (Resource::Locks, b"", None),
+    (Resource::Locks, b"get", None),
+    (Resource::Locks, b"post", None),
+    (Resource::Locks, b"POS", None),
+    (Resource::Locks, b"POSTS", None),
+    (Resource::Locks, b"PUT", None),
+    (Resource::Locks, b"HEAD", None),
+    (Resource::Locks, b"OPTIONS", None),
+    (
+        Resource::VerifyLocks,
+        b"POST",
+        Some(ServedForm::VerifyLocks),
+    ),
+    (Resource::VerifyLocks, b"GET", None),
+    (Resource::Unlock, b"POST", Some(ServedForm::Unlock)),
+    (Resource::Unlock, b"GET", None),
+    (Resource::Unlock, b"DELETE", None),
+];
 
-fn is_served(method: &[u8]) -> bool {
-    Resource::Locks.form_of(method) == Some(ServedForm::Lock)
+fn asks(resource: Resource, method: &[u8], form: Option<ServedForm>) -> bool {
+    resource.form_of(method) == form
 }
 
-// docs/PROTOCOL.md, "Routes": of the methods at `/locks`, those that are built.
+fn serves(resource: Resource, methods: &str) -> bool {
+    resource.allow() == methods && resource.is_json()
+}
+
 #[test]
-fn locks_serve_post_and_json(rt: HostRuntime) {
-    assert!(rt; is_served(b"POST"));
-    for method in NOT_SERVED {
-        assert!(rt; !is_served(method), "{method:?}");
+fn resources_serve_their_methods_and_json(rt: HostRuntime) {
+    for &(resource, method, form) in METHODS {
+        assert!(rt; asks(resource, method, form), "{resource:?} {method:?}");
     }
-    assert_eq!(rt; Resource::Locks.allow(), "POST");
-    assert!(rt; Resource::Locks.is_json());
+    assert!(rt; serves(Resource::Locks, "GET, POST"));
+    assert!(rt; serves(Resource::VerifyLocks, "POST"));
+    assert!(rt; serves(Resource::Unlock, "POST"));
 }

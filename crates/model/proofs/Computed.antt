@@ -1,7 +1,7 @@
 -- The worked examples that are proved by computation.
 use Rattle.std.proofs.Common.{refl}
 use Rattle.model.proofs.OnLiterals.{on_literals}
-use Rattle.model.specs.Examples.{FirstIsLocked, SecondIsRefused, OtherRefIsLocked, HeadsAreRefused, MethodIsRefused, RoutesLead, NamelessIsRefused, TokenExpires, RepositoryIsUnknown, DownloadLocksNothing, CutIsUnanswered, FolderIsFrozen, PushIsDenied, ContentHasItsName, ContentIsServed, QuotaIsKept, UploadIsRefusedEarly, StoredIsConfirmed, UploadIsOffered, DownloadIsOffered, ObjectsAreRefused, ObjectsAreInvalid, HashIsRefused, BatchIsRefused, HiddenIsLeftOut, PagesAreCut, PagesAreRefused, LocksAreSplit, LockIsReleased, RefusalCloses, TokenIsIssued, TokenIsPruned, MomentsArePrinted}
+use Rattle.model.specs.Examples.{FirstIsLocked, SecondIsRefused, OtherRefIsLocked, HeadsAreRefused, MethodIsRefused, RoutesLead, NamelessIsRefused, TokenExpires, RepositoryIsUnknown, DownloadLocksNothing, CutIsUnanswered, FolderIsFrozen, PushIsDenied, ContentHasItsName, ContentIsServed, QuotaIsKept, UploadIsRefusedEarly, StoredIsConfirmed, UploadIsOffered, DownloadIsOffered, ObjectsAreRefused, ObjectsAreInvalid, HashIsRefused, BatchIsRefused, HiddenIsLeftOut, PagesAreCut, PagesAreRefused, LocksAreSplit, LockIsReleased, LocksAreServed, RefusalCloses, TokenIsIssued, TokenIsPruned, MomentsArePrinted}
 
 pub first_is_locked : FirstIsLocked
 unfolding on_literals
@@ -17,7 +17,7 @@ other_ref_is_locked = (refl, refl)
 
 pub heads_are_refused : HeadsAreRefused
 unfolding on_literals
-heads_are_refused = ((refl, refl), (refl, refl), (refl, refl), (refl, refl), (refl, refl), (refl, refl), (refl, refl))
+heads_are_refused = ((refl, refl), (refl, refl), (refl, refl), (refl, refl), (refl, refl), (refl, refl), (refl, refl), (refl, refl), (refl, refl))
 
 pub method_is_refused : MethodIsRefused
 unfolding on_literals
@@ -118,6 +118,10 @@ locks_are_split = (refl, refl, refl)
 pub lock_is_released : LockIsReleased
 unfolding on_literals
 lock_is_released = (refl, refl, refl, refl, refl, refl, refl)
+
+pub locks_are_served : LocksAreServed
+unfolding on_literals
+locks_are_served = (refl, refl, refl)
 
 pub refusal_closes : RefusalCloses
 unfolding on_literals

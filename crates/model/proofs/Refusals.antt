@@ -68,7 +68,7 @@ IsLateRule r = IsLate (by_rule r)
 late : {d : Denial} → is_rule is_early (Err d) ≡ false → is_rule is_of_head (Err d) ≡ false → is_rule is_h7 (Err d) ≡ false → is_store_refusal (Err d) ≡ false → IsLate d
 late a b c d = record { early = a; of_head = b; method = c; store = d }
 
--- a check, a required_member value, and a rule before others
+-- a check, a required value, and a rule before others
 check_late : (test : Bool) (e : Rule) → IsLateRule e → IfErr (check test e) IsLateRule
 check_late test e is = check_fails IsLateRule test e is
 

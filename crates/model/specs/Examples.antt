@@ -147,12 +147,14 @@ HeadsAreRefused =
     × refuses (post_lock (length_field (codes "1048577") ∷ [])) rule.H5
     × refuses (head_of (codes "PUT") (lfs (codes "locks")) (length_field (codes "268435457") ∷ [])) rule.H5
     × refuses (head_of (codes "GET") (lfs (codes "locks/")) []) rule.H6
+    × refuses (head_of (codes "POST") (lfs (codes "locks//unlock")) (length_field (codes "0") ∷ [])) rule.H6
+    × refuses (head_of (codes "GET") (lfs (codes "locks/verify")) []) rule.H7
     × refuses (with_field (field (codes "Accept") (codes "text/html")) first_head) rule.H8
 
 -- the reply to a method that is not served here (H7)
 unfoldable pub method_reply : List ℕ
 method_reply =
-    json_head (codes "405 Method Not Allowed") (codes "47") (codes "Allow: POST" ∷ close_line ∷ [])
+    json_head (codes "405 Method Not Allowed") (codes "47") (codes "Allow: GET, POST" ∷ close_line ∷ [])
     ++ message_of (codes "H7: the method is not served here")
 
 -- it lists the methods that are served
@@ -440,16 +442,16 @@ lock_a = lock_text (codes "1") (codes "ann") (codes "a")
 abbrev pub lock_c : List ℕ
 lock_c = lock_text (codes "3") (codes "ann") (codes "c")
 
--- the reply to a list with the limit 1
-unfoldable pub list_reply : List ℕ
-list_reply =
+-- the reply to a list with the limit 1, if the next page begins at this lock
+unfoldable pub list_reply : List ℕ → List ℕ
+list_reply cursor =
     json_head (codes "200 OK") (codes "109") []
-    ++ codes "{\"locks\":[" ++ lock_a ++ codes "],\"next_cursor\":\"3\"}"
+    ++ codes "{\"locks\":[" ++ lock_a ++ codes "],\"next_cursor\":\"" ++ cursor ++ codes "\"}"
 
 -- a page counts only the locks that the caller may list
 abbrev pub HiddenIsLeftOut : Type 0
 HiddenIsLeftOut =
-    (reply_text (answer three_locks b_is_hidden bob (list (codes "limit=1"))) [] false ≡ list_reply)
+    (reply_text (answer three_locks b_is_hidden bob (list (codes "limit=1"))) [] false ≡ list_reply (codes "3"))
     × (status_and_body (answer three_locks b_is_hidden bob (list (codes "limit=1&cursor=3")))
     ≡ (200, codes "{\"locks\":[" ++ lock_c ++ codes "]}"))
 
@@ -527,6 +529,30 @@ LockIsReleased =
     × (answer first_locked studio ann (unlock (codes "1") (codes "{}")) ≡ Ok (releases first_lock))
     × (answer first_locked studio bob (unlock (codes "9") (codes "{}")) ≡ Err (by_rule rule.L2))
     × ((without_lock first_lock first_locked).locks ≡ []) × ((without_lock first_lock first_locked).made film ≡ 1)
+
+-- ---- the same over a connection
+
+-- the world, and ann's token
+abbrev pub with_token : World → World
+with_token world = record world { tokens = with_ann.tokens }
+
+-- ann's request for a page of one lock
+abbrev pub page_message : Message
+page_message = message (head_of (codes "GET") (lfs (codes "locks?limit=1")) (authorization ∷ [])) [] true
+
+-- a POST of ann, with a body of this length
+abbrev pub post_message : List ℕ → List ℕ → List ℕ → Message
+post_message rest digits body =
+    message (head_of (codes "POST") (lfs rest) (authorization ∷ length_field digits ∷ [])) body true
+
+-- the query of the target limits the page, the body holds a cursor, and the target names the lock to release
+abbrev pub LocksAreServed : Type 0
+LocksAreServed =
+    let verify = post_message (codes "locks/verify") (codes "13") (codes "{\"cursor\":\"\"}") in
+    let release = post_message (codes "locks/1/unlock") (codes "2") (codes "{}") in
+    (reply_in (with_token three_locks) page_message ≡ list_reply (codes "2"))
+    × (reply_in (with_token two_owners) verify ≡ split_reply)
+    × (reply_in (with_token first_locked) release ≡ released_reply)
 
 -- ---- the store, the operator, moments
 

@@ -34,7 +34,7 @@ if_given kind (Some value) = ok_or (kind value) J1 >>= λ x. Ok (Some x)
 abbrev pub optional : {A : Type 0} → (Data → Option A) → List ℕ → Members → Result (Option A) Rule
 optional kind key members = if_given kind (get_member key members)
 
--- the value of a required_member key
+-- the value of a required key
 abbrev pub required_member : {A : Type 0} → (Data → Option A) → List ℕ → Members → Result A Rule
 required_member kind key members = optional kind key members >>= λ value. ok_or value J1
 

@@ -114,11 +114,17 @@ routes =
 -- the requests that the server serves today; a request that it learns to serve is added here
 abbrev pub is_served : Form → Bool
 is_served form.Lock = true
+is_served form.List = true
+is_served form.VerifyLocks = true
+is_served form.Unlock = true
 is_served _ = false
 
 -- the form of a request that is served
 abbrev pub form_of_served : ServedForm → Form
 form_of_served served.Lock = form.Lock
+form_of_served served.List = form.List
+form_of_served served.VerifyLocks = form.VerifyLocks
+form_of_served served.Unlock = form.Unlock
 
 -- one of the route's methods is served
 abbrev pub has_served : RouteRow → Bool

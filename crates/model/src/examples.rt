@@ -6,7 +6,7 @@ ghost use Rattle.model.specs.Examples.{CrowdedIsRefused, HeadsAreRefused, Method
 ghost use Rattle.model.specs.Examples.{RepositoryIsUnknown, DownloadLocksNothing, CutIsUnanswered, FolderIsFrozen, PushIsDenied};
 ghost use Rattle.model.specs.Examples.{ContentHasItsName, ContentIsServed, QuotaIsKept, UploadIsRefusedEarly, StoredIsConfirmed};
 ghost use Rattle.model.specs.Examples.{UploadIsOffered, DownloadIsOffered, ObjectsAreInvalid, ObjectsAreRefused, HashIsRefused, BatchIsRefused};
-ghost use Rattle.model.specs.Examples.{HiddenIsLeftOut, PagesAreCut, PagesAreRefused, LocksAreSplit, LockIsReleased};
+ghost use Rattle.model.specs.Examples.{HiddenIsLeftOut, PagesAreCut, PagesAreRefused, LocksAreSplit, LockIsReleased, LocksAreServed};
 ghost use Rattle.model.specs.Examples.{RefusalCloses, TokenIsIssued, TokenIsPruned, MomentsArePrinted};
 
 /// The first message of a stream makes the first lock. The same message again finds it (L1). The path is
@@ -70,13 +70,14 @@ pub fn batches()
 {}
 
 /// Pages of locks: who sees what, where they begin and end, and one's own apart. Locks are released by
-/// their owner, or by force.
+/// their owner, or by force. The same requests over a connection.
 pub fn pages()
     ensures hidden_is_left_out { HiddenIsLeftOut }
     ensures pages_are_cut { PagesAreCut }
     ensures pages_are_refused { PagesAreRefused }
     ensures locks_are_split { LocksAreSplit }
     ensures lock_is_released { LockIsReleased }
+    ensures locks_are_served { LocksAreServed }
 {}
 
 /// The store refusal; tokens that are issued and removed; the first and the last moment.

@@ -89,10 +89,10 @@ pub fn walk_law()
     ensures { WalksAreWhole }
 {}
 
-/// The reply to a user is the one that the user's view foretells, in every world with that view, and no reply
-/// is view_decides to anyone else. The contents that such worlds serve have one SHA-256. A view shows only what the
-/// user sees. A message leaves each view of a repository that it does not ask about, and so do the messages of a
-/// session.
+/// The reply to a user is the one that the user's view predicts, in every world with that view, and the
+/// view predicts no reply to anyone else. The contents that such worlds serve have one SHA-256. A view
+/// shows only what the user sees. A message does not change a view of a repository that it does not ask
+/// about, and neither do the messages of a session.
 pub fn view_law()
     ensures foretell { ViewsForetell }
     ensures callers { OnlyCallersAreForeseen }

@@ -62,4 +62,10 @@ pub enum Form {
 pub enum ServedForm {
     /// Lock a path.
     Lock,
+    /// A list of locks.
+    List,
+    /// The locks of a ref, one's own apart.
+    VerifyLocks,
+    /// Release a lock.
+    Unlock,
 }

@@ -1,19 +1,20 @@
 -- The router finds the table's row, for every good table and every path.
-use Rattle.std.proofs.Common.{◌≡◌, ℕ, suc, ◌<◌, List, [], ◌∷◌, ◌++◌, get_or, Bool, true, false, cond, refl, sym, ap, ◌∙◌, ◌==◌}
-use Rattle.std.specs.List.{onto_first, AllByRecursion}
+use Rattle.std.proofs.Common.{◌≡◌, ℕ, suc, ◌<◌, List, [], ◌∷◌, ◌++◌, get_or, map, None, Bool, true, false, cond, refl, sym, ap, ◌∙◌, ◌==◌}
+use Rattle.std.specs.List.{list_all, onto_first, AllByRecursion}
 use Rattle.std.proofs.lemmas.Bool.{eqb-true, eqb-false}
 use Rattle.matchit.specs.Rows.{RowsOf}
 use Rattle.matchit.specs.Seek.{first}
-use Rattle.matchit.specs.Router.{RouteOf, rename, map_key}
+use Rattle.matchit.specs.Router.{RouteOf, map_key}
 use Rattle.matchit.proofs.RenameLemmas.{first-rename}
 use Rattle.model.specs.Heads.{Segment}
 use Rattle.names.specs.Texts.{parts}
 use Rattle.routes.specs.declared.table.Resource.{Resource}
-use Rattle.routes.specs.Patterns.{patterns, row_at}
-use Rattle.routes.specs.Table.{table, resource_at}
+use Rattle.routes.specs.declared.table.Resource.TheVariants.{Locks, VerifyLocks, Unlock}
+use Rattle.routes.specs.Patterns.{patterns, fitting, row_at, is_some_text}
+use Rattle.routes.specs.Table.{whole_row, table, table_routed, rows_in, resource_at}
 use Rattle.routes.proofs.Rows.{joined, are_good, are_all_apart}
 use Rattle.routes.proofs.Walks.{ArePlain, ArePlainParts, AreGoodRows, good-rows, walk, walk-none}
-use Rattle.routes.proofs.Fitting.{AllApart, all-apart, row-fitting}
+use Rattle.routes.proofs.Fitting.{AllApart, apart-from, all-apart, row-fitting, fitting-later}
 
 -- a list of bytes
 abbrev pub AreBytes : List ℕ → Type 0
@@ -73,9 +74,21 @@ bytes-of : (path : List ℕ) → ((i : ℕ) → get_or path i 0 < 256) → AreBy
 bytes-of [] h = tt
 bytes-of (b ∷ path) h = (h 0, bytes-of path (λ i. h (suc i)))
 
--- the case of the table of routes
-pub found-resource : (s : RowsOf (RouteOf Resource)) (path : List ℕ) → ((i : ℕ) → get_or path i 0 < 256) → rename (λ r. r.value) s ≡ patterns table
-    → map_key (λ (r : RouteOf Resource). r.value) (first s path) ≡ resource_at path
-found-resource s path bytes e =
-    sym (first-rename (λ (r : RouteOf Resource). r.value) s path) ∙ ap (λ r. first r path) e
-    ∙ first-row table path (table-from table refl refl) (bytes-of path bytes)
+-- ---- the table of routes
+
+-- the router's order of the rows finds the same resource: the row of the locks comes last in it
+routed-fitting : (rest : List (List ℕ)) → fitting table rest ≡ fitting table_routed rest
+routed-fitting rest =
+    let others = map whole_row (VerifyLocks ∷ Unlock ∷ []) in
+    fitting-later (whole_row Locks).0 Locks others [] rest (apart-from (whole_row Locks).0 others refl)
+
+routed-row : (parts : List (List ℕ)) → row_at table_routed parts ≡ row_at table parts
+routed-row [] = refl
+routed-row ([] ∷ rest) = ap (λ found. cond (list_all is_some_text rest) found None) (sym (routed-fitting rest))
+routed-row ((b ∷ front) ∷ rest) = refl
+
+pub found-resource : (router : RowsOf (RouteOf Resource)) (path : List ℕ) → ((i : ℕ) → get_or path i 0 < 256) → rows_in router ≡ patterns table_routed
+    → map_key (λ (r : RouteOf Resource). r.value) (first router path) ≡ resource_at path
+found-resource router path bytes e =
+    sym (first-rename (λ (r : RouteOf Resource). r.value) router path) ∙ ap (λ r. first r path) e
+    ∙ first-row table_routed path (table-from table_routed refl refl) (bytes-of path bytes) ∙ routed-row (parts path)

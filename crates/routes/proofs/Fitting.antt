@@ -1,5 +1,5 @@
 -- If no two rows fit one path, the row found part by part is the first that fits.
-use Rattle.std.proofs.Common.{◌≡◌, ℕ, List, [], ◌∷◌, Option, Some, None, Bool, true, false, cond, not, ◌&&◌, ◌||◌, refl, sym, ap, ◌∙◌, bytes_eq}
+use Rattle.std.proofs.Common.{◌≡◌, ℕ, List, [], ◌∷◌, ◌++◌, Option, Some, None, Bool, true, false, cond, not, ◌&&◌, ◌||◌, refl, sym, ap, ◌∙◌, bytes_eq}
 use Rattle.std.specs.List.{list_all}
 use Rattle.std.proofs.lemmas.Bool.{and_parts, and_from, true≢false}
 use Rattle.std.proofs.lemmas.Slice.Eq.{bytes_eq-Decides}
@@ -143,3 +143,18 @@ module _ {K : Type 0} where
       at : (v : Bool) → or_else (cond v (fitting (after_literal (b ∷ s) rows) ss) None) (cond v (fitting (after_parameter rows) ss) None) ≡ cond v (fitting rows ((b ∷ s) ∷ ss)) None
       at true = fitting-part (b ∷ s) ss rows apart
       at false = refl
+
+  -- ---- a row at another place
+
+  -- a row that no path fits besides one of these rows may as well come after them
+  pub fitting-later : (ps : List Segment) (key : K) (before after : List (List Segment × K)) (parts : List (List ℕ)) → ApartFrom ps before
+      → fitting ((ps, key) ∷ (before ++ after)) parts ≡ fitting (before ++ (ps, key) ∷ after) parts
+  fitting-later ps key [] after parts apart = refl
+  fitting-later ps key ((qs, k) ∷ before) after parts apart = at (fits ps parts) refl (fits qs parts) refl (fitting-later ps key before after parts apart.1)
+    where
+      at : (v : Bool) → fits ps parts ≡ v → (w : Bool) → fits qs parts ≡ w → fitting ((ps, key) ∷ (before ++ after)) parts ≡ fitting (before ++ (ps, key) ∷ after) parts
+          → fitting ((ps, key) ∷ (qs, k) ∷ (before ++ after)) parts ≡ fitting ((qs, k) ∷ (before ++ (ps, key) ∷ after)) parts
+      at true e true f ih = absurd (apart.0 parts e f)
+      at true e false f ih = rw (e, f) (rw e at ih)
+      at false e true f ih = rw (e, f) refl
+      at false e false f ih = rw (e, f) (rw e at ih)

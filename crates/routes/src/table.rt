@@ -1,9 +1,11 @@
 //! The table of routes, and the router over it.
 
-ghost use Rattle.std.specs.Prelude.{◌≡◌};
-ghost use Rattle.matchit.specs.Router.{rename};
+ghost use Rattle.std.specs.Prelude.{◌≡◌, ◌∷◌, [], None, OnOk, option_map};
+ghost use Rattle.matchit.specs.Order.{placed};
+ghost use Rattle.matchit.specs.Router.{nearest};
+ghost use Rattle.model.specs.Heads.{form_of, form_of_served, post};
 ghost use Rattle.routes.specs.Patterns.{patterns};
-ghost use Rattle.routes.specs.Table.{table};
+ghost use Rattle.routes.specs.Table.{pattern_of, rows_in, table_routed};
 
 use crate::target::{part_at, path_of, without_git};
 use matchit::{InsertError, Router};
@@ -16,13 +18,21 @@ use std::alloc::{AllocError, Global};
 pub enum Resource {
     /// The locks: `/locks` after the repository's address.
     Locks,
+    /// The locks that a push is checked against: `/locks/verify`.
+    VerifyLocks,
+    /// The release of a lock: `/locks/{id}/unlock`.
+    Unlock,
 }
+
+/// Where the parameter is in a path: `/OWNER/NAME.git/info/lfs/locks/ID/unlock`, counted from the
+/// empty part before the first slash.
+const PARAMETER_PLACE: usize = 6;
 
 /// The router over the table.
 #[derive(Drop)]
 pub struct Routes {
     router: Router<Resource>,
-    ghost rows: { rename (λ route. route.value) router ≡ patterns table },
+    ghost rows: { rows_in router ≡ patterns table_routed },
 }
 
 /// The route of a target.
@@ -34,12 +44,16 @@ pub struct Route<'t> {
     pub name: &'t str,
     /// The resource in the repository.
     pub resource: Resource,
+    /// The route's parameter in the path; empty if the route has none.
+    pub parameter: &'t str,
 }
 
 impl Resource {
-    ghost use Rattle.std.specs.Prelude.{◌≡◌, ◌≤◌, length, map, option_map};
-    ghost use Rattle.model.specs.Heads.{form_of, form_of_served, comma_list};
-    ghost use Rattle.routes.specs.Table.{row_of};
+    ghost use Rattle.std.specs.Prelude.{◌≡◌, ◌≤◌, IsOkAnd, drop, length, map, option_map};
+    ghost use Rattle.matchit.specs.Route.{parse_route};
+    ghost use Rattle.names.specs.Texts.{parts};
+    ghost use Rattle.model.specs.Heads.{form_of, form_of_served, comma_list, parameter_in, under_lfs};
+    ghost use Rattle.routes.specs.Table.{row_of, pattern_of};
 
     /// The request that the method makes here; `None` if the method is not served (H7).
     ///
@@ -49,12 +63,14 @@ impl Resource {
     {
         match self {
             Resource::Locks => {
-                if method == b"POST".as_slice() {
-                    Some(ServedForm::Lock)
+                if method == b"GET".as_slice() {
+                    Some(ServedForm::List)
                 } else {
-                    None
+                    posted(method, ServedForm::Lock)
                 }
             }
+            Resource::VerifyLocks => posted(method, ServedForm::VerifyLocks),
+            Resource::Unlock => posted(method, ServedForm::Unlock),
         }
     }
 
@@ -65,7 +81,8 @@ impl Resource {
         ensures short { length result.now ≤ ALLOW_LIMIT }
     {
         match self {
-            Resource::Locks => "POST",
+            Resource::Locks => "GET, POST",
+            Resource::VerifyLocks | Resource::Unlock => "POST",
         }
     }
 
@@ -74,8 +91,40 @@ impl Resource {
         ensures { result ≡ (row_of self).is_json }
     {
         match self {
-            Resource::Locks => true,
+            Resource::Locks | Resource::VerifyLocks | Resource::Unlock => true,
         }
+    }
+
+    /// The pattern of the whole path, in the syntax of the router.
+    fn pattern(self) -> &'static str
+        ensures { IsOkAnd (parse_route result.now) (λ scan. scan.pattern ≡ pattern_of self) }
+    {
+        match self {
+            Resource::Locks => "/{owner}/{name}/info/lfs/locks",
+            Resource::VerifyLocks => "/{owner}/{name}/info/lfs/locks/verify",
+            Resource::Unlock => "/{owner}/{name}/info/lfs/locks/{id}/unlock",
+        }
+    }
+
+    /// The resource's parameter in a path; empty if it has none.
+    fn parameter_in(self, path: &str) -> &str
+        ensures { result.now ≡ parameter_in (under_lfs (row_of self).rest) (drop 3 (parts path.now)) }
+    {
+        match self {
+            Resource::Locks | Resource::VerifyLocks => "",
+            Resource::Unlock => part_at(path, PARAMETER_PLACE).unwrap_or(""),
+        }
+    }
+}
+
+/// The request that POST makes; `None` for any other method.
+fn posted(method: &[u8], form: ServedForm) -> Option<ServedForm>
+    ensures { option_map form_of_served result ≡ form_of method.now (post (form_of_served form) ∷ []) }
+{
+    if method == b"POST".as_slice() {
+        Some(form)
+    } else {
+        None
     }
 }
 
@@ -98,6 +147,24 @@ impl Route<'_> {
     }
 }
 
+/// Adds the resource's pattern, which conflicts with none in the router.
+///
+/// # Errors
+///
+/// Fails only if memory runs out.
+fn add(router: &mut Router<Resource>, resource: Resource) -> Result<(), AllocError>
+    requires { nearest (pattern_of resource) (rows_in router.old) ≡ None }
+    ensures { OnOk result (rows_in router.new ≡ placed (pattern_of resource, resource) (rows_in router.old)) }
+{
+    match router.insert(resource.pattern(), resource) {
+        Ok(()) => Ok(()),
+        Err(error) => match error {
+            InsertError::OutOfMemory => Err(AllocError),
+            _ => unreachable!(),
+        },
+    }
+}
+
 impl Routes {
     ghost use Rattle.std.specs.Prelude.{◌≡◌, MatchOption, Ok, Err};
     ghost use Rattle.names.specs.declared.rules.Rule.TheVariants.{H6};
@@ -112,13 +179,10 @@ impl Routes {
     /// Fails only if memory runs out: no two rows of the table conflict.
     pub fn new(alloc: Global) -> Result<Self, AllocError> {
         let mut router = Router::new(alloc);
-        match router.insert("/{owner}/{name}/info/lfs/locks", Resource::Locks) {
-            Ok(()) => Ok(Routes { router }),
-            Err(error) => match error {
-                InsertError::OutOfMemory => Err(AllocError),
-                _ => unreachable!(),
-            },
-        }
+        add(&mut router, Resource::Locks)?;
+        add(&mut router, Resource::VerifyLocks)?;
+        add(&mut router, Resource::Unlock)?;
+        Ok(Routes { router })
     }
 
     /// Returns the route of a target; `None` if no route has its path (H6).
@@ -144,6 +208,7 @@ impl Routes {
                 owner,
                 name,
                 resource,
+                parameter: resource.parameter_in(path),
             }),
             None => None,
         }

@@ -6,6 +6,7 @@
 //! | `tables` | `tables_tests` |
 //! | `tokens` | `tokens_tests` |
 //! | `locks` | `locks_tests` |
+//! | `cursor` | `cursor_tests` |
 //! | `desk` | `desk_tests` |
 //! | `service` | `service_tests` |
 //! | `cli` | `program_tests` |
@@ -14,6 +15,8 @@
 //! compile before its first test: hence one crate for all of these tests.
 #![tactic(auto)]
 
+#[cfg(test)]
+mod cursor_tests;
 #[cfg(test)]
 mod desk_tests;
 #[cfg(test)]

@@ -6,6 +6,7 @@
 
 mod commands;
 mod issued;
+mod lock_requests;
 mod policies;
 mod program;
 mod sessions;

@@ -306,7 +306,7 @@ pub(crate) fn created(rt: &impl Tester, id: u32, owner: &str, path: &str) -> Str
 /// The lines of a refusal after its length.
 fn refusal_lines(code: &str, status: &str, closes: bool) -> &'static str {
     match (code, closes) {
-        ("H7", _) => "Allow: POST\r\nConnection: close\r\n",
+        ("H7", _) => "Allow: GET, POST\r\nConnection: close\r\n",
         _ if status.starts_with("401") && closes => {
             "LFS-Authenticate: Bearer realm=\"Git LFS\"\r\nConnection: close\r\n"
         }

@@ -52,7 +52,7 @@ verdict_is world setting h t body is = verdict_at world setting h body (target_s
 -- the request passed to the desk equals the one in the definitions
 pub made_as : (h : RequestHead) (t : judging.Target) (bearers : List (List ℕ)) (repo body : List ℕ) → Asks h t → values (codes "authorization") h ≡ bearers
     → repo ≡ (target_seen t).repo → length body ≡ t.size
-    → ◌≡◌ {A = DeskRequest} (record { bearers = bearers; repo = repo; left = length body; request = request_of (form_of_served t.form) [] t.query.now body }) (request_made h t body)
+    → ◌≡◌ {A = DeskRequest} (record { bearers = bearers; repo = repo; left = length body; request = request_of (form_of_served t.form) t.route.parameter.now t.query.now body }) (request_made h t body)
 made_as h t bearers repo body is bearer same size = rw (← bearer, same, size ∙ is.size, is.query) refl
 
 -- an answer by a rule other than the head's rules, and other than a store refusal
@@ -68,7 +68,7 @@ late_answer (Err denial) late = record { early = late.early; of_head = late.of_h
 pub late_verdict : (world : World) (setting : Setting) (h : RequestHead) (t : judging.Target) (body : List ℕ) → Asks h t → IsLateAnswer (verdict world setting h body)
 late_verdict world setting h t body is =
     subst IsLateAnswer (sym (verdict_is world setting h t body is))
-    (late_answer _ (desk_fails world setting (request_made h t body) body (request_fails (form_of_served t.form) [] (query_of h.target) body)))
+    (late_answer _ (desk_fails world setting (request_made h t body) body (request_fails (form_of_served t.form) t.route.parameter.now (query_of h.target) body)))
 
 -- a late answer is not a certain one
 not_sure : (given : Answer) → is_rule is_early given ≡ false → is_sure (Some given) ≡ false

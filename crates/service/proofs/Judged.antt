@@ -1,20 +1,21 @@
 -- The verdict on a head, check by check.
-use Rattle.std.proofs.Common.{◌≡◌, ℕ, Bool, true, false, not, ◌||◌, List, [], Some, None, Result, Ok, Err, codes, refl, ap, subst, ◌≤◌, length, lit≤, bytes_eq, cond}
+use Rattle.std.proofs.Common.{◌≡◌, ℕ, Bool, true, false, not, ◌||◌, List, [], ◌∷◌, Some, None, Result, Ok, Err, codes, refl, ap, ◌∙◌, subst, ◌≤◌, length, lit≤, bytes_eq, cond}
 use Rattle.std.specs.Bool.{⊤}
+use Rattle.std.specs.List.{list_any}
 use Rattle.std.specs.Result.{IfErr}
 use Rattle.std.specs.Str.{IsUtf8, is_utf8}
+use Rattle.std.proofs.lemmas.Bool.{or_parts}
 use Rattle.std.proofs.lemmas.Str.{IsUtf8-from_is_utf8}
 use Rattle.std.proofs.lemmas.Slice.Eq.{bytes_eq-Decides}
 use Rattle.httparse.specs.Grammar.{RequestHead}
 use Rattle.names.specs.declared.rules.Rule.{Rule}
 use Rattle.names.specs.declared.rules.Rule.TheVariants.{H6, H7, H8}
 use Rattle.model.specs.declared.Form.{Form}
-use Rattle.model.specs.declared.Form.TheVariants as form
 use Rattle.model.specs.Reading.{◌>>=◌, check}
 use Rattle.model.specs.Heads.{Route, head_verdict, head_verdict_in, check_framing, route_at, form_of, is_method, accepts, values, methods_of}
 use Rattle.model.specs.Steps.{is_h7}
 use Rattle.routes.specs.declared.table.Resource.{Resource}
-use Rattle.routes.specs.declared.table.Resource.TheVariants.{Locks}
+use Rattle.routes.specs.declared.table.Resource.TheVariants.{Locks, VerifyLocks, Unlock}
 use Rattle.routes.specs.Table.{row_of}
 use Rattle.service.specs.Judging.{IsDenied}
 use Rattle.service.specs.declared.judging.Denied.{Denied}
@@ -43,13 +44,31 @@ pub asked : (h : RequestHead) (route : Route) (form : Form) → check_framing h 
 unfolding head_verdict_in
 asked h route form whole there served wanted = rw (whole, there, served, wanted) refl
 
--- no route has PUT
-pub no_put : (h : RequestHead) (r : Resource) (f : Form) → form_of h.method (row_of r).requests ≡ Some f → is_method (codes "PUT") h ≡ false
-no_put h Locks f served = at (bytes_eq h.method (codes "POST")) refl served
+-- ---- no route that is served has PUT
+
+abbrev has_put : List (List ℕ × Form) → Bool
+has_put requests = list_any (λ (r : List ℕ × Form). bytes_eq r.0 (codes "PUT")) requests
+
+no_put_in : (method : List ℕ) (requests : List (List ℕ × Form)) (f : Form) → has_put requests ≡ false → form_of method requests ≡ Some f → bytes_eq method (codes "PUT") ≡ false
+no_put_in method [] f none served = absurd (cc)
+no_put_in method (r ∷ requests) f none served =
+    at (bytes_eq method r.0) refl (no_put_in method requests f apart.1) served
   where
-    at : (v : Bool) → bytes_eq h.method (codes "POST") ≡ v → cond v (Some form.Lock) None ≡ Some f → is_method (codes "PUT") h ≡ false
-    at true is e = ap (λ (m : List ℕ). bytes_eq m (codes "PUT")) ((bytes_eq-Decides h.method (codes "POST")).0 is)
-    at false is e = absurd (cc)
+    apart : (bytes_eq r.0 (codes "PUT") ≡ false) × (has_put requests ≡ false)
+    apart = or_parts (bytes_eq r.0 (codes "PUT")) (has_put requests) none
+
+    at : (v : Bool) → bytes_eq method r.0 ≡ v → (form_of method requests ≡ Some f → bytes_eq method (codes "PUT") ≡ false)
+        → cond v (Some r.1) (form_of method requests) ≡ Some f → bytes_eq method (codes "PUT") ≡ false
+    at true is rest e = ap (λ (m : List ℕ). bytes_eq m (codes "PUT")) ((bytes_eq-Decides method r.0).0 is) ∙ apart.0
+    at false is rest e = rest e
+
+row_without_put : (r : Resource) → has_put (row_of r).requests ≡ false
+row_without_put Locks = refl
+row_without_put VerifyLocks = refl
+row_without_put Unlock = refl
+
+pub no_put : (h : RequestHead) (r : Resource) (f : Form) → form_of h.method (row_of r).requests ≡ Some f → is_method (codes "PUT") h ≡ false
+no_put h r f served = no_put_in h.method (row_of r).requests f (row_without_put r) served
 
 -- ---- targets
 

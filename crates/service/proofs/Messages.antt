@@ -140,6 +140,9 @@ is_whole bytes len h m b within is body fits total bearer last =
 -- a head that asks for no upload is denied by its own rules alone, before its body
 passes_early : (form : ServedForm) (plan : Result Plan Denial) → early_check (form_of_served form) plan ≡ Ok tt
 passes_early served.Lock plan = refl
+passes_early served.List plan = refl
+passes_early served.VerifyLocks plan = refl
+passes_early served.Unlock plan = refl
 
 -- a complete head with an incomplete body
 pub is_cut_off : (bytes after : List ℕ) (h : RequestHead) (t : code.Target) → BeginsWithHead bytes h after → Asks h t → length after < t.size → IsCutOff bytes h

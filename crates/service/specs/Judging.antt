@@ -10,9 +10,13 @@ use Rattle.routes.specs.Routes.{route_seen}
 use Rattle.service.specs.declared.judging.Target.{Target}
 use Rattle.service.specs.declared.judging.Denied.{Denied}
 
--- the target in the terms of the definitions: no route has a parameter
+-- the target in the terms of the definitions
 abbrev pub target_seen : Target → model.Target
-target_seen t = record { repo = (route_seen t.route).repo; parameter = []; form = form_of_served t.form }
+target_seen t = record {
+  repo = (route_seen t.route).repo;
+  parameter = t.route.parameter.now;
+  form = form_of_served t.form;
+}
 
 -- the head asks for this target, with this query and `size` bytes of body; it uploads nothing
 pub record Asks (h : RequestHead) (t : Target) : Type 0 where

@@ -17,7 +17,7 @@ use wire::Head;
 /// What an accepted head asks for.
 #[derive(Clone, Copy, Debug, PartialEq, Eq)]
 pub struct Target<'t> {
-    /// The repository and the resource in it.
+    /// The repository, the resource in it, and the route's parameter.
     pub route: Route<'t>,
     /// What the method asks of the resource.
     pub form: ServedForm,

@@ -70,7 +70,7 @@ fn answer_message<S: Alter>(
         authorization: message.authorization,
         repo: repo.as_str(),
         form: message.target.form,
-        parameter: "",
+        parameter: message.target.route.parameter,
         query: message.target.query,
         body: message.body,
     };

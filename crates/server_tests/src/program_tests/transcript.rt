@@ -14,6 +14,8 @@
 //! | `error` | a line on the error stream |
 //! | `missing` | a file that does not exist after the command |
 //! | `lock` | input: a request for a lock: the token's letter, the repository, the body |
+//! | `get` | input: a GET: the token's letter, the repository, the rest of the target |
+//! | `post` | input: a POST: the token's letter, the repository, the rest of the target, the body |
 //! | `reply` | output: a reply of JSON: the status, the body |
 //! | `file` | a file is written before the next command: its name, how many bytes, which byte |
 //! | `sql` | a statement that another program runs on the database before the next command |
@@ -76,6 +78,7 @@ fn push(rt: &impl Tester, text: &mut String, line: &str, end: &str) {
 /// The phrase of a status (docs/PROTOCOL.md, "Heads").
 fn phrase(status: &str) -> &'static str {
     match status {
+        "200" => "OK",
         "201" => "Created",
         "401" => "Unauthorized",
         "403" => "Forbidden",
@@ -87,17 +90,37 @@ fn phrase(status: &str) -> &'static str {
     }
 }
 
-/// The request for a lock by the token of a letter.
-fn request(rt: &impl Tester, text: &str) -> String {
-    let (letter, repo, body) = three(text);
+/// The POST of the token's letter to the rest of the target, with the body.
+fn post(rt: &impl Tester, letter: &str, repo: &str, rest: &str, body: &str) -> String {
     let token = unwrap(rt, letter.repeat(rt.alloc(), 64));
     let length = body.len();
     unwrap(
         rt,
         format!(in rt.alloc();
-            "POST /{repo}.git/info/lfs/locks HTTP/1.1\r\nAuthorization: Bearer {token}\r\nContent-Length: {length}\r\n\r\n{body}"
+            "POST /{repo}.git/info/lfs/{rest} HTTP/1.1\r\nAuthorization: Bearer {token}\r\nContent-Length: {length}\r\n\r\n{body}"
         ),
     )
+}
+
+/// The request that the text describes after its word.
+fn request(rt: &impl Tester, mark: &str, text: &str) -> String {
+    let (letter, repo, rest) = three(text);
+    match mark {
+        "lock" => post(rt, letter, repo, "locks", rest),
+        "post" => {
+            let (rest, body) = rest.split_once(' ').unwrap_or((rest, ""));
+            post(rt, letter, repo, rest, body)
+        }
+        _ => {
+            let token = unwrap(rt, letter.repeat(rt.alloc(), 64));
+            unwrap(
+                rt,
+                format!(in rt.alloc();
+                    "GET /{repo}.git/info/lfs/{rest} HTTP/1.1\r\nAuthorization: Bearer {token}\r\n\r\n"
+                ),
+            )
+        }
+    }
 }
 
 /// The reply of a status and a body.
@@ -210,7 +233,9 @@ impl Step {
             "|" => push(rt, &mut self.output, text, "\n"),
             "error" => push(rt, &mut self.errors, text, "\n"),
             "missing" => push(rt, &mut self.missing, text, ""),
-            "lock" => push(rt, &mut self.input, request(rt, text).as_str(), ""),
+            "lock" | "get" | "post" => {
+                push(rt, &mut self.input, request(rt, mark, text).as_str(), "");
+            }
             "reply" => push(rt, &mut self.output, reply(rt, text).as_str(), ""),
             "replace" | "append" | "pad" => self.change_policy(rt, mark, text),
             "" | "#" | "file" | "sql" => {}

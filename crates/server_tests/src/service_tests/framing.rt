@@ -122,6 +122,10 @@ const TARGETS: &[(&str, &str)] = &[
     ("/studio/film.git/info/lfs/%6Cocks", "H6"),
     ("/studio/film.git/info/lfs/./locks", "H6"),
     ("/studio/film.git/info/lfs/../lfs/locks", "H6"),
+    ("/studio/film.git/info/lfs/locks/1", "H6"),
+    ("/studio/film.git/info/lfs/locks//unlock", "H6"),
+    ("/studio/film.git/info/lfs/locks/1/unlock/", "H6"),
+    ("/studio/film.git/info/lfs/objects/batch", "H6"),
     ("/studio/film.git/info/lfs", "H6"),
     ("/studio/film/info/lfs/locks", "H6"),
     ("/studio/film.GIT/info/lfs/locks", "H6"),
@@ -210,8 +214,8 @@ fn heads_are_judged(rt: HostRuntime) {
 
 /// Methods that locks do not serve, each with a field.
 const METHODS: &[(&str, &str)] = &[
-    ("GET", "Content-Length: 0"),
-    ("GET", "Accept: text/html"),
+    ("get", "Content-Length: 0"),
+    ("get", "Accept: text/html"),
     ("DELETE", LENGTH),
     ("DELETE", "A: b"),
     ("HEAD", "A: b"),

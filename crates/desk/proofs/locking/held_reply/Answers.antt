@@ -4,4 +4,4 @@ use Rattle.model.specs.Answers.{by_lock}
 use Rattle.desk.proofs.locking.held_reply.Goals as goal
 
 pub returns : goal.returns
-returns c = IfOk-weaker c.telling.result _ _ (λ reply is_reply l is. is_reply (Err (by_lock l)) (l, c.shown.ensures l is, refl)) c.telling.ensures
+returns c = IfOk-weaker c.telling.result _ _ (λ reply is_reply l is. is_reply (Err (by_lock l)) (l, c.shown.ensures.row l is, refl)) c.telling.ensures

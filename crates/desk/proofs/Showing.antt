@@ -1,0 +1,112 @@
+-- Pages of locks, from their rows to what a client sees.
+use Rattle.std.proofs.Common.{◌≡◌, ◌∙◌, ℕ, Bool, true, false, ◌&&◌, not, List, [], ◌∷◌, map, filter, Option, Some, None, option_map, Bor, Result, Ok, Err, bytes_eq, refl, sym, ap}
+use Rattle.std.specs.List.{AllZip}
+use Rattle.std.specs.Option.{option_copied}
+use Rattle.sqlite_trees.proofs.ListLemmas.{filter-map}
+use Rattle.model.specs.Reading.{◌>>=◌}
+use Rattle.model.specs.World.{World, Lock}
+use Rattle.model.specs.RepoState.{locks_of}
+use Rattle.model.specs.Forms.{ListForm, VerifyLocksForm}
+use Rattle.model.specs.Callers.{Caller, is_own, may_list, pull_question, push_question}
+use Rattle.model.specs.Answers.{Denial, Grant, Page, lists, splits, by_rules, permit}
+use Rattle.model.specs.Locks.{meets, list_verdict, listed_locks, ref_locks, ref_or_default, verify_locks_verdict}
+use Rattle.model.specs.Pages.{cursor_in, page_limit, page_of}
+use Rattle.forms.specs.ShownLocks.{IsOf, lock_shown}
+use Rattle.forms.specs.declared.shown_lock.ShownLock.{ShownLock}
+use Rattle.tables.specs.declared.rows.LockRow.{LockRow}
+use Rattle.refinement.proofs.Tokens.{filter_alike}
+use Rattle.locks.specs.Finding.{lock_seen}
+use Rattle.cursor.specs.Owners.{is_owned, is_other}
+use Rattle.cursor.specs.Wanted.{form_of_filter, is_wanted}
+use Rattle.cursor.specs.declared.filters.Filter.{Filter}
+use Rattle.desk.specs.Locking.{lock_part}
+use Rattle.desk.specs.Rights.{IsUserOf, case_policy, case_repo, case_seen, case_user}
+use Rattle.desk.specs.Paging.{filter_by_ref, filters_of, list_start, verify_start}
+use Rattle.desk.specs.declared.cases.Case.{Case}
+use Rattle.desk.proofs.Unchanged.{IsQuiet}
+
+-- what is read through a reference is what is read from the value
+pub read_alike : {A B : Type 0} (f : A → B) (value : Option A) (o : Option (Bor A)) → option_copied o ≡ value → option_map (λ (x : Bor A). f x.now) o ≡ option_map f value
+read_alike f value None e = ap (option_map f) e
+read_alike f value (Some x) e = ap (option_map f) e
+
+-- ---- what a client sees
+
+shown_row : (repo : List ℕ) (shown : ShownLock) (row : LockRow) → lock_shown shown ≡ lock_part row → IsOf shown (lock_seen repo row)
+shown_row repo shown row same = record {
+  id = ap (λ (l : Lock). l.id) (sym same);
+  at = ap (λ (l : Lock). l.at) (sym same);
+  owner = ap (λ (l : Lock). l.owner) (sym same);
+  path = ap (λ (l : Lock). l.path) (sym same);
+}
+
+pub all_shown : (repo : List ℕ) (shown : List ShownLock) (rows : List LockRow) → map lock_shown shown ≡ map lock_part rows → AllZip IsOf shown (map (lock_seen repo) rows)
+all_shown repo [] [] same = tt
+all_shown repo [] (row ∷ rows) same = absurd (cc)
+all_shown repo (one ∷ shown) [] same = absurd (cc)
+all_shown repo (one ∷ shown) (row ∷ rows) same =
+    let first : lock_shown one ≡ lock_part row = cc in
+    let rest : map lock_shown shown ≡ map lock_part rows = cc in
+    (shown_row repo one row first, all_shown repo shown rows rest)
+
+-- the user's rows are the user's locks
+pub own_rows : (repo user : List ℕ) (rows : List LockRow) → map (lock_seen repo) (filter (is_owned user) rows) ≡ filter (is_own user) (map (lock_seen repo) rows)
+own_rows repo user rows = sym (filter-map (is_own user) (lock_seen repo) rows)
+
+pub other_rows : (repo user : List ℕ) (rows : List LockRow) → map (lock_seen repo) (filter (is_other user) rows) ≡ filter (λ l. not (is_own user l)) (map (lock_seen repo) rows)
+other_rows repo user rows = sym (filter-map (λ l. not (is_own user l)) (lock_seen repo) rows)
+
+-- a page changes nothing
+pub list_is_quiet : (page : Page) → IsQuiet (Ok (lists page))
+list_is_quiet page = record { ending = λ world. refl; after = λ world. refl }
+
+pub split_is_quiet : (user : List ℕ) (page : Page) → IsQuiet (Ok (splits user page))
+split_is_quiet user page = record { ending = λ world. refl; after = λ world. refl }
+
+-- ---- which locks are wanted
+
+module _ (case : Case) (who : Caller) (is_user : IsUserOf case who) (world : World) where
+  -- the locks that meet the filters, and that the caller may list
+  pub listed_alike : (wanted : Filter) (asked : ListForm) → form_of_filter wanted ≡ filters_of asked
+      → filter (is_wanted wanted (may_list (case_policy case) (case_user case))) (locks_of (case_repo case).name world) ≡ listed_locks (case_seen world case who) asked
+  listed_alike wanted asked same =
+      ap (λ (f : ListForm). filter (λ l. meets f l && may_list (case_policy case) (case_user case) l) (locks_of (case_repo case).name world)) same
+      ∙ ap (λ user. filter (λ l. meets asked l && may_list (case_policy case) user l) (locks_of (case_repo case).name world)) is_user
+
+  and_true : (b : Bool) → (b && true) ≡ b
+  and_true true = refl
+  and_true false = refl
+
+  -- the locks of the ref
+  pub ref_alike : (wanted : Filter) (ref : List ℕ) → form_of_filter wanted ≡ filter_by_ref ref
+      → filter (is_wanted wanted (λ _. true)) (locks_of (case_repo case).name world) ≡ ref_locks (case_seen world case who) ref
+  ref_alike wanted ref same =
+      ap (λ (f : ListForm). filter (λ l. meets f l && true) (locks_of (case_repo case).name world)) same
+      ∙ filter_alike (λ l. bytes_eq l.ref ref && true) (λ l. bytes_eq l.ref ref) (locks_of (case_repo case).name world) (λ l. and_true (bytes_eq l.ref ref))
+
+-- ---- the verdicts
+
+after_start : {A B C : Type 0} (may : Result A Denial) (cursor : Result B Denial) (f : B → Result C Denial) → (may >>= λ _. cursor >>= f) ≡ ((may >>= λ _. cursor) >>= f)
+after_start (Ok x) cursor f = refl
+after_start (Err denial) cursor f = refl
+
+module _ (case : Case) (who : Caller) (is_user : IsUserOf case who) (world : World) where
+  -- the verdict on a request for a list, from the id at which it begins
+  pub list_is : (asked : ListForm)
+      → list_verdict (case_seen world case who) asked ≡ (list_start case asked >>= λ cursor. Ok (lists (page_of cursor (page_limit asked.limit) (listed_locks (case_seen world case who) asked))))
+  list_is asked =
+      let rest : Result Grant Denial = by_rules (cursor_in asked.cursor) >>= λ cursor. Ok (lists (page_of cursor (page_limit asked.limit) (listed_locks (case_seen world case who) asked))) in
+      ap (λ user. permit (case_policy case) (pull_question user (case_repo case).name) 403 >>= λ may. rest) (sym is_user)
+      ∙ after_start (permit (case_policy case) (pull_question (case_user case) (case_repo case).name) 403) (by_rules (cursor_in asked.cursor))
+      (λ cursor. Ok (lists (page_of cursor (page_limit asked.limit) (listed_locks (case_seen world case who) asked))))
+
+  -- the same for the locks of a ref
+  pub verify_is : (asked : VerifyLocksForm)
+      → verify_locks_verdict (case_seen world case who) asked ≡ (verify_start case (ref_or_default asked.ref (case_repo case)) asked >>= λ cursor.
+      Ok (splits (case_user case) (page_of cursor (page_limit asked.limit) (ref_locks (case_seen world case who) (ref_or_default asked.ref (case_repo case))))))
+  verify_is asked =
+      let ref = ref_or_default asked.ref (case_repo case) in
+      ap (λ user. permit (case_policy case) (push_question user (case_repo case).name ref) 403 >>= λ may. by_rules (cursor_in asked.cursor) >>= λ cursor.
+      Ok (splits user (page_of cursor (page_limit asked.limit) (ref_locks (case_seen world case who) ref)))) (sym is_user)
+      ∙ after_start (permit (case_policy case) (push_question (case_user case) (case_repo case).name ref) 403) (by_rules (cursor_in asked.cursor))
+      (λ cursor. Ok (splits (case_user case) (page_of cursor (page_limit asked.limit) (ref_locks (case_seen world case who) ref))))

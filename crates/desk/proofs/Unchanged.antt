@@ -1,0 +1,52 @@
+-- Requests that only read the store: their replies, and what a stop leaves.
+use Rattle.std.proofs.Common.{◌≡◌, false, Some, Result, Ok, Err, refl, sym, subst}
+use Rattle.std.specs.Prelude.{IsErrAnd}
+use Rattle.sqlite_trees.specs.declared.store.Store.{Ghosts}
+use Rattle.model.specs.World.{World, IsWorld}
+use Rattle.model.specs.Callers.{Caller}
+use Rattle.model.specs.Answers.{Answer, Denial}
+use Rattle.model.specs.Steps.{after}
+use Rattle.model.specs.Bounds.{is_changed, answer_ending}
+use Rattle.tables.specs.declared.Store.{Store}
+use Rattle.tables.specs.declared.fault.StoreFault.{StoreFault}
+use Rattle.refinement.specs.Left.{Reads, From, Ends}
+use Rattle.refinement.proofs.Leading.{reads_lead, ends_still, denial_changes_none}
+use Rattle.desk.specs.declared.replies.Reply.{Reply}
+use Rattle.desk.specs.declared.cases.Case.{Case}
+use Rattle.desk.specs.Replies.{IsReplyOf}
+use Rattle.desk.specs.Rights.{IsUserOf}
+use Rattle.desk.specs.Done.{Answers}
+use Rattle.desk.proofs.Verdicts.{refused_early}
+
+-- the answer changes no world
+pub record IsQuiet (given : Answer) : Type 0 where
+  pub ending : (world : World) → is_changed (answer_ending world (Some given)) ≡ false
+  pub after : (world : World) → after world (Some given) ≡ world
+
+pub denial_is_quiet : {S : Type 0} (g : Ghosts S) (denial : Denial) → IsQuiet (Err denial)
+denial_is_quiet g denial = record { ending = λ world. denial_changes_none g world denial; after = λ world. refl }
+
+module _ {S : Type 0} (g : Ghosts S) (old new : Store S) (case : Case) (verdict : World → Caller → Answer) (P : World → Type 0) (reads : Reads g old new P) where
+  -- whoever the user is, the verdict is answered
+  abbrev pub IsAnswered : Result Reply StoreFault → Type 0
+  IsAnswered r = From g old new (λ world. (who : Caller) → IsUserOf case who → Answers g old new world (verdict world who) r)
+
+  -- the store refused, or memory ran out
+  pub refused_after : (Q : StoreFault → Type 0) (r : Result Reply StoreFault) → IsErrAnd r Q → IsAnswered r
+  refused_after Q r is = record {
+    honest = reads.same.was_honest;
+    each = λ honest world h who user. refused_early g old new world (verdict world who) Q r is (reads_lead g old new P world reads h);
+  }
+
+  -- the verdict changes nothing, and its reply is given
+  pub replied_after : (given : Answer) (reply : Reply) → IsQuiet given → IsReplyOf reply given
+      → ((world : World) → IsWorld world → P world → (who : Caller) → IsUserOf case who → verdict world who ≡ given) → IsAnswered (Ok reply)
+  replied_after given reply quiet shows is = record {
+    honest = reads.same.was_honest;
+    each = λ honest world h who user.
+        subst (λ (v : Answer). Answers g old new world v (Ok reply)) (sym (is world h.laws (reads.each honest world h) who user)) (record {
+          shows = shows;
+          gives = subst (λ (w : World). Ends g old new (answer_ending world (Some given)) world w w) (sym (quiet.after world))
+              (ends_still g old new (answer_ending world (Some given)) world world (quiet.ending world) (reads_lead g old new P world reads h));
+        });
+  }

@@ -1,0 +1,107 @@
+//! The request for a list of locks (Git LFS API, File Locking, "List Locks").
+
+ghost use Rattle.std.specs.Prelude.{◌≡◌, ℕ, List, IfOk, Ok};
+ghost use Rattle.model.specs.Callers as model;
+ghost use Rattle.model.specs.Answers.{lists};
+ghost use Rattle.model.specs.Pages.{page_limit, page_of};
+ghost use Rattle.model.specs.Locks.{list_verdict, listed_locks};
+ghost use Rattle.forms.specs.Requests.{list_asked};
+ghost use Rattle.refinement.specs.Left.{From};
+ghost use Rattle.cursor.specs.Paging.{cursor_or_first, page_seen};
+ghost use Rattle.cursor.specs.Wanted.{form_of_filter};
+ghost use Rattle.desk.specs.Replies.{IsReplyOf};
+ghost use Rattle.desk.specs.Done.{Answers};
+ghost use Rattle.desk.specs.Rights.{IsUserOf, Judges, case_seen};
+ghost use Rattle.desk.specs.Paging.{filters_of, list_start};
+
+use crate::cases::{Case, Denial};
+use crate::pages::{shown_locks, start_at};
+use crate::replies::Reply;
+use crate::rights::{denial_reply, may_list, permit, pull_question};
+use cursor::{Filter, Page, page, read_limit};
+use forms::{Answer, DenialStatus, ListRequest, ShownPage};
+use names::LockId;
+use std::alloc::{AllocError, Global};
+use tables::{Alter, Store, StoreFault};
+
+/// The id at which the list begins, if the caller may pull.
+fn list_start(case: &Case<'_>, asked: &ListRequest) -> Result<Option<LockId>, Denial>
+    ensures { Judges cursor_or_first result (list_start case.entry.now (list_asked asked.now)) }
+{
+    permit(case.policy, &pull_question(case), DenialStatus::Forbidden)?;
+    start_at(asked.cursor.as_ref())
+}
+
+/// The filters of the request.
+fn filter_of(asked: &ListRequest) -> Filter<'_>
+    ensures { form_of_filter result ≡ filters_of (list_asked asked.entry.now) }
+{
+    Filter {
+        path: asked.path.as_ref(),
+        id: asked.id,
+        ref_name: asked.ref_name.as_ref(),
+    }
+}
+
+/// The reply with the page.
+fn page_reply(alloc: Global, page: &Page) -> Result<Reply, AllocError>
+    ensures { IfOk result (λ reply. (repo : List ℕ)
+        → IsReplyOf reply (Ok (lists (page_seen repo page.now)))) }
+{
+    let locks = shown_locks(alloc, page.locks.as_slice())?;
+    let shown = ShownPage {
+        locks: locks.as_slice(),
+        next: page.next,
+    };
+    Reply::telling(alloc, &Answer::Listed(&shown))
+}
+
+/// Answers with the page that begins at the cursor.
+///
+/// # Errors
+///
+/// A [`StoreFault`], which leaves the contents of the store unchanged.
+fn list_from<S: Alter>(
+    store: &mut Store<S>,
+    alloc: Global,
+    case: &Case<'_>,
+    asked: &ListRequest,
+    cursor: Option<LockId>,
+) -> Result<Reply, StoreFault>
+    ensures { From S.Store store.old store.new (λ world.
+        (who : model.Caller) → IsUserOf case.entry.now who → Answers S.Store store.old store.new world
+        (Ok (lists (page_of (cursor_or_first cursor) (page_limit asked.entry.now.limit)
+        (listed_locks (case_seen world case.entry.now who) (list_asked asked.entry.now))))) result) }
+{
+    let found = page(
+        alloc,
+        store,
+        case.repo.name(),
+        &filter_of(asked),
+        |row| may_list(case, row),
+        cursor,
+        read_limit(asked.limit),
+    )?;
+    Ok(page_reply(alloc, &found)?)
+}
+
+/// Answers a request for a list of locks: the policy's denial, L4, or a page.
+///
+/// # Errors
+///
+/// A [`StoreFault`], which leaves the contents of the store unchanged.
+pub(crate) fn list<S: Alter>(
+    store: &mut Store<S>,
+    alloc: Global,
+    case: &Case<'_>,
+    asked: &ListRequest,
+) -> Result<Reply, StoreFault>
+    ensures { From S.Store store.old store.new (λ world.
+        (who : model.Caller) → IsUserOf case.entry.now who → Answers S.Store store.old store.new world
+        (list_verdict (case_seen world case.entry.now who) (list_asked asked.entry.now)) result) }
+{
+    match list_start(case, asked) {
+        Ok(cursor) => list_from(store, alloc, case, asked, cursor),
+        Err(denial) => Ok(denial_reply(alloc, denial)?),
+    }
+}

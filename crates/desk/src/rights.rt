@@ -1,0 +1,160 @@
+//! What the policy says of a caller in a repository: permits, denials, and which locks the caller sees.
+
+ghost use Rattle.std.specs.Prelude.{◌≡◌, IfOk, Err, option_map};
+ghost use Rattle.names.specs.Names.{ref_text};
+ghost use Rattle.model.specs.Answers.{permit};
+ghost use Rattle.model.specs.Locks.{ref_or_default};
+ghost use Rattle.model.specs.Policy.{decide};
+ghost use Rattle.model.specs.Callers.{is_allowed, is_own, lock_question, may_list, pull_question, push_question, sees};
+ghost use Rattle.forms.specs.Replies.{IsAnswer, denial_status};
+ghost use Rattle.policy.specs.Values.{policy_view, question_view};
+ghost use Rattle.locks.specs.Finding.{lock_seen};
+ghost use Rattle.desk.specs.Rights.{Judges, case_policy, case_repo, case_user, denial_view, has_right, may_list_or_lock};
+ghost use Rattle.desk.specs.Replies.{IsReplyOf};
+
+use crate::cases::{Case, Denial};
+use crate::replies::Reply;
+use forms::{Answer, DenialStatus};
+use model::Right;
+use names::RefName;
+use policy::{Policy, Question, Verdict, decide};
+use std::alloc::{AllocError, Global};
+use tables::LockRow;
+
+/// The ref that is named, or the repository's default.
+pub(crate) fn ref_or_default<'a>(case: &Case<'a>, named: Option<&'a RefName>) -> &'a RefName
+    ensures { ref_text result.now ≡ ref_or_default
+        (option_map (λ name. ref_text name.now) named.entry) (case_repo case.entry.now) }
+{
+    match named {
+        Some(name) => name,
+        None => case.repo.default_ref(),
+    }
+}
+
+/// The policy allows what the question asks, or its row denies it with this status.
+pub(crate) fn permit(
+    policy: &Policy,
+    question: &Question<'_>,
+    status: DenialStatus,
+) -> Result<(), Denial>
+    ensures { Judges (λ _. tt) result
+        (permit (policy_view policy.now) (question_view question.now) (denial_status status)) }
+{
+    match decide(policy, question) {
+        Verdict::Allow(_) => Ok(()),
+        Verdict::Deny(row) => Err(Denial::Row {
+            row,
+            right: question.right,
+            status,
+        }),
+    }
+}
+
+/// Whether the policy allows what the question asks.
+fn is_allowed(policy: &Policy, question: &Question<'_>) -> bool
+    ensures { result ≡ is_allowed (decide (policy_view policy.now) (question_view question.now)) }
+{
+    matches!(decide(policy, question), Verdict::Allow(_))
+}
+
+/// The question whether the caller has the right on the ref and the path of the lock.
+pub(crate) fn lock_question<'a>(case: &Case<'a>, right: Right, row: &'a LockRow) -> Question<'a>
+    ensures { question_view result ≡ lock_question right (case_user case.entry.now)
+        (lock_seen (case_repo case.entry.now).name row.now) }
+{
+    Question {
+        user: case.user,
+        repo: case.repo.name(),
+        right,
+        ref_name: Some(&row.ref_name),
+        path: Some(&row.path),
+    }
+}
+
+/// The question whether the caller may download objects.
+pub(crate) fn pull_question<'a>(case: &Case<'a>) -> Question<'a>
+    ensures { question_view result
+        ≡ pull_question (case_user case.entry.now) (case_repo case.entry.now).name }
+{
+    Question {
+        user: case.user,
+        repo: case.repo.name(),
+        right: Right::Pull,
+        ref_name: None,
+        path: None,
+    }
+}
+
+/// The question whether the caller may push to the ref.
+pub(crate) fn push_question<'a>(case: &Case<'a>, ref_name: &'a RefName) -> Question<'a>
+    ensures { question_view result
+        ≡ push_question (case_user case.entry.now) (case_repo case.entry.now).name (ref_text ref_name.now) }
+{
+    Question {
+        user: case.user,
+        repo: case.repo.name(),
+        right: Right::Push,
+        ref_name: Some(ref_name),
+        path: None,
+    }
+}
+
+/// Whether the caller has the right on the ref and the path of the lock.
+fn has_right(case: &Case<'_>, right: Right, row: &LockRow) -> bool
+    ensures { result ≡ has_right case.entry.now right (lock_seen (case_repo case.entry.now).name row.now) }
+{
+    is_allowed(case.policy, &lock_question(case, right, row))
+}
+
+/// Whether the caller may list the lock.
+pub(crate) fn may_list(case: &Case<'_>, row: &LockRow) -> bool
+    ensures { result ≡ may_list (case_policy case.entry.now) (case_user case.entry.now)
+        (lock_seen (case_repo case.entry.now).name row.now) }
+{
+    has_right(case, Right::List, row)
+}
+
+/// Whether the lock is the caller's own.
+pub(crate) fn is_own(case: &Case<'_>, row: &LockRow) -> bool
+    ensures { result
+        ≡ is_own (case_user case.entry.now) (lock_seen (case_repo case.entry.now).name row.now) }
+{
+    row.owner.as_str() == case.user.as_str()
+}
+
+/// Whether the lock is the caller's own, or the caller may list or lock it.
+fn may_list_or_lock(case: &Case<'_>, row: &LockRow) -> bool
+    ensures { result ≡ may_list_or_lock case.entry.now
+        (lock_seen (case_repo case.entry.now).name row.now) }
+{
+    is_own(case, row) || may_list(case, row) || has_right(case, Right::Lock, row)
+}
+
+/// Whether the caller sees the lock: it is the caller's own, or the caller may list, lock or force it, or
+/// push to its ref.
+pub(crate) fn sees(case: &Case<'_>, row: &LockRow) -> bool
+    ensures { result ≡ sees (case_policy case.entry.now) (case_user case.entry.now)
+        (lock_seen (case_repo case.entry.now).name row.now) }
+{
+    may_list_or_lock(case, row)
+        || has_right(case, Right::Force, row)
+        || is_allowed(case.policy, &push_question(case, &row.ref_name))
+}
+
+/// The answer to a request that is denied.
+fn answer_to(denial: Denial) -> Answer<'static>
+    ensures { IsAnswer result (Err (denial_view denial)) }
+{
+    match denial {
+        Denial::Rule(rule) => Answer::Denied(rule),
+        Denial::Row { row, right, status } => Answer::DeniedByRow { row, right, status },
+    }
+}
+
+/// The reply to a request that is denied.
+pub(crate) fn denial_reply(alloc: Global, denial: Denial) -> Result<Reply, AllocError>
+    ensures { IfOk result (λ reply. IsReplyOf reply (Err (denial_view denial))) }
+{
+    Reply::telling(alloc, &answer_to(denial))
+}

@@ -1,0 +1,127 @@
+//! The request for the locks of a ref, the caller's own apart (Git LFS API, File Locking, "List Locks
+//! for Verification").
+
+ghost use Rattle.std.specs.Prelude.{◌≡◌, ℕ, List, IfOk, Ok};
+ghost use Rattle.names.specs.Names.{ref_text, user_text};
+ghost use Rattle.model.specs.Callers as model;
+ghost use Rattle.model.specs.Answers.{splits};
+ghost use Rattle.model.specs.Pages.{page_limit, page_of};
+ghost use Rattle.model.specs.Locks.{ref_locks, verify_locks_verdict};
+ghost use Rattle.forms.specs.Requests.{verify_locks_asked};
+ghost use Rattle.refinement.specs.Left.{From};
+ghost use Rattle.cursor.specs.Paging.{cursor_or_first, page_seen};
+ghost use Rattle.cursor.specs.Wanted.{form_of_filter};
+ghost use Rattle.desk.specs.Replies.{IsReplyOf};
+ghost use Rattle.desk.specs.Done.{Answers};
+ghost use Rattle.desk.specs.Rights.{IsUserOf, Judges, case_seen, case_user};
+ghost use Rattle.desk.specs.Paging.{filter_by_ref, verify_start};
+
+use crate::cases::{Case, Denial};
+use crate::pages::{shown_locks, start_at};
+use crate::replies::Reply;
+use crate::rights::{denial_reply, permit, push_question, ref_or_default};
+use cursor::{Filter, Page, page, read_limit, split};
+use forms::{Answer, DenialStatus, SplitPage, VerifyLocksRequest};
+use names::{LockId, RefName, UserName};
+use std::alloc::{AllocError, Global};
+use tables::{Alter, Store, StoreFault};
+
+/// The id at which the page begins, if the caller may push to the ref.
+fn verify_start(
+    case: &Case<'_>,
+    ref_name: &RefName,
+    asked: &VerifyLocksRequest,
+) -> Result<Option<LockId>, Denial>
+    ensures { Judges cursor_or_first result
+        (verify_start case.entry.now (ref_text ref_name.now) (verify_locks_asked asked.now)) }
+{
+    permit(
+        case.policy,
+        &push_question(case, ref_name),
+        DenialStatus::Forbidden,
+    )?;
+    start_at(asked.cursor.as_ref())
+}
+
+/// The filter for the locks of the ref.
+fn of_ref(ref_name: &RefName) -> Filter<'_>
+    ensures { form_of_filter result ≡ filter_by_ref (ref_text ref_name.entry.now) }
+{
+    Filter {
+        path: None,
+        id: None,
+        ref_name: Some(ref_name),
+    }
+}
+
+/// The reply with the page, the user's own locks apart.
+fn split_reply(alloc: Global, page: &mut Page, user: &UserName) -> Result<Reply, AllocError>
+    ensures { IfOk result (λ reply. (repo : List ℕ)
+        → IsReplyOf reply (Ok (splits (user_text user.now) (page_seen repo page.old)))) }
+{
+    let next = page.next;
+    let (ours, theirs) = split(page, user);
+    let ours = shown_locks(alloc, ours)?;
+    let theirs = shown_locks(alloc, theirs)?;
+    let shown = SplitPage {
+        ours: ours.as_slice(),
+        theirs: theirs.as_slice(),
+        next,
+    };
+    Reply::telling(alloc, &Answer::Split(&shown))
+}
+
+/// Answers with the page that begins at the cursor.
+///
+/// # Errors
+///
+/// A [`StoreFault`], which leaves the contents of the store unchanged.
+fn verify_from<S: Alter>(
+    store: &mut Store<S>,
+    alloc: Global,
+    case: &Case<'_>,
+    ref_name: &RefName,
+    limit: Option<i64>,
+    cursor: Option<LockId>,
+) -> Result<Reply, StoreFault>
+    ensures { From S.Store store.old store.new (λ world.
+        (who : model.Caller) → IsUserOf case.entry.now who → Answers S.Store store.old store.new world
+        (Ok (splits (case_user case.entry.now) (page_of (cursor_or_first cursor) (page_limit limit)
+        (ref_locks (case_seen world case.entry.now who) (ref_text ref_name.entry.now))))) result) }
+{
+    let wanted = of_ref(ref_name);
+    let limit = read_limit(limit);
+    let mut found = page(
+        alloc,
+        store,
+        case.repo.name(),
+        &wanted,
+        |_| true,
+        cursor,
+        limit,
+    )?;
+    Ok(split_reply(alloc, &mut found, case.user)?)
+}
+
+/// Answers a request for the locks of a ref: the policy's denial, L4, or a page.
+///
+/// # Errors
+///
+/// A [`StoreFault`], which leaves the contents of the store unchanged.
+pub(crate) fn verify_locks<S: Alter>(
+    store: &mut Store<S>,
+    alloc: Global,
+    case: &Case<'_>,
+    asked: &VerifyLocksRequest,
+) -> Result<Reply, StoreFault>
+    ensures { From S.Store store.old store.new (λ world.
+        (who : model.Caller) → IsUserOf case.entry.now who → Answers S.Store store.old store.new world
+        (verify_locks_verdict (case_seen world case.entry.now who)
+        (verify_locks_asked asked.entry.now)) result) }
+{
+    let ref_name = ref_or_default(case, asked.ref_name.as_ref());
+    match verify_start(case, ref_name, asked) {
+        Ok(cursor) => verify_from(store, alloc, case, ref_name, asked.limit, cursor),
+        Err(denial) => Ok(denial_reply(alloc, denial)?),
+    }
+}

@@ -1,0 +1,9 @@
+use Rattle.std.proofs.Common.{Some, string_bytes}
+use Rattle.names.specs.Texts.{is_ref}
+use Rattle.model.specs.Forms.{is_if_given}
+use Rattle.forms.proofs.Bodies.{fails}
+use Rattle.forms.proofs.body.ref_of.Goals as goal
+
+pub returns-in-None : goal.returns-in-None
+returns-in-None c =
+    rw c.in-Some.is (fails (is_if_given is_ref) (Some (string_bytes c.in-Some.text)) (λ yes. c.in-None.ensures.accepted.1 yes))
