@@ -79,6 +79,64 @@ fn locks_are_listed_in_pages(rt: HostRuntime) {
     perform(&rt, &rt, "listed", POLICY, LISTED);
 }
 
+/// Pages with hidden locks, past released ones, and at the limits of their parameters.
+const PAGES: &str = r#"
+token a ann studio/film
+token b bob studio/film
+# bob may not list the second of three locks
+$ session --db @/db --policy @/policy --now 1463500146
+replace [[row]] => [[row]]\neffect = "deny"\nusers = ["bob"]\nrepos = ["*"]\nrefs = ["*"]\npaths = ["b"]\nrights = ["list"]\n\n[[row]]
+lock a studio/film {"path":"a"}
+reply 201 {"lock":{"id":"1","locked_at":"2016-05-17T15:49:06Z","owner":{"name":"ann"},"path":"a"}}
+lock a studio/film {"path":"b"}
+reply 201 {"lock":{"id":"2","locked_at":"2016-05-17T15:49:06Z","owner":{"name":"ann"},"path":"b"}}
+lock a studio/film {"path":"c"}
+reply 201 {"lock":{"id":"3","locked_at":"2016-05-17T15:49:06Z","owner":{"name":"ann"},"path":"c"}}
+get b studio/film locks?limit=1
+reply 200 {"locks":[{"id":"1","locked_at":"2016-05-17T15:49:06Z","owner":{"name":"ann"},"path":"a"}],"next_cursor":"3"}
+get b studio/film locks?limit=1&cursor=2
+reply 200 {"locks":[{"id":"3","locked_at":"2016-05-17T15:49:06Z","owner":{"name":"ann"},"path":"c"}]}
+get b studio/film locks?limit=1&cursor=3
+reply 200 {"locks":[{"id":"3","locked_at":"2016-05-17T15:49:06Z","owner":{"name":"ann"},"path":"c"}]}
+get b studio/film locks?limit=2
+reply 200 {"locks":[{"id":"1","locked_at":"2016-05-17T15:49:06Z","owner":{"name":"ann"},"path":"a"},{"id":"3","locked_at":"2016-05-17T15:49:06Z","owner":{"name":"ann"},"path":"c"}]}
+get b studio/film locks?id=2
+reply 200 {"locks":[]}
+# the second is released, and its id is still a cursor
+$ session --db @/db --policy @/policy --now 1463500146
+get a studio/film locks?limit=-5
+reply 200 {"locks":[{"id":"1","locked_at":"2016-05-17T15:49:06Z","owner":{"name":"ann"},"path":"a"}],"next_cursor":"2"}
+post a studio/film locks/2/unlock {}
+reply 200 {"lock":{"id":"2","locked_at":"2016-05-17T15:49:06Z","owner":{"name":"ann"},"path":"b"}}
+get a studio/film locks?cursor=2&limit=1
+reply 200 {"locks":[{"id":"3","locked_at":"2016-05-17T15:49:06Z","owner":{"name":"ann"},"path":"c"}]}
+get a studio/film locks?limit=0
+reply 200 {"locks":[{"id":"1","locked_at":"2016-05-17T15:49:06Z","owner":{"name":"ann"},"path":"a"}],"next_cursor":"3"}
+get a studio/film locks?limit=1000
+reply 200 {"locks":[{"id":"1","locked_at":"2016-05-17T15:49:06Z","owner":{"name":"ann"},"path":"a"},{"id":"3","locked_at":"2016-05-17T15:49:06Z","owner":{"name":"ann"},"path":"c"}]}
+get a studio/film locks?cursor=01
+reply 422 {"message":"L4: the cursor is no lock id"}
+get a studio/film locks?cursor=4294967296
+reply 422 {"message":"L4: the cursor is no lock id"}
+get a studio/film locks?limit=99999999999
+reply 422 {"message":"J2: a field is out of range"}
+# the page is cut before it is split
+$ session --db @/db --policy @/policy --now 1463500146
+lock b studio/film {"path":"d"}
+reply 201 {"lock":{"id":"4","locked_at":"2016-05-17T15:49:06Z","owner":{"name":"bob"},"path":"d"}}
+post a studio/film locks/verify {"limit":2}
+reply 200 {"next_cursor":"4","ours":[{"id":"1","locked_at":"2016-05-17T15:49:06Z","owner":{"name":"ann"},"path":"a"},{"id":"3","locked_at":"2016-05-17T15:49:06Z","owner":{"name":"ann"},"path":"c"}],"theirs":[]}
+post a studio/film locks/verify {"cursor":"4"}
+reply 200 {"ours":[],"theirs":[{"id":"4","locked_at":"2016-05-17T15:49:06Z","owner":{"name":"bob"},"path":"d"}]}
+post a studio/film locks/verify {"cursor":""}
+reply 200 {"ours":[{"id":"1","locked_at":"2016-05-17T15:49:06Z","owner":{"name":"ann"},"path":"a"},{"id":"3","locked_at":"2016-05-17T15:49:06Z","owner":{"name":"ann"},"path":"c"}],"theirs":[{"id":"4","locked_at":"2016-05-17T15:49:06Z","owner":{"name":"bob"},"path":"d"}]}
+"#;
+
+#[test]
+fn pages_skip_hidden_and_released_locks(rt: HostRuntime) {
+    perform(&rt, &rt, "pages", POLICY, PAGES);
+}
+
 /// Releases, by the owner, by others, and by a user who may force.
 const RELEASED: &str = r#"
 token a ann studio/film
