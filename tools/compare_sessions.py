@@ -440,4 +440,5 @@ def main():
     return 1 if difference else 0
 
 
-sys.exit(main())
+if __name__ == "__main__":
+    sys.exit(main())
