@@ -11,7 +11,7 @@ use names::{LockId, LockPath, RefName};
 use tables::LockRow;
 
 /// Which locks are wanted: those that have each part that is given (Git LFS API, File Locking,
-/// "Listing Locks"). With no part, every lock is.
+/// "List Locks"). With no part, every lock is.
 #[derive(Clone, Copy, Debug)]
 pub struct Filter<'a> {
     /// The path of the lock.

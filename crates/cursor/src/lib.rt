@@ -1,6 +1,6 @@
 //! Pages of locks, and the walk from page to page.
 //!
-//! A client lists the locks of a repository a page at a time (Git LFS API, File Locking, "Listing
+//! A client lists the locks of a repository a page at a time (Git LFS API, File Locking, "List
 //! Locks"): the first locks from an id on, as many as its limit says, and the id at which the next page
 //! begins. [`page`] reads the locks 64 rows at a time, and stops once it has the page and its next id;
 //! [`split`] separates the locks of one user from the others.

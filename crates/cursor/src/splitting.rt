@@ -33,7 +33,7 @@ fn part(rows: &mut [LockRow], user: &UserName) -> usize
 }
 
 /// Returns the locks of the page that are the user's, and the others, each in the order of the page
-/// (Git LFS API, File Locking, "Listing Locks for Verification"). They are moved within the page, and
+/// (Git LFS API, File Locking, "List Locks for Verification"). They are moved within the page, and
 /// no memory is taken.
 pub fn split<'a>(page: &'a mut Page, user: &UserName) -> (&'a [LockRow], &'a [LockRow])
     ensures ours { result.0.now
