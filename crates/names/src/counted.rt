@@ -75,6 +75,9 @@ impl<R: Read> Source for Counted<R> {
         }
     }
 
+    /// A reader is not told of messages.
+    fn expect_message(&mut self, _has_begun: bool) {}
+
     fn failures(&self) -> u64 {
         self.failures
     }

@@ -72,6 +72,8 @@ impl Source for SliceSource<'_> {
         Ok(size)
     }
 
+    fn expect_message(&mut self, _has_begun: bool) {}
+
     fn failures(&self) -> u64 {
         0
     }
@@ -210,6 +212,10 @@ impl<S: Source> Source for FailAfter<S> {
         }
         self.failures = one_more(self.failures);
         Err(DeviceFault)
+    }
+
+    fn expect_message(&mut self, has_begun: bool) {
+        self.inner.expect_message(has_begun)
     }
 
     fn failures(&self) -> u64 {
