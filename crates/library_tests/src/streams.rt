@@ -247,6 +247,8 @@ impl<S: Source> Source for Ticking<'_, S> {
 
     ghost failed = { λ s. S.failed s.inner };
 
+    ghost bounded = { λ s. S.bounded s.inner };
+
     fn read(&mut self, piece: &mut [u8]) -> Result<usize, DeviceFault> {
         self.tick();
         self.inner.read(piece)

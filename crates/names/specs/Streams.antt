@@ -5,6 +5,10 @@ use Rattle.std.specs.Prelude.{◌≡◌, ℕ, ◌+◌, ◌-◌, ◌^◌, min, Li
 abbrev pub most_handed_out : ℕ
 most_handed_out = 1099511627776
 
+-- a source returns fewer bytes than this
+abbrev pub most_counted : ℕ
+most_counted = 2 ^ 63
+
 -- a count of failures went up by one, or stays at its maximum
 abbrev pub HasGrown : ℕ → ℕ → Type 0
 HasGrown old new = new ≡ min (old + 1) (2 ^ 64 - 1)

@@ -1,7 +1,8 @@
 //! Adapts any reader of the standard library to a source, and any writer to a sink.
 
 ghost use Rattle.std.specs.Prelude.{◌≡◌, ◌≤◌, ◌-◌};
-ghost use Rattle.names.specs.Streams.{cap_known, most_handed_out};
+ghost use Rattle.std.proofs.Common.{arith};
+ghost use Rattle.names.specs.Streams.{cap_known, most_counted, most_handed_out};
 
 use crate::streams::one_more;
 use crate::{DeviceFault, Sink, Source};
@@ -56,6 +57,8 @@ impl<R: Read> Source for Counted<R> {
     ghost budget = { λ s. most_handed_out - handed_out s };
 
     ghost failed = { λ s. failures s };
+
+    ghost bounded = { λ s. Prim.omega arith };
 
     fn read(&mut self, piece: &mut [u8]) -> Result<usize, DeviceFault> {
         let room = MOST - self.handed_out;

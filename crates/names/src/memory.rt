@@ -2,7 +2,7 @@
 
 ghost use Rattle.std.specs.Prelude.{◌≡◌, ◌-◌, ◌<◌, ◌↔◌, ◌≤◌, ◌+◌, IsTrue, IfOk, OnOk, OnErr, Some, Ok, [], length, max};
 ghost use Rattle.std.specs.Io.KnownBytes.{ReadConsumes, WriteAppends};
-ghost use Rattle.names.specs.Streams.{HasGrown};
+ghost use Rattle.names.specs.Streams.{HasGrown, most_counted};
 
 use crate::streams::one_more;
 use crate::{DeviceFault, Sink, Source};
@@ -14,6 +14,7 @@ pub struct SliceSource<'a> {
     left: &'a [u8],
     most: usize,
     pub ghost some: { 0 < most },
+    pub ghost fits: { length left.now ≤ most_counted },
 }
 
 impl<'a> SliceSource<'a> {
@@ -53,6 +54,8 @@ impl Source for SliceSource<'_> {
     ghost budget = { λ s. length (slice_left s) };
 
     ghost failed = { λ s. slice_failures s };
+
+    ghost bounded = { λ s. s.fits };
 
     fn read(&mut self, piece: &mut [u8]) -> Result<usize, DeviceFault>
         ensures within { IfOk result (λ n. n ≤ length piece.new) }
@@ -203,6 +206,8 @@ impl<S: Source> Source for FailAfter<S> {
     ghost budget = { λ s. S.budget (failing s) };
 
     ghost failed = { λ s. failures_so_far s };
+
+    ghost bounded = { λ s. S.bounded (failing s) };
 
     fn read(&mut self, piece: &mut [u8]) -> Result<usize, DeviceFault> {
         if self.reaches_device()

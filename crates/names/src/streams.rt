@@ -3,7 +3,7 @@
 ghost use Rattle.std.specs.Prelude.{◌≡◌, ℕ, ◌+◌, ◌<◌, ◌≤◌, List, Option, Some, None, length, IfOk, OnOk, OnErr};
 ghost use Rattle.std.specs.Borrow.{GName};
 ghost use Rattle.std.specs.Io.KnownBytes.{ReadConsumes, WriteAppends};
-ghost use Rattle.names.specs.Streams.{HasGrown};
+ghost use Rattle.names.specs.Streams.{HasGrown, most_counted};
 
 use thiserror::Error;
 
@@ -59,6 +59,9 @@ pub trait Source {
     /// The number of failed reads so far. At its maximum the count stays.
     fn failures(&self) -> u64
         ensures { result ≡ failed self.now };
+
+    /// A count of the bytes, or of messages in them, fits in 64 bits.
+    ghost bounded: { (source : Self) → budget source ≤ most_counted };
 }
 
 /// A sink for bytes.
@@ -103,6 +106,8 @@ impl<S: Source> Source for &mut S {
     ghost budget = { λ s. S.budget s.now };
 
     ghost failed = { λ s. S.failed s.now };
+
+    ghost bounded = { λ s. S.bounded s.now };
 
     fn read(&mut self, piece: &mut [u8]) -> Result<usize, DeviceFault> {
         (**self).read(piece)
