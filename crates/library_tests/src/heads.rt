@@ -75,7 +75,11 @@ fn heads_are_cut_from_what_follows(rt: HostRuntime) {
 }
 
 /// A head of `size` bytes in all, less `short`.
-fn head_of_size(rt: &(impl Abort + Alloc<A = Global>), size: usize, short: usize) -> Vec<u8> {
+pub(crate) fn head_of_size(
+    rt: &(impl Abort + Alloc<A = Global>),
+    size: usize,
+    short: usize,
+) -> Vec<u8> {
     let value = unwrap(rt, "a".repeat(rt.alloc(), size.saturating_sub(23)));
     let text = unwrap(
         rt,

@@ -210,6 +210,26 @@ const OCTETS: ReplyHead<'static> = ReplyHead {
 const OCTETS_TEXT: &[u8] =
     b"HTTP/1.1 200 OK\r\nContent-Type: application/octet-stream\r\nContent-Length: 3\r\n\r\nabc";
 
+/// Sizes of bodies after a head of 78 bytes, and the result if a second write fails.
+const BODIES: &[(usize, Result<(), WriteFault>)] = &[
+    (0, Ok(())),
+    (4_018, Ok(())),
+    (4_019, Err(WriteFault { written: 78 })),
+];
+
+#[test]
+fn replies_of_4096_bytes_are_one_write(rt: HostRuntime) {
+    for &(size, want) in BODIES {
+        let body = unwrap(&rt, vec![in rt.alloc(); b'a'; size]);
+        let mut sink = FailAfter::new(VecSink::new(rt.alloc(), usize::MAX), 1);
+        expect(&rt, &size, write_reply(&mut sink, &OCTETS, &body), want);
+        let mut sink = VecSink::new(rt.alloc(), usize::MAX);
+        unwrap(&rt, write_reply(&mut sink, &OCTETS, &body));
+        expect(&rt, &size, sink.taken().get(..78), OCTETS_TEXT.get(..78));
+        expect(&rt, &size, sink.taken().get(78..), Some(body.as_slice()));
+    }
+}
+
 /// A writer that takes a byte per call. It fails once, after `good` bytes, and would then take the rest.
 #[derive(Drop)]
 struct WritesAgain {

@@ -101,9 +101,9 @@ fn a_sink_fails_from_then_on(rt: HostRuntime) {
 
 /// A reader that fails once, before its byte of that index.
 #[derive(Drop)]
-struct FailsOnce {
-    bytes: &'static [u8],
-    before: Option<usize>,
+pub(crate) struct FailsOnce {
+    pub(crate) bytes: &'static [u8],
+    pub(crate) before: Option<usize>,
 }
 
 impl Read for FailsOnce {

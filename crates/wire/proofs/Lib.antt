@@ -4,3 +4,7 @@ pub mod Lengths
 pub mod Appended
 pub mod Wholes
 pub mod Heads
+pub mod Buffers
+pub mod Found
+pub mod Streams
+pub mod Advances

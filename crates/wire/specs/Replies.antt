@@ -1,6 +1,6 @@
 -- The head of a reply, in the terms of the definitions.
 use Rattle.std.specs.Prelude.{ℕ, List, []}
-use Rattle.model.specs.Replies.{Body, empty, json, content, type_line, head_lines}
+use Rattle.model.specs.Replies.{empty, json, content, type_line, head_lines}
 use Rattle.wire.specs.declared.reply.ReplyHead.{ReplyHead}
 use Rattle.wire.specs.declared.reply.Content.{Content}
 use Rattle.wire.specs.declared.reply.Content.TheVariants.{Json, Octets, Empty}

@@ -2,24 +2,33 @@
 //! (RFC 9112).
 //!
 //! A client sends its requests one after another. Each is a head, which is a few lines of text, and
-//! perhaps a body of bytes. [`first_head`] finds the head at the front of the bytes received, or
-//! reports that they cannot begin with one. [`Head`] returns the method, the target, the fields, the
-//! size of the body, and whether the connection ends after the message. [`write_reply`] sends a
-//! [`ReplyHead`] and a body.
+//! perhaps a body of bytes. A [`Conn`] reads them from a source: [`Conn::next_head`] returns an
+//! [`Inflow`] for each message, whose [`Head`] has the method, the target, the fields, and whether the
+//! connection ends after the message. The body is read through the `Inflow`, in pieces
+//! ([`Inflow::body_piece`]) or whole ([`Inflow::body_whole`]). [`write_reply`] sends a [`ReplyHead`] and
+//! a body.
 //!
-//! This crate allocates no memory, knows no routes, and reads no body.
+//! Memory is allocated in two places: [`Conn::new`] takes the buffer of a connection once, and
+//! [`Inflow::body_whole`] takes the size of a body. This crate knows no routes. [`first_head`] finds the
+//! head at the front of bytes that are in memory already.
 #![tactic(auto)]
 
 mod accept;
+mod buffer;
+mod connection;
 mod cut;
 mod framing;
 mod head;
+mod inflow;
 mod ows;
+mod reading;
 mod reply;
 mod write;
 
+pub use connection::{BodyFault, Conn, Stop};
 pub use cut::{Cut, FIELD_LIMIT, FIELD_ROOM, HEAD_LIMIT, first_head, front_of};
 pub use framing::LARGEST_FORM;
 pub use head::Head;
+pub use inflow::{Inflow, WholeFault};
 pub use reply::{Content, ReplyHead};
 pub use write::{WriteFault, write_reply, write_whole};
