@@ -1,5 +1,5 @@
 -- A message is answered, and its reply is sent.
-use Rattle.std.proofs.Common.{◌≡◌, ◌∙◌, ◌≤◌, ℕ, Bool, true, false, not, ◌&&◌, ◌||◌, List, [], ◌++◌, length, drop, codes, Option, Some, None, is_some, Ok, Err, refl, sym, ap, ap₂, subst}
+use Rattle.std.proofs.Common.{◌≡◌, ◌∙◌, ◌≤◌, ℕ, Bool, true, false, not, ◌&&◌, ◌||◌, List, [], ◌++◌, length, drop, codes, MatchBool, Option, Some, None, is_some, Ok, Err, refl, sym, ap, ap₂, subst, append-nil}
 use Rattle.std.specs.Result.{IfErr}
 use Rattle.std.specs.Io.KnownBytes.{Appends}
 use Rattle.sqlite_trees.specs.declared.store.Store.{Ghosts}
@@ -12,11 +12,12 @@ use Rattle.model.specs.Forms.{request_of}
 use Rattle.model.specs.Cases.{Setting, DeskRequest}
 use Rattle.model.specs.Answers.{Answer, by_rule, by_row, by_lock, is_rule, is_store_refusal, store_refusal}
 use Rattle.model.specs.Verdict.{verdict, desk_verdict, desk_request, early_verdict}
-use Rattle.model.specs.Steps.{Message, Exchange, verdict_on, by_verdict, by_refusal, denial_alone, message, is_early, is_of_head, is_h7, is_denial, is_x2, is_sure, denies_put, closes, closes_after, allow, after}
+use Rattle.model.specs.Steps.{Message, Exchange, exchanged, Carries, verdict_on, by_verdict, by_refusal, denial_alone, message, is_early, is_of_head, is_h7, is_denial, is_x2, is_sure, denies_put, closes, closes_after, allow, after}
 use Rattle.model.specs.Replies as model
 use Rattle.model.specs.Replies.{content_of, head_text, head_lines, type_line, body_size, reply_text}
 use Rattle.model.specs.Sessions.{text_of}
-use Rattle.model.specs.Bounds.{unchanged, answer_ending}
+use Rattle.model.specs.Stream.{BeginsWith}
+use Rattle.model.specs.Bounds.{unchanged, answer_ending, bound_after}
 use Rattle.model.proofs.Refusals.{IsLate, desk_fails, request_fails, verdict_at}
 use Rattle.model.proofs.Firsts.{begins_with_message}
 use Rattle.wire.specs.Replies.{head_of}
@@ -30,14 +31,17 @@ use Rattle.desk.specs.Done.{Answers}
 use Rattle.desk.specs.Replies.{IsReplyOf, body_text}
 use Rattle.desk.specs.declared.replies.Reply.{Reply}
 use Rattle.service.specs.Judging.{Asks, target_seen}
-use Rattle.service.specs.Messages.{IsRefused, IsWhole, IsCutOff, whole_message}
+use Rattle.service.specs.Messages.{IsRefused, IsWhole, whole_message}
 use Rattle.service.specs.Sending.{sent_text}
-use Rattle.service.specs.Turns.{IsAnswered, IsSent, IsTurn, Takes, exchange}
+use Rattle.service.specs.Responding.{IsEarly}
+use Rattle.service.specs.Turns.{IsAnswered, IsFirst, IsIncomplete, IsResponse, IsSent, IsTurn, EndsTurn, exchange, less_than_body}
 use Rattle.service.specs.declared.judging.Target as judging
 use Rattle.service.specs.declared.judging.Denied as refusing
 use Rattle.service.specs.declared.message.Message as whole
-use Rattle.service.specs.declared.turn.Turn.{Turn}
-use Rattle.service.specs.declared.turn.Turn.TheVariants.{Unfinished, CutOff, Answered, Closed, WriteFailed}
+use Rattle.service.specs.declared.ends.End.{End}
+use Rattle.service.specs.declared.ends.End.TheVariants.{InputEnded, Closed, ReadFailed, WriteFailed}
+use Rattle.service.specs.declared.responding.Response.{Response}
+use Rattle.service.proofs.Messages.{no_early_denial}
 
 -- ---- the verdict on a head that is not refused
 
@@ -125,106 +129,153 @@ reply_is : (reply : Reply) (given : Answer) (methods allowed : List ℕ) (close 
 reply_is reply given methods allowed close shut tells named closed =
     ap₂ (λ (m : List ℕ) (c : Bool). sent_text reply m c) named closed ∙ text_is reply given allowed shut tells
 
--- ---- a turn, and what was sent
-
-module _ {S : Type 0} (g : Ghosts S) (setting : Setting) (bytes : List ℕ) (world : World) (old new : Store S) where
-  pub sent : (was is : Option (List ℕ)) (e : Exchange) (next : List ℕ) (kept : World) (text : List ℕ) (close : Bool) (len : ℕ) (turn : Turn)
-      → IsTurn g setting bytes world old new e next kept → text ≡ text_of e → is_some e.given ≡ true → closes e ≡ close
-      → (close ≡ false → next ≡ drop len bytes) → IsSent was is text close len turn → Takes g setting bytes world old new was is turn
-  sent was is e next kept text close len Unfinished turn reads some shuts goes s = absurd s
-  sent was is e next kept text close len CutOff turn reads some shuts goes s = absurd s
-  sent was is e next kept text close len (Answered n) turn reads some shuts goes s = (
-    e,
-    kept,
-    subst (λ (rest : List ℕ). IsTurn g setting bytes world old new e rest kept) (goes s.0 ∙ ap (λ m. drop m bytes) (sym s.1)) turn,
-    some,
-    shuts ∙ s.0,
-    subst (λ (t : List ℕ). Appends was is t) reads s.2,
-  )
-  sent was is e next kept text close len Closed turn reads some shuts goes s =
-      (e, next, kept, turn, some, shuts ∙ s.0, subst (λ (t : List ℕ). Appends was is t) reads s.1)
-  sent was is e next kept text close len WriteFailed turn reads some shuts goes s =
-      (e, next, kept, turn, (s.0, subst (λ (t : List ℕ). IsBeginning was is t s.0) reads s.1))
-
-  -- a refused head
-  pub refused_turn : (asked : Message) (d : refusing.Denied) → IsPolicy setting.policy → setting.now ≤ last_moment → (is : IsRefused bytes asked d) → Leads g old new world (λ bound. bound)
-      → IsTurn g setting bytes world old new (exchange setting asked (Some (Err (by_rule d.rule)))) is.next world
-  refused_turn asked d in_range at is p = record {
-    begins = is.begins;
-    under = refl;
-    step = record {
-      policy = in_range;
-      now = at;
-      asked = begins_with_message bytes asked is.next is.begins;
-      carries = by_verdict (sym (is.verdict world setting)) (sym (ap (after world) (is.verdict world setting)));
-    };
-    leads = ends_still g old new (answer_ending world (Some (Err (by_rule d.rule)))) world (after world (verdict_on world setting asked)) (denial_changes_none g world (by_rule d.rule)) p;
-  }
-
-  -- an answered message
-  pub whole_turn : (h : RequestHead) (m : whole.Message) (reply : Reply) → IsPolicy setting.policy → setting.now ≤ last_moment → IsWhole bytes h m
-      → (a : IsAnswered g world setting (whole_message h m.body.now) old new reply)
-      → IsTurn g setting bytes world old new (exchange setting (whole_message h m.body.now) (Some a.given)) (drop m.len bytes) a.kept
-  whole_turn h m reply in_range at is a = record {
-    begins = is.begins;
-    under = refl;
-    step = record {
-      policy = in_range;
-      now = at;
-      asked = begins_with_message bytes (whole_message h m.body.now) (drop m.len bytes) is.begins;
-      carries = a.carries;
-    };
-    leads = a.leads;
-  }
-
-  -- a message cut off in its body
-  pub cut_turn : (was is : Option (List ℕ)) (h : RequestHead) → IsPolicy setting.policy → setting.now ≤ last_moment → IsCutOff bytes h → Leads g old new world (λ bound. bound) → is ≡ was
-      → Takes g setting bytes world old new was is CutOff
-  cut_turn was is h in_range at cut p same =
-      let asked : Message = message h cut.body false in
-      let none : ◌≡◌ {A = Option Answer} (denial_alone (early_verdict world setting h)) None = ap denial_alone (cut.passes world setting) in (
-        exchange setting asked None,
-        world,
-        record {
-          begins = cut.begins;
-          under = refl;
-          step = record {
-            policy = in_range;
-            now = at;
-            asked = begins_with_message bytes asked [] cut.begins;
-            carries = by_verdict (sym none) (sym (ap (after world) none));
-          };
-          leads = ends_still g old new unchanged world (after world (denial_alone (early_verdict world setting h))) refl p;
-        },
-        refl,
-        same,
-      )
-
--- ---- whether the connection closes, and what is sent
+-- ---- whether the connection closes
 
 shut_by : (asks rule store put : Bool) → rule ≡ false → put ≡ false → (asks || rule || store || put) ≡ (asks || store)
 shut_by true rule store put a b = refl
 shut_by false rule true put a b = rw a refl
 shut_by false rule false put a b = rw (a, b) refl
 
-pub whole_closes : (bytes : List ℕ) (h : RequestHead) (m : whole.Message) (given : Answer) (reply : Reply) → IsWhole bytes h m → IsReplyOf reply given → is_rule is_of_head given ≡ false
+whole_closes : (h : RequestHead) (body : List ℕ) (m : whole.Message) (given : Answer) (reply : Reply) → IsWhole h body m → IsReplyOf reply given → is_rule is_of_head given ≡ false
     → closes_after (whole_message h m.body.now) given ≡ (m.is_last || reply.is_store_refusal)
-whole_closes bytes h m given reply is tells late =
+whole_closes h body m given reply is tells late =
     let no_put : denies_put h given ≡ false = ap (λ (v : Bool). v && is_denial given && not (is_rule is_x2 given)) is.asks.no_put in
     shut_by (asks_close h) (is_rule is_of_head given) (is_store_refusal given) (denies_put h given) late no_put
     ∙ ap₂ (λ a b. a || b) is.last (sym tells.refusal)
 
-pub refused_text : (asked : Message) (d : refusing.Denied) (bytes : List ℕ) (reply : Reply) → IsRefused bytes asked d → IsReplyOf reply (Err (by_rule d.rule))
-    → sent_text reply d.allow.now true ≡ reply_text (Err (by_rule d.rule)) (allow asked (Err (by_rule d.rule))) (closes_after asked (Err (by_rule d.rule)))
-refused_text asked d bytes reply is tells =
-    reply_is reply (Err (by_rule d.rule)) d.allow.now (allow asked (Err (by_rule d.rule))) true (closes_after asked (Err (by_rule d.rule))) tells is.methods (sym is.closes)
-
 no_methods : (h : RequestHead) (body : List ℕ) (given : Answer) → is_rule is_h7 given ≡ false → ◌≡◌ {A = List ℕ} [] (allow (whole_message h body) given)
 no_methods h body given other = rw other refl
 
-pub whole_text : (h : RequestHead) (m : whole.Message) (bytes : List ℕ) (given : Answer) (reply : Reply) (close : Bool) → IsWhole bytes h m → IsReplyOf reply given
-    → is_rule is_of_head given ≡ false → is_rule is_h7 given ≡ false → close ≡ (m.is_last || reply.is_store_refusal)
-    → sent_text reply [] close ≡ reply_text given (allow (whole_message h m.body.now) given) (closes_after (whole_message h m.body.now) given)
-whole_text h m bytes given reply close is tells late other shut =
-    reply_is reply given [] (allow (whole_message h m.body.now) given) close (closes_after (whole_message h m.body.now) given) tells
-    (no_methods h m.body.now given other) (shut ∙ sym (whole_closes bytes h m given reply is tells late))
+-- ---- the refusal of a store or of memory, whatever part of the body is there
+
+-- nothing is certain of a message whose head is not refused
+unsure_by : (world : World) (setting : Setting) (h : RequestHead) (t : judging.Target) (body : List ℕ) (all : Bool) → Asks h t → is_sure (verdict_on world setting (message h body all)) ≡ false
+unsure_by world setting h t body true is = not_sure (verdict world setting h body) (late_verdict world setting h t body is).early
+unsure_by world setting h t body false is =
+    let none : ◌≡◌ {A = Option Answer} (denial_alone (early_verdict world setting h)) None = ap denial_alone (no_early_denial world setting h t is) in
+    ap is_sure none
+
+store_closes : (asks rule put : Bool) → (asks || rule || true || put) ≡ true
+store_closes true rule put = refl
+store_closes false true put = refl
+store_closes false false put = refl
+
+-- ---- a turn, and the response to it
+
+-- bytes that begin with a message, whatever follows them, begin with it
+begins_now : (bytes next : List ℕ) (e : Exchange) → IsFirst bytes e next → BeginsWith bytes e.asked (next ++ [])
+begins_now bytes next e first = subst (λ (b : List ℕ). BeginsWith b e.asked (next ++ [])) (append-nil bytes) (first [])
+
+begins_by : (bytes next : List ℕ) (e : Exchange) (close : Bool) → IsFirst bytes e next → MatchBool close ((rest : List ℕ) × BeginsWith bytes e.asked rest) (IsFirst bytes e next)
+begins_by bytes next e true first = (next ++ [], begins_now bytes next e first)
+begins_by bytes next e false first = first
+
+begins_closed : (bytes rest next : List ℕ) (e : Exchange) (close : Bool) → close ≡ true → BeginsWith bytes e.asked rest → MatchBool close ((rest : List ℕ) × BeginsWith bytes e.asked rest) (IsFirst bytes e next)
+begins_closed bytes rest next e close shut begins = rw shut (rest, begins)
+
+module _ {S : Type 0} (g : Ghosts S) (setting : Setting) (in_range : IsPolicy setting.policy) (at : setting.now ≤ last_moment) (world : World) (old new : Store S) where
+  -- the exchange that carries out an answer to a message at the front of some bytes
+  turn_by : (bytes rest : List ℕ) (asked : Message) (given : Option Answer) (kept : World) → BeginsWith bytes asked rest → Carries world (exchange setting asked given) kept
+      → Leads g old new kept (bound_after world (exchanged (exchange setting asked given))) → IsTurn g setting world old new (exchange setting asked given) kept
+  turn_by bytes rest asked given kept begins carries leads = record {
+    under = refl;
+    takes = record {
+      step = record { policy = in_range; now = at; asked = begins_with_message bytes asked rest begins; carries = carries };
+      leads = leads;
+    };
+  }
+
+  -- the response to a refused head
+  pub refused_response : (bytes next : List ℕ) (asked : Message) (d : refusing.Denied) (r : Response) → IsRefused bytes asked d → Leads g old new world (λ bound. bound)
+      → IsReplyOf r.reply (Err (by_rule d.rule)) → r.allow.now ≡ d.allow.now → r.close ≡ true → IsResponse g setting bytes next world old new r
+  refused_response bytes next asked d r is p tells methods shut =
+      let given : Answer = Err (by_rule d.rule) in
+      record {
+        e = exchange setting asked (Some given);
+        kept = world;
+        turn = turn_by bytes is.next asked (Some given) world is.begins (by_verdict (sym (is.verdict world setting)) (sym (ap (after world) (is.verdict world setting))))
+            (ends_still g old new (answer_ending world (Some given)) world (after world (verdict_on world setting asked)) (denial_changes_none g world (by_rule d.rule)) p);
+        some = refl;
+        closes = is.closes ∙ sym shut;
+        text = reply_is r.reply given r.allow.now (allow asked given) r.close (closes_after asked given) tells (methods ∙ is.methods) (shut ∙ sym is.closes);
+        begins = begins_closed bytes is.next next (exchange setting asked (Some given)) r.close shut is.begins;
+      }
+
+  -- the response if there is no memory for a body
+  pub unread_response : (bytes rest next : List ℕ) (h : RequestHead) (t : judging.Target) (body : List ℕ) (all : Bool) (r : Response) → Asks h t → BeginsWith bytes (message h body all) rest
+      → Leads g old new world (λ bound. bound) → IsReplyOf r.reply store_refusal → r.allow.now ≡ [] → r.close ≡ true → IsResponse g setting bytes next world old new r
+  unread_response bytes rest next h t body all r is begins p tells methods shut =
+      let asked : Message = message h body all in
+      let closes_there : closes_after asked store_refusal ≡ true = store_closes (asks_close h) (is_rule is_of_head store_refusal) (denies_put h store_refusal) in
+      record {
+        e = exchange setting asked (Some store_refusal);
+        kept = world;
+        turn = turn_by bytes rest asked (Some store_refusal) world begins (by_refusal refl (unsure_by world setting h t body all is) refl)
+            (ends_still g old new (answer_ending world (Some store_refusal)) world (after world (verdict_on world setting asked)) refl p);
+        some = refl;
+        closes = closes_there ∙ sym shut;
+        text = reply_is r.reply store_refusal r.allow.now [] r.close (closes_after asked store_refusal) tells methods (shut ∙ sym closes_there);
+        begins = begins_closed bytes rest next (exchange setting asked (Some store_refusal)) r.close shut begins;
+      }
+
+  -- the response to a whole message
+  pub whole_response : (bytes next : List ℕ) (h : RequestHead) (body : List ℕ) (m : whole.Message) (r : Response) → IsWhole h body m
+      → ((more : List ℕ) → BeginsWith (bytes ++ more) (whole_message h body) (next ++ more)) → IsAnswered g world setting (whole_message h m.body.now) old new r.reply
+      → r.allow.now ≡ [] → r.close ≡ (m.is_last || r.reply.is_store_refusal) → IsResponse g setting bytes next world old new r
+  whole_response bytes next h body m r is there a methods shut =
+      let asked : Message = whole_message h m.body.now in
+      let e = exchange setting asked (Some a.given) in
+      let first : IsFirst bytes e next = λ more. subst (λ (b : List ℕ). BeginsWith (bytes ++ more) (whole_message h b) (next ++ more)) (sym is.same_body) (there more) in
+      let closes_there : closes_after asked a.given ≡ r.close = whole_closes h body m a.given r.reply is a.tells a.of_head ∙ sym shut in
+      record {
+        e = e;
+        kept = a.kept;
+        turn = turn_by bytes (next ++ []) asked (Some a.given) a.kept (begins_now bytes next e first) a.carries a.leads;
+        some = refl;
+        closes = closes_there;
+        text = reply_is r.reply a.given r.allow.now (allow asked a.given) r.close (closes_after asked a.given) a.tells (methods ∙ no_methods h m.body.now a.given a.method) (sym closes_there);
+        begins = begins_by bytes next e r.close first;
+      }
+
+  -- a message that is cut off in its body gets no response
+  pub cut_incomplete : (bytes : List ℕ) (h : RequestHead) (t : judging.Target) (body : List ℕ) → Asks h t → BeginsWith bytes (message h body false) [] → Leads g old new world (λ bound. bound)
+      → IsIncomplete g setting bytes world old new
+  cut_incomplete bytes h t body is begins p =
+      let asked : Message = message h body false in
+      let none : ◌≡◌ {A = Option Answer} (denial_alone (early_verdict world setting h)) None = ap denial_alone (no_early_denial world setting h t is) in
+      less_than_body (exchange setting asked None) world
+      (turn_by bytes [] asked None world begins (by_verdict (sym none) (sym (ap (after world) none)))
+      (ends_still g old new unchanged world (after world (denial_alone (early_verdict world setting h))) refl p))
+      begins refl
+
+-- ---- a response that was sent
+
+module _ {S : Type 0} (g : Ghosts S) (setting : Setting) (bytes next : List ℕ) (world : World) (old new : Store S) (was is : Option (List ℕ)) where
+  -- what begins the bytes, after which the connection closes or goes on
+  closed_at : (e : Exchange) (close : Bool) → close ≡ true → MatchBool close ((rest : List ℕ) × BeginsWith bytes e.asked rest) (IsFirst bytes e next) → (rest : List ℕ) × BeginsWith bytes e.asked rest
+  closed_at e close shut begins = rw shut at begins
+
+  open_at : (e : Exchange) (close : Bool) → close ≡ false → MatchBool close ((rest : List ℕ) × BeginsWith bytes e.asked rest) (IsFirst bytes e next) → IsFirst bytes e next
+  open_at e close stays begins = rw stays at begins
+
+  begun_at : (e : Exchange) (close : Bool) → MatchBool close ((rest : List ℕ) × BeginsWith bytes e.asked rest) (IsFirst bytes e next) → (rest : List ℕ) × BeginsWith bytes e.asked rest
+  begun_at e true begins = begins
+  begun_at e false first = (next ++ [], begins_now bytes next e first)
+
+  pub sent : (r : Response) (end : Option End) → IsResponse g setting bytes next world old new r → IsSent was is (sent_text r.reply r.allow.now r.close) r.close end
+      → EndsTurn g setting bytes next world old new was is end
+  sent r None a s =
+      (a.e, a.kept, a.turn, open_at a.e r.close s.0 a.begins, a.some, a.closes ∙ s.0, subst (λ (t : List ℕ). Appends was is t) a.text s.1)
+  sent r (Some Closed) a s =
+      (a.e, a.kept, a.turn, closed_at a.e r.close s.0 a.begins, a.some, a.closes ∙ s.0, subst (λ (t : List ℕ). Appends was is t) a.text s.1)
+  sent r (Some WriteFailed) a s =
+      (a.e, a.kept, a.turn, begun_at a.e r.close a.begins, (s.0, subst (λ (t : List ℕ). IsBeginning was is t s.0) a.text s.1))
+  sent r (Some InputEnded) a s = absurd s
+  sent r (Some ReadFailed) a s = absurd s
+
+  -- a message that is not whole is not answered
+  pub unanswered : (how : End) → IsEarly how → is ≡ was → IsIncomplete g setting bytes world old new → EndsTurn g setting bytes next world old new was is (Some how)
+  unanswered InputEnded early same left = (left, same)
+  unanswered ReadFailed early same left = (left, same)
+  unanswered Closed early same left = absurd early
+  unanswered WriteFailed early same left = absurd early

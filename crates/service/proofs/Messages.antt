@@ -1,8 +1,8 @@
--- The message at the front of a stream.
-use Rattle.std.proofs.Common.{inl, append-nil, ◌≡◌, ◌∙◌, ◌+◌, ◌<◌, ◌≤◌, ℕ, suc, Bool, true, false, ◌||◌, nat_le, List, [], ◌∷◌, length, take, drop, codes, Some, Result, Ok, Err, refl, sym, ap, ap₂, arith, cond, length-append, length-take, length-drop, drop-drop, is_err, option_map, lit<}
+-- A head, and the message that it begins.
+use Rattle.std.proofs.Common.{inl, inr, append-nil, ◌≡◌, ◌∙◌, ◌+◌, ◌<◌, ◌≤◌, ℕ, suc, Bool, true, false, ◌||◌, nat_le, List, [], ◌∷◌, ◌++◌, append_assoc, length, take, drop, codes, Some, Result, Ok, Err, refl, sym, ap, ap₂, subst, arith, cond, length-append, length-take, length-drop, drop-drop, is_err, option_map, lit<, lit≤}
 use Rattle.std.proofs.lemmas.Bool.{true≢false}
 use Rattle.std.proofs.lemmas.Bool.Decides.{nat_tests}
-use Rattle.std.proofs.lemmas.List.{drop_all}
+use Rattle.std.proofs.lemmas.List.{drop_all, drop_at, take_at}
 use Rattle.std.proofs.lemmas.Result.{IfErr-at_err}
 use Rattle.std.specs.Bool.{⊤}
 use Rattle.httparse.specs.Grammar.{RequestHead, print_request, ReadsRequest, MayBecomeRequest}
@@ -14,16 +14,20 @@ use Rattle.model.specs.Reading.{◌>>=◌, check}
 use Rattle.model.specs.Orders.{first}
 use Rattle.model.specs.Heads.{Target, head_verdict, form_of_served, check_framing, body_length, values, at_most, asks_close, content_length, is_measured, is_clear, is_small}
 use Rattle.model.specs.Answers.{Denial, Plan}
-use Rattle.model.specs.Verdict.{early_check, desk_plan, desk_request}
-use Rattle.model.specs.Steps.{message, is_of_head}
-use Rattle.model.specs.Stream.{BeginsWithHead, BeginsWith, with_message, with_bad_head, message_with, IsUnfinished}
+use Rattle.model.specs.World.{World}
+use Rattle.model.specs.Cases.{Setting}
+use Rattle.model.specs.Verdict.{early_check, early_verdict, desk_plan, desk_request}
+use Rattle.model.specs.Steps.{Message, message, bad_head, is_of_head}
+use Rattle.model.specs.Stream.{BeginsWithHead, BeginsWith, with_message, with_bad_head, message_with, IsUnfinished, BeginsBadly}
 use Rattle.model.proofs.Refusals.{IsHeadRule, head_fails, verdict_refused, early_at}
 use Rattle.model.proofs.Streamed.{first_is_first}
 use Rattle.model.proofs.Tests.{both_true}
+use Rattle.wire.proofs.Streams.{head_more}
 use Rattle.tokens.specs.Bearers.{single_value}
-use Rattle.service.proofs.Judged.{not_framed}
+use Rattle.wire.specs.Connections.{Refuses}
+use Rattle.service.proofs.Judged.{not_framed, framing_rule, refused}
 use Rattle.service.specs.Judging.{Asks, IsDenied, target_seen}
-use Rattle.service.specs.Messages.{IsRefused, IsWhole, IsCutOff}
+use Rattle.service.specs.Messages.{IsRefused, IsWhole, whole_message}
 use Rattle.service.specs.declared.judging.Denied as judging
 use Rattle.service.specs.declared.judging.Target as code
 use Rattle.service.specs.declared.message.Message as whole
@@ -62,6 +66,24 @@ head_refused bytes after h d b is =
       short = is.short;
     }
 
+-- bytes that do not begin with a head
+bad_refused : (bytes : List ℕ) (d : judging.Denied) → d.rule ≡ rule.H1 → d.allow.now ≡ [] → BeginsBadly bytes → IsRefused bytes bad_head d
+bad_refused bytes d is none bad = record {
+  next = [];
+  begins = with_bad_head bad refl refl;
+  closes = refl;
+  verdict = λ world setting. rw is refl;
+  of_head = rw is refl;
+  methods = none;
+  short = rw none (lit≤ tt);
+}
+
+-- bytes that H1 to H5 refuse
+pub stop_refused : (bytes : List ℕ) (r : Rule) (d : judging.Denied) → d.rule ≡ r → d.allow.now ≡ [] → Refuses bytes r → (asked : Message) × IsRefused bytes asked d
+stop_refused bytes r d same none (inl (is, bad)) = (bad_head, bad_refused bytes d (same ∙ is) none bad)
+stop_refused bytes r d same none (inr (h, rest, begins, check)) =
+    (message h [] true, head_refused bytes rest h d begins (refused h d r same none (not_framed h r check) (framing_rule h r check)))
+
 -- ---- what the fields of a head that is not refused say
 
 check_passed : {B : Type 0} (test : Bool) (e : Rule) (f : ⊤ → Result B Rule) (x : B) → (check test e >>= f) ≡ Ok x → (test ≡ true) × (f tt ≡ Ok x)
@@ -96,15 +118,13 @@ the_first (v ∷ w ∷ vs) is = absurd (true≢false (sym is ∙ two (length vs)
 
 -- ---- a message
 
+-- no bytes are as short as their rest
 shorter : (bytes : List ℕ) (head : RequestHead) (rest : List ℕ) → ReadsRequest bytes head rest → length rest < length bytes
 unfolding print_request
 shorter bytes head rest r = omega (arith, simp length-append at (ap length r.1))
 
-some_len : (bytes : List ℕ) (len : ℕ) → length (drop len bytes) < length bytes → 0 < len
-some_len bytes len less = omega (arith, length-drop len bytes, less)
-
 -- the body has as many bytes as the target says
-body_is : (h : RequestHead) (t : code.Target) → Asks h t → body_length h ≡ t.size
+pub body_is : (h : RequestHead) (t : code.Target) → Asks h t → body_length h ≡ t.size
 body_is h t is = ap (λ (v : Result Target Rule). cond (is_err v) 0 (content_length h)) is.target ∙ sym is.size
 
 le_true : (n m : ℕ) → n ≤ m → nat_le n m ≡ true
@@ -113,27 +133,38 @@ le_true n m h = grind (arith, nat_tests)
 le_false : (n m : ℕ) → m < n → nat_le n m ≡ false
 le_false n m h = grind (arith, nat_tests)
 
--- a complete message, and the facts about its bytes
-pub is_whole : (bytes : List ℕ) (len : ℕ) (h : RequestHead) (m : whole.Message) → BeginsWithHead bytes h (drop len bytes) → len ≤ length bytes → Asks h m.target
-    → m.body.now ≡ take m.target.size (drop len bytes) → m.target.size ≤ length (drop len bytes) → m.len ≡ len + length m.body.now
-    → option_map (λ v. v.now) m.authorization ≡ first (values (codes "authorization") h) → m.is_last ≡ asks_close h → IsWhole bytes h m
-is_whole bytes len h m b within is body fits total bearer last =
-    let after = drop len bytes in
-    let wanted : body_length h ≡ m.target.size = body_is h m.target is in
-    let size : length m.body.now ≡ m.target.size = omega (arith, ap length body, length-take m.target.size after, fits) in
-    let rest : drop m.len bytes ≡ drop m.target.size after = ap (λ n. drop n bytes) (total ∙ ap (λ n. len + n) size) ∙ sym (drop-drop m.target.size len bytes) in
-    let all : nat_le (body_length h) (length after) ≡ true = ap (λ n. nat_le n (length after)) wanted ∙ le_true m.target.size (length after) fits in
-    let asked : message h m.body.now true ≡ message_with h after =
-    ap₂ (λ (l : List ℕ) (v : Bool). message h l v) (body ∙ ap (λ n. take n after) (sym wanted)) (sym all) in
-    record {
-      begins = with_message h after b asked (rest ∙ ap (λ n. drop n after) (sym wanted));
-      asks = is;
-      bearers = the_first (values (codes "authorization") h) (one_authorization h (framed_if_judged h (target_seen m.target) is.target)) ∙ ap single_value (sym bearer);
-      size = size;
-      last = sym last;
-      some = omega (arith, total, some_len bytes len (shorter bytes h after b.reads.reads));
-      within = omega (arith, total, size, fits, length-drop len bytes, within);
-    }
+-- a head that is judged, with a body of its length
+pub is_whole : (h : RequestHead) (body : List ℕ) (m : whole.Message) → Asks h m.target → m.body.now ≡ body → length body ≡ content_length h
+    → option_map (λ v. v.now) m.authorization ≡ first (values (codes "authorization") h) → m.is_last ≡ asks_close h → IsWhole h body m
+is_whole h body m is same size bearer last = record {
+  asks = is;
+  bearers = the_first (values (codes "authorization") h) (one_authorization h (framed_if_judged h (target_seen m.target) is.target)) ∙ ap single_value (sym bearer);
+  same_body = same;
+  size = ap length same ∙ size ∙ sym is.size;
+  last = sym last;
+}
+
+-- a head at the front of some bytes, and what was read after it
+module _ (bytes after read : List ℕ) (h : RequestHead) (b : BeginsWithHead bytes h after) where
+  -- the head is at the front of all of them
+  head_there : (more : List ℕ) → BeginsWithHead ((bytes ++ read) ++ more) h ((after ++ read) ++ more)
+  head_there more = head_more (bytes ++ read) h (after ++ read) more (head_more bytes h after read b)
+
+  -- a body of the head's length is there, and other bytes follow it
+  pub whole_first : (body next more : List ℕ) → after ++ read ≡ body ++ next → length body ≡ body_length h
+      → BeginsWith ((bytes ++ read) ++ more) (whole_message h body) (next ++ more)
+  whole_first body next more e size =
+      let tail : (after ++ read) ++ more ≡ body ++ (next ++ more) = ap (λ (l : List ℕ). l ++ more) e ∙ append_assoc body next more in
+      let here = subst (λ (l : List ℕ). BeginsWithHead ((bytes ++ read) ++ more) h l) tail (head_there more) in
+      let fits : nat_le (body_length h) (length (body ++ (next ++ more))) ≡ true =
+      le_true (body_length h) (length (body ++ (next ++ more))) (omega (arith, size, length-append body (next ++ more))) in
+      with_message h (body ++ (next ++ more)) here
+      (ap₂ (λ (l : List ℕ) (v : Bool). message h l v) (sym (take_at body (next ++ more) (body_length h) size)) (sym fits))
+      (sym (drop_at body (next ++ more) (body_length h) size))
+
+  -- the message of the head, however much of its body is there
+  pub message_there : BeginsWith (bytes ++ read) (message_with h (after ++ read)) (drop (body_length h) (after ++ read))
+  message_there = with_message h (after ++ read) (head_more bytes h after read b) refl refl
 
 -- ---- a message that is cut off
 
@@ -144,17 +175,18 @@ passes_early served.List plan = refl
 passes_early served.VerifyLocks plan = refl
 passes_early served.Unlock plan = refl
 
--- a complete head with an incomplete body
-pub is_cut_off : (bytes after : List ℕ) (h : RequestHead) (t : code.Target) → BeginsWithHead bytes h after → Asks h t → length after < t.size → IsCutOff bytes h
-is_cut_off bytes after h t b is less =
-    let wanted : body_length h ≡ t.size = body_is h t is in
-    let all : nat_le (body_length h) (length after) ≡ false = ap (λ n. nat_le n (length after)) wanted ∙ le_false t.size (length after) less in
-    record {
-      body = take (body_length h) after;
-      begins = with_message h after b (ap (λ (v : Bool). message h (take (body_length h) after) v) (sym all))
-          (sym (drop_all (body_length h) after (omega (arith, wanted, less))));
-      passes = λ world setting. early_at world setting h (target_seen t) is.target ∙ passes_early t.form (desk_plan world setting (desk_request h (target_seen t) []));
-    }
+-- nothing denies such a head before its body
+pub no_early_denial : (world : World) (setting : Setting) (h : RequestHead) (t : code.Target) → Asks h t → early_verdict world setting h ≡ Ok tt
+no_early_denial world setting h t is =
+    early_at world setting h (target_seen t) is.target ∙ passes_early t.form (desk_plan world setting (desk_request h (target_seen t) []))
+
+-- a head with less than its body
+pub cut_message : (bytes after : List ℕ) (h : RequestHead) → BeginsWithHead bytes h after → length after < body_length h
+    → BeginsWith bytes (message h (take (body_length h) after) false) []
+cut_message bytes after h b less =
+    with_message h after b
+    (ap (λ (v : Bool). message h (take (body_length h) after) v) (sym (le_false (body_length h) (length after) less)))
+    (sym (drop_all (body_length h) after (omega (arith, less))))
 
 -- no bytes are left after it, and no bytes are less than a head
 pub none_unfinished : IsUnfinished []
@@ -168,6 +200,3 @@ may_become bytes head body whole rest (with_bad_head bad is after) = absurd (cc)
 
 pub none_may_become : MayBecomeRequest []
 none_may_become = may_become _ _ _ _ _ (first_is_first [])
-
-pub fits_front : (bytes : List ℕ) (len n : ℕ) → len ≤ length (take n bytes) → len ≤ length bytes
-fits_front bytes len n h = omega (arith, length-take n bytes)

@@ -1,32 +1,32 @@
 -- A connection, message by message.
-use Rattle.std.proofs.Common.{◌≡◌, ◌∙◌, ◌+◌, ◌<◌, ℕ, suc, Bool, true, false, List, [], ◌∷◌, ◌++◌, length, take, drop, get_or, map, Option, Some, None, is_some, refl, sym, ap, subst, append-nil, add-zero}
+use Rattle.std.proofs.Common.{◌≡◌, ◌∙◌, ◌+◌, ◌<◌, ℕ, suc, true, List, [], ◌∷◌, ◌++◌, length, take, drop, get_or, map, Option, Some, None, is_some, refl, sym, ap, subst, append-nil, append_assoc, add-zero}
 use Rattle.std.proofs.Math.Seq.{drop-cons}
 use Rattle.std.proofs.lemmas.List.{take-append-drop, map-append}
-use Rattle.std.specs.Io.KnownBytes.{Appends}
+use Rattle.std.specs.Io.KnownBytes.{Appends, Consumes}
 use Rattle.sqlite_trees.specs.declared.store.Store.{Ghosts}
 use Rattle.model.specs.World.{World}
 use Rattle.model.specs.Cases.{Setting}
 use Rattle.model.specs.Steps.{Exchange, Event, exchanged, Run, closes_if}
-use Rattle.model.specs.Progress.{IsProgress, with_exchange}
+use Rattle.model.specs.Stream.{BeginsWith, IsUnfinished}
+use Rattle.model.specs.Progress.{IsProgress, fresh, with_exchange}
 use Rattle.model.specs.Views.{SameViews}
-use Rattle.model.specs.Bounds.{Bound, bound_after, bound_of_run}
+use Rattle.model.specs.Bounds.{bound_of_run}
 use Rattle.model.specs.Laws.{NoneAsks}
 use Rattle.model.specs.Sessions as model
 use Rattle.model.specs.Sessions.{Session, IsSession, IsPartOf, text_of, text_if, reply_count}
-use Rattle.model.proofs.Progress.{run_append, begun, IsNextExchange, goes_on, ends_unfinished, ends_closed, breaks_off}
+use Rattle.model.proofs.Progress.{run_append, begun, IsNextExchange, goes_on, ends_unfinished, ends_unread, ends_closed, breaks_off}
 use Rattle.model.proofs.Apart.{sessions_leave_views}
-use Rattle.model.proofs.Left.{bound_one}
 use Rattle.wire.proofs.Appended.{appends_both}
 use Rattle.tables.specs.declared.Store.{Store}
 use Rattle.refinement.specs.Representation.{Holds}
-use Rattle.refinement.specs.Left.{IsBoundedBy, Leads}
-use Rattle.refinement.proofs.Leading.{leads_none}
-use Rattle.service.specs.Turns.{IsTurn, Takes}
-use Rattle.service.specs.Served.{IsServing, IsServed, IsRefusal, IsUnserved, IsEndedBy, HasNoBadHead, end_seen, end_by}
-use Rattle.service.specs.declared.session.End.{End}
-use Rattle.service.specs.declared.session.Served.{Served}
-use Rattle.service.specs.declared.session.End.TheVariants as end
-use Rattle.service.specs.declared.turn.Turn.TheVariants.{Unfinished, CutOff, Answered, Closed, WriteFailed}
+use Rattle.refinement.specs.Left.{Leads}
+use Rattle.refinement.proofs.Leading.{leads_none, run_takes}
+use Rattle.service.specs.Responding.{IsEarly}
+use Rattle.service.specs.Turns.{IsTurn, IsIncomplete, less_than_head, less_than_body, EndsTurn}
+use Rattle.service.specs.Served.{IsServing, IsServed, IsRefusal, IsUnserved, IsLeftOpen, HasNoBadHead, closing, end_seen}
+use Rattle.service.specs.declared.ends.End.{End}
+use Rattle.service.specs.declared.ends.Served.{Served}
+use Rattle.service.specs.declared.ends.End.TheVariants as end
 use Rattle.service.proofs.Messages.{none_unfinished, none_may_become}
 
 appends_none : (was : Option (List ℕ)) → Appends was was []
@@ -52,26 +52,63 @@ no_reply e none = rw none refl
 no_text : (e : Exchange) → e.given ≡ None → text_of e ≡ []
 no_text e none = ap (text_if e.asked) none
 
-module _ {S : Type 0} (g : Ghosts S) (setting : Setting) (bytes : List ℕ) (world : World) (was : Option (List ℕ)) where
-  pub begins : (store : Store S) → Holds g store world → IsServing g setting bytes bytes world store store was was 0
-  begins store holds = record {
+-- ---- bytes that were read
+
+-- bytes that were read before others
+grouped : (first read more : List ℕ) → first ++ (read ++ more) ≡ (first ++ read) ++ more
+grouped first read more = sym (append_assoc first read more)
+
+-- bytes read in two parts
+pub consumes_both : (a b c : Option (List ℕ)) (first next : List ℕ) → Consumes a b first → Consumes b c next → Consumes a c (first ++ next)
+consumes_both None b c first next p q = tt
+consumes_both (Some xs) None c first next p q = absurd p
+consumes_both (Some xs) (Some ys) None first next p q = absurd q
+consumes_both (Some xs) (Some ys) (Some zs) first next p q = p ∙ ap (λ l. first ++ l) q ∙ grouped first next zs
+
+pub consumes_none : (a : Option (List ℕ)) → Consumes a a []
+consumes_none None = tt
+consumes_none (Some xs) = refl
+
+-- ---- ends without a reply
+
+ends_by : (s : Session) (rest : List ℕ) (old new : World) (e : End) → IsEarly e → IsProgress s rest old new → IsUnfinished rest → IsSession s (end_seen e) old new
+ends_by s rest old new end.InputEnded early p less = ends_unfinished s rest old new p less
+ends_by s rest old new end.ReadFailed early p less = ends_unread s rest old new p less
+ends_by s rest old new end.Closed early p less = absurd early
+ends_by s rest old new end.WriteFailed early p less = absurd early
+
+open_by : (bytes : List ℕ) (exchanges : List Exchange) (e : End) → IsEarly e → IsLeftOpen bytes exchanges → HasNoBadHead bytes exchanges e
+open_by bytes exchanges end.InputEnded early is = is
+open_by bytes exchanges end.ReadFailed early is = is
+open_by bytes exchanges end.Closed early is = absurd early
+open_by bytes exchanges end.WriteFailed early is = absurd early
+
+-- ---- a session so far, and one more turn
+
+module _ {S : Type 0} (g : Ghosts S) (setting : Setting) (world : World) (was : Option (List ℕ)) where
+  pub begins : (waits : List ℕ) (store : Store S) → waits ≡ [] → Holds g store world → IsServing g setting [] waits world store store was was 0
+  begins waits store none holds = record {
     exchanges = [];
     written = [];
     kept = world;
-    progress = begun setting bytes world;
+    progress = λ more. subst (λ (w : List ℕ). IsProgress (fresh setting more) (w ++ more) world world) (sym none) (begun setting more world);
     taken = appends_none was;
     leads = leads_none g store world holds;
   }
 
-  -- the session so far
-  abbrev so_far : List Exchange → List ℕ → ℕ → Session
-  so_far exchanges written answered =
-      record { setting = setting; bytes = bytes; exchanges = exchanges; written = written; answered = answered }
+  module _ (bytes waits read next : List ℕ) (old mid new : Store S) (is more_is : Option (List ℕ)) (answered : ℕ) (s : IsServing g setting bytes waits world old mid was is answered) where
+    -- the session so far, if it has read these bytes
+    abbrev so_far : List ℕ → List Exchange → List ℕ → ℕ → Session
+    so_far all exchanges written answered =
+        record { setting = setting; bytes = all; exchanges = exchanges; written = written; answered = answered }
 
-  module _ (rest : List ℕ) (old mid new : Store S) (is more : Option (List ℕ)) (answered : ℕ) (s : IsServing g setting bytes rest world old mid was is answered) where
-    next_exchange : (next : List ℕ) (e : Exchange) (kept : World) → IsTurn g setting rest s.kept mid new e next kept
-        → IsNextExchange (so_far s.exchanges s.written answered) rest next e s.kept kept
-    next_exchange next e kept turn = record { begins = turn.begins; under = turn.under; step = turn.step }
+    -- the session so far, after the bytes of one more read
+    now : IsProgress (so_far (bytes ++ read) s.exchanges s.written answered) (waits ++ read) world s.kept
+    now = s.progress read
+
+    next_exchange : (rest after : List ℕ) (e : Exchange) (kept : World) → BeginsWith rest e.asked after → IsTurn g setting s.kept mid new e kept
+        → (all : List ℕ) → IsNextExchange (so_far all s.exchanges s.written answered) rest after e s.kept kept
+    next_exchange rest after e kept begins turn all = record { begins = begins; under = turn.under; step = turn.takes.step }
 
     leads_on : (exchanges : List Exchange) (kept : World) → Run world (map exchanged exchanges) kept
         → (start : World) (before : List Event) → Run start before world → Run start (before ++ map exchanged exchanges) kept
@@ -82,98 +119,113 @@ module _ {S : Type 0} (g : Ghosts S) (setting : Setting) (bytes : List ℕ) (wor
     apart_by exchanges kept run repo none = sessions_leave_views world exchanges kept repo run none
 
     -- the worlds that a stop leaves after one more message
-    leads_one : (e : Exchange) (kept : World) → Leads g mid new kept (bound_after s.kept (exchanged e))
+    leads_one : (e : Exchange) (kept : World) → IsTurn g setting s.kept mid new e kept
         → Leads g old new kept (bound_of_run world (map exchanged (s.exchanges ++ e ∷ [])))
-    leads_one e kept p =
-        let events = map exchanged s.exchanges in
-        let both : (bound : Bound) → bound_after s.kept (exchanged e) (bound_of_run world events bound) ≡ bound_of_run world (map exchanged (s.exchanges ++ e ∷ [])) bound =
-        λ bound. sym (ap (λ es. bound_of_run world es bound) (map-append exchanged s.exchanges (e ∷ [])) ∙ bound_one world events s.kept (exchanged e) bound s.progress.run) in
-        record {
-          holds = p.holds;
-          left = λ bound was. subst (λ (b : Bound). IsBoundedBy g new b) (both bound) (p.left (bound_of_run world events bound) (s.leads.left bound was));
-        }
+    leads_one e kept turn =
+        subst (λ (events : List Event). Leads g old new kept (bound_of_run world events)) (sym (map-append exchanged s.exchanges (e ∷ [])))
+        (run_takes g old mid new world s.kept kept (map exchanged s.exchanges) (exchanged e) now.run s.leads turn.takes)
 
     -- one more message
-    pub answers : (n : ℕ) → Takes g setting rest s.kept mid new is more (Answered n) → IsServing g setting bytes (drop n rest) world old new was more (answered + 1)
-    answers n (e, kept, turn, some, stays, sent) = record {
+    pub answers : EndsTurn g setting (waits ++ read) next s.kept mid new is more_is None → IsServing g setting (bytes ++ read) next world old new was more_is (answered + 1)
+    answers (e, kept, turn, first, some, stays, sent) = record {
       exchanges = s.exchanges ++ e ∷ [];
       written = s.written ++ text_of e;
       kept = kept;
-      progress = subst (λ (k : ℕ). IsProgress (so_far (s.exchanges ++ e ∷ []) (s.written ++ text_of e) (answered + k)) (drop n rest) world kept) (one_reply e some)
-          (goes_on (so_far s.exchanges s.written answered) rest (drop n rest) world s.kept kept e s.progress (next_exchange (drop n rest) e kept turn) stays);
-      taken = appends_both was is more s.written (text_of e) s.taken sent;
-      leads = leads_one e kept turn.leads;
+      progress = λ more.
+          let before : IsProgress (so_far ((bytes ++ read) ++ more) s.exchanges s.written answered) ((waits ++ read) ++ more) world s.kept =
+          subst (λ (all : List ℕ). IsProgress (so_far all s.exchanges s.written answered) ((waits ++ read) ++ more) world s.kept) (grouped bytes read more)
+          (subst (λ (rest : List ℕ). IsProgress (so_far (bytes ++ (read ++ more)) s.exchanges s.written answered) rest world s.kept) (grouped waits read more) (s.progress (read ++ more))) in
+          subst (λ (k : ℕ). IsProgress (so_far ((bytes ++ read) ++ more) (s.exchanges ++ e ∷ []) (s.written ++ text_of e) (answered + k)) (next ++ more) world kept) (one_reply e some)
+          (goes_on (so_far ((bytes ++ read) ++ more) s.exchanges s.written answered) ((waits ++ read) ++ more) (next ++ more) world s.kept kept e before
+          (next_exchange ((waits ++ read) ++ more) (next ++ more) e kept (first more) turn ((bytes ++ read) ++ more)) stays);
+      taken = appends_both was is more_is s.written (text_of e) s.taken sent;
+      leads = leads_one e kept turn;
     }
 
-    -- the input ends
-    pub ends : Takes g setting rest s.kept mid new is more Unfinished → IsServed g setting bytes world old new was more (record { answered = answered; end = end.InputEnded })
-    ends (less, may, still, same) = record {
+    -- the input ends or fails, with no complete message left
+    ends_early : (how : End) → IsEarly how → IsIncomplete g setting (waits ++ read) s.kept mid new → more_is ≡ is
+        → IsServed g setting (bytes ++ read) world old new was more_is (record { answered = answered; end = how })
+    ends_early how early (less_than_head less may still) same = record {
       exchanges = s.exchanges;
       written = s.written;
       kept = s.kept;
-      session = ends_unfinished (so_far s.exchanges s.written answered) rest world s.kept s.progress less;
-      bad_head = (rest, s.progress.leads, may);
+      session = ends_by (so_far (bytes ++ read) s.exchanges s.written answered) (waits ++ read) world s.kept how early now less;
+      bad_head = open_by (bytes ++ read) s.exchanges how early (waits ++ read, now.leads, may);
       taken = subst (λ (o : Option (List ℕ)). Appends was o s.written) (sym same) s.taken;
       leads = record { holds = still.holds; left = λ bound was. still.left (bound_of_run world (map exchanged s.exchanges) bound) (s.leads.left bound was) };
-      run = leads_on s.exchanges s.kept s.progress.run;
-      apart = apart_by s.exchanges s.kept s.progress.run;
+      run = leads_on s.exchanges s.kept now.run;
+      apart = apart_by s.exchanges s.kept now.run;
     }
-
-    -- the input ends within a message, which gets no reply
-    pub cuts_off : Takes g setting rest s.kept mid new is more CutOff → IsServed g setting bytes world old new was more (record { answered = answered; end = end.InputEnded })
-    cuts_off (e, kept, turn, none, same) =
+    ends_early how early (less_than_body e kept turn begins none) same =
+        let all = bytes ++ read in
         let stays = ap (closes_if e.asked) none in
-        let progress = goes_on (so_far s.exchanges s.written answered) rest [] world s.kept kept e s.progress (next_exchange [] e kept turn) stays in
+        let progress = goes_on (so_far all s.exchanges s.written answered) (waits ++ read) [] world s.kept kept e now (next_exchange (waits ++ read) [] e kept begins turn all) stays in
         let counted : answered + reply_count (e ∷ []) ≡ answered = ap (λ k. answered + k) (no_reply e none) ∙ add-zero answered in
         let said : s.written ++ text_of e ≡ s.written = ap (λ (t : List ℕ). s.written ++ t) (no_text e none) ∙ append-nil s.written in
-        let session = ends_unfinished (with_exchange e (so_far s.exchanges s.written answered)) [] world kept progress none_unfinished in
+        let session = ends_by (with_exchange e (so_far all s.exchanges s.written answered)) [] world kept how early progress none_unfinished in
         record {
           exchanges = s.exchanges ++ e ∷ [];
           written = s.written;
           kept = kept;
-          session = subst (λ (k : ℕ). IsSession (so_far (s.exchanges ++ e ∷ []) s.written k) model.InputEnded world kept) counted
-              (subst (λ (t : List ℕ). IsSession (so_far (s.exchanges ++ e ∷ []) t (answered + reply_count (e ∷ []))) model.InputEnded world kept) said session);
-          bad_head = ([], progress.leads, none_may_become);
+          session = subst (λ (k : ℕ). IsSession (so_far all (s.exchanges ++ e ∷ []) s.written k) (end_seen how) world kept) counted
+              (subst (λ (t : List ℕ). IsSession (so_far all (s.exchanges ++ e ∷ []) t (answered + reply_count (e ∷ []))) (end_seen how) world kept) said session);
+          bad_head = open_by all (s.exchanges ++ e ∷ []) how early ([], progress.leads, none_may_become);
           taken = subst (λ (o : Option (List ℕ)). Appends was o s.written) (sym same) s.taken;
-          leads = leads_one e kept turn.leads;
-          run = leads_on (s.exchanges ++ e ∷ []) kept session.run;
-          apart = apart_by (s.exchanges ++ e ∷ []) kept session.run;
+          leads = leads_one e kept turn;
+          run = leads_on (s.exchanges ++ e ∷ []) kept progress.run;
+          apart = apart_by (s.exchanges ++ e ∷ []) kept progress.run;
         }
 
     -- the server closes the connection
-    pub shuts : Takes g setting rest s.kept mid new is more Closed → IsServed g setting bytes world old new was more (record { answered = answered + 1; end = end.Closed })
-    shuts (e, next, kept, turn, some, shut, sent) =
-        let session = ends_closed (so_far s.exchanges s.written answered) rest next world s.kept kept e s.progress (next_exchange next e kept turn) shut in
+    shuts : EndsTurn g setting (waits ++ read) next s.kept mid new is more_is (Some end.Closed)
+        → IsServed g setting (bytes ++ read) world old new was more_is (record { answered = answered + 1; end = end.Closed })
+    shuts (e, kept, turn, (rest, begins), some, shut, sent) =
+        let all = bytes ++ read in
+        let session = ends_closed (so_far all s.exchanges s.written answered) (waits ++ read) rest world s.kept kept e now (next_exchange (waits ++ read) rest e kept begins turn all) shut in
         record {
           exchanges = s.exchanges ++ e ∷ [];
           written = s.written ++ text_of e;
           kept = kept;
-          session = subst (λ (k : ℕ). IsSession (so_far (s.exchanges ++ e ∷ []) (s.written ++ text_of e) (answered + k)) model.Closed world kept) (one_reply e some) session;
+          session = subst (λ (k : ℕ). IsSession (so_far all (s.exchanges ++ e ∷ []) (s.written ++ text_of e) (answered + k)) model.Closed world kept) (one_reply e some) session;
           bad_head = tt;
-          taken = appends_both was is more s.written (text_of e) s.taken sent;
-          leads = leads_one e kept turn.leads;
+          taken = appends_both was is more_is s.written (text_of e) s.taken sent;
+          leads = leads_one e kept turn;
           run = leads_on (s.exchanges ++ e ∷ []) kept session.run;
           apart = apart_by (s.exchanges ++ e ∷ []) kept session.run;
         }
 
     -- a write fails
-    pub breaks : Takes g setting rest s.kept mid new is more WriteFailed → IsServed g setting bytes world old new was more (record { answered = answered; end = end.WriteFailed })
-    breaks (e, next, kept, turn, (n, began)) =
+    breaks : EndsTurn g setting (waits ++ read) next s.kept mid new is more_is (Some end.WriteFailed)
+        → IsServed g setting (bytes ++ read) world old new was more_is (record { answered = answered; end = end.WriteFailed })
+    breaks (e, kept, turn, (rest, begins), (n, began)) =
+        let all = bytes ++ read in
         let part = take n (text_of e) in
-        let session = breaks_off (so_far s.exchanges s.written answered) rest next world s.kept kept e part s.progress (next_exchange next e kept turn) (is_part (text_of e) n began.less) in
+        let session = breaks_off (so_far all s.exchanges s.written answered) (waits ++ read) rest world s.kept kept e part now (next_exchange (waits ++ read) rest e kept begins turn all) (is_part (text_of e) n began.less) in
         record {
           exchanges = s.exchanges ++ e ∷ [];
           written = s.written ++ part;
           kept = kept;
           session = session;
           bad_head = tt;
-          taken = appends_both was is more s.written part s.taken began.taken;
-          leads = leads_one e kept turn.leads;
+          taken = appends_both was is more_is s.written part s.taken began.taken;
+          leads = leads_one e kept turn;
           run = leads_on (s.exchanges ++ e ∷ []) kept session.run;
           apart = apart_by (s.exchanges ++ e ∷ []) kept session.run;
         }
 
--- there was no memory to read the input
+    none_more : (how : End) → IsServed g setting (bytes ++ read) world old new was more_is (record { answered = answered; end = how })
+        → IsServed g setting (bytes ++ read) world old new was more_is (record { answered = answered + 0; end = how })
+    none_more how is = subst (λ (k : ℕ). IsServed g setting (bytes ++ read) world old new was more_is (record { answered = k; end = how })) (sym (add-zero answered)) is
+
+    -- the connection ends, with one more reply if the server closes it
+    pub ends : (how : End) → EndsTurn g setting (waits ++ read) next s.kept mid new is more_is (Some how)
+        → IsServed g setting (bytes ++ read) world old new was more_is (record { answered = answered + closing how; end = how })
+    ends end.InputEnded (left, same) = none_more end.InputEnded (ends_early end.InputEnded tt left same)
+    ends end.ReadFailed (left, same) = none_more end.ReadFailed (ends_early end.ReadFailed tt left same)
+    ends end.Closed turn = shuts turn
+    ends end.WriteFailed turn = none_more end.WriteFailed (breaks turn)
+
+-- there was no memory for the connection
 pub unserved : {S : Type 0} (g : Ghosts S) (setting : Setting) (world : World) (store : Store S) (was is : Option (List ℕ)) (served : Served) → IsRefusal was is served → Holds g store world
     → IsUnserved g setting world store store was is served
 unserved g setting world store was is served r holds = record {
@@ -182,42 +234,3 @@ unserved g setting world store was is served r holds = record {
   taken = r.taken;
   leads = leads_none g store world holds;
 }
-
--- ---- a read that failed after the bytes
-
-ends_by : (s : Session) (old new : World) (failed : Bool) (e : End) → IsSession s (end_seen e) old new → IsSession s (end_seen (end_by failed e)) old new
-ends_by s old new true end.InputEnded ended = record { ends = ended.ends; under = ended.under; run = ended.run }
-ends_by s old new true end.Closed ended = ended
-ends_by s old new true end.ReadFailed ended = ended
-ends_by s old new true end.WriteFailed ended = ended
-ends_by s old new false end.InputEnded ended = ended
-ends_by s old new false end.Closed ended = ended
-ends_by s old new false end.ReadFailed ended = ended
-ends_by s old new false end.WriteFailed ended = ended
-
-open_by : (bytes : List ℕ) (exchanges : List Exchange) (failed : Bool) (e : End) → HasNoBadHead bytes exchanges e → HasNoBadHead bytes exchanges (end_by failed e)
-open_by bytes exchanges true end.InputEnded is = is
-open_by bytes exchanges true end.Closed is = is
-open_by bytes exchanges true end.ReadFailed is = is
-open_by bytes exchanges true end.WriteFailed is = is
-open_by bytes exchanges false end.InputEnded is = is
-open_by bytes exchanges false end.Closed is = is
-open_by bytes exchanges false end.ReadFailed is = is
-open_by bytes exchanges false end.WriteFailed is = is
-
-module _ {S : Type 0} (g : Ghosts S) (setting : Setting) (bytes : List ℕ) (world : World) (old new : Store S) (was is : Option (List ℕ)) where
-  pub served_by : (served : Served) (failed : Bool) (last_served : Served) → IsEndedBy served failed last_served → IsServed g setting bytes world old new was is served → IsServed g setting bytes world old new was is last_served
-  served_by served failed last_served by s =
-      let with_count : ℕ → Session = λ n. record { setting = setting; bytes = bytes; exchanges = s.exchanges; written = s.written; answered = n } in
-      record {
-        exchanges = s.exchanges;
-        written = s.written;
-        kept = s.kept;
-        session = subst (λ (n : ℕ). IsSession (with_count n) (end_seen last_served.end) world s.kept) (sym by.0)
-            (subst (λ (e : End). IsSession (with_count served.answered) (end_seen e) world s.kept) (sym by.1) (ends_by (with_count served.answered) world s.kept failed served.end s.session));
-        bad_head = subst (HasNoBadHead bytes s.exchanges) (sym by.1) (open_by bytes s.exchanges failed served.end s.bad_head);
-        taken = s.taken;
-        leads = s.leads;
-        run = s.run;
-        apart = s.apart;
-      }

@@ -1,5 +1,5 @@
 -- The result of serving a connection, from one world to another.
-use Rattle.std.specs.Prelude.{◌≡◌, ◌⊎◌, ℕ, Bool, true, List, [], ◌++◌, map, Option, ⊤}
+use Rattle.std.specs.Prelude.{◌≡◌, ◌⊎◌, ℕ, List, [], ◌++◌, map, Option, ⊤}
 use Rattle.std.specs.Io.KnownBytes.{Appends, Consumes}
 use Rattle.httparse.specs.Grammar.{MayBecomeRequest}
 use Rattle.sqlite_trees.specs.declared.store.Store.{Ghosts}
@@ -15,9 +15,9 @@ use Rattle.model.specs.Bounds.{bound_of_run}
 use Rattle.model.specs.Laws.{NoneAsks}
 use Rattle.tables.specs.declared.Store.{Store}
 use Rattle.refinement.specs.Left.{Leads}
-use Rattle.service.specs.declared.session.End.{End}
-use Rattle.service.specs.declared.session.End.TheVariants.{InputEnded, Closed, ReadFailed, WriteFailed}
-use Rattle.service.specs.declared.session.Served.{Served}
+use Rattle.service.specs.declared.ends.End.{End}
+use Rattle.service.specs.declared.ends.End.TheVariants.{InputEnded, Closed, ReadFailed, WriteFailed}
+use Rattle.service.specs.declared.ends.Served.{Served}
 
 -- why the connection ended, in the terms of the definitions
 abbrev pub end_seen : End → model.End
@@ -54,7 +54,7 @@ pub record IsServed
   pub run : (start : World) (before : List Event) → Run start before world → Run start (before ++ map exchanged exchanges) kept
   pub apart : (repo : List ℕ) → NoneAsks repo exchanges → SameViews repo world kept
 
--- ---- no memory to read the input
+-- ---- no memory for the connection
 
 -- a session that read nothing
 abbrev pub unread_session : Setting → List ℕ → ℕ → model.Session
@@ -90,7 +90,7 @@ pub record Call : Type 0 where
   pub is : Option (List ℕ)
 
 -- the connection was served the bytes that the source returned; or no read failed, the store refusal was written, and
--- nothing changed, as happens if there is no memory to read the input
+-- nothing changed, as happens if there is no memory for the connection
 abbrev pub Serves : {S : Type 0} (g : Ghosts S) → Call → World → (old new : Store S) → Served → Type 0
 Serves g call world old new served =
     ((bytes : List ℕ) × Consumes call.left call.rest bytes
@@ -102,25 +102,23 @@ abbrev pub IsCountedAs : ℕ → ℕ → End → Type 0
 IsCountedAs old new WriteFailed = HasGrown old new
 IsCountedAs old new _ = new ≡ old
 
--- why a connection ended, given whether a read failed after its last byte
-abbrev pub end_by : Bool → End → End
-end_by true InputEnded = ReadFailed
-end_by _ end = end
-
--- a failed read is reported if everything read before it was served
-abbrev pub IsEndedBy : Served → Bool → Served → Type 0
-IsEndedBy was has_failed is = (is.answered ≡ was.answered) × (is.end ≡ end_by has_failed was.end)
+-- the last reply of a connection that the server closes
+abbrev pub closing : End → ℕ
+closing Closed = 1
+closing _ = 0
 
 -- ---- a session so far
 
--- the exchanges and the text written so far, up to `rest`, from one world
+-- the exchanges and the text written so far, up to the bytes that wait, whatever follows these; the bytes are those that
+-- were read
 pub record IsServing
-    {S : Type 0} (g : Ghosts S) (setting : Setting) (bytes rest : List ℕ) (world : World)
+    {S : Type 0} (g : Ghosts S) (setting : Setting) (bytes waits : List ℕ) (world : World)
     (old new : Store S) (was is : Option (List ℕ)) (answered : ℕ) : Type 0 where
   pub exchanges : List Exchange
   pub written : List ℕ
   pub kept : World
-  pub progress : IsProgress
-      (record { setting = setting; bytes = bytes; exchanges = exchanges; written = written; answered = answered }) rest world kept
+  pub progress : (more : List ℕ) → IsProgress
+      (record { setting = setting; bytes = bytes ++ more; exchanges = exchanges; written = written; answered = answered })
+      (waits ++ more) world kept
   pub taken : Appends was is written
   pub leads : Leads g old new kept (bound_of_run world (map exchanged exchanges))

@@ -1,23 +1,26 @@
 -- One message of a connection, and its answer.
-use Rattle.std.specs.Prelude.{◌≡◌, ◌<◌, ◌≤◌, ℕ, Bool, true, false, List, [], length, drop, Option, Some, None, is_some, ⊤}
-use Rattle.std.specs.Io.KnownBytes.{Appends}
+use Rattle.std.specs.Prelude.{◌≡◌, ◌≤◌, ℕ, Bool, true, false, List, [], ◌++◌, length, Option, Some, None, is_some, MatchBool, Result, Ok, Err}
+use Rattle.std.specs.Io.KnownBytes.{Appends, Consumes}
 use Rattle.httparse.specs.Grammar.{MayBecomeRequest}
 use Rattle.sqlite_trees.specs.declared.store.Store.{Ghosts}
 use Rattle.names.specs.Streams.{HasGrown}
 use Rattle.model.specs.World.{World}
 use Rattle.model.specs.Cases.{Setting}
 use Rattle.model.specs.Answers.{Answer, is_rule}
-use Rattle.model.specs.Steps.{Message, Exchange, exchanged, Carries, IsExchange, closes, is_of_head, is_h7}
+use Rattle.model.specs.Steps.{Message, Exchange, exchanged, Carries, closes, is_of_head, is_h7}
 use Rattle.model.specs.Stream.{BeginsWith, IsUnfinished}
 use Rattle.model.specs.Bounds.{bound_after}
 use Rattle.model.specs.Sessions.{text_of}
 use Rattle.wire.specs.Writes.{IsBeginning}
+use Rattle.wire.specs.declared.connection.BodyFault.{BodyFault}
 use Rattle.tables.specs.declared.Store.{Store}
-use Rattle.refinement.specs.Left.{Leads}
+use Rattle.refinement.specs.Left.{Leads, Takes}
 use Rattle.desk.specs.Replies.{IsReplyOf}
 use Rattle.desk.specs.declared.replies.Reply.{Reply}
-use Rattle.service.specs.declared.turn.Turn.{Turn}
-use Rattle.service.specs.declared.turn.Turn.TheVariants.{Unfinished, CutOff, Answered, Closed, WriteFailed}
+use Rattle.service.specs.Sending.{sent_text}
+use Rattle.service.specs.declared.ends.End.{End}
+use Rattle.service.specs.declared.ends.End.TheVariants.{InputEnded, Closed, ReadFailed, WriteFailed}
+use Rattle.service.specs.declared.responding.Response.{Response}
 
 -- a message and the answer to it, under a policy and at a moment
 abbrev pub exchange : Setting → Message → Option Answer → Exchange
@@ -35,47 +38,77 @@ pub record IsAnswered
   pub of_head : is_rule is_of_head given ≡ false
   pub method : is_rule is_h7 given ≡ false
 
--- the text was written, all of it or a prefix, and the connection is closed after it if `close` is set
-abbrev pub IsSent : Option (List ℕ) → Option (List ℕ) → List ℕ → Bool → ℕ → Turn → Type 0
-IsSent old new text close len Unfinished = ⊥
-IsSent old new text close len CutOff = ⊥
-IsSent old new text close len (Answered n) = (close ≡ false) × (n ≡ len) × Appends old new text
-IsSent old new text close len Closed = (close ≡ true) × Appends old new text
-IsSent old new text close len WriteFailed = (written : ℕ) × IsBeginning old new text written
+-- the bytes begin with the message of the exchange, whatever follows them, and the next ones follow it
+abbrev pub IsFirst : List ℕ → Exchange → List ℕ → Type 0
+IsFirst bytes e next = (more : List ℕ) → BeginsWith (bytes ++ more) e.asked (next ++ more)
 
--- a write failed exactly if the turn says so
-abbrev pub IsCounted : ℕ → ℕ → Turn → Type 0
-IsCounted old new WriteFailed = HasGrown old new
+-- an exchange under this setting that led the store from one world to another
+pub record IsTurn
+    {S : Type 0} (g : Ghosts S) (setting : Setting) (world : World) (old new : Store S) (e : Exchange) (kept : World) : Type 0 where
+  pub under : e.setting ≡ setting
+  pub takes : Takes g old new world (exchanged e) kept
+
+-- ---- a response
+
+-- the bytes begin with the message that the response answers; the next ones follow it if the connection stays open
+pub record IsResponse
+    {S : Type 0} (g : Ghosts S) (setting : Setting) (bytes next : List ℕ) (world : World) (old new : Store S) (r : Response) : Type 0 where
+  pub e : Exchange
+  pub kept : World
+  pub turn : IsTurn g setting world old new e kept
+  pub some : is_some e.given ≡ true
+  pub closes : closes e ≡ r.close
+  pub text : sent_text r.reply r.allow.now r.close ≡ text_of e
+  pub begins : MatchBool r.close ((rest : List ℕ) × BeginsWith bytes e.asked rest) (IsFirst bytes e next)
+
+-- the bytes hold no complete message: less than a head, or a head with less than its body, which is not answered
+pub data IsIncomplete
+    {S : Type 0} (g : Ghosts S) (setting : Setting) (bytes : List ℕ) (world : World) (old new : Store S) : Type 0 where
+  less_than_head :
+      IsUnfinished bytes → MayBecomeRequest bytes → Leads g old new world (λ bound. bound)
+      → IsIncomplete g setting bytes world old new
+  less_than_body :
+      (e : Exchange) (kept : World) → IsTurn g setting world old new e kept → BeginsWith bytes e.asked []
+      → e.given ≡ None → IsIncomplete g setting bytes world old new
+
+-- the bytes that were read complete a message, which the response answers; or the input ended or failed within it
+abbrev pub Responds :
+    {S E : Type 0} (g : Ghosts S) → Setting → List ℕ → List ℕ → World → Store S → Store S → Result Response E → Type 0
+Responds g setting bytes next world old new (Ok r) = IsResponse g setting bytes next world old new r
+Responds g setting bytes next world old new (Err end) = IsIncomplete g setting bytes world old new
+
+-- ---- what is written
+
+-- the text was written, all of it or a prefix, and the connection is closed after it if `close` is set
+abbrev pub IsSent : Option (List ℕ) → Option (List ℕ) → List ℕ → Bool → Option End → Type 0
+IsSent old new text close None = (close ≡ false) × Appends old new text
+IsSent old new text close (Some Closed) = (close ≡ true) × Appends old new text
+IsSent old new text close (Some WriteFailed) = (written : ℕ) × IsBeginning old new text written
+IsSent old new text close (Some InputEnded) = ⊥
+IsSent old new text close (Some ReadFailed) = ⊥
+
+-- a write failed exactly if the connection ended for that
+abbrev pub IsCounted : ℕ → ℕ → Option End → Type 0
+IsCounted old new (Some WriteFailed) = HasGrown old new
 IsCounted old new _ = new ≡ old
 
--- an answered message has at least one byte and lies within the bytes
-abbrev pub IsWithin : List ℕ → Turn → Type 0
-IsWithin bytes (Answered n) = (0 < n) × (n ≤ length bytes)
-IsWithin bytes _ = ⊤
+-- ---- a turn
 
--- the message at the front of the bytes, the bytes after it, its exchange, and the world that it led the store to
-pub record IsTurn
-    {S : Type 0} (g : Ghosts S) (setting : Setting) (bytes : List ℕ) (world : World)
-    (old new : Store S) (e : Exchange) (next : List ℕ) (kept : World) : Type 0 where
-  pub begins : BeginsWith bytes e.asked next
-  pub under : e.setting ≡ setting
-  pub step : IsExchange world e kept
-  pub leads : Leads g old new kept (bound_after world (exchanged e))
-
--- the result of taking the message at the front of the bytes, and of the writes to the sink
-abbrev pub Takes :
-    {S : Type 0} (g : Ghosts S) → Setting → List ℕ → World → (old new : Store S)
-    → Option (List ℕ) → Option (List ℕ) → Turn → Type 0
-Takes g setting bytes world old new was is Unfinished =
-    IsUnfinished bytes × MayBecomeRequest bytes × Leads g old new world (λ bound. bound) × (is ≡ was)
-Takes g setting bytes world old new was is CutOff =
-    (e : Exchange) × (kept : World) × IsTurn g setting bytes world old new e [] kept × (e.given ≡ None) × (is ≡ was)
-Takes g setting bytes world old new was is (Answered n) =
-    (e : Exchange) × (kept : World) × IsTurn g setting bytes world old new e (drop n bytes) kept
+-- the message at the front of the bytes was answered and the reply written, so that the connection goes on with the
+-- next bytes or ends; or the bytes hold no complete message, and nothing is written
+abbrev pub EndsTurn :
+    {S : Type 0} (g : Ghosts S) → Setting → (bytes next : List ℕ) → World → (old new : Store S)
+    → Option (List ℕ) → Option (List ℕ) → Option End → Type 0
+EndsTurn g setting bytes next world old new was is None =
+    (e : Exchange) × (kept : World) × IsTurn g setting world old new e kept × IsFirst bytes e next
     × (is_some e.given ≡ true) × (closes e ≡ false) × Appends was is (text_of e)
-Takes g setting bytes world old new was is Closed =
-    (e : Exchange) × (next : List ℕ) × (kept : World) × IsTurn g setting bytes world old new e next kept
+EndsTurn g setting bytes next world old new was is (Some Closed) =
+    (e : Exchange) × (kept : World) × IsTurn g setting world old new e kept × ((rest : List ℕ) × BeginsWith bytes e.asked rest)
     × (is_some e.given ≡ true) × (closes e ≡ true) × Appends was is (text_of e)
-Takes g setting bytes world old new was is WriteFailed =
-    (e : Exchange) × (next : List ℕ) × (kept : World) × IsTurn g setting bytes world old new e next kept
+EndsTurn g setting bytes next world old new was is (Some WriteFailed) =
+    (e : Exchange) × (kept : World) × IsTurn g setting world old new e kept × ((rest : List ℕ) × BeginsWith bytes e.asked rest)
     × ((written : ℕ) × IsBeginning was is (text_of e) written)
+EndsTurn g setting bytes next world old new was is (Some InputEnded) =
+    IsIncomplete g setting bytes world old new × (is ≡ was)
+EndsTurn g setting bytes next world old new was is (Some ReadFailed) =
+    IsIncomplete g setting bytes world old new × (is ≡ was)

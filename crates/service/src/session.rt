@@ -1,105 +1,72 @@
 //! A connection, message by message.
 
-ghost use Rattle.std.specs.Prelude.{◌≡◌, ◌≢◌, ◌≤◌, IfOk, length};
-ghost use Rattle.std.specs.Io.KnownBytes.{IsAtEnd};
-ghost use Rattle.names.specs.Streams.{HasGrown};
+ghost use Rattle.std.specs.Prelude.{◌≡◌, ◌≢◌, ◌≤◌, ◌+◌, ℕ, List, [], length};
+ghost use Rattle.std.specs.Io.KnownBytes.{Consumes, IsAtEnd};
+ghost use Rattle.names.specs.Streams.{HasGrown, most_counted};
 ghost use Rattle.refinement.specs.Left.{From};
 ghost use Rattle.desk.specs.Asking.{setting_of};
-ghost use Rattle.service.specs.Served.{IsServed, IsRefusal, IsCountedAs, IsEndedBy, Serves};
+ghost use Rattle.wire.specs.Connections.{waiting, weight};
+ghost use Rattle.wire.specs.States.{source_of, IsOpen};
+ghost use Rattle.service.specs.Served.{IsServed, IsRefusal, IsCountedAs, Serves, closing};
 
-use crate::input::read_all;
+use crate::ends::{End, Served};
 use crate::sending::send;
-use crate::turn::{Setting, Turn, take_turn};
+use crate::turn::{Setting, take_turn};
 use desk::Reply;
-use httparse::spans::{HeaderSpan, Span};
 use names::{Moment, Sink, Source};
 use policy::Policy;
 use routes::Routes;
-use std::alloc::{AllocError, Global};
+use std::alloc::Global;
 use tables::{Alter, Store};
-use wire::FIELD_ROOM;
+use wire::Conn;
 
-/// Why a connection ended.
-#[derive(Clone, Copy, Debug, PartialEq, Eq, Hash)]
-pub enum End {
-    /// The client's input ended, and every complete message was answered.
-    InputEnded,
-    /// The server closed it after a reply.
-    Closed,
-    /// A read failed, and every complete message read before was answered.
-    ReadFailed,
-    /// A write failed.
-    WriteFailed,
-}
-
-/// The result of serving a connection.
-#[derive(Clone, Copy, Debug, PartialEq, Eq, Hash)]
-pub struct Served {
-    /// The number of replies that were written completely.
-    pub answered: usize,
-    /// Why the connection ended.
-    pub end: End,
-}
-
-/// Room for the fields of a head.
-fn field_room(alloc: Global) -> Result<Vec<HeaderSpan>, AllocError>
-    ensures { IfOk result (λ room. length room.items ≡ FIELD_ROOM) }
-{
-    let nothing = Span { start: 0, end: 0 };
-    let span = HeaderSpan {
-        name: nothing,
-        value: nothing,
-    };
-    vec![in alloc; span; FIELD_ROOM]
-}
-
-/// Answers the messages in order, up to the end of the bytes or to a reply that closes.
-fn answer_all<S: Alter, K: Sink>(
+/// Answers the messages of the connection in order, up to its end or to a reply that closes it.
+fn answer_all<S: Alter, R: Source + Drop, K: Sink>(
     alloc: Global,
     store: &mut Store<S>,
     setting: &Setting<'_>,
-    bytes: &[u8],
-    fields: &mut [HeaderSpan],
+    conn: &mut Conn<R>,
     sink: &mut K,
 ) -> Served
-    requires { FIELD_ROOM ≤ length fields.old }
+    requires open { IsOpen conn.old }
+    requires fresh { waiting conn.old ≡ [] }
+    ensures same_reference { R.reference (source_of conn.new) ≡ R.reference (source_of conn.old) }
+    ensures input_ended { result.end ≡ End.InputEnded → IsAtEnd (R.left (source_of conn.new)) }
+    ensures read_failed { result.end ≡ End.ReadFailed
+        → HasGrown (R.failed (source_of conn.old)) (R.failed (source_of conn.new)) }
+    ensures no_fault { result.end ≢ End.ReadFailed
+        → R.failed (source_of conn.new) ≡ R.failed (source_of conn.old) }
     ensures counted { IsCountedAs (K.failed sink.old) (K.failed sink.new) result.end }
-    ensures known { result.end ≢ End.ReadFailed }
-    ensures served { From S.Store store.old store.new (λ world.
-        IsServed S.Store (setting_of setting.entry.now.policy.now setting.entry.now.now) bytes.now world
+    ensures served { From S.Store store.old store.new (λ world. (bytes : List ℕ)
+        × Consumes (R.left (source_of conn.old)) (R.left (source_of conn.new)) bytes
+        × IsServed S.Store (setting_of setting.entry.now.policy.now setting.entry.now.now) bytes world
         store.old store.new (K.taken sink.old) (K.taken sink.new) result) }
 {
-    let mut rest = bytes;
     let mut answered = 0;
     'messages: loop {
-        match take_turn(alloc, store, setting, rest, fields, sink) {
-            Turn::Unfinished | Turn::CutOff => {
+        match take_turn(alloc, store, setting, conn, sink) {
+            None => answered += 1,
+            Some(end) => {
                 return Served {
-                    answered,
-                    end: End::InputEnded,
-                };
-            }
-            Turn::Answered(len) => {
-                answered += 1;
-                rest = rest.split_at(len).1;
-            }
-            Turn::Closed => {
-                return Served {
-                    answered: answered + 1,
-                    end: End::Closed,
-                };
-            }
-            Turn::WriteFailed => {
-                return Served {
-                    answered,
-                    end: End::WriteFailed,
+                    answered: answered + closing(end),
+                    end,
                 };
             }
         }
     }
 }
 
-/// Writes the store refusal; used if there is no memory to read the input.
+/// The number of replies in the turn that ends a connection.
+fn closing(end: End) -> usize
+    ensures { result ≡ closing end }
+{
+    match end {
+        End::Closed => 1,
+        End::InputEnded | End::ReadFailed | End::WriteFailed => 0,
+    }
+}
+
+/// Writes the store refusal; used if there is no memory for the connection.
 fn refuse_all<K: Sink>(sink: &mut K) -> Served
     ensures counted { IsCountedAs (K.failed sink.old) (K.failed sink.new) result.end }
     ensures known { result.end ≢ End.ReadFailed }
@@ -117,13 +84,13 @@ fn refuse_all<K: Sink>(sink: &mut K) -> Served
     }
 }
 
-/// Serves a connection: reads the source to its end, answers the messages in order, all at the moment
-/// `now`, and writes each reply before it looks at the next message.
+/// Serves a connection: answers the messages of the source in order, all at the moment `now`, and
+/// writes each reply before it reads further.
 ///
-/// The connection closes after a refused head, after a store refusal, and after a message that asks
-/// for it. If a read fails, the messages read before it are still answered, and no read is tried
-/// again. If there is no memory to read the input, only the store refusal is written, and nothing
-/// changes.
+/// The connection takes its memory once, for the longest head, and for each message the size of its
+/// body. It closes after a refused head, after a store refusal, and after a message that asks for it.
+/// A message that the end of the input or a failed read cuts off gets no reply. If there is no memory
+/// for the connection, only the store refusal is written, nothing is read, and nothing changes.
 ///
 /// The new contents of the store and the text written follow from the messages, step by step, whatever
 /// came before. What a stop leaves follows from the same steps: after a reply to a change, only the
@@ -149,36 +116,21 @@ pub fn serve<S: Alter, R: Source, K: Sink>(
           is = K.taken sink.new;
         }) world store.old store.new result) }
     ensures input_ended { result.end ≡ End.InputEnded → IsAtEnd (R.left source.new) }
-    ensures no_fault { result.end ≡ End.InputEnded → R.failed source.new ≡ R.failed source.old }
+    ensures no_fault { result.end ≢ End.ReadFailed → R.failed source.new ≡ R.failed source.old }
     ensures read_failed { result.end ≡ End.ReadFailed
         → HasGrown (R.failed source.old) (R.failed source.new) }
     ensures counted { IsCountedAs (K.failed sink.old) (K.failed sink.new) result.end }
 {
-    let Ok(mut fields) = field_room(alloc) else {
-        return refuse_all(sink);
-    };
-    let Ok(input) = read_all(alloc, source) else {
-        return refuse_all(sink);
+    let mut conn = match Conn::new(alloc, source) {
+        Ok(conn) => conn,
+        Err((_, _source)) => return refuse_all(sink),
     };
     let setting = Setting {
         policy,
         routes,
         now,
     };
-    let served = answer_all(alloc, store, &setting, &input.bytes, &mut fields, sink);
-    ended(served, input.has_failed)
-}
-
-/// Turns `InputEnded` into `ReadFailed` if the input ended in an error.
-fn ended(served: Served, has_failed: bool) -> Served
-    ensures { IsEndedBy served has_failed result }
-{
-    if has_failed && served.end == End::InputEnded {
-        Served {
-            answered: served.answered,
-            end: End::ReadFailed,
-        }
-    } else {
-        served
-    }
+    let served = answer_all(alloc, store, &setting, &mut conn, sink);
+    let _source = conn.into_source();
+    served
 }

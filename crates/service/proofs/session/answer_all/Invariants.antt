@@ -1,17 +1,24 @@
-use Rattle.std.proofs.Common.{◌≡◌, ◌+◌, ◌≤◌, length}
+use Rattle.std.proofs.Common.{◌≡◌, ◌+◌, ◌≤◌, List, ℕ}
+use Rattle.std.specs.Io.KnownBytes.{Consumes}
 use Rattle.desk.specs.Asking.{setting_of}
 use Rattle.refinement.specs.Left.{From}
+use Rattle.wire.specs.Connections.{waiting, weight}
+use Rattle.wire.specs.States.{source_of, IsOpen}
 use Rattle.service.specs.Served.{IsServing}
 use Rattle.service.proofs.session.answer_all.Given as goal
 
 abbrev pub invariant-messages : goal.invariant-messages
 invariant-messages g l = record {
-  room : 5461 ≤ length l.fields;
-  count : l.answered + length l.rest ≤ length l.bytes;
+  is_open : IsOpen l.conn;
+  same_reference : g.R.Source.reference (source_of l.conn) ≡ g.R.Source.reference (source_of l.fn.conn);
+  count : l.answered + weight l.conn ≤ weight l.fn.conn;
+  no_fault : g.R.Source.failed (source_of l.conn) ≡ g.R.Source.failed (source_of l.fn.conn);
   good : g.K.Sink.failed l.sink ≡ g.K.Sink.failed l.fn.sink;
-  serving : From g.S.Store l.fn.store l.store (λ world.
-      IsServing g.S.Store (setting_of l.setting.policy.now l.setting.now) l.bytes l.rest world l.fn.store l.store (g.K.Sink.taken l.fn.sink) (g.K.Sink.taken l.sink) l.answered);
+  serving : From g.S.Store l.fn.store l.store (λ world. (bytes : List ℕ)
+      × Consumes (g.R.Source.left (source_of l.fn.conn)) (g.R.Source.left (source_of l.conn)) bytes
+      × IsServing g.S.Store (setting_of l.setting.policy.now l.setting.now) bytes (waiting l.conn) world l.fn.store l.store
+      (g.K.Sink.taken l.fn.sink) (g.K.Sink.taken l.sink) l.answered);
 }
 
 abbrev pub decreases-messages : goal.decreases-messages
-decreases-messages g l = length l.rest
+decreases-messages g l = weight l.conn

@@ -1,0 +1,23 @@
+//! How a connection ended.
+
+/// Why a connection ended.
+#[derive(Clone, Copy, Debug, PartialEq, Eq, Hash)]
+pub enum End {
+    /// The client's input ended, and every complete message was answered.
+    InputEnded,
+    /// The server closed it after a reply.
+    Closed,
+    /// A read failed, and every complete message read before was answered.
+    ReadFailed,
+    /// A write failed.
+    WriteFailed,
+}
+
+/// The result of serving a connection.
+#[derive(Clone, Copy, Debug, PartialEq, Eq, Hash)]
+pub struct Served {
+    /// The number of replies that were written completely.
+    pub answered: usize,
+    /// Why the connection ended.
+    pub end: End,
+}
