@@ -1,5 +1,5 @@
 #!/bin/sh
-# usage: tools/refuse_memory.sh    refuses each allocation of the worked lock in turn, and counts what came of it
+# usage: tools/refuse_memory.sh    refuses each allocation of a connection in turn, and counts what came of it
 #
 # One run of `rt try` refuses one allocation of each test, the one with a given number. So the tests
 # take memory that they do not need, each once less than the one before it, in a copy of the crates.
@@ -35,8 +35,8 @@ outcomes() {
     done >>"$tests"
     rt try --test --fail-alloc "$NUMBER" >"$room/log" 2>&1 || true
     awk '/^test memory::refused_/ { waits = 1; next }
-        waits && /NotAsked|Created|Refused|Neither|NotSeen/ {
-            match($0, /NotAsked|Created|Refused|Neither|NotSeen/)
+        waits && /NotAsked|Answered|(First|Second|Last)Refused|Neither|NotSeen/ {
+            match($0, /NotAsked|Answered|(First|Second|Last)Refused|Neither|NotSeen/)
             print substr($0, RSTART, RLENGTH); waits = 0 }' "$room/log"
 }
 
@@ -51,19 +51,21 @@ while :; do
     fi
     cat "$room/some" >>"$room/all"
     first=$((first + TESTS))
-    # Where only locks are made, nothing is refused any more.
-    if ! grep -qv Created "$room/some"; then
+    # If all of them were answered, no allocation is refused any more.
+    if ! grep -qv Answered "$room/some"; then
         break
     fi
 done
-awk '{ outcome[NR] = $1; if ($1 != "Created") last = NR; count[$1]++ }
+awk '{ outcome[NR] = $1; if ($1 != "Answered") last = NR; count[$1]++ }
     END {
-        for (n = 1; n <= last; n++) if (outcome[n] == "Created") made++
+        for (n = 1; n <= last; n++) if (outcome[n] == "Answered") answered++
         print "refused: " last
-        print "before the message was asked: " count["NotAsked"] + 0
-        print "the whole reply, and the lock made: " made + 0
-        print "S1, and nothing made: " count["Refused"] + 0
+        print "before the first message was asked: " count["NotAsked"] + 0
+        print "both messages answered in full: " answered + 0
+        print "S1 to the first, and nothing made: " count["FirstRefused"] + 0
+        print "the lock made, and S1 to the second: " count["SecondRefused"] + 0
+        print "both answered, and S1 to the third, which is cut short: " count["LastRefused"] + 0
         print "after the connection: " count["NotSeen"] + 0
-        print "neither: " count["Neither"] + 0
+        print "none of these: " count["Neither"] + 0
         exit count["Neither"] > 0
     }' "$room/all"

@@ -1,3 +1,4 @@
 pub mod Numbers
 pub mod Statuses
 pub mod Lines
+pub mod Waiting

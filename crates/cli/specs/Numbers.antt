@@ -13,6 +13,11 @@ is_number text = between 1 18 (length text) && list_all is_ascii_digit text
 abbrev pub number_in : List ℕ → Option ℕ
 number_in text = if is_number text then Some (digits_value 10 text) else None
 
+-- the number that the digits write, if it is in this range
+abbrev pub number_within : ℕ → ℕ → List ℕ → Option ℕ
+number_within least most text =
+    if is_number text && between least most (digits_value 10 text) then Some (digits_value 10 text) else None
+
 -- the moment that the digits write
 abbrev pub moment_in : List ℕ → Option ℕ
 moment_in text = if is_number text && nat_le (digits_value 10 text) last_moment then Some (digits_value 10 text) else None

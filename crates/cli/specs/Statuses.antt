@@ -1,7 +1,7 @@
 -- The program's exit status, and the fault that it reports.
 use Rattle.std.specs.Prelude.{ℕ, Bool}
-use Rattle.service.specs.declared.session.End.{End}
-use Rattle.service.specs.declared.session.End.TheVariants.{InputEnded, Closed, ReadFailed, WriteFailed}
+use Rattle.service.specs.declared.ends.End.{End}
+use Rattle.service.specs.declared.ends.End.TheVariants.{InputEnded, Closed, ReadFailed, WriteFailed}
 use Rattle.tables.specs.declared.fault.StoreFault.{StoreFault}
 use Rattle.tables.specs.declared.fault.StoreFault.TheVariants as tables
 use Rattle.policy.specs.declared.faults.PolicyFault.{PolicyFault}
@@ -9,7 +9,7 @@ use Rattle.policy.specs.declared.faults.PolicyFault.TheVariants as policy
 use Rattle.tokens.specs.declared.issuing.TokenFault.{TokenFault}
 use Rattle.tokens.specs.declared.issuing.TokenFault.TheVariants as tokens
 use Rattle.cli.specs.declared.faults.Fault.{Fault}
-use Rattle.cli.specs.declared.faults.Fault.TheVariants.{Arguments, Value, Clock, PolicyFile, Policy, Repository, Random, Store, Token, Memory, Output, Session}
+use Rattle.cli.specs.declared.faults.Fault.TheVariants.{Arguments, Value, Clock, PolicyFile, Policy, Repository, Random, Network, Store, Token, Memory, Output, Session}
 
 -- 2 for a fault of the arguments, else 1
 abbrev pub status_of : Fault → ℕ
@@ -20,6 +20,7 @@ status_of PolicyFile = 1
 status_of (Policy _) = 1
 status_of Repository = 1
 status_of Random = 1
+status_of Network = 1
 status_of (Store _) = 1
 status_of (Token _) = 1
 status_of Memory = 1
@@ -49,9 +50,3 @@ is_good InputEnded = Bool.true
 is_good Closed = Bool.true
 is_good ReadFailed = Bool.false
 is_good WriteFailed = Bool.false
-
--- a good end becomes a failed write if the last bytes could not be written
-abbrev pub end_after : End → Bool → End
-end_after InputEnded Bool.false = WriteFailed
-end_after Closed Bool.false = WriteFailed
-end_after end _ = end

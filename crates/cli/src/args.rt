@@ -3,7 +3,7 @@
 ghost use Rattle.std.specs.Prelude.{◌≡◌};
 ghost use Rattle.std.specs.Char.{is_ascii_digit};
 ghost use Rattle.std.specs.List.{list_all};
-ghost use Rattle.cli.specs.Numbers.{number_in, moment_in};
+ghost use Rattle.cli.specs.Numbers.{number_in, number_within, moment_in};
 
 use crate::commands::{UPLOAD, program};
 use crate::faults::Fault;
@@ -12,6 +12,15 @@ use clap::error::ErrorKind;
 use names::{Moment, Operation, UserName};
 use std::alloc::Global;
 
+/// The largest number of connections that an argument can give.
+const MOST_REQUESTS: u64 = 1_000_000;
+
+/// The longest time that a client may idle, in seconds: a day.
+const LONGEST_IDLE: u64 = 86_400;
+
+/// How long a client may idle if no argument says so, in seconds.
+const IDLE: u64 = 10;
+
 /// The command that the arguments name.
 #[derive(Debug, Drop)]
 pub(crate) enum Command<'a> {
@@ -19,6 +28,8 @@ pub(crate) enum Command<'a> {
     Text(clap::Error),
     /// The command `session`.
     Session(SessionArgs<'a>),
+    /// The command `serve`.
+    Serve(ServeArgs<'a>),
     /// The command `authenticate`.
     Authenticate(AuthenticateArgs<'a>),
     /// The command `prune`.
@@ -34,6 +45,21 @@ pub(crate) struct SessionArgs<'a> {
     pub policy: &'a str,
     /// The moment at which the connection comes; `None` for the clock's.
     pub now: Option<Moment>,
+}
+
+/// The arguments of `serve`.
+#[derive(Clone, Copy, Debug)]
+pub struct ServeArgs<'a> {
+    /// The database file.
+    pub db: &'a str,
+    /// The policy file.
+    pub policy: &'a str,
+    /// The address, as it is written.
+    pub listen: &'a str,
+    /// The number of connections after which the command ends; `None` if it does not end.
+    pub requests: Option<u64>,
+    /// How long a client may idle between two messages, in seconds.
+    pub idle: u64,
 }
 
 /// The arguments of `authenticate`.
@@ -81,6 +107,18 @@ fn number_in(text: &str) -> Option<u64>
     text.parse().ok()
 }
 
+/// The number that 1 to 18 decimal digits write, if it is in this range; `None` for any other text.
+fn number_within(text: &str, least: u64, most: u64) -> Option<u64>
+    ensures { result ≡ number_within least most text.now }
+{
+    let number = number_in(text)?;
+    if least <= number && number <= most {
+        Some(number)
+    } else {
+        None
+    }
+}
+
 /// The moment that 1 to 18 decimal digits write; `None` for any other text.
 fn moment_in(text: &str) -> Option<Moment>
     ensures { result ≡ moment_in text.now }
@@ -106,6 +144,32 @@ fn session_args<'a>(matches: &ArgMatches<'a>) -> Result<SessionArgs<'a>, Fault> 
         db: value_of(matches, "db"),
         policy: value_of(matches, "policy"),
         now: now_of(matches)?,
+    })
+}
+
+/// The number that an option gives, 1 to `most`; `None` if the option is absent.
+fn count_of(
+    matches: &ArgMatches<'_>,
+    name: &'static str,
+    option: &'static str,
+    most: u64,
+) -> Result<Option<u64>, Fault> {
+    match matches.get_str(name) {
+        None => Ok(None),
+        Some(text) => match number_within(text, 1, most) {
+            Some(number) => Ok(Some(number)),
+            None => Err(Fault::Value(option)),
+        },
+    }
+}
+
+fn serve_args<'a>(matches: &ArgMatches<'a>) -> Result<ServeArgs<'a>, Fault> {
+    Ok(ServeArgs {
+        db: value_of(matches, "db"),
+        policy: value_of(matches, "policy"),
+        listen: value_of(matches, "listen"),
+        requests: count_of(matches, "requests", "--requests", MOST_REQUESTS)?,
+        idle: count_of(matches, "idle", "--idle", LONGEST_IDLE)?.unwrap_or(IDLE),
     })
 }
 
@@ -149,6 +213,7 @@ fn command_of<'a>(
 ) -> Result<Option<Command<'a>>, Fault> {
     Ok(match name {
         "session" => Some(Command::Session(session_args(matches)?)),
+        "serve" => Some(Command::Serve(serve_args(matches)?)),
         "authenticate" => Some(Command::Authenticate(authenticate_args(alloc, matches)?)),
         "prune" => Some(Command::Prune(prune_args(matches)?)),
         _ => None,

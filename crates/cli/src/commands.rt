@@ -22,10 +22,27 @@ const SESSION_LONG_ABOUT: &str = "\
 Answers the requests on standard input, and writes the replies to standard output.
 
 Standard input holds what one connection of a client would send: HTTP requests, one after the \
-other. They are answered when the input has ended.
+other. Each is answered as soon as it has arrived.
 
 The status is 0 where the input ended or the server closed the connection, 1 where the policy or \
 the database was refused or reading or writing failed, and 2 if the arguments are wrong.";
+
+const SERVE_ABOUT: &str = "Serves connections to a TCP address, one after the other";
+
+const SERVE_LONG_ABOUT: &str = "\
+Serves connections to a TCP address, one after the other.
+
+Each connection has the moment of the clock at which it begins to be served. The command prints \
+\"listening on ADDR\" as soon as clients can connect, and runs until it is ended, or until as many \
+connections were served as --requests says. It may be ended at any time: each change that a reply \
+reports is on the disk.
+
+A client may idle between two requests for --idle seconds, and for a fifth of a second once \
+another one waits. A connection that fails is reported on the error stream, and the next one is \
+served.
+
+The status is 0 after the last connection, 1 if the policy, the address or the database was \
+refused, and 2 if the arguments are wrong.";
 
 const AUTHENTICATE_ABOUT: &str =
     "Issues a token to a user, and prints what a Git LFS client needs to use it";
@@ -58,6 +75,14 @@ const POLICY_HELP: &str = "The policy file: which repositories there are, and wh
 
 const NOW_HELP: &str =
     "The moment, in seconds since 1970-01-01T00:00:00Z: 0 to 253402300799 [default: the clock's]";
+
+const LISTEN_HELP: &str = "The address: an IP address or a name, and a port, as 127.0.0.1:8080";
+
+const REQUESTS_HELP: &str =
+    "Ends after this many connections, 1 to 1000000 [default: runs until it is ended]";
+
+const IDLE_HELP: &str =
+    "How many seconds a client may idle between two requests: 1 to 86400 [default: 10]";
 
 const USER_HELP: &str = "Who gets the token: 1 to 40 of a-z, 0-9, _ and -";
 
@@ -100,6 +125,17 @@ fn session_command<'a>(alloc: Global) -> Result<Command<'a>, AllocError> {
         .arg(db_option(alloc))?
         .arg(policy_option(alloc))?
         .arg(now_option(alloc))
+}
+
+fn serve_command<'a>(alloc: Global) -> Result<Command<'a>, AllocError> {
+    Command::new(alloc, "serve")
+        .about(SERVE_ABOUT)
+        .long_about(SERVE_LONG_ABOUT)
+        .arg(db_option(alloc))?
+        .arg(policy_option(alloc))?
+        .arg(option(alloc, "listen", "ADDR", LISTEN_HELP).required(true))?
+        .arg(option(alloc, "requests", "N", REQUESTS_HELP))?
+        .arg(option(alloc, "idle", "SECONDS", IDLE_HELP))
 }
 
 fn random_option<'a>(alloc: Global) -> Arg<'a> {
@@ -151,6 +187,7 @@ pub(crate) fn program<'a>(alloc: Global) -> Result<Command<'a>, AllocError> {
         .subcommand_required(true)
         .arg_required_else_help(true)
         .subcommand(session_command(alloc)?)?
+        .subcommand(serve_command(alloc)?)?
         .subcommand(authenticate_command(alloc)?)?
         .subcommand(prune_command(alloc)?)
 }

@@ -34,6 +34,9 @@ pub(crate) enum Fault {
     /// The file has fewer random bytes than a token needs, or could not be read.
     #[error("custody: random bytes not read")]
     Random,
+    /// The address could not be bound, or no connection could be accepted.
+    #[error("custody: network")]
+    Network,
     /// The database refused.
     #[error("custody: {0}")]
     Store(StoreFault),
@@ -63,6 +66,7 @@ impl Fault {
             Fault::Policy(_) => 1,
             Fault::Repository => 1,
             Fault::Random => 1,
+            Fault::Network => 1,
             Fault::Store(_) => 1,
             Fault::Token(_) => 1,
             Fault::Memory => 1,

@@ -9,9 +9,15 @@ mod authenticate;
 mod commands;
 mod faults;
 mod files;
+mod lingering;
 mod moments;
+mod patience;
 mod program;
 mod prune;
+mod queue;
+mod serve;
 mod session;
 
+pub use args::ServeArgs;
 pub use program::{refuse_args, run};
+pub use serve::serve_listener;

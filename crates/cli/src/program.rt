@@ -8,6 +8,7 @@ use crate::args::{Command, read_args};
 use crate::authenticate::authenticate;
 use crate::faults::Fault;
 use crate::prune::prune;
+use crate::serve::serve;
 use crate::session::session;
 use std::io::{self, ErrorKind, Read, Write};
 use std::rt::HostRuntime;
@@ -20,16 +21,18 @@ fn write_text<W: Write>(text: &clap::Error, output: &mut W) -> io::Result<()> {
 }
 
 /// Runs the command that the arguments name.
-fn dispatch<S: Start, R: Read, W: Write>(
+fn dispatch<S: Start, R: Read, W: Write, E: Write>(
     rt: &HostRuntime,
     args: &[String],
     input: &mut R,
     output: &mut W,
+    errors: &mut E,
     start: S,
 ) -> Result<(), Fault> {
     match read_args(rt.alloc(), args)? {
         Command::Text(text) => write_text(&text, output).map_err(|_| Fault::Output),
         Command::Session(asked) => session(rt, &asked, input, output, start),
+        Command::Serve(asked) => serve(rt, &asked, output, errors, start),
         Command::Authenticate(asked) => authenticate(rt, &asked, output, start),
         Command::Prune(asked) => prune(rt, &asked, output, start),
     }
@@ -52,6 +55,16 @@ fn refuse<E: Write>(fault: &Fault, errors: &mut E) -> u8
     fault.status()
 }
 
+/// The exit status of a command that ended; prints its fault, if there is one.
+pub(crate) fn status_after<E: Write>(ended: Result<(), Fault>, errors: &mut E) -> u8
+    ensures { result ≤ 2 }
+{
+    match ended {
+        Ok(()) => 0,
+        Err(fault) => refuse(&fault, errors),
+    }
+}
+
 /// The program: runs the command that its arguments name, over its input, its output and its error
 /// stream. Returns the exit status: 0 for success, 1 for a refusal, 2 for invalid arguments.
 ///
@@ -71,10 +84,8 @@ pub fn run<S: Start, R: Read, W: Write, E: Write>(
 ) -> u8
     ensures { result ≤ 2 }
 {
-    match dispatch(rt, args, input, output, start) {
-        Ok(()) => 0,
-        Err(fault) => refuse(&fault, errors),
-    }
+    let ended = dispatch(rt, args, input, output, errors, start);
+    status_after(ended, errors)
 }
 
 /// Prints that an argument is not valid UTF-8.

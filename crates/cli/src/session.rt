@@ -1,7 +1,7 @@
 //! The command `session`: one connection over the program's own input and output.
 
 ghost use Rattle.std.specs.Prelude.{◌≡◌};
-ghost use Rattle.cli.specs.Statuses.{is_good, end_after};
+ghost use Rattle.cli.specs.Statuses.{is_good};
 
 use crate::args::SessionArgs;
 use crate::faults::Fault;
@@ -12,7 +12,7 @@ use policy::Policy;
 use refinement::open_from;
 use service::{End, Routes, serve};
 use std::alloc::Global;
-use std::io::{self, BufWriter, Read, Write};
+use std::io::{self, Read, Write};
 use std::rt::HostRuntime;
 use tables::{Start, Storage, Store, StoreFault};
 
@@ -24,17 +24,35 @@ struct SessionContext<'a> {
     now: Moment,
 }
 
-/// Serves the connection, and flushes the output.
+/// Writes to a writer, and flushes it after each write.
+#[derive(Drop)]
+struct Flushed<'a, W> {
+    output: &'a mut W,
+}
+
+impl<W: Write> Write for Flushed<'_, W> {
+    fn write(&mut self, piece: &[u8]) -> io::Result<usize> {
+        let count = self.output.write(piece)?;
+        self.output.flush()?;
+        Ok(count)
+    }
+
+    fn flush(&mut self) -> io::Result<()> {
+        self.output.flush()
+    }
+}
+
+/// Serves the connection. Each write is flushed, so a client that waits for a reply gets it.
 fn serve_streams<S: Storage, R: Read, W: Write>(
     alloc: Global,
     store: &mut Store<S>,
     context: &SessionContext<'_>,
     input: &mut R,
     output: &mut W,
-) -> io::Result<End> {
+) -> End {
     let mut source = Counted::new(input);
-    let mut sink = Counted::new(BufWriter::new(alloc, output)?);
-    let served = serve(
+    let mut sink = Counted::new(Flushed { output });
+    serve(
         alloc,
         store,
         context.policy,
@@ -42,23 +60,12 @@ fn serve_streams<S: Storage, R: Read, W: Write>(
         context.now,
         &mut source,
         &mut sink,
-    );
-    let is_written = sink.into_inner().flush().is_ok();
-    Ok(end_after(served.end, is_written))
+    )
+    .end
 }
 
-/// The end of the session, given whether the last bytes could be written.
-fn end_after(end: End, is_written: bool) -> End
-    ensures { result ≡ end_after end is_written }
-{
-    match end {
-        End::InputEnded | End::Closed if !is_written => End::WriteFailed,
-        _ => end,
-    }
-}
-
-/// Whether the session ended well.
-fn is_good(end: End) -> bool
+/// Whether a connection ended well.
+pub(crate) fn is_good(end: End) -> bool
     ensures { result ≡ is_good end }
 {
     match end {
@@ -76,10 +83,11 @@ fn serve_opened<S: Storage + Drop, R: Read, W: Write>(
     output: &mut W,
 ) -> Result<(), Fault> {
     let mut store = opened?;
-    match serve_streams(alloc, &mut store, context, input, output) {
-        Ok(end) if is_good(end) => Ok(()),
-        Ok(end) => Err(Fault::Session(end)),
-        Err(_) => Err(Fault::Memory),
+    let end = serve_streams(alloc, &mut store, context, input, output);
+    if is_good(end) {
+        Ok(())
+    } else {
+        Err(Fault::Session(end))
     }
 }
 

@@ -1,0 +1,23 @@
+-- How long a connection waits for its client, in nanoseconds.
+use Rattle.std.specs.Prelude.{ℕ, ◌+◌, ◌-◌, ◌*◌, ◌/◌, min, Bool, ◌&&◌, ◌||◌, nat_lt, Option, Some, None}
+
+abbrev pub second : ℕ
+second = 1000000000
+
+-- the longest pause within a message or a reply, and the time that it may take however few bytes it has
+abbrev pub grace : ℕ
+grace = 30 * second
+
+-- the time that a message or a reply of so many bytes may take: a second more for each 16 KiB
+abbrev pub whole_time : ℕ → ℕ
+whole_time moved = (30 + moved / 16384) * second
+
+-- how long the next read or write may wait, after this time and so many bytes
+abbrev pub allowance : ℕ → ℕ → ℕ
+allowance elapsed moved = min (whole_time moved - elapsed) grace
+
+-- whether a connection may stay idle: for less than `most`; and once another client has waited for a fifth of a second,
+-- for less than 50 milliseconds
+abbrev pub may_idle : ℕ → Option ℕ → ℕ → Bool
+may_idle idled None most = nat_lt idled most
+may_idle idled (Some waited) most = nat_lt idled most && (nat_lt idled 50000000 || nat_lt waited 200000000)

@@ -1,0 +1,442 @@
+#!/usr/bin/env python3
+"""Tries `custody serve` with clients that are slow, silent or gone, with a server that is killed, and with load.
+
+    tools/try_server.py [--program FILE] [--only NAME]... [--rounds N] [--connections N] [--requests N]
+
+Each check starts a server on a new database and a free port of this machine, prints one line with what was measured
+and its bound, and fails if the bound is not kept. The last line counts the checks; the status is 1 if one failed. It
+needs Linux and python3, and takes about three minutes: two checks wait for 30 seconds, the time that a message may
+pause. Without --program it is bin/custody.
+"""
+import argparse
+import json
+import os
+import random
+import signal
+import socket
+import struct
+import subprocess
+import sys
+import tempfile
+import threading
+import time
+from pathlib import Path
+
+TOP = Path(__file__).resolve().parent.parent
+TARGET = "/studio/film.git/info/lfs/locks"
+POLICY = """base = "https://lfs.example"
+token_seconds = 86400
+
+[[repo]]
+name = "studio/film"
+default_ref = "refs/heads/main"
+quota = 1000000
+
+[[row]]
+effect = "allow"
+users = ["ann"]
+repos = ["*"]
+refs = ["*"]
+paths = ["*"]
+rights = ["pull", "push", "list", "lock"]
+"""
+
+
+class Failed(Exception):
+    """A check failed; the text says why."""
+
+
+def require(is_met, text):
+    if not is_met:
+        raise Failed(text)
+
+
+def message(method, target, body=None, letter="a", more=""):
+    """A request, with the token of 64 times the letter."""
+    data = b"" if body is None else json.dumps(body).encode()
+    length = "" if body is None else f"Content-Length: {len(data)}\r\n"
+    head = f"{method} {target} HTTP/1.1\r\nHost: studio.example\r\nAuthorization: Bearer {letter * 64}\r\n"
+    return (head + length + more + "\r\n").encode() + data
+
+
+def lock(path):
+    return message("POST", TARGET, {"path": path})
+
+
+class Client:
+    """A connection to the server."""
+
+    def __init__(self, port, timeout=60):
+        self.socket = socket.create_connection(("127.0.0.1", port), timeout=timeout)
+        self.socket.setsockopt(socket.IPPROTO_TCP, socket.TCP_NODELAY, 1)
+        self.rest = b""
+
+    def send(self, data):
+        self.socket.sendall(data)
+
+    def more(self):
+        piece = self.socket.recv(1 << 16)
+        require(piece, "the server closed the connection before a reply")
+        self.rest += piece
+
+    def reply(self):
+        """The status and the body of the next reply."""
+        while b"\r\n\r\n" not in self.rest:
+            self.more()
+        head, _, self.rest = self.rest.partition(b"\r\n\r\n")
+        lines = head.split(b"\r\n")
+        length = next(int(line.split(b":")[1]) for line in lines if line.startswith(b"Content-Length:"))
+        while len(self.rest) < length:
+            self.more()
+        body, self.rest = self.rest[:length], self.rest[length:]
+        return int(lines[0].split(b" ")[1]), body
+
+    def ask(self, data):
+        self.send(data)
+        return self.reply()
+
+    def reset(self):
+        """Closes the connection with a reset."""
+        self.socket.setsockopt(socket.SOL_SOCKET, socket.SO_LINGER, struct.pack("ii", 1, 0))
+        self.socket.close()
+
+    def close(self):
+        self.socket.close()
+
+    def __enter__(self):
+        return self
+
+    def __exit__(self, *_):
+        self.close()
+
+
+class Server:
+    """A server in a folder of its own."""
+
+    def __init__(self, program, room, idle=10):
+        self.program, self.room, self.idle = program, room, idle
+        Path(f"{room}/policy.toml").write_text(POLICY)
+        Path(f"{room}/random").write_bytes(b"\xaa" * 32)
+        words = ["authenticate", *self.files(), "--user", "ann", "--random", f"{room}/random", "studio/film", "upload"]
+        subprocess.run([program, *words], check=True, stdout=subprocess.DEVNULL)
+        with socket.create_server(("127.0.0.1", 0)) as free:
+            self.port = free.getsockname()[1]
+        self.start()
+
+    def files(self):
+        return ["--db", f"{self.room}/custody.db", "--policy", f"{self.room}/policy.toml"]
+
+    def start(self):
+        address = f"127.0.0.1:{self.port}"
+        words = [self.program, "serve", *self.files(), "--listen", address, "--idle", str(self.idle)]
+        errors = open(f"{self.room}/errors", "ab")
+        self.child = subprocess.Popen(words, stdout=subprocess.PIPE, stderr=errors)
+        line = self.child.stdout.readline()
+        require(line == f"listening on {address}\n".encode(), f"the server printed {line!r}")
+
+    def end(self, kind):
+        """Sends the signal. Returns after how many seconds the server has ended."""
+        begun = time.monotonic()
+        self.child.send_signal(kind)
+        self.child.wait(timeout=10)
+        return time.monotonic() - begun
+
+    def errors(self):
+        return Path(f"{self.room}/errors").read_text()
+
+    def memory(self):
+        """The resident memory in KiB."""
+        lines = Path(f"/proc/{self.child.pid}/status").read_text().splitlines()
+        return next(int(line.split()[1]) for line in lines if line.startswith("VmRSS:"))
+
+    def processor_time(self):
+        return time.clock_gettime(~self.child.pid << 3 | 2)
+
+    def client(self, timeout=60):
+        return Client(self.port, timeout)
+
+    def time_of_lock(self, path):
+        """After how many seconds a client that connects now has its lock."""
+        begun = time.monotonic()
+        with self.client() as client:
+            status, _ = client.ask(lock(path))
+        require(status == 201, f"a lock got {status}")
+        return time.monotonic() - begun
+
+    def __enter__(self):
+        return self
+
+    def __exit__(self, *_):
+        if self.child.poll() is None:
+            self.end(signal.SIGKILL)
+        self.child.stdout.close()
+
+
+def within(seconds, bound, what):
+    require(seconds <= bound, f"{what} took {seconds:.2f} s (at most {bound} s)")
+    return f"{what} took {seconds:.2f} s (at most {bound} s)"
+
+
+def check_pipelined(server, _):
+    """Messages that are sent at once are answered in order."""
+    count = 200
+    begun = time.monotonic()
+    with server.client() as client:
+        client.send(b"".join(lock(f"art/{number}") for number in range(count)))
+        for number in range(count):
+            status, body = client.reply()
+            path = json.loads(body)["lock"]["path"]
+            require((status, path) == (201, f"art/{number}"), f"reply {number} is {status}, for {path}")
+    return within(time.monotonic() - begun, 10, f"{count} messages at once")
+
+
+def check_keep_alive(server, _):
+    """Clients that connect at once, send one request each, and keep the connection."""
+    times, clients, faults = [], [], []
+
+    def act(number):
+        try:
+            begun = time.monotonic()
+            client = server.client()
+            clients.append(client)
+            status, _ = client.ask(lock(f"art/{number}"))
+            require(status == 201, f"a lock got {status}")
+            times.append(time.monotonic() - begun)
+        except (Failed, OSError) as fault:
+            faults.append(str(fault))
+
+    threads = [threading.Thread(target=act, args=(number,)) for number in range(8)]
+    for thread in threads:
+        thread.start()
+    for thread in threads:
+        thread.join()
+    for client in clients:
+        client.close()
+    require(not faults, "; ".join(faults))
+    return within(max(times), 1, "the slowest of 8 clients")
+
+
+def check_one_connection(server, _):
+    """A client that pauses between its requests keeps its connection while nobody else waits."""
+    with server.client() as client:
+        for number in range(4):
+            status, _ = client.ask(lock(f"art/{number}"))
+            require(status == 201, f"a lock got {status}")
+            time.sleep(0.5)
+    return "4 requests with pauses of 0.5 s over one connection"
+
+
+def check_idle_end(server, _):
+    """An idle connection ends after the idle time, and the server uses no processor meanwhile."""
+    server.end(signal.SIGTERM)
+    server.idle = 1
+    server.start()
+    with server.client() as client:
+        begun, used = time.monotonic(), server.processor_time()
+        require(client.socket.recv(1) == b"", "an idle client got bytes")
+        waited, used = time.monotonic() - begun, server.processor_time() - used
+    require(0.9 <= waited, f"the connection ended after {waited:.2f} s")
+    begun = server.processor_time()
+    time.sleep(1)
+    rest = server.processor_time() - begun
+    require(rest < 0.002, f"without a connection the server used {rest * 1e3:.1f} ms of a second")
+    return f"{within(waited, 1.2, 'an idle time of 1 s')}, and {used * 1e3:.1f} ms of the processor"
+
+
+def check_idle(server, _):
+    """A client beside one that is connected and sends nothing."""
+    with server.client():
+        time.sleep(0.2)
+        return within(server.time_of_lock("art/hero"), 1, "a lock beside an idle client")
+
+
+def check_slow_sender(server, _):
+    """A client beside one that sends a byte a second."""
+    is_over = threading.Event()
+
+    def drip():
+        with server.client() as client:
+            try:
+                for byte in lock("art/slow"):
+                    client.send(bytes([byte]))
+                    if is_over.wait(1):
+                        return
+            except OSError:
+                pass
+
+    thread = threading.Thread(target=drip)
+    thread.start()
+    time.sleep(0.5)
+    try:
+        return within(server.time_of_lock("art/hero"), 33, "a lock beside a slow sender")
+    finally:
+        is_over.set()
+        thread.join()
+
+
+def check_no_reader(server, _):
+    """A client beside one that sends requests and never reads."""
+    with server.client() as client:
+        for number in range(200):
+            client.send(lock(f"art/{number}"))
+            require(client.reply()[0] == 201, "a lock was not made")
+    silent = socket.socket()
+    silent.setsockopt(socket.SOL_SOCKET, socket.SO_RCVBUF, 4096)
+    silent.connect(("127.0.0.1", server.port))
+    silent.setblocking(False)
+    wanted = message("GET", TARGET + "?limit=100") * 2000
+    begun = time.monotonic()
+    while wanted and time.monotonic() - begun < 2:
+        try:
+            wanted = wanted[silent.send(wanted):]
+        except BlockingIOError:
+            time.sleep(0.01)
+    try:
+        result = within(server.time_of_lock("art/hero"), 35, "a lock beside a client that never reads")
+    finally:
+        silent.close()
+    require("WriteFailed" in server.errors(), "the failed write was not reported")
+    return result
+
+
+def check_reset(server, _):
+    """A client after one that resets the connection in mid-reply."""
+    with server.client() as client:
+        for number in range(100):
+            require(client.ask(lock(f"art/{number}"))[0] == 201, "a lock was not made")
+    for _ in range(20):
+        client = server.client()
+        client.send(message("GET", TARGET + "?limit=100") * 50)
+        client.socket.recv(100)
+        client.reset()
+    result = within(server.time_of_lock("art/hero"), 2, "a lock after 20 resets")
+    failed = server.errors().count("Failed")
+    return f"{result}; {failed} reported"
+
+
+def check_early_reply(server, _):
+    """A request that is refused before its body was read: the client still gets the reply."""
+    body = b"x" * 5_000_000
+    for number in range(20):
+        with server.client() as client:
+            head = f"POST {TARGET} HTTP/1.1\r\nContent-Length: {len(body)}\r\n\r\n".encode()
+            client.send(head + body)
+            status, _ = client.reply()
+            require(status == 413, f"try {number} got {status}")
+    return "20 of 20 requests with 5 MB of body got 413"
+
+
+def load(server, number, answered, is_over):
+    """Locks paths until the connection fails. A path is answered once its reply was read."""
+    count = 0
+    while not is_over.is_set():
+        try:
+            with server.client(5) as client:
+                while not is_over.is_set():
+                    path = f"art/{number}/{count}"
+                    count += 1
+                    if client.ask(lock(path))[0] == 201:
+                        answered.append(path)
+        except (OSError, Failed):
+            time.sleep(0.01)
+
+
+def check_killed(server, options, kind=signal.SIGKILL):
+    """A server that is ended in mid-load: after a restart each lock that was answered exists."""
+    answered = []
+    for number in range(options.rounds):
+        is_over = threading.Event()
+        threads = [threading.Thread(target=load, args=(server, f"{number}.{it}", answered, is_over)) for it in range(3)]
+        for thread in threads:
+            thread.start()
+        time.sleep(random.uniform(0.1, 0.6))
+        took = server.end(kind)
+        is_over.set()
+        for thread in threads:
+            thread.join()
+        require(took < 2, f"the server ended after {took:.2f} s")
+        server.start()
+    require(answered, "no lock was answered")
+    with server.client() as client:
+        for path in answered:
+            status, _ = client.ask(lock(path))
+            require(status == 409, f"{path} was answered and does not exist: {status}")
+    return f"{options.rounds} times, {len(answered)} locks were answered, and each exists"
+
+
+def check_terminated(server, options):
+    """The same with SIGTERM."""
+    return check_killed(server, options, signal.SIGTERM)
+
+
+def check_load(server, options):
+    """Many connections and many requests, and the memory that the server has before and after them."""
+    with server.client() as client:
+        require(client.ask(lock("art/hero"))[0] == 201, "a lock was not made")
+        status, _ = client.ask(lock("art/hero"))
+        require(status == 409, f"a path that is locked got {status}")
+    before = server.memory()
+    begun = time.monotonic()
+    for _ in range(options.connections):
+        with server.client() as client:
+            require(client.ask(lock("art/hero"))[0] == 409, "a path that is locked was not refused")
+    connecting, begun, between = time.monotonic() - begun, time.monotonic(), server.memory()
+    batch = 500
+    with server.client() as client:
+        for _ in range(options.requests // batch):
+            client.send(lock("art/hero") * batch)
+            for _ in range(batch):
+                require(client.reply()[0] == 409, "a path that is locked was not refused")
+    asking, after = time.monotonic() - begun, server.memory()
+    require(after <= before + 8192, f"the memory grew from {before} KiB to {after} KiB (at most 8192 KiB more)")
+    return (f"{options.connections} connections in {connecting:.0f} s, {options.requests} requests in {asking:.0f} s; "
+            f"memory {before} KiB, {between} KiB, {after} KiB (at most 8192 KiB more)")
+
+
+CHECKS = {
+    "pipelined": check_pipelined,
+    "keep-alive": check_keep_alive,
+    "one-connection": check_one_connection,
+    "idle-end": check_idle_end,
+    "idle": check_idle,
+    "slow-sender": check_slow_sender,
+    "no-reader": check_no_reader,
+    "reset": check_reset,
+    "early-reply": check_early_reply,
+    "killed": check_killed,
+    "terminated": check_terminated,
+    "load": check_load,
+}
+
+
+def run(name, options):
+    """Runs a check on a new database, and prints its line. Returns whether it passed."""
+    with tempfile.TemporaryDirectory() as room:
+        try:
+            with Server(options.program, room) as server:
+                result = CHECKS[name](server, options)
+                require(server.child.poll() is None, "the server has ended")
+            print(f"ok   {name}: {result}", flush=True)
+            return True
+        except (Failed, OSError, subprocess.TimeoutExpired) as fault:
+            print(f"FAIL {name}: {fault}", flush=True)
+            return False
+
+
+def main():
+    parser = argparse.ArgumentParser(description=__doc__.splitlines()[0])
+    parser.add_argument("--program", default=str(TOP / "bin/custody"), help="the program [default: bin/custody]")
+    parser.add_argument("--only", action="append", choices=CHECKS, help="only this check")
+    parser.add_argument("--rounds", type=int, default=10, help="how often a server is ended in mid-load")
+    parser.add_argument("--connections", type=int, default=10_000)
+    parser.add_argument("--requests", type=int, default=1_000_000)
+    options = parser.parse_args()
+    options.program = os.path.abspath(options.program)
+    names = options.only or list(CHECKS)
+    passed = sum([run(name, options) for name in names])
+    print(f"{passed} passed, {len(names) - passed} failed")
+    return 0 if passed == len(names) else 1
+
+
+if __name__ == "__main__":
+    sys.exit(main())
