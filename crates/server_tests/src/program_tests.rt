@@ -9,6 +9,7 @@ mod issued;
 mod lock_requests;
 mod policies;
 mod program;
+mod serving;
 mod sessions;
 mod streams;
 mod transcript;

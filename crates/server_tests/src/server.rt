@@ -153,8 +153,8 @@ pub(crate) fn sent_by<S: Alter>(
     let mut sink = VecSink::new(rt.alloc(), most);
     let alloc = rt.alloc();
     let served = serve(alloc, store, policy, &routes, now, &mut source, &mut sink);
-    // A connection is read to its end, whatever the replies.
-    assert!(rt; source.left().is_empty());
+    // Without a reply that closes, a connection is read to its end.
+    assert!(rt; served.end == End::Closed || source.left().is_empty());
     let text = unwrap(rt, str::from_utf8(sink.taken()));
     let text = unwrap(rt, text.to_owned(alloc));
     Sent { text, served }
@@ -337,6 +337,10 @@ pub(crate) fn served(answered: usize, closes: bool) -> Served {
 /// Limits, in bytes, of a read and of a write.
 pub(crate) const MOSTS: &[usize] = &[1, 7, usize::MAX];
 
+/// The same for long heads. After each read a head is examined from its beginning, so short reads of a
+/// long one take seconds.
+pub(crate) const LARGE_MOSTS: &[usize] = &[1_000, 4_096, usize::MAX];
+
 /// Asserts that this text was sent, and that the connection ended this way.
 pub(crate) fn expect_sent(rt: &impl Tester, bytes: &[u8], sent: &Sent, text: &str, served: Served) {
     let shown = str::from_utf8(bytes).unwrap_or("bytes that are no text");
@@ -350,7 +354,19 @@ pub(crate) fn expect_sent(rt: &impl Tester, bytes: &[u8], sent: &Sent, text: &st
 /// Asserts that a new server sends this and ends this way, with each limit of [`MOSTS`], and then has
 /// made `locks` locks.
 pub(crate) fn expect_text(rt: &impl Tester, bytes: &[u8], text: &str, served: Served, locks: u32) {
-    for most in MOSTS {
+    expect_text_by(rt, MOSTS, bytes, text, served, locks);
+}
+
+/// The same with each of these limits.
+pub(crate) fn expect_text_by(
+    rt: &impl Tester,
+    mosts: &[usize],
+    bytes: &[u8],
+    text: &str,
+    served: Served,
+    locks: u32,
+) {
+    for most in mosts {
         let mut server = Server::new(rt);
         let sent = server.answer(rt, bytes, *most);
         expect_sent(rt, bytes, &sent, text, served);
@@ -358,26 +374,31 @@ pub(crate) fn expect_text(rt: &impl Tester, bytes: &[u8], text: &str, served: Se
     }
 }
 
-/// Asserts that a server answers the message this way: by the code of the rule that refuses it, or by
-/// [`CREATED`] if `want` is `201`.
+/// Asserts that a server answers the message this way, with each limit of [`MOSTS`]: by the code of the
+/// rule that refuses it, or by [`CREATED`] if `want` is `201`.
 ///
 /// The worked lock that follows is ignored after a refused head, which closes. After any other message
 /// it is answered, as the first lock if that message was refused.
 pub(crate) fn expect(rt: &impl Tester, message: &[u8], want: &str) {
+    expect_by(rt, MOSTS, message, want);
+}
+
+/// The same with each of these limits.
+pub(crate) fn expect_by(rt: &impl Tester, mosts: &[usize], message: &[u8], want: &str) {
     let both = joined(rt, message, MESSAGE.as_bytes());
     if want == "201" {
         let text = texts(rt, &[CREATED, HELD]);
-        return expect_text(rt, &both, text.as_str(), served(2, false), 1);
+        return expect_text_by(rt, mosts, &both, text.as_str(), served(2, false), 1);
     }
     let closes = want.starts_with('H');
     let text = refusal(rt, want, closes);
-    expect_text(rt, message, text.as_str(), served(1, closes), 0);
+    expect_text_by(rt, mosts, message, text.as_str(), served(1, closes), 0);
     if closes {
-        return expect_text(rt, &both, text.as_str(), served(1, true), 0);
+        return expect_text_by(rt, mosts, &both, text.as_str(), served(1, true), 0);
     }
     let text = joined(rt, text.as_bytes(), CREATED.as_bytes());
     let text = unwrap(rt, str::from_utf8(&text));
-    expect_text(rt, &both, text, served(2, false), 1);
+    expect_text_by(rt, mosts, &both, text, served(2, false), 1);
 }
 
 /// Messages that differ in one place of the head, marked `@`.

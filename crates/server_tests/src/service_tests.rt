@@ -1,5 +1,6 @@
 //! Tests of `service`: connections, from their bytes to the replies.
 
+mod arrivals;
 mod bodies;
 mod callers;
 mod connections;

@@ -226,10 +226,20 @@ fn another_database_is_left(rt: HostRuntime) {
 /// Arguments that ask for help, and what the help names: each command, or each argument and value that
 /// the command takes, as docs/COMMANDS.md has them.
 const HELPS: &[(&str, &[&str])] = &[
-    ("--help", &["session", "authenticate", "prune"]),
+    ("--help", &["session", "serve", "authenticate", "prune"]),
     (
         "session --help",
         &["--db <FILE>", "--policy <FILE>", "--now <N>"],
+    ),
+    (
+        "serve --help",
+        &[
+            "--db <FILE>",
+            "--policy <FILE>",
+            "--listen <ADDR>",
+            "--requests <N>",
+            "--idle <SECONDS>",
+        ],
     ),
     (
         "authenticate --help",
@@ -272,6 +282,6 @@ fn no_words_are_answered_by_help(rt: HostRuntime) {
     expect_parts(
         &rt,
         ran.errors.as_slice(),
-        &["session", "authenticate", "prune"],
+        &["session", "serve", "authenticate", "prune"],
     );
 }

@@ -75,6 +75,68 @@ fn one_connection_carries_the_three(rt: HostRuntime) {
     }
 }
 
+/// Streams of one connection, as parts; the parts of the text written, and its size; the number of
+/// replies, and whether the last closes.
+type Session = (
+    &'static [&'static str],
+    &'static [&'static str],
+    usize,
+    usize,
+    bool,
+);
+
+const SESSIONS: &[Session] = &[
+    (&[MESSAGE, MESSAGE], &[CREATED, HELD], 419, 2, false),
+    // The reply to a request of HTTP/1.0 closes.
+    (
+        &[
+            "POST /studio/film.git/info/lfs/locks HTTP/1.0\r\n",
+            ANN,
+            "\r\nContent-Length: 23\r\n\r\n",
+            HERO,
+            MESSAGE,
+        ],
+        &[
+            "HTTP/1.1 201 Created\r\nContent-Type: application/vnd.git-lfs+json\r\nContent-Length: 99\r\nConnection: close\r\n\r\n{\"lock\":{\"id\":\"1\",\"locked_at\":\"2016-05-17T15:49:06Z\",\"owner\":{\"name\":\"ann\"},\"path\":\"art/hero.psd\"}}",
+        ],
+        206,
+        1,
+        true,
+    ),
+    (
+        &["\x00\x00\x00\x00\r\n\r\n"],
+        &[
+            "HTTP/1.1 400 Bad Request\r\nContent-Type: application/vnd.git-lfs+json\r\nContent-Length: 34\r\nConnection: close\r\n\r\n{\"message\":\"H1: bad request head\"}",
+        ],
+        145,
+        1,
+        true,
+    ),
+    (
+        &["DELETE /studio/film.git/info/lfs/locks HTTP/1.1\r\n\r\n"],
+        &[
+            "HTTP/1.1 405 Method Not Allowed\r\nContent-Type: application/vnd.git-lfs+json\r\nContent-Length: 47\r\nAllow: GET, POST\r\nConnection: close\r\n\r\n{\"message\":\"H7: the method is not served here\"}",
+        ],
+        183,
+        1,
+        true,
+    ),
+];
+
+#[test]
+fn the_worked_sessions_are_served(rt: HostRuntime) {
+    for (parts, replies, size, answered, closes) in SESSIONS {
+        let bytes = texts(&rt, parts);
+        let want = texts(&rt, replies);
+        assert_eq!(rt; want.len(), *size);
+        for most in &[1, 2, 7, 4_096] {
+            let sent = Server::new(&rt).answer(&rt, bytes.as_bytes(), *most);
+            let served = served(*answered, *closes);
+            expect_sent(&rt, bytes.as_bytes(), &sent, want.as_str(), served);
+        }
+    }
+}
+
 #[test]
 fn another_user_meets_the_lock(rt: HostRuntime) {
     let asked = asking(&rt, BOB, HERO);
@@ -103,13 +165,19 @@ fn three_hundred_locks_have_rising_ids(rt: HostRuntime) {
     for number in 1..=300u32 {
         add_lock(&rt, number, &mut asked, &mut want);
     }
-    expect_text(
-        &rt,
-        asked.as_bytes(),
-        want.as_str(),
-        served(300, false),
-        300,
-    );
+    // The connection keeps 16,384 bytes: heads and bodies come in two parts.
+    for most in &[1, 7, 4_096, 16_383, usize::MAX] {
+        let mut server = Server::new(&rt);
+        let sent = server.answer(&rt, asked.as_bytes(), *most);
+        expect_sent(
+            &rt,
+            asked.as_bytes(),
+            &sent,
+            want.as_str(),
+            served(300, false),
+        );
+        assert_eq!(rt; server.made(&rt), 300);
+    }
 }
 
 /// Seconds, and the text of the moment in the reply.

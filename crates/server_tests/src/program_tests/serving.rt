@@ -1,0 +1,310 @@
+//! The command `serve`: clients over sockets of this machine, which connect and send before the server
+//! begins, and read after it has ended.
+
+use super::program::{Ran, path_of, prepare, remove, run};
+use super::transcript::{POLICY, perform, play};
+use crate::harness::{Tester, unwrap};
+use crate::server::{BAD_HEAD, CREATED, HELD, MESSAGE};
+use cli::{ServeArgs, serve_listener};
+use std::cell::Cell;
+use std::io::{self, Read, Write};
+use std::net::{Shutdown, TcpListener, TcpStream};
+use std::rt::HostRuntime;
+use std::time::{Clock, Duration};
+use tables::Unknown;
+
+/// Words and values that are refused, in the order of docs/COMMANDS.md.
+const REFUSED: &str = r#"
+$ serve --db @/db --policy @/policy
+error error: the following required arguments were not provided:
+error   --listen <ADDR>
+error
+error Usage: custody serve --db <FILE> --policy <FILE> --listen <ADDR>
+error
+error For more information, try '--help'.
+status 2
+missing db
+$ serve --db @/db --policy @/policy --listen 127.0.0.1:0 --requests 0
+error custody: bad value for --requests
+status 2
+missing db
+$ serve --db @/db --policy @/policy --listen 127.0.0.1:0 --requests 1000001
+error custody: bad value for --requests
+status 2
+missing db
+$ serve --db @/db --policy @/policy --listen 127.0.0.1:0 --requests ~1
+error custody: bad value for --requests
+status 2
+missing db
+$ serve --db @/db --policy @/policy --listen 127.0.0.1:0 --idle 0
+error custody: bad value for --idle
+status 2
+missing db
+$ serve --db @/db --policy @/policy --listen 127.0.0.1:0 --idle 86401
+error custody: bad value for --idle
+status 2
+missing db
+# the requests before the idle time
+$ serve --db @/db --policy @/policy --listen 127.0.0.1:0 --idle x --requests x
+error custody: bad value for --requests
+status 2
+missing db
+# the values before the policy
+$ serve --db @/db --policy @/nowhere --listen 127.0.0.1:0 --requests 1000000 --idle x
+error custody: bad value for --idle
+status 2
+missing db
+# the policy before the address
+$ serve --db @/db --policy @/nowhere --listen 127.0.0.1 --requests 1000000 --idle 86400
+error custody: policy not read
+status 1
+missing db
+# the address before the database
+$ serve --db @ --policy @/policy --listen 127.0.0.1
+error custody: network
+status 1
+$ serve --db @/db --policy @/policy --listen 192.0.2.1:80
+error custody: network
+status 1
+missing db
+# the database before the first connection
+$ serve --db @ --policy @/policy --listen 127.0.0.1:0
+error custody: store G2
+status 1
+"#;
+
+#[test]
+fn serve_reports_the_first_fault(rt: HostRuntime) {
+    perform(&rt, &rt, "unserved", POLICY, REFUSED);
+}
+
+#[test]
+fn an_address_in_use_is_refused(rt: HostRuntime) {
+    prepare(&rt, &rt, "in_use", POLICY);
+    let listener = unwrap(&rt, TcpListener::bind(&rt, "127.0.0.1:0"));
+    let port = unwrap(&rt, listener.local_addr()).port();
+    let line = unwrap(
+        &rt,
+        format!(in rt.alloc(); "serve --db @/db --policy @/policy --listen 127.0.0.1:{port}"),
+    );
+    let ran = run(&rt, &rt, "in_use", line.as_str(), "");
+    assert!(rt; ran.is(1, "", "custody: network\n"));
+    remove(&rt, "in_use");
+}
+
+/// A clock that shows one second since 1970, or fails, and whose other time runs faster.
+#[derive(Drop)]
+struct TestClock<'a> {
+    host: &'a HostRuntime,
+    second: Option<u64>,
+    /// How many seconds the other time leaps at each look.
+    leap: u64,
+    looks: Cell<u64>,
+}
+
+impl Clock for TestClock<'_> {
+    fn monotonic(&self) -> io::Result<Duration> {
+        let looks = self.looks.get().saturating_add(1);
+        self.looks.set(looks);
+        let ahead = Duration::from_secs(looks.saturating_mul(self.leap));
+        Ok(self.host.monotonic()?.saturating_add(ahead))
+    }
+
+    fn since_1970(&self) -> io::Result<Duration> {
+        match self.second {
+            Some(second) => Ok(Duration::from_secs(second)),
+            None => Err(io::ErrorKind::Other.into()),
+        }
+    }
+}
+
+/// What a client does after it has sent its bytes.
+#[derive(Clone, Copy)]
+enum After {
+    /// It waits.
+    Waits,
+    /// It closes its sending side.
+    Ends,
+    /// It closes the connection.
+    Leaves,
+}
+
+/// A client: its messages, what it does then, and the replies that it is sent.
+#[derive(Drop)]
+struct Client {
+    sent: &'static [&'static str],
+    after: After,
+    replies: &'static [&'static str],
+}
+
+/// A client that sends these messages.
+fn client_of(
+    sent: &'static [&'static str],
+    after: After,
+    replies: &'static [&'static str],
+) -> Client {
+    Client {
+        sent,
+        after,
+        replies,
+    }
+}
+
+/// Connects to the listener, and sends. Returns the connection, unless it is closed.
+fn connect(
+    rt: &impl Tester,
+    host: &HostRuntime,
+    listener: &TcpListener,
+    client: &Client,
+) -> Option<TcpStream> {
+    let address = unwrap(rt, listener.local_addr());
+    let mut stream = unwrap(rt, TcpStream::connect(host, address));
+    for message in client.sent {
+        unwrap(rt, stream.write_all(message.as_bytes()));
+    }
+    match client.after {
+        After::Waits => {}
+        After::Ends => unwrap(rt, stream.shutdown(Shutdown::Write)),
+        After::Leaves => return None,
+    }
+    Some(stream)
+}
+
+/// Asserts what the client was sent, up to the end of the connection.
+fn expect_replies(rt: &impl Tester, stream: &mut TcpStream, client: &Client) {
+    let mut came = Vec::new(rt.alloc());
+    unwrap(rt, stream.read_to_end(&mut came));
+    let mut rest = came.as_slice();
+    for reply in client.replies {
+        assert!(rt; rest.starts_with(reply.as_bytes()), "{reply}");
+        rest = rest.get(reply.len()..).unwrap_or(rest);
+    }
+    assert!(rt; rest.is_empty());
+}
+
+/// Serves as many connections as there are clients, and returns what the program printed.
+fn serve(
+    rt: &impl Tester,
+    clock: &TestClock<'_>,
+    folder: &str,
+    listener: &TcpListener,
+    idle: u64,
+    count: usize,
+) -> Ran {
+    let (db, policy) = (path_of(rt, folder, "db"), path_of(rt, folder, "policy"));
+    let args = ServeArgs {
+        db: db.as_str(),
+        policy: policy.as_str(),
+        listen: "here",
+        requests: Some(count as u64),
+        idle,
+    };
+    let mut output = Vec::new(rt.alloc());
+    let mut errors = Vec::new(rt.alloc());
+    let host = clock.host;
+    let status = serve_listener(
+        host,
+        clock,
+        &args,
+        listener,
+        &mut output,
+        &mut errors,
+        Unknown,
+    );
+    Ran {
+        status,
+        output,
+        errors,
+    }
+}
+
+/// Serves the clients in order, and asserts what they were sent. Returns what the program printed.
+fn serve_clients(
+    rt: &impl Tester,
+    clock: &TestClock<'_>,
+    folder: &str,
+    idle: u64,
+    clients: &[Client],
+) -> Ran {
+    prepare(rt, clock.host, folder, POLICY);
+    play(rt, clock.host, folder, "token a ann studio/film");
+    let listener = unwrap(rt, TcpListener::bind(clock.host, "127.0.0.1:0"));
+    let mut streams = Vec::new(rt.alloc());
+    for client in clients {
+        let stream = connect(rt, clock.host, &listener, client);
+        unwrap(rt, streams.push(stream));
+    }
+    let ran = serve(rt, clock, folder, &listener, idle, clients.len());
+    for (stream, client) in streams.iter_mut().zip(clients) {
+        if let Some(stream) = stream {
+            expect_replies(rt, stream, client);
+        }
+    }
+    remove(clock.host, folder);
+    ran
+}
+
+/// A clock at the second of the worked example.
+fn clock_of(host: &HostRuntime, leap: u64) -> TestClock<'_> {
+    TestClock {
+        host,
+        second: Some(1_463_500_146),
+        leap,
+        looks: Cell::new(0),
+    }
+}
+
+#[test]
+fn connections_are_served_in_turn(rt: HostRuntime) {
+    let clients = [
+        client_of(&[MESSAGE], After::Ends, &[CREATED]),
+        client_of(&[MESSAGE, MESSAGE], After::Ends, &[HELD, HELD]),
+        client_of(&["no head\r\n\r\n", MESSAGE], After::Ends, &[BAD_HEAD]),
+        client_of(&[], After::Leaves, &[]),
+    ];
+    let ran = serve_clients(&rt, &clock_of(&rt, 0), "served", 10, clients.as_slice());
+    assert!(rt; ran.is(0, "listening on here\nserved 4 connections\n", ""));
+}
+
+#[test]
+fn a_failed_connection_is_reported(rt: HostRuntime) {
+    let clients = [
+        client_of(&[MESSAGE, MESSAGE], After::Leaves, &[]),
+        client_of(&[MESSAGE], After::Ends, &[HELD]),
+    ];
+    let ran = serve_clients(&rt, &clock_of(&rt, 0), "left", 10, clients.as_slice());
+    let errors = "custody: connection 1 WriteFailed\n";
+    assert!(rt; ran.is(0, "listening on here\nserved 2 connections\n", errors));
+}
+
+#[test]
+fn a_client_that_waits_gives_way(rt: HostRuntime) {
+    // An idle client gives way to the next one long before the idle time is over.
+    let clients = [
+        client_of(&[], After::Waits, &[]),
+        client_of(&[MESSAGE], After::Ends, &[CREATED]),
+    ];
+    let ran = serve_clients(&rt, &clock_of(&rt, 0), "idle", 86_400, clients.as_slice());
+    assert!(rt; ran.is(0, "listening on here\nserved 2 connections\n", ""));
+    // Half a message may pause for 30 seconds, which this clock shows soon.
+    let clients = [
+        client_of(&[], After::Waits, &[]),
+        client_of(&["POST /studio/film.git"], After::Waits, &[]),
+        client_of(&[MESSAGE], After::Ends, &[CREATED]),
+    ];
+    let ran = serve_clients(&rt, &clock_of(&rt, 20), "slow", 10, clients.as_slice());
+    assert!(rt; ran.is(0, "listening on here\nserved 3 connections\n", ""));
+}
+
+#[test]
+fn a_connection_needs_a_moment(rt: HostRuntime) {
+    let clock = TestClock {
+        host: &rt,
+        second: None,
+        leap: 0,
+        looks: Cell::new(0),
+    };
+    let clients = [client_of(&[MESSAGE], After::Leaves, &[])];
+    let ran = serve_clients(&rt, &clock, "timeless", 10, clients.as_slice());
+    assert!(rt; ran.is(1, "listening on here\n", "custody: no moment\n"));
+}

@@ -1,0 +1,313 @@
+//! When a connection is read: each reply is written before more is read.
+
+use super::connections::{CHUNKED, CREATED_LAST, LAST, REFUSED};
+use crate::harness::*;
+use crate::server::*;
+use names::{DeviceFault, Sink, SliceSource, Source, VecSink};
+use service::Served;
+use std::cell::Cell;
+use std::process::Abort;
+
+/// A call of a source.
+#[derive(Clone, Copy, Debug, PartialEq, Eq)]
+enum Call {
+    /// A message is expected, of which nothing was read.
+    Expects,
+    /// A message is expected, of which a part was read.
+    ExpectsMore,
+    /// A read.
+    Reads,
+}
+
+use Call::{Expects, ExpectsMore, Reads};
+
+/// A call, the number of bytes that the source returned before, and the number that the sink had taken.
+type Entry = (Call, usize, usize);
+
+/// A source that records its calls. Of successive reads between two replies it records the first.
+#[derive(Drop)]
+struct Watched<'c, S> {
+    inner: S,
+    returned: usize,
+    taken: &'c Cell<usize>,
+    calls: Vec<Entry>,
+}
+
+impl<S> Watched<'_, S> {
+    /// Whether a read was recorded since the sink took its last byte.
+    fn has_read(&self) -> bool {
+        match self.calls.last() {
+            Some((call, _, taken)) => *call == Reads && *taken == self.taken.get(),
+            None => false,
+        }
+    }
+
+    fn record(&mut self, call: Call) {
+        let entry = (call, self.returned, self.taken.get());
+        let _recorded = self.calls.push(entry);
+    }
+}
+
+impl<S: Source> Source for Watched<'_, S> {
+    ghost left = { λ s. S.left s.inner };
+
+    ghost reference = { λ s. S.reference s.inner };
+
+    ghost budget = { λ s. S.budget s.inner };
+
+    ghost failed = { λ s. S.failed s.inner };
+
+    ghost bounded = { λ s. S.bounded s.inner };
+
+    fn read(&mut self, piece: &mut [u8]) -> Result<usize, DeviceFault> {
+        if !self.has_read() {
+            self.record(Reads);
+        }
+        let size = self.inner.read(piece)?;
+        self.returned = self.returned.saturating_add(size);
+        Ok(size)
+    }
+
+    fn expect_message(&mut self, has_begun: bool) {
+        self.record(if has_begun { ExpectsMore } else { Expects });
+        self.inner.expect_message(has_begun)
+    }
+
+    fn failures(&self) -> u64 {
+        self.inner.failures()
+    }
+}
+
+/// A sink that counts the bytes that it took in a cell.
+#[derive(Drop)]
+struct Metered<'c, K> {
+    inner: K,
+    taken: &'c Cell<usize>,
+}
+
+impl<K: Sink> Sink for Metered<'_, K> {
+    ghost taken = { λ k. K.taken k.inner };
+
+    ghost failed = { λ k. K.failed k.inner };
+
+    fn write(&mut self, piece: &[u8]) -> Result<usize, DeviceFault> {
+        let size = self.inner.write(piece)?;
+        self.taken.set(self.taken.get().saturating_add(size));
+        Ok(size)
+    }
+
+    fn failures(&self) -> u64 {
+        self.inner.failures()
+    }
+}
+
+/// What a connection has to do.
+#[derive(Clone, Copy, Debug)]
+struct Wanted<'w> {
+    /// The calls of the source.
+    calls: &'w [Entry],
+    /// The number of bytes that the source returned.
+    returned: usize,
+    /// The text written, and the end.
+    text: &'w str,
+    served: Served,
+}
+
+/// Asserts that a new server serves these bytes this way, with at most `most` bytes per read.
+fn expect_calls(rt: &impl Tester, bytes: &[u8], most: usize, want: &Wanted<'_>) {
+    let taken = Cell::new(0);
+    let mut source = Watched {
+        inner: SliceSource::new(bytes, most),
+        returned: 0,
+        taken: &taken,
+        calls: Vec::new(rt.alloc()),
+    };
+    let mut sink = Metered {
+        inner: VecSink::new(rt.alloc(), usize::MAX),
+        taken: &taken,
+    };
+    let served = Server::new(rt).serve(rt, &mut source, &mut sink);
+    assert_eq!(rt;
+        (source.calls.as_slice(), source.returned),
+        (want.calls, want.returned),
+        "reads of {most}"
+    );
+    assert!(rt; sink.inner.taken() == want.text.as_bytes());
+    assert_eq!(rt; served, want.served);
+}
+
+/// Messages, and the most bytes of a read; then the calls of the source, the number of bytes that it
+/// returns, the replies, and whether the last of them closes.
+type Arrival = (
+    &'static [&'static str],
+    usize,
+    &'static [Entry],
+    usize,
+    &'static [&'static str],
+    bool,
+);
+
+const ARRIVALS: &[Arrival] = &[
+    // The worked lock twice: before its byte 181 is read, the reply of 187 bytes is written.
+    (
+        &[MESSAGE, MESSAGE],
+        1,
+        &[
+            (Expects, 0, 0),
+            (Reads, 0, 0),
+            (Expects, 180, 187),
+            (Reads, 180, 187),
+            (Expects, 360, 419),
+            (Reads, 360, 419),
+        ],
+        360,
+        &[CREATED, HELD],
+        false,
+    ),
+    (
+        &[MESSAGE, MESSAGE],
+        60,
+        &[
+            (Expects, 0, 0),
+            (Reads, 0, 0),
+            (Expects, 180, 187),
+            (Reads, 180, 187),
+            (Expects, 360, 419),
+            (Reads, 360, 419),
+        ],
+        360,
+        &[CREATED, HELD],
+        false,
+    ),
+    // A part of the second message comes with the first.
+    (
+        &[MESSAGE, MESSAGE],
+        200,
+        &[
+            (Expects, 0, 0),
+            (Reads, 0, 0),
+            (ExpectsMore, 200, 187),
+            (Reads, 200, 187),
+            (Expects, 360, 419),
+            (Reads, 360, 419),
+        ],
+        360,
+        &[CREATED, HELD],
+        false,
+    ),
+    // The whole head of the second comes with the first, and then both come in one read.
+    (
+        &[MESSAGE, MESSAGE],
+        337,
+        &[
+            (Expects, 0, 0),
+            (Reads, 0, 0),
+            (Reads, 337, 187),
+            (Expects, 360, 419),
+            (Reads, 360, 419),
+        ],
+        360,
+        &[CREATED, HELD],
+        false,
+    ),
+    (
+        &[MESSAGE, MESSAGE],
+        usize::MAX,
+        &[
+            (Expects, 0, 0),
+            (Reads, 0, 0),
+            (Expects, 360, 419),
+            (Reads, 360, 419),
+        ],
+        360,
+        &[CREATED, HELD],
+        false,
+    ),
+    // A message that asks to be the last is the last that is read.
+    (
+        &[LAST, MESSAGE],
+        1,
+        &[(Expects, 0, 0), (Reads, 0, 0)],
+        199,
+        &[CREATED_LAST],
+        true,
+    ),
+    // Of a message whose head is refused, only the head is read.
+    (
+        &[CHUNKED, MESSAGE],
+        1,
+        &[(Expects, 0, 0), (Reads, 0, 0)],
+        185,
+        &[REFUSED],
+        true,
+    ),
+    (
+        &[MESSAGE, CHUNKED, MESSAGE],
+        1,
+        &[
+            (Expects, 0, 0),
+            (Reads, 0, 0),
+            (Expects, 180, 187),
+            (Reads, 180, 187),
+        ],
+        365,
+        &[CREATED, REFUSED],
+        true,
+    ),
+    // What is not read on, since its head came with the message before, is not expected.
+    (
+        &[MESSAGE, CHUNKED, MESSAGE],
+        365,
+        &[(Expects, 0, 0), (Reads, 0, 0)],
+        365,
+        &[CREATED, REFUSED],
+        true,
+    ),
+];
+
+#[test]
+fn a_reply_is_written_before_more_is_read(rt: HostRuntime) {
+    assert_eq!(rt; LAST.len(), 199);
+    for (messages, most, calls, returned, replies, closes) in ARRIVALS {
+        let bytes = texts(&rt, messages);
+        let text = texts(&rt, replies);
+        let want = Wanted {
+            calls,
+            returned: *returned,
+            text: text.as_str(),
+            served: served(replies.len(), *closes),
+        };
+        expect_calls(&rt, bytes.as_bytes(), *most, &want);
+    }
+}
+
+/// Request lines and fields of messages with a body, and the rule that refuses each head.
+const REFUSED_HEADS: &[(&str, &[&str], &str)] = &[
+    (LOCKS, &[ANN, LENGTH, "Transfer-Encoding: chunked"], "H2"),
+    (LOCKS, &[ANN], "H3"),
+    (LOCKS, &[ANN, LENGTH, LENGTH], "H4"),
+    (LOCKS, &[ANN, "Content-Length: 1048577"], "H5"),
+    ("POST /nowhere HTTP/1.1", &[ANN, LENGTH], "H6"),
+    (
+        "PUT /studio/film.git/info/lfs/locks HTTP/1.1",
+        &[ANN, "Content-Length: 268435456"],
+        "H7",
+    ),
+    (LOCKS, &[ANN, LENGTH, "Accept: text/html"], "H8"),
+];
+
+#[test]
+fn nothing_is_read_after_a_head_that_is_refused(rt: HostRuntime) {
+    for (line, fields, code) in REFUSED_HEADS {
+        let head = message(&rt, line, fields, "");
+        let bytes = texts(&rt, &[head.as_str(), HERO, MESSAGE]);
+        let text = refusal(&rt, code, true);
+        let want = Wanted {
+            calls: &[(Expects, 0, 0), (Reads, 0, 0)],
+            returned: head.len(),
+            text: text.as_str(),
+            served: served(1, true),
+        };
+        expect_calls(&rt, bytes.as_bytes(), 1, &want);
+    }
+}
