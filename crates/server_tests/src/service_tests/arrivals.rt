@@ -1,5 +1,7 @@
 //! When a connection is read: each reply is written before more is read.
 
+ghost use Rattle.std.specs.Prelude.{◌≡◌};
+
 use super::connections::{CHUNKED, CREATED_LAST, LAST, REFUSED};
 use crate::harness::*;
 use crate::server::*;
@@ -42,7 +44,9 @@ impl<S> Watched<'_, S> {
         }
     }
 
-    fn record(&mut self, call: Call) {
+    fn record(&mut self, call: Call)
+        ensures { self.new.inner ≡ self.old.inner }
+    {
         let entry = (call, self.returned, self.taken.get());
         let _recorded = self.calls.push(entry);
     }
@@ -113,11 +117,12 @@ struct Wanted<'w> {
     served: Served,
 }
 
-/// Asserts that a new server serves these bytes this way, with at most `most` bytes per read.
-fn expect_calls(rt: &impl Tester, bytes: &[u8], most: usize, want: &Wanted<'_>) {
+/// Asserts that a new server serves these messages this way, with at most `most` bytes per read.
+fn expect_calls(rt: &impl Tester, messages: &[&str], most: usize, want: &Wanted<'_>) {
+    let bytes = texts(rt, messages);
     let taken = Cell::new(0);
     let mut source = Watched {
-        inner: SliceSource::new(bytes, most),
+        inner: SliceSource::new(bytes.as_bytes(), most),
         returned: 0,
         taken: &taken,
         calls: Vec::new(rt.alloc()),
@@ -269,7 +274,6 @@ const ARRIVALS: &[Arrival] = &[
 fn a_reply_is_written_before_more_is_read(rt: HostRuntime) {
     assert_eq!(rt; LAST.len(), 199);
     for (messages, most, calls, returned, replies, closes) in ARRIVALS {
-        let bytes = texts(&rt, messages);
         let text = texts(&rt, replies);
         let want = Wanted {
             calls,
@@ -277,7 +281,7 @@ fn a_reply_is_written_before_more_is_read(rt: HostRuntime) {
             text: text.as_str(),
             served: served(replies.len(), *closes),
         };
-        expect_calls(&rt, bytes.as_bytes(), *most, &want);
+        expect_calls(&rt, messages, *most, &want);
     }
 }
 
@@ -300,7 +304,6 @@ const REFUSED_HEADS: &[(&str, &[&str], &str)] = &[
 fn nothing_is_read_after_a_head_that_is_refused(rt: HostRuntime) {
     for (line, fields, code) in REFUSED_HEADS {
         let head = message(&rt, line, fields, "");
-        let bytes = texts(&rt, &[head.as_str(), HERO, MESSAGE]);
         let text = refusal(&rt, code, true);
         let want = Wanted {
             calls: &[(Expects, 0, 0), (Reads, 0, 0)],
@@ -308,6 +311,6 @@ fn nothing_is_read_after_a_head_that_is_refused(rt: HostRuntime) {
             text: text.as_str(),
             served: served(1, true),
         };
-        expect_calls(&rt, bytes.as_bytes(), 1, &want);
+        expect_calls(&rt, &[head.as_str(), HERO, MESSAGE], 1, &want);
     }
 }
