@@ -40,7 +40,7 @@ none_shown {A} show p xs rows empty are is = go xs ∙ ap not (sym (is ∙ ap (�
 
 -- one more row is read
 module _ {A R F X : Type 0} (show : A → R) (fields : A → F) (read : X → F) where
-  element : (row : R) (xs : List A) (i : ℕ) → i < length (map show xs) → (a : A) × (get_or (map show xs) i row ≡ show a) × (take (suc i) xs ≡ take i xs ++ a ∷ [])
+  pub element : (row : R) (xs : List A) (i : ℕ) → i < length (map show xs) → (a : A) × (get_or (map show xs) i row ≡ show a) × (take (suc i) xs ≡ take i xs ++ a ∷ [])
   element row [] i within = absurd (omega arith)
   element row (a ∷ xs) zero within = (a, refl, refl)
   element row (a ∷ xs) (suc i) within = let rest = element row xs i (omega arith) in (rest.0, rest.1, ap (λ l. a ∷ l) rest.2)

@@ -1,6 +1,7 @@
 pub mod Typed
 pub mod Casts
 pub mod Inserts
+pub mod Counted
 pub mod Writes
 pub mod Creates
 pub mod Selects

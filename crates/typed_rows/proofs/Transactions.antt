@@ -1,7 +1,6 @@
 -- The state of a connection after calls, whatever their statements.
 use Rattle.std.proofs.Common.{arith, ◌≡◌, ◌⊎◌, inl, inr, ℕ, List, None, Some, Option, Ok, Err, Result, IfOk, IfErr, OnOk, IsTrue, true, cond, sym, ap, subst, ◌∙◌}
 use Rattle.sqlite.specs.Order.{Row}
-use Rattle.sqlite.specs.Effect.{Database}
 use Rattle.sqlite.specs.declared.error.Error.{Error}
 use Rattle.sqlite.specs.Listing.{understood}
 use Rattle.sqlite.specs.State.{State, HasCleanDisk, IsUnchanged, IsNotRun, FailsToQuery, FailsToShow, ShowsRows, Shown, Survives, KeepsCommit, ExecutesInside, IsTooLate, RunsCommand, IsRolledBack}

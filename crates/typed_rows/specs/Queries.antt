@@ -1,5 +1,5 @@
 -- The queries of the statements.
-use Rattle.std.proofs.Common.{ℕ, ℤ, pos, negsuc, List, [], ◌∷◌, None, false}
+use Rattle.std.proofs.Common.{ℕ, ℤ, pos, negsuc, List, [], ◌∷◌, None, false, map}
 use Rattle.sqlite.specs.declared.types.Value.TheVariants.{Int}
 use Rattle.sqlite.specs.Term.{Term, lit, col, op2}
 use Rattle.sqlite.specs.Query.{Query, inner, end}
@@ -29,6 +29,10 @@ plain_query tests project tree = record (query_of tests project tree) { order = 
 -- the same in the order of a column and then of the rowid, with at most `limit` rows
 abbrev pub sorted_by : ℕ → ℤ → List Term → List Term → ℕ → Query
 sorted_by place limit tests project tree = record (query_of tests project tree) { order = (col 1 place, ascending Binary) ∷ (col 1 0, ascending Binary) ∷ []; limit = lit (Int limit) }
+
+-- the same in the order of these columns
+abbrev pub ordered_by : List ℕ → List Term → List Term → ℕ → Query
+ordered_by places tests project tree = record (query_of tests project tree) { order = map (λ place. (col 1 place, ascending Binary)) places }
 
 -- the test that the column has the value of the parameter
 abbrev pub is_given : ℕ → ℕ → Term
