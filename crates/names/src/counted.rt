@@ -78,7 +78,7 @@ impl<R: Read> Source for Counted<R> {
         }
     }
 
-    /// A reader is not told of messages.
+    /// A reader does not learn of messages.
     fn expect_message(&mut self, _has_begun: bool) {}
 
     fn failures(&self) -> u64 {

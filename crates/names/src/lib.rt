@@ -7,11 +7,12 @@
 //! a value of the type needs no further test. [`Rule`] has each reason for which the server refuses,
 //! with its code and its status. [`Source`] and [`Sink`] are a connection, as the server uses it;
 //! [`Counted`] makes one of any reader or writer of the standard library, and [`SliceSource`],
-//! [`VecSink`] and [`FailAfter`] serve tests.
+//! [`VecSink`] and [`FailAfter`] serve tests. [`Body`] is the body of one message.
 //!
 //! Only [`moment_text`] allocates memory, and [`VecSink`] as it grows.
 #![tactic(auto)]
 
+mod bodies;
 mod civil;
 mod counted;
 mod limits;
@@ -22,7 +23,9 @@ mod operations;
 mod rules;
 mod streams;
 mod texts;
+mod writing;
 
+pub use bodies::{Body, BodyFault};
 pub use civil::moment_text;
 pub use counted::Counted;
 pub use limits::{ALLOW_LIMIT, LARGEST_OBJECT};
@@ -33,3 +36,4 @@ pub use operations::Operation;
 pub use rules::Rule;
 pub use streams::{DeviceFault, Sink, Source};
 pub use texts::{LockPath, RefName, RepoName, UserName};
+pub use writing::{WriteFault, write_whole};

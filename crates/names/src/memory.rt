@@ -1,11 +1,12 @@
 //! Sources and sinks in memory, for tests: whole, in small pieces, and failing.
 
-ghost use Rattle.std.specs.Prelude.{◌≡◌, ◌-◌, ◌<◌, ◌↔◌, ◌≤◌, ◌+◌, IsTrue, IfOk, OnOk, OnErr, Some, Ok, [], length, max};
-ghost use Rattle.std.specs.Io.KnownBytes.{ReadConsumes, WriteAppends};
+ghost use Rattle.std.specs.Prelude.{◌≡◌, ◌-◌, ◌<◌, ◌↔◌, ◌≤◌, ◌+◌, IsTrue, IfOk, OnOk, OnErr, Some, Ok, [], length, max, ⊤};
+ghost use Rattle.std.specs.Io.KnownBytes.{Consumes, ReadConsumes, WriteAppends};
+ghost use Rattle.std.proofs.KnownBytes.{Consumes-nil, Consumes-trans};
 ghost use Rattle.names.specs.Streams.{HasGrown, most_counted};
 
 use crate::streams::one_more;
-use crate::{DeviceFault, Sink, Source};
+use crate::{Body, BodyFault, DeviceFault, Sink, Source};
 use std::alloc::Global;
 
 /// The bytes of a slice, at most `most` of them per read.
@@ -80,6 +81,41 @@ impl Source for SliceSource<'_> {
     fn failures(&self) -> u64 {
         0
     }
+}
+
+/// The bytes that are left, as a body of that size.
+impl Body for SliceSource<'_> {
+    ghost use Rattle.names.specs.Memory.{slice_left, slice_failures};
+
+    ghost size = { λ s. length (slice_left s) };
+
+    ghost failed = { λ s. slice_failures s };
+
+    ghost moves = { λ old new bytes. Consumes (Some (slice_left old)) (Some (slice_left new)) bytes };
+
+    ghost is_drained = { λ s. ⊤ };
+
+    ghost is_ended = { λ s. ⊤ };
+
+    fn left(&self) -> u64 {
+        self.left.len() as u64
+    }
+
+    fn piece(&mut self, piece: &mut [u8]) -> Result<usize, BodyFault> {
+        match self.read(piece) {
+            Ok(size) => Ok(size),
+            Err(_) => Err(BodyFault::Device),
+        }
+    }
+
+    fn failures(&self) -> u64 {
+        0
+    }
+
+    ghost moves_none = { λ s. Consumes-nil (Some (slice_left s)) };
+
+    ghost moves_on = { λ one two three front back p q. Consumes-trans
+        (Some (slice_left one)) (Some (slice_left two)) (Some (slice_left three)) front back p q };
 }
 
 /// A vector that takes at most `most` bytes per write. A write fails if memory runs out.
