@@ -366,7 +366,7 @@ new_name o (p ∷ objects) e =
     let none = not_found (bytes_eq p.repo o.repo && bytes_eq p.name o.name) p (find (λ (q : Object). bytes_eq q.repo o.repo && bytes_eq q.name o.name) objects) e in
     (other_name o p none.0, new_name o objects none.1)
 
-keeps_with_object : (world : World) (o : Object) → IsObject o → IsWorld world → IsWorld (with_object o world)
+pub keeps_with_object : (world : World) (o : Object) → IsObject o → IsWorld world → IsWorld (with_object o world)
 keeps_with_object world o is w = at (object_named o.repo o.name world) refl
   where
     at : (there : Option Object) → object_named o.repo o.name world ≡ there → IsWorld (cond (is_some there) world (record world { objects = o ∷ world.objects }))

@@ -121,6 +121,9 @@ is_served _ = false
 
 -- the form of a request that is served
 abbrev pub form_of_served : ServedForm → Form
+form_of_served served.Get = form.Get
+form_of_served served.Put = form.Put
+form_of_served served.Verify = form.Verify
 form_of_served served.Lock = form.Lock
 form_of_served served.List = form.List
 form_of_served served.VerifyLocks = form.VerifyLocks

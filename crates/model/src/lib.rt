@@ -60,6 +60,12 @@ pub enum Form {
 /// variant here.
 #[derive(Clone, Copy, Debug, PartialEq, Eq, Hash)]
 pub enum ServedForm {
+    /// The content of an object.
+    Get,
+    /// Upload an object.
+    Put,
+    /// Whether an object is stored.
+    Verify,
     /// Lock a path.
     Lock,
     /// A list of locks.
