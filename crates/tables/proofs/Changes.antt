@@ -1,14 +1,15 @@
 -- The effect of each writing statement on the typed rows.
-use Rattle.std.proofs.Common.{◌≡◌, ◌≤◌, ℕ, ℤ, pos, Bool, true, false, cond, List, [], ◌∷◌, ◌++◌, length, map, filter, Ok, Err, Result, IfOk, IsTrue, refl, sym, ap, subst, ◌∙◌}
+use Rattle.std.proofs.Common.{◌≡◌, ◌≤◌, ℕ, ℤ, pos, Bool, true, false, cond, List, [], ◌∷◌, ◌++◌, length, drop, map, filter, Ok, Err, Result, IfOk, IsTrue, refl, sym, ap, subst, ◌∙◌}
 use Rattle.std.specs.List.{list_all}
 use Rattle.std.specs.Ordering.{int_eq}
 use Rattle.sqlite.specs.declared.types.Value.TheVariants.{Int}
 use Rattle.sqlite.specs.Order.{Row}
-use Rattle.sqlite_trees.specs.Tree.{put_row}
-use Rattle.sqlite_sql.specs.Term.{holds}
+use Rattle.sqlite_trees.specs.Tree.{put_row, rowid}
+use Rattle.sqlite_sql.specs.Term.{eval_all, holds}
 use Rattle.sqlite_sql.specs.declared.ops.CompareOp.TheVariants.{Eq, Le}
-use Rattle.sqlite_rules.specs.Edit.{next_rowid}
-use Rattle.sqlite.specs.Command.TheVariants.{Delete}
+use Rattle.sqlite_rules.specs.Edit.{next_rowid, id_in}
+use Rattle.sqlite.specs.Command.TheVariants.{Delete, Update}
+use Rattle.sqlite_rules.specs.Cast.{cast_row}
 use Rattle.sqlite_catalog.specs.Listing.{IsSound}
 use Rattle.sqlite.specs.State.{State, Shows, Executes, ExecutesInside}
 use Rattle.sqlite.specs.declared.error.Error.{Error}
@@ -19,11 +20,11 @@ use Rattle.sqlite.specs.Term.{Term, col}
 use Rattle.sqlite_keyed.proofs.ListLemmas.{ascending-filter, ascending-map, ascending_weaker}
 use Rattle.sqlite_keyed.proofs.RuleLemmas.{at_most_one}
 use Rattle.sqlite_typed.proofs.TestLemmas.{at_texts, at_ints, then_term, last_term}
-use Rattle.tables.specs.Layout.{custody, repos_at, tokens_at, locks_at}
-use Rattle.tables.specs.Rows.{Repo, repo_row, repo_in, Token, Lock, Tables, Part, repos, tokens, locks, place_of, table_at, tree_of, RowOf, encode, decode, id_of, rows_of, with_rows, rows_in, tables_of, IsTyped, StayBut}
-use Rattle.tables.specs.Statements.{Write, add_lock, add_repo, set_made, remove_lock, add_token, remove_expired, write_text, write_params, with_lock, with_repo, with_made_at, without_lock, with_token, without_expired, has_id, has_expired, writing}
+use Rattle.tables.specs.Layout.{custody, repos_at, tokens_at, chunks_at, locks_at}
+use Rattle.tables.specs.Rows.{Repo, Token, Chunk, Lock, Tables, Part, repos, tokens, uploads, chunks, locks, place_of, table_at, tree_of, RowOf, encode, decode, id_of, rows_of, with_rows, rows_in, tables_of, IsTyped, StayBut}
+use Rattle.tables.specs.Statements.{Write, add_lock, add_repo, set_made, remove_lock, add_token, remove_expired, add_chunk, remove_row, remove_chunks, set_done, add_used, set_used, write_text, write_params, with_lock, with_repo, with_made_at, without_lock, with_token, without_expired, with_chunk, without_row, without_chunks, with_done, with_used_row, with_used_at, has_id, has_expired, is_upload, is_of, writing}
 use Rattle.tables.specs.Runs.{IsOurs, IsKept, Steps, IsWritten, tables_in}
-use Rattle.tables.proofs.Meanings.{IsCommand, add_lock_is, lock_terms, add_repo_is, repo_terms, set_made_is, made_columns, remove_lock_is, add_token_is, token_terms, remove_expired_is}
+use Rattle.tables.proofs.Meanings.{IsCommand, add_lock_is, lock_terms, add_repo_is, repo_terms, set_made_is, made_columns, remove_lock_is, add_token_is, token_terms, remove_expired_is, add_chunk_is, chunk_terms, remove_row_is, remove_chunks_is, set_done_is, done_columns, add_used_is, used_terms, set_used_is, used_columns}
 use Rattle.typed_rows.specs.Queries.{plain_query, is_given}
 use Rattle.typed_rows.proofs.Typed.{appended, keys_rise, typed_by, retyped}
 use Rattle.typed_rows.proofs.Writes.{removes, replaces, how_many, gone, changed}
@@ -86,6 +87,25 @@ module _ (old new : State) (kept : IsKept old.now) (inside : old.in_transaction 
         it.3 ∙ how_many (id_of p) (encode p) (decode p) (keyed p) (back p) params db tests (tree_of p) rows (own p db) passes tested it.0 it.1,
       )
 
+  -- the row with this rowid was changed
+  updated : (sql : List ℕ) (params : Row) (columns : List Term) → IsCommand sql (Update (place_of p) (record { lets = []; body = plain_query (is_given 0 0 ∷ []) columns (tree_of p) })) → (id : ℤ)
+      → ((x : RowOf p) → list_all (holds (params ∷ encode p x ∷ [])) (is_given 0 0 ∷ []) ≡ int_eq (id_of p x) id) → (f : RowOf p → RowOf p) → ((x : RowOf p) → id_of p (f x) ≡ id_of p x)
+      → ((x : RowOf p) → id_in (rowid (eval_all columns (params ∷ encode p x ∷ []))) ≡ id_of p x) → ((x : RowOf p) → cast_row (table_at p) (drop 1 (eval_all columns (params ∷ encode p x ∷ []))) ≡ encode p (f x))
+      → (count : ℕ) → Executes sql params old new (Ok count) → Steps (λ t. with_rows p (update_where (λ x. int_eq (id_of p x) id) f (rows_of p t)) t) old new
+  updated sql params columns m id tested f keeps named made count h =
+      let db = old.now.trees in
+      let xs = rows_in p db in
+      let passes : RowOf p → Bool = λ x. int_eq (id_of p x) id in
+      let rows = typed_at p db kept.typed in
+      let rises = keys_rise (id_of p) (encode p) (decode p) (keyed p) (back p) (db (tree_of p)) rows in
+      let it = replaces sql params old new custody kept.schema (place_of p) (table_at p) (found p) m.plain (alone p) _ m.is count h in
+      let row : new.now.trees (tree_of p) ≡ map (encode p) (update_where passes f xs) =
+      it.2.applies.rows ∙ changed (id_of p) (encode p) (decode p) (keyed p) (back p) params db (is_given 0 0 ∷ []) (tree_of p) rows (own p db) passes tested (table_at p) columns f keeps named made (one_at (id_of p) id xs rises) it.0 it.1 in
+      let typed = typed_by (id_of p) (encode p) (decode p) (keyed p) (back p) (new.now.trees (tree_of p)) (update_where passes f xs) (updated_rise (id_of p) passes f keeps xs rises) row in
+      let left = retyped (id_of p) (encode p) (decode p) (keyed p) (back p) (update_where passes f xs) (new.now.trees (tree_of p)) row in
+      stepped it.2.schema_is it.2.sound it.2.applies.tables it.2.shown typed (λ t. with_rows p (update_where passes f (rows_of p t)) t)
+      (ap (λ ys. with_rows p ys (tables_in old)) (left ∙ ap (update_where passes f) (sym (rows_are p db))))
+
 module _ (old new : State) (count : ℕ) (kept : IsKept old.now) (inside : old.in_transaction ≡ true) where
   lock_added : (l : Lock) → Executes (write_text (add_lock l)) (write_params (add_lock l)) old new (Ok count) → Steps (with_lock l) old new
   unfolding with_lock writing
@@ -121,24 +141,44 @@ module _ (old new : State) (count : ℕ) (kept : IsKept old.now) (inside : old.i
   tokens_removed moment h = dropped old new kept inside tokens _ _ _ (remove_expired_is moment) (has_expired moment) (λ t. last_term (at_ints false Le t.expires moment)) count h
 
   made_set : (id n : ℤ) → Executes (write_text (set_made id n)) (write_params (set_made id n)) old new (Ok count) → Steps (with_made_at id n) old new
-  unfolding with_made_at tables_of writing
+  unfolding with_made_at writing
   made_set id n h =
-      let m = set_made_is id n in
-      let params = Int id ∷ Int n ∷ [] in
-      let key : Repo → ℤ = λ r. r.rowid in
-      let passes : Repo → Bool = λ r. int_eq r.rowid id in
-      let f : Repo → Repo = λ r. record r { made = n } in
-      let tests = is_given 0 0 ∷ [] in
-      let tested : (r : Repo) → list_all (holds (params ∷ repo_row r ∷ [])) tests ≡ passes r = λ r. last_term (at_ints false Eq r.rowid id) in
-      let xs = map repo_in (old.now.trees 1) in
-      let rows = typed_at repos old.now.trees kept.typed in
-      let rises = keys_rise key repo_row repo_in (λ _. refl) (λ _. refl) (old.now.trees 1) rows in
-      let it = replaces (write_text (set_made id n)) params old new custody kept.schema 1 (repos_at 1) refl m.plain (λ _ _. refl) _ m.is count h in
-      let row : new.now.trees 1 ≡ map repo_row (update_where passes f xs) =
-      it.2.applies.rows ∙ changed key repo_row repo_in (λ _. refl) (λ _. refl) params old.now.trees tests 1 rows refl passes tested (repos_at 1) made_columns f (λ _. refl) (λ _. refl) (λ r. rw (cast_int, cast_int, cast_int)) (one_at key id xs rises) it.0 it.1 in
-      let typed = typed_by key repo_row repo_in (λ _. refl) (λ _. refl) (new.now.trees 1) (update_where passes f xs) (updated_rise key passes f (λ _. refl) xs rises) row in
-      stepped old new kept inside repos it.2.schema_is it.2.sound it.2.applies.tables it.2.shown typed (with_made_at id n)
-      (ap (λ ys. with_rows repos ys (tables_in old)) (retyped key repo_row repo_in (λ _. refl) (λ _. refl) (update_where passes f xs) _ row))
+      updated old new kept inside repos _ _ _ (set_made_is id n) id (λ r. last_term (at_ints false Eq r.rowid id)) (λ r. record r { made = n }) (λ _. refl) (λ _. refl) (λ r. rw (cast_int, cast_int, cast_int)) count h
+
+  chunk_added : (c : Chunk) → Executes (write_text (add_chunk c)) (write_params (add_chunk c)) old new (Ok count) → Steps (with_chunk c) old new
+  unfolding with_chunk writing
+  chunk_added c h =
+      let m = add_chunk_is c in
+      let it = inserts (write_text (add_chunk c)) (write_params (add_chunk c)) old new custody kept.schema 5 (chunks_at 8) refl m.plain chunk_terms 4 m.is refl (λ _ _. refl) count h in
+      added old new kept inside chunks it.schema_is it.sound it.applies.tables it.shown (λ n. record c { rowid = n }) (λ _. refl) (it.applies.rows ∙ rw (cast_null, cast_int, cast_int))
+
+  row_removed : (id : ℤ) → Executes (write_text (remove_row id)) (write_params (remove_row id)) old new (Ok count)
+      → Steps (without_row id) old new × (count ≡ length (filter (is_upload id) (rows_in uploads old.now.trees)))
+  unfolding without_row writing
+  row_removed id h = dropped old new kept inside uploads _ _ _ (remove_row_is id) (is_upload id) (λ u. last_term (at_ints false Eq u.id id)) count h
+
+  chunks_removed : (upload : ℤ) → Executes (write_text (remove_chunks upload)) (write_params (remove_chunks upload)) old new (Ok count)
+      → Steps (without_chunks upload) old new × (count ≡ length (filter (is_of upload) (rows_in chunks old.now.trees)))
+  unfolding without_chunks writing
+  chunks_removed upload h = dropped old new kept inside chunks _ _ _ (remove_chunks_is upload) (is_of upload) (λ c. last_term (at_ints false Eq c.upload upload)) count h
+
+  done_set : (id : ℤ) → Executes (write_text (set_done id)) (write_params (set_done id)) old new (Ok count) → Steps (with_done id) old new
+  unfolding with_done writing
+  done_set id h =
+      updated old new kept inside uploads _ _ _ (set_done_is id) id (λ u. last_term (at_ints false Eq u.id id)) (λ u. record u { done = pos 1 }) (λ _. refl) (λ _. refl) (λ u. rw (cast_int, cast_null, cast_int, cast_int)) count h
+
+  used_added : (name : List ℕ) (n : ℤ) → Executes (write_text (add_used name n)) (write_params (add_used name n)) old new (Ok count) → Steps (with_used_row name n) old new
+  unfolding with_used_row writing
+  used_added name n h =
+      let m = add_used_is name n in
+      let it = inserts (write_text (add_used name n)) (write_params (add_used name n)) old new custody kept.schema 1 (repos_at 1) refl m.plain used_terms 4 m.is refl (λ _ _. refl) count h in
+      let at : ℤ → Repo = λ id. record { rowid = id; name = name; made = pos 0; used = n } in
+      added old new kept inside repos it.schema_is it.sound it.applies.tables it.shown at (λ _. refl) (it.applies.rows ∙ rw (cast_null, cast_int, cast_int))
+
+  used_set : (id n : ℤ) → Executes (write_text (set_used id n)) (write_params (set_used id n)) old new (Ok count) → Steps (with_used_at id n) old new
+  unfolding with_used_at writing
+  used_set id n h =
+      updated old new kept inside repos _ _ _ (set_used_is id n) id (λ r. last_term (at_ints false Eq r.rowid id)) (λ r. record r { used = n }) (λ _. refl) (λ _. refl) (λ r. rw (cast_int, cast_int, cast_int)) count h
 
   pub written : (w : Write) → Executes (write_text w) (write_params w) old new (Ok count) → IsWritten w count old new
   unfolding writing tables_of
@@ -148,6 +188,12 @@ module _ (old new : State) (count : ℕ) (kept : IsKept old.now) (inside : old.i
   written (remove_lock repo id) h = let it = lock_removed repo id h in record { step = it.0; gone = it.1 }
   written (add_token t) h = record { step = token_added t h; gone = tt }
   written (remove_expired moment) h = let it = tokens_removed moment h in record { step = it.0; gone = it.1 }
+  written (add_chunk c) h = record { step = chunk_added c h; gone = tt }
+  written (remove_row id) h = let it = row_removed id h in record { step = it.0; gone = it.1 }
+  written (remove_chunks upload) h = let it = chunks_removed upload h in record { step = it.0; gone = it.1 }
+  written (set_done id) h = record { step = done_set id h; gone = tt }
+  written (add_used name used) h = record { step = used_added name used h; gone = tt }
+  written (set_used rowid used) h = record { step = used_set rowid used h; gone = tt }
 
 pub written_inside : (old new : State) (w : Write) (sql : List ℕ) (params : Row) (r : Result ℕ Error) → (IsTrue old.is_open → IsKept old.now) → old.in_transaction ≡ true → sql ≡ write_text w → params ≡ write_params w
     → ExecutesInside 0 sql params old new r → IfOk r (λ count. IsWritten w count old new)

@@ -7,15 +7,15 @@ use Rattle.sqlite.specs.Command.{Command}
 use Rattle.sqlite.specs.Command.TheVariants.{Insert, Select, Update, Delete}
 use Rattle.sqlite.specs.Source.TheVariants.{Values}
 use Rattle.sqlite_sql.specs.declared.ops.BinaryOp.TheVariants.{Compare}
-use Rattle.sqlite_sql.specs.declared.ops.CompareOp.TheVariants.{Le, Ge}
+use Rattle.sqlite_sql.specs.declared.ops.CompareOp.TheVariants.{Eq, Le, Ge}
 use Rattle.sqlite.specs.Collation.TheVariants.{Binary}
 use Rattle.sqlite.specs.Listing.{understood, reads_listing}
 use Rattle.sqlite_tied.specs.Compute.{everything}
 use Rattle.sqlite.proofs.Callers.{IsPlain, command_of}
-use Rattle.typed_rows.specs.Queries.{query_of, plain_query, sorted_by, is_given}
+use Rattle.typed_rows.specs.Queries.{query_of, plain_query, sorted_by, ordered_by, is_given}
 use Rattle.tables.specs.Layout.{custody}
-use Rattle.tables.specs.Rows.{Lock, Token}
-use Rattle.tables.specs.Statements.{meta, made_by, lock_at, lock_with_id, locks_in, locks_from, token, tokens_of, read_text, add_lock, add_repo, set_made, remove_lock, add_token, remove_expired, write_text, reading, writing}
+use Rattle.tables.specs.Rows.{Token, Chunk, Lock}
+use Rattle.tables.specs.Statements.{meta, made_by, lock_at, lock_with_id, locks_in, locks_from, token, tokens_of, used_by, staged_with, object, objects_in, objects, staged, chunk_at, read_text, add_lock, add_repo, set_made, remove_lock, add_token, remove_expired, add_chunk, remove_row, remove_chunks, set_done, add_used, set_used, write_text, reading, writing}
 
 abbrev pub lock_columns : List Term
 lock_columns = col 1 2 ∷ col 1 3 ∷ col 1 4 ∷ col 1 5 ∷ col 1 6 ∷ []
@@ -71,6 +71,44 @@ pub tokens_of_is : (user repo : List ℕ) → IsQuery (read_text (tokens_of user
 unfolding reading understood everything
 tokens_of_is user repo = record { names = token_names; plain = (refl, refl); unlisted = refl; command = refl }
 
+pub used_is : (repo : List ℕ) → IsQuery (read_text (used_by repo)) (query_of (is_given 1 0 ∷ []) (col 1 0 ∷ col 1 3 ∷ []) 1)
+unfolding reading understood everything
+used_is repo = record { names = codes "rowid" ∷ codes "used" ∷ []; plain = (refl, refl); unlisted = refl; command = refl }
+
+abbrev pub upload_columns : List Term
+upload_columns = col 1 0 ∷ col 1 2 ∷ col 1 3 ∷ col 1 4 ∷ col 1 5 ∷ []
+
+abbrev upload_names : List (List ℕ)
+upload_names = codes "id" ∷ codes "repo" ∷ codes "oid" ∷ codes "size" ∷ codes "done" ∷ []
+
+-- the column is this number
+abbrev pub is_number : ℕ → ℕ → Term
+is_number place n = op2 (Compare Eq Binary) (col 1 place) (lit (Int (pos n)))
+
+pub staged_with_is : (id : ℤ) → IsQuery (read_text (staged_with id)) (query_of (is_given 0 0 ∷ is_number 5 0 ∷ []) upload_columns 5)
+unfolding reading understood everything
+staged_with_is id = record { names = upload_names; plain = (refl, refl); unlisted = refl; command = refl }
+
+pub object_is : (repo oid : List ℕ) → IsQuery (read_text (object repo oid)) (query_of (is_given 2 0 ∷ is_given 3 1 ∷ is_number 5 1 ∷ []) upload_columns 5)
+unfolding reading understood everything
+object_is repo oid = record { names = upload_names; plain = (refl, refl); unlisted = refl; command = refl }
+
+pub objects_in_is : (repo : List ℕ) → IsQuery (read_text (objects_in repo)) (ordered_by (2 ∷ 3 ∷ 0 ∷ []) (is_given 2 0 ∷ is_number 5 1 ∷ []) upload_columns 5)
+unfolding reading understood everything
+objects_in_is repo = record { names = upload_names; plain = (refl, refl); unlisted = refl; command = refl }
+
+pub objects_is : IsQuery (read_text objects) (ordered_by (2 ∷ 3 ∷ 0 ∷ []) (is_number 5 1 ∷ []) upload_columns 5)
+unfolding reading understood everything
+objects_is = record { names = upload_names; plain = (refl, refl); unlisted = refl; command = refl }
+
+pub staged_is : IsQuery (read_text staged) (query_of (is_number 5 0 ∷ []) upload_columns 5)
+unfolding reading understood everything
+staged_is = record { names = upload_names; plain = (refl, refl); unlisted = refl; command = refl }
+
+pub chunk_at_is : (upload : ℤ) (n : ℕ) → IsQuery (read_text (chunk_at upload n)) (query_of (is_given 1 0 ∷ is_given 2 1 ∷ []) (col 1 3 ∷ []) 8)
+unfolding reading understood everything
+chunk_at_is upload n = record { names = codes "bytes" ∷ []; plain = (refl, refl); unlisted = refl; command = refl }
+
 abbrev pub lock_terms : List Term
 lock_terms = lit Null ∷ col 0 0 ∷ col 0 1 ∷ col 0 2 ∷ col 0 3 ∷ col 0 4 ∷ col 0 5 ∷ []
 
@@ -106,3 +144,39 @@ add_token_is t = record { plain = (refl, refl); is = refl }
 pub remove_expired_is : (moment : ℤ) → IsCommand (write_text (remove_expired moment)) (Delete 2 (record { lets = []; body = plain_query (op2 (Compare Le Binary) (col 1 5) (col 0 0) ∷ []) (col 1 0 ∷ []) 3 }))
 unfolding writing understood everything
 remove_expired_is moment = record { plain = (refl, refl); is = refl }
+
+abbrev pub chunk_terms : List Term
+chunk_terms = lit Null ∷ col 0 0 ∷ col 0 1 ∷ col 0 2 ∷ []
+
+pub add_chunk_is : (c : Chunk) → IsCommand (write_text (add_chunk c)) (Insert 5 (Values chunk_terms 4))
+unfolding writing understood everything
+add_chunk_is c = record { plain = (refl, refl); is = refl }
+
+pub remove_row_is : (id : ℤ) → IsCommand (write_text (remove_row id)) (Delete 3 (record { lets = []; body = plain_query (is_given 0 0 ∷ []) (col 1 0 ∷ []) 5 }))
+unfolding writing understood everything
+remove_row_is id = record { plain = (refl, refl); is = refl }
+
+pub remove_chunks_is : (upload : ℤ) → IsCommand (write_text (remove_chunks upload)) (Delete 5 (record { lets = []; body = plain_query (is_given 1 0 ∷ []) (col 1 0 ∷ []) 8 }))
+unfolding writing understood everything
+remove_chunks_is upload = record { plain = (refl, refl); is = refl }
+
+abbrev pub done_columns : List Term
+done_columns = col 1 0 ∷ col 1 0 ∷ lit Null ∷ col 1 2 ∷ col 1 3 ∷ col 1 4 ∷ lit (Int (pos 1)) ∷ []
+
+pub set_done_is : (id : ℤ) → IsCommand (write_text (set_done id)) (Update 3 (record { lets = []; body = plain_query (is_given 0 0 ∷ []) done_columns 5 }))
+unfolding writing understood everything
+set_done_is id = record { plain = (refl, refl); is = refl }
+
+abbrev pub used_terms : List Term
+used_terms = lit Null ∷ col 0 0 ∷ lit (Int (pos 0)) ∷ col 0 1 ∷ []
+
+pub add_used_is : (name : List ℕ) (used : ℤ) → IsCommand (write_text (add_used name used)) (Insert 1 (Values used_terms 4))
+unfolding writing understood everything
+add_used_is name used = record { plain = (refl, refl); is = refl }
+
+abbrev pub used_columns : List Term
+used_columns = col 1 0 ∷ col 1 0 ∷ col 1 1 ∷ col 1 2 ∷ col 0 1 ∷ []
+
+pub set_used_is : (rowid used : ℤ) → IsCommand (write_text (set_used rowid used)) (Update 1 (record { lets = []; body = plain_query (is_given 0 0 ∷ []) used_columns 1 }))
+unfolding writing understood everything
+set_used_is rowid used = record { plain = (refl, refl); is = refl }

@@ -1,34 +1,47 @@
 -- From the contract of a function on a connection to that of a call on the store.
-use Rattle.std.proofs.Common.{◌≡◌, ◌≢◌, Bool, true, false, Result, Ok, Err, IsTrue, arith, inl, inr, refl, sym, ap, subst, ◌∙◌}
+use Rattle.std.proofs.Common.{◌≡◌, ◌≢◌, List, Bool, true, false, None, Result, Ok, Err, OnOk, IsTrue, arith, inl, inr, refl, sym, ap, subst, ◌∙◌}
+use Rattle.std.proofs.lemmas.Bool.{true≢false}
 use Rattle.sqlite.specs.Effect.{Database}
-use Rattle.sqlite.specs.Held.{state}
+use Rattle.sqlite.specs.Held.{Held, state}
 use Rattle.sqlite_trees.specs.declared.store.Store.{Ghosts}
 use Rattle.tables.specs.declared.Store.{Store}
 use Rattle.tables.specs.declared.fault.StoreFault.{StoreFault}
 use Rattle.tables.specs.declared.fault.StoreFault.TheVariants.{UnknownSchema}
-use Rattle.tables.specs.Rows.{Tables, tables_of}
+use Rattle.tables.specs.Rows.{Tables, Upload, tables_of}
 use Rattle.tables.specs.Runs.{IsReady, IsKept}
+use Rattle.tables.specs.Remembered.{KnowsStaged}
 use Rattle.typed_rows.specs.Transactions.{Keeps}
 use Rattle.tables.specs.Calls.{Looks, Commits, Transacts}
-use Rattle.tables.specs.Shown.{IsHonest, IsOpen, HasTables, Moves, Adds, Makes, Answers, Reads, Changes}
+use Rattle.tables.specs.Calls as call
+use Rattle.tables.specs.Shown.{IsHonest, IsOpen, HasTables, Moves, Adds, Makes, Reads, Changes, shown}
+use Rattle.tables.proofs.Recalled.{KeepsKnown}
 
 module _ {S : Type 0} (g : Ghosts S) (old new : Store S) where
+  -- what the store remembered of uploads, it still knows
+  abbrev pub Recalls : Type 0
+  Recalls = (us : List Upload) → KnowsStaged old.staged us → KnowsStaged new.staged us
+
   -- a call after which the store shows what it did
-  keeps_moves : (IsHonest g new → IsHonest g old) → (IsHonest g new → Keeps (state g old.conn) (state g new.conn)) → Moves g (λ t. t) old new
-  keeps_moves honest keeps = record {
+  pub keeps_moves : Recalls → (IsHonest g new → IsHonest g old) → (IsHonest g new → Keeps (state g old.conn) (state g new.conn)) → Moves g (λ t. t) old new
+  keeps_moves recalls honest keeps = record {
     was_honest = honest;
     was_open = λ k. (keeps k).was_open;
-    ready = λ ready clean is_open. let same = keeps clean in subst IsKept (sym (same.now is_open)) (ready (honest clean) (same.was_open is_open));
+    ready = λ had. record {
+      ready = λ clean is_open. let same = keeps clean in subst IsKept (sym (same.now is_open)) (had.ready (honest clean) (same.was_open is_open));
+      known = λ clean is_open. let same = keeps clean in
+          recalls (shown g new).uploads (subst (λ (d : Database). KnowsStaged old.staged (tables_of d.trees).uploads) (sym (same.now is_open)) (had.known (honest clean) (same.was_open is_open)));
+    };
     shows = λ k _ is_open. ap (λ (d : Database). tables_of d.trees) ((keeps k).now is_open);
   }
 
-  pub looks_reads : {T U : Type 0} (r : Result T StoreFault) (q : Result U StoreFault) (P : Tables → T → Type 0) (Q : Tables → U → Type 0)
-      → Looks g old.conn new.conn r P → Answers g old new q Q → q ≢ Err UnknownSchema → Reads g old new q Q
-  looks_reads r q P Q looks answers known =
+  -- the same, if what it leaves is no more than before
+  pub reads_from : {T U : Type 0} (r : Result T StoreFault) (q : Result U StoreFault) (P : Tables → T → Type 0) (Q : Tables → U → Type 0)
+      → Recalls → Looks g old.conn new.conn r P → call.Answers g old.conn new.conn q Q → q ≢ Err UnknownSchema → Reads g old new q Q
+  reads_from r q P Q recalls looks answers known =
       let honest : IsHonest g new → IsHonest g old = λ k. omega (arith, k, looks.survives.clean) in
       record {
-        answers = answers;
-        same = keeps_moves honest looks.same;
+        answers = λ k had. answers k had.ready;
+        same = keeps_moves recalls honest looks.same;
         adds = record {
           was_honest = honest;
           outcomes = λ k t left. elim (looks.survives.crash k left.0.trees left.2) [ inl before ↦ (left.0, left.1, before, left.3) | inr none ↦ absurd none ];
@@ -37,47 +50,72 @@ module _ {S : Type 0} (g : Ghosts S) (old new : Store S) where
         known = known;
       }
 
-  was_open : (IsHonest g new → HasTables g old → IsOpen g old) → IsHonest g new → IsOpen g old
+  -- a store that has to be open if it has the tables
+  pub was_open : (IsHonest g new → HasTables g old → IsOpen g old) → IsHonest g new → IsOpen g old
   was_open if_ready k = go (state g old.conn).is_open refl
     where
       go : (b : Bool) → (state g old.conn).is_open ≡ b → IsTrue (state g old.conn).is_open
       go true is = is
-      go false is = if_ready k (λ _ is_open. absurd (let e : false ≡ true = sym is ∙ is_open in cc))
+      go false is = let never = λ (is_open : IsOpen g old). let e : false ≡ true = sym is ∙ is_open in true≢false (sym e) in if_ready k record { ready = λ _ o. absurd (never o); known = λ _ o. absurd (never o) }
 
   module _ {T : Type 0} (f : Tables → Tables) where
-    outcomes : (r : Result T StoreFault) → Commits g (IsReady (state g old.conn)) old.conn new.conn r f → HasTables g old → Adds g f old new
-    outcomes r commits ready = record {
+    pub outcomes : (r : Result T StoreFault) → Commits g (IsReady (state g old.conn)) old.conn new.conn r f → HasTables g old → Adds g f old new
+    outcomes r commits had = record {
       was_honest = commits.clean;
-      outcomes = λ k t left. elim ((commits.stop ready).crash k left.0.trees left.2) [
+      outcomes = λ k t left. elim ((commits.stop had.ready).crash k left.0.trees left.2) [
         | inl before ↦ inl (left.0, left.1, before, left.3)
         | inr after ↦ inr (after.1, left.3 ∙ ap tables_of after.3 ∙ after.2.tables)
       ];
-      safe = λ k safe trees left. elim ((commits.stop ready).crash k trees left) [ inl before ↦ safe trees before | inr after ↦ (after.0, after.2.kept, after.3) ];
+      safe = λ k safe trees left. elim ((commits.stop had.ready).crash k trees left) [ inl before ↦ safe trees before | inr after ↦ (after.0, after.2.kept, after.3) ];
     }
 
-    makes : {x : T} → Commits g (IsReady (state g old.conn)) old.conn new.conn (Ok x) f → Makes g f old new
-    makes commits =
-        let opened : IsHonest g new → IsOpen g old = was_open (λ clean ready. (commits.ok clean ready).0) in
+    -- a call that committed its step
+    pub makes : {x : T} → ((t : Tables) → IsHonest g new → HasTables g old → t ≡ shown g old → KnowsStaged new.staged (f t).uploads) → Commits g (IsReady (state g old.conn)) old.conn new.conn (Ok x) f → Makes g f old new
+    makes knows commits =
+        let opened : IsHonest g new → IsOpen g old = was_open (λ clean had. (commits.ok clean had.ready).0) in
         record {
           moves = record {
             was_honest = commits.clean;
             was_open = λ k _. opened k;
-            ready = λ ready clean _. (commits.ok clean ready).1.kept;
-            shows = λ k ready _. (commits.ok k ready).1.tables;
+            ready = λ had. record {
+              ready = λ clean _. (commits.ok clean had.ready).1.kept;
+              known = λ clean _. subst (λ (t : Tables). KnowsStaged new.staged t.uploads) (sym (commits.ok clean had.ready).1.tables) (knows (shown g old) clean had refl);
+            };
+            shows = λ k had _. (commits.ok k had.ready).1.tables;
           };
           was_open = opened;
           is_open = commits.is_open;
-          durable = λ ready. record {
+          durable = λ had. record {
             only = λ k t left. left.3 ∙ ap tables_of (commits.saved k left.0.trees left.2);
-            safe = λ k trees left. ((state g new.conn).now, (commits.ok k ready).1.kept, commits.saved k trees left);
+            safe = λ k trees left. ((state g new.conn).now, (commits.ok k had.ready).1.kept, commits.saved k trees left);
           };
         }
 
-    pub transacts_changes : (r : Result T StoreFault) (P : Tables → T → Type 0) → Transacts g old.conn new.conn r f P → Changes g old new r f P
-    transacts_changes (Ok x) P it = record { answers = it.answers; made = makes it.commits; failed = tt; known = it.commits.known }
-    transacts_changes (Err e) P it = record {
-      answers = λ _ _. tt;
-      made = tt;
-      failed = record { moves = keeps_moves it.commits.clean it.commits.err; adds = λ ready. outcomes (Err e) it.commits ready };
-      known = it.commits.known;
-    }
+-- calls that leave what the store remembers
+module _ {S : Type 0} (g : Ghosts S) (old : Store S) (conn : Held S) where
+  abbrev left : Store S
+  left = record old { conn = conn }
+
+  pub looks_reads : {T U : Type 0} (r : Result T StoreFault) (q : Result U StoreFault) (P : Tables → T → Type 0) (Q : Tables → U → Type 0)
+      → Looks g old.conn conn r P → call.Answers g old.conn conn q Q → q ≢ Err UnknownSchema → Reads g old left q Q
+  looks_reads r q P Q = reads_from g old left r q P Q (λ us h. h)
+
+  pub transacts_changes : {T : Type 0} (f : Tables → Tables) (r : Result T StoreFault) (P : Tables → T → Type 0) → KeepsKnown f → Transacts g old.conn conn r f P → Changes g old left r f P
+  transacts_changes f (Ok x) P keeps it = record {
+    answers = λ k had. it.answers k had.ready;
+    made = makes g old left f (λ t k had is. keeps old.staged t (subst (λ (u : Tables). KnowsStaged old.staged u.uploads) (sym is) (had.known (it.commits.clean k) (was_open g old left (λ clean had. (it.commits.ok clean had.ready).0) k)))) it.commits;
+    failed = tt;
+    known = it.commits.known;
+  }
+  transacts_changes f (Err e) P keeps it = record {
+    answers = λ _ _. tt;
+    made = tt;
+    failed = record { moves = keeps_moves g old left (λ us h. h) it.commits.clean it.commits.err; adds = λ had. outcomes g old left f (Err e) it.commits had };
+    known = it.commits.known;
+  }
+
+-- a store that has the tables and remembers nothing
+pub ready_unknown : {S T E : Type 0} (g : Ghosts S) (s : Store S) (r : Result T E) → s.staged ≡ None → OnOk r (IsReady (state g s.conn)) → OnOk r (HasTables g s)
+unfolding KnowsStaged
+ready_unknown g s (Ok x) none ready = record { ready = ready; known = λ _ _. subst (λ m. KnowsStaged m (shown g s).uploads) (sym none) tt }
+ready_unknown g s (Err e) none ready = tt

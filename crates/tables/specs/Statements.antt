@@ -7,7 +7,7 @@ use Rattle.sqlite.specs.declared.types.Value.TheVariants.{Int, Text, Blob}
 use Rattle.sqlite.specs.Order.{Row}
 use Rattle.sqlite_keyed.specs.Keyed.{next_key}
 use Rattle.sqlite_keyed.specs.Lists.{sort_by, update_where, delete_where}
-use Rattle.tables.specs.Rows.{Meta, Repo, Token, Lock, Tables}
+use Rattle.tables.specs.Rows.{Meta, Repo, Token, Upload, Chunk, Lock, Tables}
 
 -- ---- which rows
 
@@ -47,6 +47,42 @@ is_held_by user repo t = same_bytes t.user user && same_bytes t.repo repo
 abbrev pub has_expired : ℤ → Token → Bool
 has_expired moment t = int_le t.expires moment
 
+-- the row is that of this upload
+abbrev pub is_upload : ℤ → Upload → Bool
+is_upload id u = int_eq u.id id
+
+-- the upload is complete
+abbrev pub is_complete : Upload → Bool
+is_complete u = int_eq u.done (pos 1)
+
+-- the upload is staged: not complete, so it counts as nothing
+abbrev pub is_staged : Upload → Bool
+is_staged u = int_eq u.done (pos 0)
+
+-- the upload is a complete one of the repository, under this name
+abbrev pub is_object : List ℕ → List ℕ → Upload → Bool
+is_object repo oid u = same_bytes u.repo repo && (same_bytes u.oid oid && is_complete u)
+
+-- the row is that of this upload, which is staged
+abbrev pub is_staged_with : ℤ → Upload → Bool
+is_staged_with id u = is_upload id u && is_staged u
+
+-- the upload is a complete one of the repository
+abbrev pub is_object_in : List ℕ → Upload → Bool
+is_object_in repo u = same_bytes u.repo repo && is_complete u
+
+-- the upload is a staged one of the repository
+abbrev pub is_staged_in : List ℕ → Upload → Bool
+is_staged_in repo u = same_bytes u.repo repo && is_staged u
+
+-- the chunk is one of this upload
+abbrev pub is_of : ℤ → Chunk → Bool
+is_of upload c = int_eq c.upload upload
+
+-- the chunk is the one of this upload with this number
+abbrev pub is_chunk : ℤ → ℤ → Chunk → Bool
+is_chunk upload n c = int_eq c.upload upload && int_eq c.n n
+
 -- the order of locks by id; equal ids are ordered by the rowid
 abbrev pub id_cmp : Lock → Lock → Ordering
 id_cmp a b = ordering_then (int_cmp a.id b.id) (int_cmp a.rowid b.rowid)
@@ -54,6 +90,14 @@ id_cmp a b = ordering_then (int_cmp a.id b.id) (int_cmp a.rowid b.rowid)
 -- the locks in rising ids
 abbrev pub by_id : List Lock → List Lock
 by_id = sort_by id_cmp
+
+-- the order of uploads by repository and name; equal ones are ordered by the id
+abbrev pub name_cmp : Upload → Upload → Ordering
+name_cmp a b = ordering_then (slice_cmp nat_cmp a.repo b.repo) (ordering_then (slice_cmp nat_cmp a.oid b.oid) (int_cmp a.id b.id))
+
+-- the uploads in the order of repositories and names
+abbrev pub by_name : List Upload → List Upload
+by_name = sort_by name_cmp
 
 -- ---- the columns that are returned of a row
 
@@ -73,6 +117,18 @@ show_lock l = Int l.id ∷ Text l.ref_name ∷ Text l.path ∷ Text l.owner ∷ 
 abbrev pub show_token : Token → Row
 show_token t = Blob t.digest ∷ Text t.user ∷ Text t.repo ∷ Int t.op ∷ Int t.expires ∷ []
 
+-- the columns that are returned of a row of `repos`, for the bytes that it stores
+abbrev pub show_used : Repo → Row
+show_used r = Int r.rowid ∷ Int r.used ∷ []
+
+-- the columns that are returned of an upload
+abbrev pub show_upload : Upload → Row
+show_upload u = Int u.id ∷ Text u.repo ∷ Text u.oid ∷ Int u.size ∷ Int u.done ∷ []
+
+-- the column that is returned of a chunk
+abbrev pub show_bytes : Chunk → Row
+show_bytes c = Blob c.bytes ∷ []
+
 -- ---- reading
 
 -- a statement: its text, the values bound to it, and its meaning
@@ -91,6 +147,13 @@ pub data Read : Type 0 where
   locks_from : List ℕ → ℕ → Read
   token : List ℕ → Read
   tokens_of : List ℕ → List ℕ → Read
+  used_by : List ℕ → Read
+  staged_with : ℤ → Read
+  object : List ℕ → List ℕ → Read
+  objects_in : List ℕ → Read
+  objects : Read
+  staged : Read
+  chunk_at : ℤ → ℕ → Read
 
 -- each reading statement, with the rows that it returns
 unfoldable pub reading : Read → Statement (Tables → List Row)
@@ -134,6 +197,41 @@ reading (tokens_of user repo) = record {
   params = Text user ∷ Text repo ∷ [];
   meaning = λ t. map show_token (filter (is_held_by user repo) t.tokens);
 }
+reading (used_by repo) = record {
+  text = codes "SELECT rowid, used FROM repos WHERE name = ?1 ORDER BY rowid";
+  params = Text repo ∷ [];
+  meaning = λ t. map show_used (filter (is_named repo) t.repos);
+}
+reading (staged_with id) = record {
+  text = codes "SELECT id, repo, oid, size, done FROM uploads WHERE id = ?1 AND done = 0 ORDER BY rowid";
+  params = Int id ∷ [];
+  meaning = λ t. map show_upload (filter (is_staged_with id) t.uploads);
+}
+reading (object repo oid) = record {
+  text = codes "SELECT id, repo, oid, size, done FROM uploads WHERE repo = ?1 AND oid = ?2 AND done = 1 ORDER BY rowid";
+  params = Text repo ∷ Text oid ∷ [];
+  meaning = λ t. map show_upload (filter (is_object repo oid) t.uploads);
+}
+reading (objects_in repo) = record {
+  text = codes "SELECT id, repo, oid, size, done FROM uploads WHERE repo = ?1 AND done = 1 ORDER BY repo, oid, rowid";
+  params = Text repo ∷ [];
+  meaning = λ t. map show_upload (by_name (filter (is_object_in repo) t.uploads));
+}
+reading objects = record {
+  text = codes "SELECT id, repo, oid, size, done FROM uploads WHERE done = 1 ORDER BY repo, oid, rowid";
+  params = [];
+  meaning = λ t. map show_upload (by_name (filter is_complete t.uploads));
+}
+reading staged = record {
+  text = codes "SELECT id, repo, oid, size, done FROM uploads WHERE done = 0 ORDER BY rowid";
+  params = [];
+  meaning = λ t. map show_upload (filter is_staged t.uploads);
+}
+reading (chunk_at upload n) = record {
+  text = codes "SELECT bytes FROM chunks WHERE upload = ?1 AND n = ?2 ORDER BY rowid";
+  params = Int upload ∷ Int (pos n) ∷ [];
+  meaning = λ t. map show_bytes (filter (is_chunk upload (pos n)) t.chunks);
+}
 
 -- the text of a reading statement
 abbrev pub read_text : Read → List ℕ
@@ -161,6 +259,12 @@ pub data Write : Type 0 where
   remove_lock : List ℕ → ℕ → Write
   add_token : Token → Write
   remove_expired : ℤ → Write
+  add_chunk : Chunk → Write
+  remove_row : ℤ → Write
+  remove_chunks : ℤ → Write
+  set_done : ℤ → Write
+  add_used : List ℕ → ℤ → Write
+  set_used : ℤ → ℤ → Write
 
 -- the tables with one more lock
 unfoldable pub with_lock : Lock → Tables → Tables
@@ -185,6 +289,34 @@ with_token k t = record t { tokens = t.tokens ++ record k { rowid = next_key (λ
 -- the tables without the tokens that have expired at this moment
 unfoldable pub without_expired : ℤ → Tables → Tables
 without_expired moment t = record t { tokens = delete_where (has_expired moment) t.tokens }
+
+-- the tables with an upload, which comes last
+unfoldable pub with_upload : Upload → Tables → Tables
+with_upload u t = record t { uploads = t.uploads ++ u ∷ [] }
+
+-- the tables with one more chunk
+unfoldable pub with_chunk : Chunk → Tables → Tables
+with_chunk c t = record t { chunks = t.chunks ++ record c { rowid = next_key (λ x. x.rowid) t.chunks } ∷ [] }
+
+-- the tables without the row of this upload
+unfoldable pub without_row : ℤ → Tables → Tables
+without_row id t = record t { uploads = delete_where (is_upload id) t.uploads }
+
+-- the tables without the chunks of this upload
+unfoldable pub without_chunks : ℤ → Tables → Tables
+without_chunks upload t = record t { chunks = delete_where (is_of upload) t.chunks }
+
+-- the tables in which this upload is complete
+unfoldable pub with_done : ℤ → Tables → Tables
+with_done id t = record t { uploads = update_where (is_upload id) (λ u. record u { done = pos 1 }) t.uploads }
+
+-- the tables with one more repository, which stores this number of bytes
+unfoldable pub with_used_row : List ℕ → ℤ → Tables → Tables
+with_used_row name used t = record t { repos = t.repos ++ record { rowid = next_key (λ x. x.rowid) t.repos; name = name; made = pos 0; used = used } ∷ [] }
+
+-- the tables with this number of stored bytes, in the row with this rowid
+unfoldable pub with_used_at : ℤ → ℤ → Tables → Tables
+with_used_at rowid used t = record t { repos = update_where (λ r. int_eq r.rowid rowid) (λ r. record r { used = used }) t.repos }
 
 -- the effect of a writing statement on the tables, and the number of rows that a removal takes away
 pub record Effect : Type 0 where
@@ -228,6 +360,36 @@ writing (remove_expired moment) = record {
     step = without_expired moment;
     removed = Some (λ t. length (filter (has_expired moment) t.tokens));
   };
+}
+writing (add_chunk c) = record {
+  text = codes "INSERT INTO chunks (upload, n, bytes) VALUES (?1, ?2, ?3)";
+  params = Int c.upload ∷ Int c.n ∷ Blob c.bytes ∷ [];
+  meaning = record { step = with_chunk c; removed = None };
+}
+writing (remove_row id) = record {
+  text = codes "DELETE FROM uploads WHERE id = ?1";
+  params = Int id ∷ [];
+  meaning = record { step = without_row id; removed = Some (λ t. length (filter (is_upload id) t.uploads)) };
+}
+writing (remove_chunks upload) = record {
+  text = codes "DELETE FROM chunks WHERE upload = ?1";
+  params = Int upload ∷ [];
+  meaning = record { step = without_chunks upload; removed = Some (λ t. length (filter (is_of upload) t.chunks)) };
+}
+writing (set_done id) = record {
+  text = codes "UPDATE uploads SET done = 1 WHERE id = ?1";
+  params = Int id ∷ [];
+  meaning = record { step = with_done id; removed = None };
+}
+writing (add_used name used) = record {
+  text = codes "INSERT INTO repos (name, made, used) VALUES (?1, 0, ?2)";
+  params = Text name ∷ Int used ∷ [];
+  meaning = record { step = with_used_row name used; removed = None };
+}
+writing (set_used rowid used) = record {
+  text = codes "UPDATE repos SET used = ?2 WHERE rowid = ?1";
+  params = Int rowid ∷ Int used ∷ [];
+  meaning = record { step = with_used_at rowid used; removed = None };
 }
 
 -- the text of a writing statement

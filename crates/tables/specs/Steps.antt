@@ -117,10 +117,14 @@ used_in r = unwrap_or (option_map (λ (x : Repo). x.used) r) (pos 0)
 abbrev pub used_of : List ℕ → Tables → ℤ
 used_of name t = used_in (find (is_named name) t.repos)
 
--- the number in the repository's first row is set; without a row, one with this rowid is added at the end
+-- the repository's first row is changed; without one, this row is added at the end
+abbrev pub set_first : List ℕ → (Repo → Repo) → Repo → List Repo → List Repo
+set_first name change new [] = new ∷ []
+set_first name change new (r ∷ rs) = if is_named name r then change r ∷ rs else r ∷ set_first name change new rs
+
+-- the number of locks made by the repository is set; a row that is added has this rowid
 abbrev pub set_made : List ℕ → ℤ → ℤ → List Repo → List Repo
-set_made name made next [] = record { rowid = next; name = name; made = made; used = pos 0 } ∷ []
-set_made name made next (r ∷ rs) = if is_named name r then record r { made = made } ∷ rs else r ∷ set_made name made next rs
+set_made name made next = set_first name (λ r. record r { made = made }) (record { rowid = next; name = name; made = made; used = pos 0 })
 
 -- the tables with this number of locks made by the repository
 unfoldable pub with_made : List ℕ → ℤ → Tables → Tables

@@ -7,7 +7,10 @@
 #![tactic(auto)]
 
 use sqlite::Connection;
+use staged::Remembered;
 
+mod beginning;
+mod chunks;
 mod fault;
 mod locks;
 mod new_rows;
@@ -15,13 +18,16 @@ mod open;
 mod read;
 mod rows;
 mod schema;
+mod staged;
 mod storage;
 mod tokens;
+mod uploads;
 mod write;
 
+pub use chunks::ChunkRow;
 pub use fault::StoreFault;
-pub use new_rows::{NewLock, NewToken};
-pub use rows::{Creation, LockRow, TokenRow};
+pub use new_rows::{NewLock, NewToken, NewUpload};
+pub use rows::{Completion, Creation, LockRow, ObjectRow, TokenRow, UploadId, UploadRow};
 pub use sqlite::{Alter, Start, Unknown};
 pub use storage::Storage;
 
@@ -29,4 +35,6 @@ pub use storage::Storage;
 #[derive(Drop)]
 pub struct Store<S: Alter> {
     conn: Connection<S>,
+    /// For each repository that has a staged upload, the id of that upload; `None` if that is unknown.
+    staged: Option<Vec<Remembered>>,
 }

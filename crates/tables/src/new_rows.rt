@@ -3,7 +3,7 @@
 ghost use Rattle.std.specs.Prelude.{◌≤◌};
 ghost use Rattle.names.specs.Texts.{last_moment};
 
-use names::{LockPath, Moment, Operation, RefName, RepoName, UserName};
+use names::{LockPath, Moment, Oid, Operation, RefName, RepoName, Size, UserName};
 
 /// A lock to be made.
 #[derive(Clone, Copy, Debug)]
@@ -26,4 +26,14 @@ pub struct NewToken<'a> {
     pub operation: Operation,
     /// The first moment at which it is no longer valid.
     pub expires: Moment,
+}
+
+/// An upload to be begun.
+#[derive(Clone, Copy, Debug)]
+pub struct NewUpload<'a> {
+    pub repo: &'a RepoName,
+    /// The name that its bytes are to have: their SHA-256.
+    pub oid: &'a Oid,
+    /// The number of its bytes.
+    pub size: Size,
 }

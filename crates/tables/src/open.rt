@@ -68,7 +68,7 @@ impl<S: Alter> Store<S> {
     pub fn adopt(conn: Connection<S>) -> Store<S>
         ensures { connection result ≡ conn }
     {
-        Store { conn }
+        Store { conn, staged: None }
     }
 
     /// Returns the connection.
@@ -109,6 +109,7 @@ impl<S: Storage> Store<S> {
             → IsForeign S.Store self.old }
         ensures stop { AddsFresh S.Store self.old self.new }
     {
+        self.staged = None;
         schema::create_or_check(alloc, &mut self.conn)
     }
 }

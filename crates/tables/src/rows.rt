@@ -1,13 +1,14 @@
 //! The rows that the calls return.
 
 ghost use Rattle.std.specs.Prelude.{◌≡◌, ◌≢◌, ◌<◌, pos, length, IfOk, MatchOption, map, slice_get};
-ghost use Rattle.tables.specs.Rows.{Lock, Token};
-ghost use Rattle.tables.specs.Statements.{show_lock, show_token};
+ghost use Rattle.tables.specs.Rows.{Lock, Token, Upload};
+ghost use Rattle.tables.specs.Statements.{show_lock, show_token, show_upload};
+ghost use Rattle.tables.specs.Staging.{upload_fields, read_upload, IsUploadOf, AreUploadsOf};
 ghost use Rattle.tables.specs.Steps.{IsLockOf, AreLocksOf, lock_fields, read_lock, IsTokenOf, AreTokensOf, token_fields, read_token, code_of};
 ghost use Rattle.tables.specs.Ranges.{IsLockInRange, IsTokenInRange};
 
 use crate::fault::StoreFault;
-use names::{LockId, LockPath, Moment, Operation, RefName, RepoName, UserName};
+use names::{LockId, LockPath, Moment, Oid, Operation, RefName, RepoName, Size, UserName};
 use sqlite::Row;
 use std::alloc::{AllocError, Global};
 
@@ -42,6 +43,42 @@ pub struct TokenRow {
     pub repo: RepoName,
     pub operation: Operation,
     pub expires: Moment,
+}
+
+/// Identifies an upload: a number that no other upload of the database ever had.
+#[derive(Clone, Copy, Debug, PartialEq, Eq)]
+pub struct UploadId {
+    pub(crate) number: i64,
+}
+
+/// An upload, staged or complete.
+#[derive(Debug, Drop)]
+pub struct UploadRow {
+    pub id: UploadId,
+    pub repo: RepoName,
+    /// The name with which it was begun: the SHA-256 of its bytes, once it is complete.
+    pub oid: Oid,
+    /// The number of its bytes, once it is complete.
+    pub size: Size,
+}
+
+/// An object: a complete upload, without its names, which the caller knows.
+#[derive(Clone, Copy, Debug)]
+pub struct ObjectRow {
+    pub id: UploadId,
+    /// The number of its bytes.
+    pub size: Size,
+}
+
+/// The result of completing an upload.
+#[derive(Clone, Copy, Debug, PartialEq, Eq)]
+pub enum Completion {
+    /// The upload is an object now, and its size is counted.
+    New,
+    /// The repository has an object of this name. The upload was removed.
+    Already,
+    /// The name or the size differs from that with which the upload was begun. It is still staged.
+    Differs,
 }
 
 /// The number of the operation in the database.
@@ -118,6 +155,35 @@ fn token_from(row: &Row) -> Result<TokenRow, StoreFault>
     })
 }
 
+/// The upload in a row. A row that is out of range is refused.
+fn upload_from(row: &Row) -> Result<UploadRow, StoreFault>
+    ensures value { (u : Upload) → row.now ≡ show_upload u → IfOk result
+        (λ found. read_upload found ≡ upload_fields u) }
+    ensures known { result ≢ Err StoreFault.UnknownSchema }
+{
+    let oid: String = row.get(2)?;
+    Ok(UploadRow {
+        id: UploadId {
+            number: row.get(0)?,
+        },
+        repo: RepoName::read(row.get(1)?).ok_or(StoreFault::Refused)?,
+        oid: Oid::read(oid.as_bytes()).ok_or(StoreFault::Refused)?,
+        size: Size::read(row.get(3)?).ok_or(StoreFault::Refused)?,
+    })
+}
+
+/// The upload in the first of the rows.
+pub(crate) fn first_upload(rows: &[Row]) -> Result<Option<UploadRow>, StoreFault>
+    ensures value { (uploads : _) → rows.now ≡ map show_upload uploads → IfOk result
+        (λ found. IsUploadOf found (slice_get uploads 0)) }
+    ensures known { result ≢ Err StoreFault.UnknownSchema }
+{
+    match rows.first() {
+        None => Ok(None),
+        Some(row) => Ok(Some(upload_from(row)?)),
+    }
+}
+
 /// The lock in the first of the rows.
 pub(crate) fn first_lock(rows: &[Row]) -> Result<Option<LockRow>, StoreFault>
     ensures value { (locks : _) → rows.now ≡ map show_lock locks → IfOk result
@@ -164,6 +230,19 @@ pub(crate) fn all_tokens(alloc: Global, rows: &[Row]) -> Result<Vec<TokenRow>, S
     for row in rows {
         let token = token_from(row)?;
         found.push(token).map_err(AllocError::from)?;
+    }
+    Ok(found)
+}
+
+pub(crate) fn all_uploads(alloc: Global, rows: &[Row]) -> Result<Vec<UploadRow>, StoreFault>
+    ensures value { (uploads : _) → rows.now ≡ map show_upload uploads → IfOk result
+        (λ found. AreUploadsOf found.items uploads) }
+    ensures known { result ≢ Err StoreFault.UnknownSchema }
+{
+    let mut found = Vec::with_capacity(alloc, rows.len())?;
+    for row in rows {
+        let upload = upload_from(row)?;
+        found.push(upload).map_err(AllocError::from)?;
     }
     Ok(found)
 }

@@ -1,7 +1,8 @@
-use Rattle.std.proofs.Common.{arith, inl, inr, ap, ◌∙◌}
+use Rattle.std.proofs.Common.{refl, arith, inl, inr, ap, ◌∙◌}
 use Rattle.std.proofs.lemmas.Result.{IfOk-weaker}
 use Rattle.tables.specs.Rows.{tables_of}
 use Rattle.tables.specs.Runs.{with_fresh}
+use Rattle.tables.proofs.Stores.{ready_unknown}
 use Rattle.tables.proofs.Store.create_or_check.Goals as goal
 
 pub returns-clause-ok : goal.returns-clause-ok
@@ -17,3 +18,6 @@ returns-clause-stop g c = record {
     | inr new ↦ inr (new.0, left.3 ∙ ap tables_of new.1.3 ∙ new.1.2.tables)
   ];
 }
+
+pub returns-clause-ready : goal.returns-clause-ready
+returns-clause-ready g c = ready_unknown g.S.Store _ c.create_or_check.result refl c.create_or_check.ensures.ready

@@ -1,0 +1,103 @@
+-- What a store remembers of staged uploads stays true.
+use Rattle.std.proofs.Common.{◌≡◌, ℕ, ℤ, pos, Bool, true, false, cond, not, List, Some, None, Option, refl, sym, subst}
+use Rattle.std.specs.Global.{Vec}
+use Rattle.sqlite_keyed.specs.Lists.{update_where, delete_where}
+use Rattle.sqlite_keyed.proofs.ListLemmas.{all-filter, all_map, all_weaker}
+use Rattle.tables.specs.declared.staged.Remembered.{Remembered}
+use Rattle.tables.specs.Rows.{Token, Upload, Chunk, Lock, Tables}
+use Rattle.tables.specs.Statements.{is_upload, with_chunk, without_lock, without_expired, with_lock, with_token, without_row, without_chunks, with_done}
+use Rattle.tables.specs.Steps.{Outcome, held, used_up, created, outcome_of, after_outcome, after_create, with_made, with_new_lock, has_token, after_add}
+use Rattle.tables.specs.Staging.{without_upload, without_found, without_staged, staged_with, with_used, with_kept, completion_by, after_completion, after_found, after_complete}
+use Rattle.tables.specs.declared.rows.Completion.{Completion}
+use Rattle.tables.specs.declared.rows.Completion.TheVariants as completion
+use Rattle.tables.specs.Remembered.{IsRemembered, KnowsStaged}
+
+-- the step keeps what is remembered true
+abbrev pub KeepsKnown : (Tables → Tables) → Type 0
+KeepsKnown step = (known : Option (Vec Remembered)) (t : Tables) → KnowsStaged known t.uploads → KnowsStaged known (step t).uploads
+
+-- a step that leaves the uploads
+pub leaves_uploads : (step : Tables → Tables) → ((t : Tables) → (step t).uploads ≡ t.uploads) → KeepsKnown step
+leaves_uploads step same known t h = subst (KnowsStaged known) (sym (same t)) h
+
+-- ---- steps on locks, tokens and chunks
+
+outcome_leaves : (l : Lock) (o : Outcome) (t : Tables) → (after_outcome l o t).uploads ≡ t.uploads
+unfolding with_new_lock with_made with_lock
+outcome_leaves l (held other) t = refl
+outcome_leaves l used_up t = refl
+outcome_leaves l (created id) t = refl
+
+pub create_keeps : (l : Lock) → KeepsKnown (after_create l)
+unfolding after_create
+create_keeps l = leaves_uploads (after_create l) (λ t. outcome_leaves l (outcome_of l t) t)
+
+pub release_keeps : (repo : List ℕ) (id : ℤ) → KeepsKnown (without_lock repo id)
+unfolding without_lock
+release_keeps repo id = leaves_uploads (without_lock repo id) (λ t. refl)
+
+add_leaves : (k : Token) (t : Tables) (there : Bool) → (cond there t (with_token k t)).uploads ≡ t.uploads
+unfolding with_token
+add_leaves k t true = refl
+add_leaves k t false = refl
+
+pub add_keeps : (k : Token) → KeepsKnown (after_add k)
+unfolding after_add
+add_keeps k = leaves_uploads (after_add k) (λ t. add_leaves k t (has_token k.digest t))
+
+pub prune_keeps : (moment : ℤ) → KeepsKnown (without_expired moment)
+unfolding without_expired
+prune_keeps moment = leaves_uploads (without_expired moment) (λ t. refl)
+
+pub chunk_keeps : (c : Chunk) → KeepsKnown (with_chunk c)
+unfolding with_chunk
+chunk_keeps c = leaves_uploads (with_chunk c) (λ t. refl)
+
+-- ---- steps on uploads
+
+-- some uploads are removed
+fewer_known : (known : Option (Vec Remembered)) (p : Upload → Bool) (us : List Upload) → KnowsStaged known us → KnowsStaged known (delete_where p us)
+unfolding KnowsStaged
+fewer_known None p us h = tt
+fewer_known (Some known) p us h = all-filter (IsRemembered known.items) (λ u. not (p u)) us h
+
+-- some uploads are complete
+done_known : (known : Option (Vec Remembered)) (p : Upload → Bool) (us : List Upload) → KnowsStaged known us → KnowsStaged known (update_where p (λ u. record u { done = pos 1 }) us)
+unfolding KnowsStaged
+done_known None p us h = tt
+done_known (Some known) p us h =
+    let step : Upload → Upload = λ u. cond (p u) (record u { done = pos 1 }) u in
+    all_map (IsRemembered known.items) step us (all_weaker (IsRemembered known.items) (λ u. IsRemembered known.items (step u)) (λ u was. go u (p u) was) us h)
+  where
+    go : (u : Upload) (b : Bool) → IsRemembered known.items u → IsRemembered known.items (cond b (record u { done = pos 1 }) u)
+    go u true was is = absurd (let e : false ≡ true = is in cc)
+    go u false was is = was is
+
+upload_keeps : (id : ℤ) → KeepsKnown (without_upload id)
+unfolding without_upload without_row without_chunks
+upload_keeps id known t h = fewer_known known (is_upload id) t.uploads h
+
+pub found_keeps : (u : Option Upload) → KeepsKnown (without_found u)
+found_keeps None known t h = h
+found_keeps (Some u) known t h = upload_keeps u.id known t h
+
+pub abandon_keeps : (id : ℤ) → KeepsKnown (without_staged id)
+unfolding without_staged
+abandon_keeps id known t h = found_keeps (staged_with id t) known t h
+
+kept_keeps : (u : Upload) → KeepsKnown (with_kept u)
+unfolding with_kept with_used with_done
+kept_keeps u known t h = done_known known (is_upload u.id) t.uploads h
+
+completion_keeps : (c : Completion) (u : Upload) → KeepsKnown (after_completion c u)
+completion_keeps completion.Differs u known t h = h
+completion_keeps completion.Already u known t h = upload_keeps u.id known t h
+completion_keeps completion.New u known t h = kept_keeps u known t h
+
+complete_found : (u : Option Upload) (oid : List ℕ) (size : ℤ) → KeepsKnown (after_found u oid size)
+complete_found None oid size known t h = h
+complete_found (Some u) oid size known t h = completion_keeps (completion_by oid size u t) u known t h
+
+pub complete_keeps : (id : ℤ) (oid : List ℕ) (size : ℤ) → KeepsKnown (after_complete id oid size)
+unfolding after_complete
+complete_keeps id oid size known t h = complete_found (staged_with id t) oid size known t h

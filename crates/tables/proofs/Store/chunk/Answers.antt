@@ -1,0 +1,21 @@
+use Rattle.std.proofs.Common.{pos, filter, option_map, refl, ap, w64, ◌∙◌, rules}
+use Rattle.std.proofs.lemmas.Int.{to_z-of_z}
+use Rattle.sqlite_keyed.proofs.ListLemmas.{slice_get-filter}
+use Rattle.tables.specs.Rows.{Chunk}
+use Rattle.tables.specs.Statements.{chunk_at, is_chunk, reading}
+use Rattle.tables.specs.Shown.{shown}
+use Rattle.tables.proofs.Stores.{looks_reads}
+use Rattle.tables.proofs.Store.chunk.Goals as goal
+
+pub returns : goal.returns
+unfolding reading
+returns g c =
+    let passes = is_chunk c.args.upload.number (pos c.args.n) in
+    let chunks = (shown g.S.Store c.args.self.now).chunks in
+    looks_reads g.S.Store _ _ _ _ _ _ c.in_ok-rows.ensures
+    (λ clean ready.
+    let it = c.in_ok-rows.ensures.answers clean ready in (
+      it.0,
+      c.first_chunk.ensures (filter passes chunks) (it.1 (chunk_at c.args.upload.number c.args.n) refl (rw (c.params-to_sql.ensures, c.params-to_sql-2.ensures, to_z-of_z w64 c.args.upload.number (search rules))))
+          ∙ ap (option_map (λ (k : Chunk). k.bytes)) (slice_get-filter passes chunks),
+    )) (search rules)

@@ -1,0 +1,11 @@
+use Rattle.std.proofs.Common.{refl, rules, w64}
+use Rattle.std.proofs.lemmas.Int.{to_z-of_z}
+use Rattle.tables.specs.Statements.{remove_chunks, writing}
+use Rattle.tables.proofs.uploads.chunks_out.Goals as goal
+
+pub returns-clause-does : goal.returns-clause-does
+unfolding writing
+returns-clause-does g c = record {
+  within = c.change.ensures.within;
+  ok = c.change.ensures.ok (remove_chunks c.args.id.number) refl (rw (c.params-to_sql.ensures, to_z-of_z w64 c.args.id.number (search rules)));
+}

@@ -1,0 +1,45 @@
+use Rattle.std.proofs.Common.{Ok, ap, sym, ◌∙◌}
+use Rattle.sqlite.specs.Held.{state}
+use Rattle.tables.specs.Runs.{tables_in}
+use Rattle.tables.specs.Staging.{begun_as, read_upload, without_upload, without_staged}
+use Rattle.typed_rows.proofs.Transactions.{clean_before}
+use Rattle.tables.proofs.Calls.{does_on, does_then, does_as}
+use Rattle.tables.proofs.Completing.{removed, is_there, nothing_removed, is_not_there}
+use Rattle.tables.proofs.uploads.remove_into.Goals as goal
+
+pub returns-in_default-clause-value : goal.returns-in_default-clause-value
+returns-in_default-clause-value g c clean inside ready =
+    let found = c.in_ok-upload.ensures.value clean inside ready in
+    let none = ap (Rattle.std.proofs.Common.option_map read_upload) (sym c.in_default.is) ∙ found.1 in
+    (found.0, sym (is_not_there c.args.id.number (tables_in (state g.S.Store c.args.tx.now.conn.now)) none))
+
+pub returns-in_default-clause-does : goal.returns-in_default-clause-does
+returns-in_default-clause-does g c =
+    let id = c.args.id.number in
+    let begun = c.args.tx.now.conn.now in
+    let last = c.staged_in.new.tx.conn.now in
+    does_as g.S.Store begun last _ (λ t. t) (without_staged id)
+    (λ clean inside ready.
+    let found = c.in_ok-upload.ensures.value clean inside ready in
+    sym (nothing_removed id (tables_in (state g.S.Store begun)) (ap (Rattle.std.proofs.Common.option_map read_upload) (sym c.in_default.is) ∙ found.1)))
+    (does_on g.S.Store begun last _ (λ t. t) c.in_ok-upload.ensures.does)
+
+pub returns-clause-value : goal.returns-clause-value
+returns-clause-value g c clean inside ready =
+    let late = clean_before g.S.Store c.staged_in.new.tx.conn.now c.upload_out.new.tx.conn.now _ c.in_ok-upload_out.ensures.does.within clean in
+    let found = c.in_ok-upload.ensures.value late inside ready in
+    (found.0, sym (is_there c.in-Some.upload c.args.id.number (tables_in (state g.S.Store c.args.tx.now.conn.now)) (ap (Rattle.std.proofs.Common.option_map read_upload) (sym c.in-Some.is) ∙ found.1)))
+
+pub returns-clause-does : goal.returns-clause-does
+returns-clause-does g c =
+    let id = c.args.id.number in
+    let begun = c.args.tx.now.conn.now in
+    let mid = c.staged_in.new.tx.conn.now in
+    let last = c.upload_out.new.tx.conn.now in
+    let out = c.in_ok-upload_out.ensures.does in
+    let out_id = (begun_as c.in-Some.upload).id in
+    does_as g.S.Store begun last _ (without_upload out_id) (without_staged id)
+    (λ clean inside ready.
+    let found = c.in_ok-upload.ensures.value (clean_before g.S.Store mid last _ out.within clean) inside ready in
+    sym (removed c.in-Some.upload id (tables_in (state g.S.Store begun)) (ap (Rattle.std.proofs.Common.option_map read_upload) (sym c.in-Some.is) ∙ found.1)))
+    (does_then g.S.Store begun mid last _ (λ t. t) (without_upload out_id) c.in_ok-upload.ensures.does (does_on g.S.Store mid last _ (without_upload out_id) out))

@@ -1,0 +1,167 @@
+//! What a store remembers of staged uploads, so that the next upload of a repository finds the one that it replaces.
+
+ghost use Rattle.std.specs.Prelude.{◌≡◌, ◌≢◌, List, map, filter, option_map, IfOk, IfSome, MatchOption, length, find};
+ghost use Rattle.std.specs.List.{AllByRecursion};
+ghost use Rattle.names.specs.Names.{repo_text};
+ghost use Rattle.tables.specs.Rows.{Upload};
+ghost use Rattle.tables.specs.Statements.{same_bytes, is_staged, show_upload};
+ghost use Rattle.tables.specs.Staging.{upload_number};
+ghost use Rattle.tables.specs.Shown.{Reads};
+ghost use Rattle.tables.specs.Learning.{Learns};
+ghost use Rattle.tables.specs.Remembered.{is_entry_of, remembered_in, IsEntryOf, IsLast, IsFirst, IsNoted};
+
+use crate::Store;
+use crate::fault::StoreFault;
+use crate::read::read;
+use crate::rows::UploadId;
+use names::RepoName;
+use sqlite::{Alter, Row, params};
+use std::alloc::{AllocError, Global};
+
+/// The last upload that a repository began.
+#[derive(Drop)]
+pub(crate) struct Remembered {
+    repo: RepoName,
+    /// It may be complete or removed.
+    id: UploadId,
+}
+
+/// Whether the names are the same.
+pub(crate) fn is_same(a: &RepoName, b: &RepoName) -> bool
+    ensures { result ≡ same_bytes (repo_text a.now) (repo_text b.now) }
+{
+    a.as_str() == b.as_str()
+}
+
+/// The index of the repository's first entry.
+fn place_of(known: &[Remembered], repo: &RepoName) -> Option<usize>
+    ensures { MatchOption result (find (is_entry_of (repo_text repo.now)) known.now ≡ None)
+        (IsFirst (is_entry_of (repo_text repo.now)) known.now) }
+{
+    for (at, entry) in known.iter().enumerate() {
+        if is_same(&entry.repo, repo) {
+            return Some(at);
+        }
+    }
+    None
+}
+
+/// The upload that is remembered for the repository.
+pub(crate) fn remembered_in(known: &[Remembered], repo: &RepoName) -> Option<UploadId>
+    ensures { option_map upload_number result ≡ remembered_in known.now (repo_text repo.now) }
+{
+    let at = place_of(known, repo)?;
+    Some(known[at].id)
+}
+
+/// Remembers the upload for the repository, in place of the one before; `None` if memory runs out.
+pub(crate) fn remember(
+    alloc: Global,
+    mut known: Vec<Remembered>,
+    repo: &RepoName,
+    id: UploadId,
+) -> Option<Vec<Remembered>>
+    ensures { IfSome result
+        (λ new. IsNoted known.items (repo_text repo.now) (upload_number id) new.items) }
+{
+    if let Some(at) = place_of(known.as_slice(), repo) {
+        known[at].id = id;
+        return Some(known);
+    }
+    let repo = copy_of(alloc, repo)?;
+    known.push(Remembered { repo, id }).ok()?;
+    Some(known)
+}
+
+fn copy_of(alloc: Global, repo: &RepoName) -> Option<RepoName>
+    ensures { IfSome result (λ copy. repo_text copy ≡ repo_text repo.now) }
+{
+    RepoName::read(String::from_str(alloc, repo.as_str()).ok()?)
+}
+
+fn id_from(row: &Row) -> Result<UploadId, StoreFault>
+    ensures value { (u : Upload) → row.now ≡ show_upload u → IfOk result
+        (λ id. upload_number id ≡ u.id) }
+    ensures known { result ≢ Err StoreFault.UnknownSchema }
+{
+    Ok(UploadId {
+        number: row.get(0)?,
+    })
+}
+
+/// The repository and the id in a row. A row that is out of range is refused.
+fn entry_from(row: &Row) -> Result<Remembered, StoreFault>
+    ensures value { (u : Upload) → row.now ≡ show_upload u → IfOk result
+        (λ entry. IsEntryOf u entry) }
+    ensures known { result ≢ Err StoreFault.UnknownSchema }
+{
+    Ok(Remembered {
+        repo: RepoName::read(row.get(1)?).ok_or(StoreFault::Refused)?,
+        id: id_from(row)?,
+    })
+}
+
+/// The staged uploads in the rows. Two of one repository are refused.
+pub(crate) fn all_remembered(alloc: Global, rows: &[Row]) -> Result<Vec<Remembered>, StoreFault>
+    ensures value { (uploads : _) → rows.now ≡ map show_upload uploads → IfOk result
+        (λ known. AllByRecursion (IsLast known.items) uploads) }
+    ensures known { result ≢ Err StoreFault.UnknownSchema }
+{
+    let mut known = Vec::with_capacity(alloc, rows.len())?;
+    for row in rows {
+        let entry = entry_from(row)?;
+        if remembered_in(known.as_slice(), &entry.repo).is_some() {
+            return Err(StoreFault::Refused);
+        }
+        known.push(entry).map_err(AllocError::from)?;
+    }
+    Ok(known)
+}
+
+fn all_ids(alloc: Global, rows: &[Row]) -> Result<Vec<UploadId>, StoreFault>
+    ensures value { (uploads : List Upload) → rows.now ≡ map show_upload uploads → IfOk result
+        (λ ids. map upload_number ids.items ≡ map (λ u. u.id) uploads) }
+    ensures known { result ≢ Err StoreFault.UnknownSchema }
+{
+    let mut ids = Vec::with_capacity(alloc, rows.len())?;
+    for row in rows {
+        let id = id_from(row)?;
+        ids.push(id).map_err(AllocError::from)?;
+    }
+    Ok(ids)
+}
+
+impl<S: Alter> Store<S> {
+    /// Returns the ids of all staged uploads, in rising order.
+    ///
+    /// # Errors
+    ///
+    /// `Refused` or `Memory`. The tables are unchanged in any case.
+    pub fn staged_uploads(&mut self, alloc: Global) -> Result<Vec<UploadId>, StoreFault>
+        ensures { Reads S.Store self.old self.new result
+            (λ t ids. map upload_number ids.items ≡ map (λ u. u.id) (filter is_staged t.uploads)) }
+    {
+        let rows = read(
+            &mut self.conn,
+            "SELECT id, repo, oid, size, done FROM uploads WHERE done = 0 ORDER BY rowid",
+            params![],
+        )?;
+        all_ids(alloc, rows.as_slice())
+    }
+
+    /// Takes what the store remembers of staged uploads, or reads it. The store then remembers nothing.
+    pub(crate) fn take_staged(&mut self, alloc: Global) -> Result<Vec<Remembered>, StoreFault>
+        ensures learns { Learns S.Store self.old self.new result }
+        ensures none { self.new.staged ≡ None }
+    {
+        if let Some(known) = self.staged.take() {
+            return Ok(known);
+        }
+        let rows = read(
+            &mut self.conn,
+            "SELECT id, repo, oid, size, done FROM uploads WHERE done = 0 ORDER BY rowid",
+            params![],
+        )?;
+        all_remembered(alloc, rows.as_slice())
+    }
+}
