@@ -12,7 +12,7 @@ no_cond : {A : Type 0} (v : Bool) (y : A) (rest : Option A) → cond v (Some y) 
 no_cond true y rest e = absurd (cc)
 no_cond false y rest e = (refl, e)
 
-none_passes : {A : Type 0} (p : A → Bool) (xs : List A) → find p xs ≡ None → AllByRecursion (λ y. p y ≡ false) xs
+pub none_passes : {A : Type 0} (p : A → Bool) (xs : List A) → find p xs ≡ None → AllByRecursion (λ y. p y ≡ false) xs
 none_passes p [] e = tt
 none_passes p (y ∷ ys) e = let no = no_cond (p y) y (find p ys) e in (no.0, none_passes p ys no.1)
 

@@ -1,5 +1,5 @@
 -- Successive calls, and what a stop leaves of the store that they borrow.
-use Rattle.std.proofs.Common.{◌≡◌, inl, inr, Bool, true, false, cond, List, [], ◌∷◌, ◌++◌, Option, Some, Result, Ok, Err, OnOk, OnErr, refl, sym, ap, subst}
+use Rattle.std.proofs.Common.{◌≡◌, ◌⊎◌, inl, inr, Bool, true, false, cond, List, [], ◌∷◌, ◌++◌, Option, Some, Result, Ok, Err, OnOk, OnErr, refl, sym, ap, subst}
 use Rattle.std.proofs.lemmas.Bool.{true≢false}
 use Rattle.sqlite_trees.specs.declared.store.Store.{Ghosts}
 use Rattle.model.specs.World.{World, IsWorld}
@@ -8,11 +8,11 @@ use Rattle.model.specs.Bounds.{Bound, Ending, changed, unchanged, failed, is_cha
 use Rattle.model.specs.Steps.{Exchange, Event, exchanged, judgement, after, IsExchange, IsStep, Run}
 use Rattle.model.proofs.Left.{reports_are_true}
 use Rattle.tables.specs.Rows.{Tables}
-use Rattle.tables.specs.Shown.{IsHonest, IsOpen, IsDurable, HasTables, Moves, AddsNothing, Makes, Fails, shown}
+use Rattle.tables.specs.Shown.{IsHonest, IsOpen, IsDurable, HasTables, Moves, AddsNothing, Makes, Fails, FailsAny, shown}
 use Rattle.tables.specs.declared.Store.{Store}
 use Rattle.tables.proofs.Moved.{moves_none, nothing_none}
 use Rattle.refinement.specs.Representation.{Represents, Holds}
-use Rattle.refinement.specs.Left.{IsBoundedBy, Leads, Ends, Gives, Takes, From, Reads}
+use Rattle.refinement.specs.Left.{IsBoundedBy, Leads, Keeps, Ends, Gives, Takes, From, Reads}
 use Rattle.refinement.proofs.Holding.{holds_still}
 
 -- the bound of a run, with one more event
@@ -69,6 +69,75 @@ module _ {S : Type 0} (g : Ghosts S) where
   pub still_then : (a b c : Store S) (world kept : World) (next : Bound → Bound) → Leads g a b world (λ bound. bound) → Leads g b c kept next → Leads g a c kept next
   still_then a b c world kept next p q = leads_then a b c world kept (λ bound. bound) next p q
 
+  -- ---- calls that keep the world
+
+  -- the same world twice in a bound
+  once : (s : Store S) (world : World) (bound : Bound) → IsBoundedBy g s (world ∷ world ∷ bound) → IsBoundedBy g s (world ∷ bound)
+  once s world bound b = record { safe = b.safe; among = λ k t left. elim (b.among k t left) [ inl is ↦ inl is | inr rest ↦ rest ] }
+
+  -- behind another one
+  once_behind : (s : Store S) (made world : World) (bound : Bound) → IsBoundedBy g s (made ∷ world ∷ world ∷ bound) → IsBoundedBy g s (made ∷ world ∷ bound)
+  once_behind s made world bound b = record {
+    safe = b.safe;
+    among = λ k t left. elim (b.among k t left) [
+      | inl is ↦ inl is
+      | inr rest ↦ inr (elim rest [ inl is ↦ inl is | inr old ↦ old ])
+    ];
+  }
+
+  -- a call that only reads keeps the world
+  pub keeps_still : (a b : Store S) (world : World) → Leads g a b world (λ bound. bound) → Keeps g a b world
+  keeps_still a b world p = record { holds = p.holds; left = λ bound was. more b world bound (p.left bound was) }
+
+  -- a store holds the world that its tables represent after a committed step
+  pub holds_made : (a b : Store S) (made : World) (f : Tables → Tables) → HasTables g a → Makes g f a b → IsWorld made → (IsHonest g a → IsOpen g a → Represents (f (shown g a)) made) → Holds g b made
+  holds_made a b made f ready m laws would = record {
+    ready = m.moves.ready ready;
+    laws = laws;
+    shows = λ k o. subst (λ (t : Tables). Represents t made) (sym (m.moves.shows k ready o)) (would (m.moves.was_honest k) (m.moves.was_open k o));
+  }
+
+  -- a call that committed a step after which the tables represent the same world
+  pub keeps_made : (a b : Store S) (world : World) (f : Tables → Tables) → Makes g f a b → (IsHonest g a → IsOpen g a → Represents (shown g a) world → Represents (f (shown g a)) world) → Holds g a world
+      → Keeps g a b world
+  keeps_made a b world f m would h =
+      let holds = holds_made a b world f h.ready m h.laws (λ k o. would k o (h.shows k o)) in
+      record { holds = holds; left = λ bound was. first b world bound m.is_open (m.durable h.ready) holds }
+
+  -- a call that failed, after which a stop may leave changed tables that represent the same world
+  pub keeps_failed : (a b : Store S) (world : World) (change : Tables → Tables → Type 0) → FailsAny g change a b
+      → ((t : Tables) → IsHonest g a → IsOpen g a → Represents (shown g a) world → change (shown g a) t → Represents t world) → Holds g a world → Keeps g a b world
+  keeps_failed a b world change fails would h = record {
+    holds = holds_still g a b world fails.moves h;
+    left = λ bound was. record {
+      safe = λ k. (fails.adds h.ready).safe k (was.safe (fails.moves.was_honest k));
+      among = λ k t left.
+          let honest = fails.moves.was_honest k in
+          elim ((fails.adds h.ready).outcomes k t left) [
+            | inl old ↦ inr (was.among honest t old)
+            | inr new ↦ inl (h.laws, would t honest new.0 (h.shows honest new.0) new.1)
+          ];
+    };
+  }
+
+  -- a call that makes a step after which the tables represent the same world, or fails
+  pub keeps_by : {T E : Type 0} (a b : Store S) (r : Result T E) (world : World) (f : Tables → Tables) → OnOk r (Makes g f a b) → OnErr r (Fails g f a b)
+      → (IsHonest g a → IsOpen g a → Represents (shown g a) world → Represents (f (shown g a)) world) → Holds g a world → Keeps g a b world
+  keeps_by a b (Ok x) world f made miss would h = keeps_made a b world f made would h
+  keeps_by a b (Err e) world f made miss would h =
+      keeps_failed a b world (λ old t. t ≡ f old) miss (λ t k o s is. subst (λ (u : Tables). Represents u world) (sym is) (would k o s)) h
+
+  -- two calls that keep the world
+  pub keeps_then : (a b c : Store S) (world : World) → Keeps g a b world → Keeps g b c world → Keeps g a c world
+  keeps_then a b c world p q = record { holds = q.holds; left = λ bound was. once c world bound (q.left (world ∷ bound) (p.left bound was)) }
+
+  -- a call that keeps the world, before one that may change it
+  pub keeps_ends : (a b c : Store S) (ending : Ending) (world made kept : World) → Keeps g a b world → Ends g b c ending world made kept → Ends g a c ending world made kept
+  keeps_ends a b c changed world made kept p q = record { holds = q.holds; left = λ bound was. q.left (world ∷ bound) (p.left bound was) }
+  keeps_ends a b c unchanged world made kept p q = record { holds = q.holds; left = λ bound was. once c world bound (q.left (world ∷ bound) (p.left bound was)) }
+  keeps_ends a b c failed world made kept p q =
+      record { holds = q.holds; left = λ bound was. once_behind c made world bound (q.left (world ∷ bound) (p.left bound was)) }
+
   -- ---- how a call ends
 
   -- it made no change, and nothing was tried
@@ -81,19 +150,29 @@ module _ {S : Type 0} (g : Ghosts S) where
   pub ends_reported : (a b : Store S) (world made : World) → Ends g a b unchanged world made world → Ends g a b failed world made world
   ends_reported a b world made p = record { holds = p.holds; left = λ bound was. more b made (world ∷ bound) (p.left bound was) }
 
-  -- a change was tried, and refused
-  pub ends_failed : (a b : Store S) (world made : World) (f : Tables → Tables) → Fails g f a b → (Represents (shown g a) world → IsWorld made × Represents (f (shown g a)) made) → Holds g a world
-      → Ends g a b failed world made world
-  ends_failed a b world made f fails would h = record {
+  -- a change was tried, and refused; it would have led to a world, or kept the old one
+  pub ends_failed_or : (a b : Store S) (world made : World) (f : Tables → Tables) → Fails g f a b
+      → (IsHonest g a → IsOpen g a → Represents (shown g a) world → (IsWorld made × Represents (f (shown g a)) made) ⊎ Represents (f (shown g a)) world) → Holds g a world → Ends g a b failed world made world
+  ends_failed_or a b world made f fails would h = record {
     holds = holds_still g a b world fails.moves h;
     left = λ bound was. record {
       safe = λ k. (fails.adds h.ready).safe k (was.safe (fails.moves.was_honest k));
-      among = λ k t left. elim ((fails.adds h.ready).outcomes k t left) [
-        | inl old ↦ inr (inr (was.among (fails.moves.was_honest k) t old))
-        | inr new ↦ let it = would (h.shows (fails.moves.was_honest k) new.0) in inl (it.0, subst (λ (u : Tables). Represents u made) (sym new.1) it.1)
-      ];
+      among = λ k t left.
+          let honest = fails.moves.was_honest k in
+          elim ((fails.adds h.ready).outcomes k t left) [
+            | inl old ↦ inr (inr (was.among honest t old))
+            | inr new ↦ elim (would honest new.0 (h.shows honest new.0)) [
+              | inl it ↦ inl (it.0, subst (λ (u : Tables). Represents u made) (sym new.1) it.1)
+              | inr same ↦ inr (inl (h.laws, subst (λ (u : Tables). Represents u world) (sym new.1) same))
+            ]
+          ];
     };
   }
+
+  -- a change was tried, and refused
+  pub ends_failed : (a b : Store S) (world made : World) (f : Tables → Tables) → Fails g f a b → (Represents (shown g a) world → IsWorld made × Represents (f (shown g a)) made) → Holds g a world
+      → Ends g a b failed world made world
+  ends_failed a b world made f fails would h = ends_failed_or a b world made f fails (λ k o s. inl (would s)) h
 
   -- the transaction was committed, whatever it changed
   pub ends_made : (a b : Store S) (ending : Ending) (world made : World) (f : Tables → Tables) → HasTables g a → Makes g f a b → Holds g b (world_by ending world made) → Ends g a b ending world made (world_by ending world made)

@@ -19,11 +19,11 @@ use Rattle.refinement.specs.Representation.{lock_kept, token_kept, lock_row, tok
 use Rattle.refinement.specs.Lookup.{lock_on, lock_with}
 use Rattle.refinement.proofs.Found.{same_found, Excludes}
 
-find_alike : {A : Type 0} (p q : A → Bool) (xs : List A) → ((x : A) → p x ≡ q x) → find p xs ≡ find q xs
+pub find_alike : {A : Type 0} (p q : A → Bool) (xs : List A) → ((x : A) → p x ≡ q x) → find p xs ≡ find q xs
 find_alike p q [] same = refl
 find_alike p q (x ∷ xs) same = rw (same x) (ap (λ o. cond (q x) (Some x) o) (find_alike p q xs same))
 
-same_is : (a b : List ℕ) → bytes_eq a b ≡ true → a ≡ b
+pub same_is : (a b : List ℕ) → bytes_eq a b ≡ true → a ≡ b
 same_is a b = (bytes_eq-Decides a b).0
 
 -- the lock is on the path of the ref of the repository

@@ -40,8 +40,6 @@ dropped_represented t world repo id s =
       made = s.made;
       used = s.used;
       tokens = s.tokens;
-      uploads = s.uploads;
-      chunks = s.chunks;
       objects = s.objects;
     }
 

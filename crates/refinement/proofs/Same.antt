@@ -1,7 +1,7 @@
 -- Tables represent one world, up to the order of its lists and the texts of its tokens.
-use Rattle.std.proofs.Common.{◌≡◌, ◌∙◌, inl, inr, ℕ, ℤ, pos, List, [], ◌∷◌, map, cond, refl, sym, ap, ap₂, subst, IsPermutation}
+use Rattle.std.proofs.Common.{◌≡◌, ◌∙◌, inl, inr, ℕ, ℤ, pos, List, [], ◌∷◌, map, filter, cond, refl, sym, ap, ap₂, subst, IsPermutation}
 use Rattle.std.specs.Ordering.{int_eq}
-use Rattle.std.proofs.lemmas.List.Sorted.{IsPermutation-refl, IsPermutation-trans, IsPermutation-sym, IsPermutation-map}
+use Rattle.std.proofs.lemmas.List.Sorted.{IsPermutation-trans, IsPermutation-sym, IsPermutation-map}
 use Rattle.sha2.specs.Sha256.{sha256}
 use Rattle.names.specs.declared.operations.Operation.{Operation}
 use Rattle.names.specs.declared.operations.Operation.TheVariants.{Download, Upload}
@@ -9,7 +9,9 @@ use Rattle.model.specs.World.{World, Object, Lock, Token}
 use Rattle.model.specs.Bounds.{TokenDigest, token_digest, SameWorld, Bound, IsWithin}
 use Rattle.tables.specs.Rows as row
 use Rattle.tables.specs.Rows.{Tables}
+use Rattle.tables.specs.Statements.{is_complete}
 use Rattle.tables.specs.Steps.{code_of}
+use Rattle.refinement.specs.Objects.{object_in, RepresentObjects}
 use Rattle.refinement.specs.Representation.{Represents, lock_kept, lock_row, token_kept, token_row}
 use Rattle.refinement.specs.Left.{IsAmong}
 
@@ -55,7 +57,7 @@ same_lists {C = C} f g h rows xs ys back p q =
     subst (λ (zs : List C). IsPermutation zs (map h ys)) (map_back f g h xs back)
     (subst (λ (zs : List C). IsPermutation (map f (map g xs)) zs) (map_back f g h ys back) both)
 
-map_itself : {A : Type 0} (xs : List A) → map (λ x. x) xs ≡ xs
+pub map_itself : {A : Type 0} (xs : List A) → map (λ x. x) xs ≡ xs
 map_itself [] = refl
 map_itself (x ∷ xs) = ap (λ ys. x ∷ ys) (map_itself xs)
 
@@ -63,9 +65,14 @@ pub same_pos : (a b : ℕ) → pos a ≡ pos b → a ≡ b
 unfolding nat_of
 same_pos a b e = ap nat_of e
 
+same_objects : (uploads : List row.Upload) (chunks : List row.Chunk) (xs ys : List Object) → RepresentObjects uploads chunks xs → RepresentObjects uploads chunks ys → IsPermutation xs ys
+same_objects uploads chunks xs ys p q =
+    let rows = map (object_in chunks) (filter is_complete uploads) in
+    IsPermutation-trans xs rows ys (IsPermutation-sym rows xs p.complete) q.complete
+
 pub same_world : (t : Tables) (a b : World) → Represents t a → Represents t b → SameWorld a b
 same_world t a b p q = record {
-  objects = subst (λ (os : List Object). IsPermutation a.objects os) (p.objects ∙ sym q.objects) (IsPermutation-refl a.objects);
+  objects = same_objects t.uploads t.chunks a.objects b.objects p.objects q.objects;
   locks = subst (λ (ls : List Lock). IsPermutation ls b.locks) (map_itself a.locks) (subst (λ (ls : List Lock). IsPermutation (map (λ l. l) a.locks) ls) (map_itself b.locks)
       (same_lists lock_of lock_row (λ l. l) (map lock_kept t.locks) a.locks b.locks lock_back p.locks q.locks));
   made = λ repo. same_pos (a.made repo) (b.made repo) (sym (p.made repo) ∙ q.made repo);

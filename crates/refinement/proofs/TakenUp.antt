@@ -53,7 +53,7 @@ module _ {S : Type 0} (g : Ghosts S) (old new : Store S) where
       laws = makes_world [] nothing refl;
       shows = λ k o. elim (a.ok k) [
         | inl made ↦ subst (λ (t : Tables). Represents t nothing) (sym made.1) fresh_represented
-        | inr rests ↦ absurd (has_tables (sym (a.ready k o).schema ∙ ap (λ (d : Database). d.schema) (rests.now o) ∙ none))
+        | inr rests ↦ absurd (has_tables (sym (a.ready.ready k o).schema ∙ ap (λ (d : Database). d.schema) (rests.now o) ∙ none))
       ];
     };
     left = record {

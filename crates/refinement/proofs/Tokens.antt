@@ -30,8 +30,6 @@ new_token_represented t world k i s kept = record {
   made = s.made;
   used = s.used;
   tokens = one_item_more token_kept token_row t.tokens world.tokens _ i s.tokens kept;
-  uploads = s.uploads;
-  chunks = s.chunks;
   objects = s.objects;
 }
 
@@ -93,8 +91,6 @@ expired_gone t world now s =
       tokens = subst P (filter-map (stays now) token_kept t.tokens)
           (subst Q (filter-map (stays now) token_row world.tokens ∙ ap (map token_row) (filter_alike (λ i. stays now (token_row i)) (λ i. nat_lt now i.expires) world.tokens (λ i. is_good now i.expires)))
           (IsPermutation-filter (stays now) (map token_kept t.tokens) (map token_row world.tokens) s.tokens));
-      uploads = s.uploads;
-      chunks = s.chunks;
       objects = s.objects;
     }
 

@@ -30,6 +30,10 @@ module _ {S : Type 0} (g : Ghosts S) where
     pub holds : Holds g new kept
     pub left : (bound : Bound) → IsBoundedBy old bound → IsBoundedBy new (next bound)
 
+  -- a call kept the world: a stop now leaves it, or what an earlier stop would have left
+  abbrev pub Keeps : Store S → Store S → World → Type 0
+  Keeps old new world = Leads old new world (λ bound. world ∷ bound)
+
   -- a call to change `world` to another world ended this way, and the store holds the resulting world
   abbrev pub Ends : Store S → Store S → Ending → World → World → World → Type 0
   Ends old new ending world made kept = Leads old new kept (left_by ending world made)

@@ -9,6 +9,7 @@ use Rattle.tables.specs.Runs.{first_meta}
 use Rattle.tables.specs.Steps.{code_of, made_of, used_of}
 use Rattle.tables.specs.Shown.{IsHonest, IsOpen, HasTables, shown}
 use Rattle.tables.specs.declared.Store.{Store}
+use Rattle.refinement.specs.Objects.{RepresentObjects}
 
 -- a row of `locks`, without its place in the table
 abbrev pub lock_kept : row.Lock → row.Lock
@@ -26,17 +27,14 @@ lock_row l = record { rowid = pos 0; repo = l.repo; id = pos l.id; ref_name = l.
 abbrev pub token_row : Token → row.Token
 token_row t = record { rowid = pos 0; digest = sha256 t.text; user = t.user; repo = t.repo; op = code_of t.operation; expires = pos t.expires }
 
--- the rows are those of the world's locks and tokens, in any order; there are no objects, uploads or chunks; each
--- repository has its counts
+-- the rows are those of the world's locks, tokens and objects, in any order; each repository has its counts
 pub record Represents (t : Tables) (world : World) : Type 0 where
   pub meta : t.meta ≡ first_meta ∷ []
   pub locks : IsPermutation (map lock_kept t.locks) (map lock_row world.locks)
   pub made : (repo : List ℕ) → made_of repo t ≡ pos (world.made repo)
   pub used : (repo : List ℕ) → used_of repo t ≡ pos (total repo world)
   pub tokens : IsPermutation (map token_kept t.tokens) (map token_row world.tokens)
-  pub uploads : t.uploads ≡ []
-  pub chunks : t.chunks ≡ []
-  pub objects : world.objects ≡ []
+  pub objects : RepresentObjects t.uploads t.chunks world.objects
 
 -- the store holds the world: while the disk is honest and the store open, its tables represent it
 pub record Holds {S : Type 0} (g : Ghosts S) (s : Store S) (world : World) : Type 0 where
