@@ -1,0 +1,83 @@
+use Rattle.std.proofs.Common.{◌≡◌, Some, None, slice_get, option_map, arith, refl, sym, ap, ◌∙◌}
+use Rattle.std.proofs.KnownBytes.{Appends-nil}
+use Rattle.tables.specs.Staging.{chunk_bytes}
+use Rattle.tables.proofs.Moved.{moves_none, nothing_none, moves_then, nothing_then}
+use Rattle.chunks.specs.Pouring.{IsCause}
+use Rattle.chunks.proofs.Poured.{poured_more, poured_all, poured_front, poured_part, piece_read}
+use Rattle.chunks.proofs.pouring.pour.Goals as goal
+
+pub chunks-init : goal.chunks-init
+chunks-init g c = record {
+  same = moves_none g.S.Store c.args.store.now;
+  adds = nothing_none g.S.Store c.args.store.now;
+  good = refl;
+  poured = λ clean ready pieces has. record { within = omega arith; count = refl; taken = Appends-nil (g.K.Sink.taken c.args.sink.now) };
+}
+
+pub chunks-preserved : goal.chunks-preserved
+chunks-preserved g c =
+    let a = c.args.store.now in
+    let b = c.chunks.store in
+    let d = c.read_chunk.new.store in
+    let inv = c.chunks.invariant in
+    let read = c.in-Ok-Some.ensures in
+    let wrote = c.in-Ok.ensures in
+    record {
+      same = moves_then g.S.Store a b d inv.same read.same;
+      adds = nothing_then g.S.Store a b d inv.adds read.adds;
+      good = wrote.good ∙ inv.good;
+      poured = λ clean ready pieces has.
+          let at = piece_read g.S.Store a b d c.args.upload.number c.chunks.n c.in-Ok-Some.field-0 inv.same read.same.was_honest read.answers clean ready pieces has in
+          let here : slice_get pieces c.chunks.n ≡ Some c.bytes.result.now = sym at ∙ ap (option_map chunk_bytes) c.in-Ok-Some.field-0-is ∙ ap Some (sym c.bytes.ensures) in
+          poured_more (g.K.Sink.taken c.args.sink.now) (g.K.Sink.taken c.chunks.sink) (g.K.Sink.taken c.write_bytes.new.sink) c.chunks.written c.in-Ok.total c.chunks.n pieces c.bytes.result.now (inv.poured (read.same.was_honest clean) ready pieces has) here wrote.all.0 wrote.all.1;
+    }
+
+pub returns-in-Err-write_bytes-clause-part : goal.returns-in-Err-write_bytes-clause-part
+returns-in-Err-write_bytes-clause-part g c clean ready pieces has =
+    let inv = c.chunks.invariant in
+    let read = c.in-Ok-Some.ensures in
+    let part = c.in-Err-write_bytes.ensures.part in
+    let at = piece_read g.S.Store c.args.store.now c.chunks.store c.read_chunk.new.store c.args.upload.number c.chunks.n c.in-Ok-Some.field-0 inv.same read.same.was_honest read.answers clean ready pieces has in
+    let here : slice_get pieces c.chunks.n ≡ Some c.bytes.result.now = sym at ∙ ap (option_map chunk_bytes) c.in-Ok-Some.field-0-is ∙ ap Some (sym c.bytes.ensures) in
+    rw part.1 (poured_part (g.K.Sink.taken c.args.sink.now) (g.K.Sink.taken c.chunks.sink) (g.K.Sink.taken c.write_bytes.new.sink) c.chunks.written c.chunks.n part.0 pieces c.bytes.result.now (inv.poured (read.same.was_honest clean) ready pieces has) here part.2)
+
+pub returns-in-Err-write_bytes-clause-fault : goal.returns-in-Err-write_bytes-clause-fault
+returns-in-Err-write_bytes-clause-fault g c = rw c.chunks.invariant.good at c.in-Err-write_bytes.ensures.fault
+
+pub returns-in-Err-write_bytes-clause-same : goal.returns-in-Err-write_bytes-clause-same
+returns-in-Err-write_bytes-clause-same g c = moves_then g.S.Store c.args.store.now c.chunks.store c.read_chunk.new.store c.chunks.invariant.same c.read_chunk.ensures.same
+
+pub returns-in-Err-write_bytes-clause-adds : goal.returns-in-Err-write_bytes-clause-adds
+returns-in-Err-write_bytes-clause-adds g c = nothing_then g.S.Store c.args.store.now c.chunks.store c.read_chunk.new.store c.chunks.invariant.adds c.read_chunk.ensures.adds
+
+pub returns-in-Ok-None-clause-all : goal.returns-in-Ok-None-clause-all
+returns-in-Ok-None-clause-all g c clean ready pieces has =
+    let inv = c.chunks.invariant in
+    let read = c.in-Ok-None.ensures in
+    let at = piece_read g.S.Store c.args.store.now c.chunks.store c.read_chunk.new.store c.args.upload.number c.chunks.n c.in-Ok-None.field-0 inv.same read.same.was_honest read.answers clean ready pieces has in
+    poured_all (g.K.Sink.taken c.args.sink.now) (g.K.Sink.taken c.chunks.sink) c.chunks.written c.chunks.n pieces (inv.poured (read.same.was_honest clean) ready pieces has) (sym at ∙ ap (option_map chunk_bytes) c.in-Ok-None.field-0-is)
+
+pub returns-in-Ok-None-clause-same : goal.returns-in-Ok-None-clause-same
+returns-in-Ok-None-clause-same g c = moves_then g.S.Store c.args.store.now c.chunks.store c.read_chunk.new.store c.chunks.invariant.same c.read_chunk.ensures.same
+
+pub returns-in-Ok-None-clause-adds : goal.returns-in-Ok-None-clause-adds
+returns-in-Ok-None-clause-adds g c = nothing_then g.S.Store c.args.store.now c.chunks.store c.read_chunk.new.store c.chunks.invariant.adds c.read_chunk.ensures.adds
+
+pub returns-in-Err-clause-part : goal.returns-in-Err-clause-part
+returns-in-Err-clause-part g c clean ready pieces has =
+    let inv = c.chunks.invariant in
+    rw c.in-Err.ensures.fault.0 (poured_front (g.K.Sink.taken c.args.sink.now) (g.K.Sink.taken c.chunks.sink) c.chunks.written c.chunks.n pieces (inv.poured (c.read_chunk.ensures.same.was_honest clean) ready pieces has))
+
+pub returns-in-Err-clause-fault : goal.returns-in-Err-clause-fault
+returns-in-Err-clause-fault g c = rw c.chunks.invariant.good (c.in-Err.ensures.fault.1 (g.K.Sink.failed c.args.sink.now))
+
+pub returns-in-Err-clause-same : goal.returns-in-Err-clause-same
+returns-in-Err-clause-same g c = moves_then g.S.Store c.args.store.now c.chunks.store c.read_chunk.new.store c.chunks.invariant.same c.read_chunk.ensures.same
+
+pub returns-in-Err-clause-adds : goal.returns-in-Err-clause-adds
+returns-in-Err-clause-adds g c = nothing_then g.S.Store c.args.store.now c.chunks.store c.read_chunk.new.store c.chunks.invariant.adds c.read_chunk.ensures.adds
+
+pub returns-clause-part : goal.returns-clause-part
+returns-clause-part g c clean ready pieces has =
+    let inv = c.chunks.invariant in
+    poured_front (g.K.Sink.taken c.args.sink.now) (g.K.Sink.taken c.chunks.sink) c.chunks.written c.chunks.n pieces (inv.poured clean ready pieces has)
