@@ -1,0 +1,6 @@
+pub mod Begun
+pub mod Bounds
+pub mod Found
+pub mod Received
+pub mod Sizes
+pub mod Swept

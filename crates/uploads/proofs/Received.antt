@@ -1,0 +1,117 @@
+-- A staged upload whose bytes arrived is completed.
+use Rattle.std.proofs.Common.{◌≡◌, ◌∙◌, ◌⊎◌, inl, inr, ℕ, ◌≤◌, pos, List, Some, is_some, Ok, Err, refl, sym, ap, subst}
+use Rattle.sqlite_trees.specs.declared.store.Store.{Ghosts}
+use Rattle.names.specs.Texts.{largest_object}
+use Rattle.model.specs.World.{World, IsWorld, IsObject, object_named, with_object}
+use Rattle.model.specs.Bounds.{changed, unchanged}
+use Rattle.model.proofs.Keeping.{keeps_with_object}
+use Rattle.tables.specs.Rows.{Tables}
+use Rattle.tables.specs.Shown.{IsHonest, IsOpen, Makes, Fails, shown}
+use Rattle.tables.specs.Staging.{upload_number, completion_by, completion_of, after_complete}
+use Rattle.tables.specs.declared.Store.{Store}
+use Rattle.tables.specs.declared.fault.StoreFault.{StoreFault}
+use Rattle.tables.specs.declared.rows.Completion.{Completion}
+use Rattle.tables.specs.declared.rows.Completion.TheVariants as completion
+use Rattle.tables.specs.declared.rows.UploadId.{UploadId}
+use Rattle.refinement.specs.Representation.{Represents, Holds}
+use Rattle.refinement.specs.Staging.{staged_row}
+use Rattle.refinement.proofs.Completing.{staged_in_range, Completed, completed, completed_by}
+use Rattle.refinement.proofs.Leading.{holds_made, ends_made, ends_failed_or, keeps_failed}
+use Rattle.refinement.proofs.Tokens.{none_is}
+use Rattle.uploads.specs.Completing.{Staged, bytes_in, object_of, IsAsBegun, Arrives, Completes}
+use Rattle.uploads.specs.declared.completing.Kept.TheVariants.{New, Already}
+use Rattle.uploads.specs.declared.completing.UploadFault.TheVariants.{Differs}
+use Rattle.uploads.specs.declared.completing.UploadFault.TheVariants as fault
+
+module _ {S : Type 0} (g : Ghosts S) (old new : Store S) (world : World) (upload : Staged) (id : UploadId) (oid : List ℕ) (size : ℕ) (h : Holds g old world) (a : Arrives g old id upload oid size) where
+  abbrev step : Tables → Tables
+  step = after_complete (upload_number id) oid (pos size)
+
+  abbrev made : World
+  made = with_object (object_of upload) world
+
+  -- the object with the name that was given is the one with the name of the bytes
+  same_object : with_object (record { repo = upload.repo; name = oid; bytes = bytes_in upload }) world ≡ made
+  same_object = ap (λ (n : List ℕ). with_object (record { repo = upload.repo; name = n; bytes = bytes_in upload }) world) a.name
+
+  is_begun : upload.name ≡ oid → upload.size ≡ size → IsAsBegun upload
+  is_begun same equal = (sym a.name ∙ sym same, sym a.length ∙ sym equal)
+
+  is_object : IsHonest g old → IsOpen g old → upload.size ≡ size → IsObject (object_of upload)
+  is_object k o equal =
+      let within = staged_in_range (shown g old) world (upload_number id) upload.repo upload.name upload.size upload.pieces (h.shows k o) (a.stages k o) in
+      record { repo = a.repo; name = refl; size = subst (λ n. n ≤ largest_object) (equal ∙ a.length) within }
+
+  -- what the tables represent after a result
+  after : (k : IsHonest g old) (o : IsOpen g old) (c : Completion) → completion_of (upload_number id) oid (pos size) (shown g old) ≡ Some c
+      → Completed (shown g old) world (upload_number id) upload.repo upload.name upload.size upload.pieces oid size (h.shows k o) h.laws (a.stages k o) (sym a.length) c
+  after k o c said = completed (shown g old) world (upload_number id) upload.repo upload.name upload.size upload.pieces oid size (h.shows k o) h.laws (a.stages k o) (sym a.length) c said
+
+  holds_same : (k : IsHonest g old) (o : IsOpen g old) → Makes g step old new → Represents (step (shown g old)) world → Holds g new world
+  holds_same k o makes r = holds_made g old new world step h.ready makes h.laws (λ _ _. r)
+
+  added : IsHonest g old → IsOpen g old → completion_of (upload_number id) oid (pos size) (shown g old) ≡ Some completion.New → Makes g step old new → Completes g world upload old new (Ok New)
+  added k o said makes =
+      let it = after k o completion.New said in (
+        is_begun it.0 it.1,
+        none_is (object_named upload.repo upload.name world) (ap (λ (n : List ℕ). is_some (object_named upload.repo n world)) it.0 ∙ it.2),
+        ends_made g old new changed world made step h.ready makes
+            (holds_made g old new made step h.ready makes (keeps_with_object world (object_of upload) (is_object k o it.1) h.laws) (λ _ _. subst (Represents (step (shown g old))) same_object it.3)),
+      )
+
+  known : IsHonest g old → IsOpen g old → completion_of (upload_number id) oid (pos size) (shown g old) ≡ Some completion.Already → Makes g step old new → Completes g world upload old new (Ok Already)
+  known k o said makes =
+      let it = after k o completion.Already said in (
+        is_begun it.0 it.1,
+        ap (λ (n : List ℕ). is_some (object_named upload.repo n world)) it.0 ∙ it.2,
+        ends_made g old new unchanged world made step h.ready makes (holds_same k o makes it.3),
+      )
+
+  differs : IsHonest g old → IsOpen g old → completion_of (upload_number id) oid (pos size) (shown g old) ≡ Some completion.Differs → Makes g step old new → Completes g world upload old new (Err Differs)
+  differs k o said makes =
+      let it = after k o completion.Differs said in (
+        (λ begun. it.0 (sym begun.0 ∙ sym a.name) (sym begun.1 ∙ sym a.length)),
+        ends_made g old new unchanged world made step h.ready makes (holds_same k o makes it.1),
+      )
+
+  -- what a stop may leave of a call that failed
+  either : (k : IsHonest g old) (o : IsOpen g old) (c : Completion)
+      → Completed (shown g old) world (upload_number id) upload.repo upload.name upload.size upload.pieces oid size (h.shows k o) h.laws (a.stages k o) (sym a.length) c
+      → (IsWorld made × Represents (step (shown g old)) made) ⊎ Represents (step (shown g old)) world
+  either k o completion.New it = inl (keeps_with_object world (object_of upload) (is_object k o it.1) h.laws, subst (Represents (step (shown g old))) same_object it.3)
+  either k o completion.Already it = inr it.3
+  either k o completion.Differs it = inr it.1
+
+  -- it leaves the world if the bytes differ from what was begun
+  unless_begun : (k : IsHonest g old) (o : IsOpen g old) (c : Completion)
+      → Completed (shown g old) world (upload_number id) upload.repo upload.name upload.size upload.pieces oid size (h.shows k o) h.laws (a.stages k o) (sym a.length) c
+      → (IsAsBegun upload → ⊥) → Represents (step (shown g old)) world
+  unless_begun k o completion.New it differ = absurd (differ (is_begun it.0 it.1))
+  unless_begun k o completion.Already it differ = it.3
+  unless_begun k o completion.Differs it differ = it.1
+
+  -- the result of the transaction that failed
+  abbrev tried : Completion
+  tried = completion_by oid (pos size) (staged_row (upload_number id) upload.repo upload.name upload.size) (shown g old)
+
+  would : (k : IsHonest g old) (o : IsOpen g old)
+      → Completed (shown g old) world (upload_number id) upload.repo upload.name upload.size upload.pieces oid size (h.shows k o) h.laws (a.stages k o) (sym a.length) tried
+  would k o = completed_by (shown g old) world (upload_number id) upload.repo upload.name upload.size upload.pieces oid size (h.shows k o) h.laws (a.stages k o) (sym a.length)
+
+  pub refused : (f : StoreFault) → Fails g step old new → Completes g world upload old new (Err (fault.Store f))
+  refused f fails = (
+    ends_failed_or g old new world made step fails (λ k o s. either k o tried (would k o)) h,
+    λ differ. keeps_failed g old new world (λ was t. t ≡ step was) fails
+        (λ t k o s is. subst (λ (u : Tables). Represents u world) (sym is) (unless_begun k o tried (would k o) differ)) h,
+  )
+
+  -- the result of the call for a result of the call on the tables
+  abbrev pub Reported : Completion → Type 0
+  Reported completion.New = Completes g world upload old new (Ok New)
+  Reported completion.Already = Completes g world upload old new (Ok Already)
+  Reported completion.Differs = Completes g world upload old new (Err Differs)
+
+  pub completes_by : (c : Completion) → IsHonest g new → IsOpen g old × (completion_of (upload_number id) oid (pos size) (shown g old) ≡ Some c) → Makes g step old new → Reported c
+  completes_by completion.New honest said makes = added (makes.moves.was_honest honest) said.0 said.1 makes
+  completes_by completion.Already honest said makes = known (makes.moves.was_honest honest) said.0 said.1 makes
+  completes_by completion.Differs honest said makes = differs (makes.moves.was_honest honest) said.0 said.1 makes

@@ -1,0 +1,24 @@
+use Rattle.std.proofs.Common.{find}
+use Rattle.std.proofs.lemmas.Result.{IfOk-weaker}
+use Rattle.names.specs.Names.{repo_text}
+use Rattle.tables.specs.Shown.{shown, IsOpen}
+use Rattle.tables.specs.Statements.{is_object}
+use Rattle.tables.specs.Staging.{IsObjectOf}
+use Rattle.uploads.specs.Finding.{Finds}
+use Rattle.uploads.proofs.Found.{finds_by}
+use Rattle.uploads.proofs.finding.find.Goals as goal
+
+pub returns-clause-world : goal.returns-clause-world
+returns-clause-world g c = record {
+  same = c.object.ensures.same;
+  adds = c.object.ensures.adds;
+  each = λ honest world h.
+      let old = c.args.store.now in
+      let new = c.object.new.self in
+      let repo = repo_text c.args.repo.now in
+      IfOk-weaker c.object.result
+      (λ found. IsOpen g.S.Store old × IsObjectOf found (find (is_object repo c.args.oid.now) (shown g.S.Store old).uploads))
+      (Finds g.S.Store world new repo c.args.oid.now)
+      (λ found is. finds_by g.S.Store old new world repo c.args.oid.now h.ready c.object.ensures.same (h.shows (c.object.ensures.same.was_honest honest) is.0) h.laws found is.1)
+      (c.object.ensures.answers honest h.ready);
+}

@@ -1,0 +1,16 @@
+-- How many bytes a repository has in the database.
+use Rattle.std.specs.Prelude.{◌≤◌, ℕ, List, length, filter, bytes_eq, sum_by}
+use Rattle.sqlite_trees.specs.declared.store.Store.{Ghosts}
+use Rattle.tables.specs.Rows.{Tables}
+use Rattle.tables.specs.Shown.{IsHonest, IsOpen, shown}
+use Rattle.tables.specs.declared.Store.{Store}
+use Rattle.refinement.specs.Objects.{bytes_of}
+
+-- the bytes of the repository's uploads, complete or staged, added up
+abbrev pub stored_in : List ℕ → Tables → ℕ
+stored_in repo t = sum_by (λ u. length (bytes_of u.id t.chunks)) (filter (λ u. bytes_eq u.repo repo) t.uploads)
+
+module _ {S : Type 0} (g : Ghosts S) where
+  -- while the disk is honest and the store open, the repository has at most this number of bytes in its database
+  abbrev pub StoresWithin : Store S → List ℕ → ℕ → Type 0
+  StoresWithin s repo most = IsHonest g s → IsOpen g s → stored_in repo (shown g s) ≤ most

@@ -1,0 +1,5 @@
+pub mod Beginning
+pub mod Bounds
+pub mod Finding
+pub mod Completing
+pub mod Removing
