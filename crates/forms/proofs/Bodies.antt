@@ -5,13 +5,13 @@ use Rattle.std.proofs.lemmas.Bool.{true≢false}
 use Rattle.std.proofs.lemmas.Str.{IsUtf8-from_is_utf8, is_utf8-from_IsUtf8}
 use Rattle.serde_json.specs.Data.{Num, Data, null, boolean, number, string, array, object, Members}
 use Rattle.serde_json.specs.Read.{read}
-use Rattle.serde_json.specs.Find.{as_object, as_str, as_number, as_bool}
-use Rattle.names.specs.Texts.{is_lock_path, is_ref, lock_id_in}
+use Rattle.serde_json.specs.Find.{as_object, as_str, as_number, as_bool, as_u64}
+use Rattle.names.specs.Texts.{is_hex_64, is_lock_path, is_ref, lock_id_in}
 use Rattle.names.specs.declared.rules.Rule.{Rule}
 use Rattle.names.specs.declared.rules.Rule.TheVariants.{J1, J2}
 use Rattle.model.specs.Reading.{◌>>=◌, check, ok_or, or_default}
-use Rattle.model.specs.Forms.{LockForm, lock_form, verify_locks_form, unlock_form, members_of, as_name, optional, is_if_given, if_not_empty, whole_if_given}
-use Rattle.forms.specs.Given.{VerifyLocksKeys, UnlockKeys, lock_fields, in_range, value_of, if_object, object_of, verify_locks_keys, verify_locks_in_range, unlock_keys, unlock_in_range, within}
+use Rattle.model.specs.Forms.{VerifyForm, LockForm, verify_form, lock_form, verify_locks_form, unlock_form, members_of, as_name, optional, is_if_given, is_size, if_not_empty, query_ref, whole_if_given}
+use Rattle.forms.specs.Given.{VerifyKeys, VerifyLocksKeys, UnlockKeys, verify_keys, verify_in_range, lock_fields, in_range, value_of, if_object, object_of, verify_locks_keys, verify_locks_in_range, unlock_keys, unlock_in_range, within}
 
 pub no_text : (body : List ℕ) → ¬ (IsUtf8 body) → None ≡ value_of body
 no_text body bad = at (is_utf8 body) refl
@@ -76,6 +76,39 @@ by_object more steps same body =
     ]
 
 -- ---- the requests: reading the keys and then testing their ranges gives what the interleaved checks of the definitions give
+
+abbrev verify : List ℕ → Num → VerifyKeys
+verify oid size = record { oid = oid; size = size }
+
+abbrev verified : List ℕ → ℕ → Option (List ℕ) → VerifyForm
+verified name size ref = record { name = name; size = size; ref = ref }
+
+-- all three are J2, so it does not matter whether the name or the number is read first
+name_first : (name : List ℕ) (n : Option ℕ) (r : Result (Option (List ℕ)) Rule)
+    → (ok_or n J2 >>= λ size. check (is_hex_64 name && is_size size) J2 >>= λ valid. r >>= λ ref. Ok (verified name size ref))
+    ≡ (within is_hex_64 name >>= λ a. (ok_or n J2 >>= within is_size) >>= λ b. r >>= λ ref. Ok (verified a b ref))
+name_first name None r =
+    elim (is_hex_64 name) as (λ b. (ok_or None J2 >>= λ size. check (is_hex_64 name && is_size size) J2 >>= λ valid. r >>= λ ref. Ok (verified name size ref))
+    ≡ ((check b J2 >>= λ valid. Ok name) >>= λ a. (ok_or None J2 >>= within is_size) >>= λ b. r >>= λ ref. Ok (verified a b ref))) [
+      | true ↦ refl
+      | false ↦ refl
+    ]
+name_first name (Some size) r =
+    both_within is_hex_64 is_size name size (λ a b. r >>= λ ref. Ok (verified a b ref))
+
+verify_chain : (o : Result (Option (List ℕ)) Rule) (n : Result (Option Num) Rule) (r : Result (Option (List ℕ)) Rule)
+    → ((o >>= λ given. ok_or given J1) >>= λ name. (n >>= λ given. ok_or given J1) >>= λ size. ok_or (as_u64 size) J2 >>= λ size. check (is_hex_64 name && is_size size) J2 >>= λ valid. r >>= λ ref. Ok (verified name size ref))
+    ≡ (((o >>= λ given. ok_or given J1) >>= λ name. (n >>= λ given. ok_or given J1) >>= λ size. Ok (verify name size)) >>= λ keys. within is_hex_64 keys.oid >>= λ a. (ok_or (as_u64 keys.size) J2 >>= within is_size) >>= λ b. r >>= λ ref. Ok (verified a b ref))
+verify_chain (Err e) n r = refl
+verify_chain (Ok None) n r = refl
+verify_chain (Ok (Some name)) (Err e) r = refl
+verify_chain (Ok (Some name)) (Ok None) r = refl
+verify_chain (Ok (Some name)) (Ok (Some size)) r = name_first name (as_u64 size) r
+
+pub verify_by_value : (query body : List ℕ) → verify_form query body ≡ (ok_or (object_of body) J1 >>= λ d. verify_keys d >>= verify_in_range query)
+unfolding verify_form
+verify_by_value query body =
+    by_object _ _ (λ ms. verify_chain (optional as_str (codes "oid") ms) (optional as_number (codes "size") ms) (query_ref query)) body
 
 abbrev form : List ℕ → Option (List ℕ) → LockForm
 form path ref = record { path = path; ref = ref }

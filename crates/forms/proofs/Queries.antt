@@ -3,13 +3,13 @@ use Rattle.std.proofs.Common.{◌≡◌, ℕ, true, false, List, [], ◌∷◌, 
 use Rattle.std.proofs.lemmas.Bool.Decides.{nat_tests}
 use Rattle.std.specs.Prelude.{bytes_eq}
 use Rattle.form_urlencoded.specs.Form.{raw_pairs}
-use Rattle.names.specs.Texts.{is_lock_path, is_ref, lock_id_in}
+use Rattle.names.specs.Texts.{is_hex_64, is_lock_path, is_ref, lock_id_in}
 use Rattle.names.specs.declared.rules.Rule.{Rule}
 use Rattle.names.specs.declared.rules.Rule.TheVariants.{J2}
 use Rattle.model.specs.Reading.{◌>>=◌, check}
-use Rattle.model.specs.Forms.{list_form, decode_text, query_single, query_value, is_if_given, if_not_empty, limit_in, read_if_given}
-use Rattle.forms.specs.Given.{ListKeys, list_keys, list_in_range, only, values_among}
-use Rattle.forms.proofs.Bodies.{both_within}
+use Rattle.model.specs.Forms.{put_form, list_form, decode_text, query_ref, query_single, query_value, is_if_given, if_not_empty, limit_in, read_if_given}
+use Rattle.forms.specs.Given.{ListKeys, list_keys, list_in_range, only, values_among, within}
+use Rattle.forms.proofs.Bodies.{both_within, one_within}
 
 -- ---- one key
 
@@ -45,6 +45,13 @@ empty_is_missing (b ∷ value) e = grind (arith, nat_tests)
 pub other_is_given : (value : List ℕ) → (length value == 0) ≡ false → if_not_empty (Some value) ≡ Some value
 other_is_given [] e = grind (arith, nat_tests)
 other_is_given (b ∷ value) e = refl
+
+-- ---- the request to upload
+
+pub put_by_name : (parameter query : List ℕ) → put_form parameter query ≡ (within is_hex_64 parameter >>= λ name. query_ref query >>= λ ref. Ok (record { name = name; ref = ref }))
+unfolding put_form
+put_by_name parameter query =
+    one_within is_hex_64 parameter (λ name. query_ref query >>= λ ref. Ok (record { name = name; ref = ref }))
 
 -- ---- the request for locks
 

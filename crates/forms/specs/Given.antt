@@ -4,20 +4,20 @@ use Rattle.std.specs.Borrow.{Bor}
 use Rattle.std.specs.declared.alloc.Global.{Global}
 use Rattle.std.specs.Str.{is_utf8}
 use Rattle.serde_json.specs.Data.{Data, Num}
-use Rattle.serde_json.specs.Find.{get, as_str, as_number, as_bool, as_object}
+use Rattle.serde_json.specs.Find.{get, as_str, as_number, as_bool, as_object, as_u64}
 use Rattle.serde_json.specs.Read.{read}
 use Rattle.serde_json.specs.View.{number_view, view}
 use Rattle.serde_json.specs.declared.number.Number.{Number}
 use Rattle.serde_json.specs.declared.value.Value.{Value}
 use Rattle.names.specs.Names.{ref_text}
-use Rattle.names.specs.Texts.{is_lock_path, is_ref, lock_id_in}
+use Rattle.names.specs.Texts.{is_hex_64, is_lock_path, is_ref, lock_id_in}
 use Rattle.names.specs.declared.rules.Rule.{Rule}
 use Rattle.names.specs.declared.texts.RefName.{RefName}
 use Rattle.names.specs.declared.rules.Rule.TheVariants.{J1, J2}
 use Rattle.forms.specs.declared.refusal.Refusal.{Refusal}
 use Rattle.forms.specs.declared.refusal.Refusal.TheVariants as refusal
 use Rattle.model.specs.Reading.{◌>>=◌, check, ok_or, or_default}
-use Rattle.model.specs.Forms.{LockForm, ListForm, VerifyLocksForm, UnlockForm, if_given, as_name, is_if_given, if_not_empty, decode_text, query_value, read_if_given, limit_in, whole_if_given}
+use Rattle.model.specs.Forms.{VerifyForm, LockForm, ListForm, VerifyLocksForm, UnlockForm, if_given, as_name, is_if_given, is_size, if_not_empty, decode_text, query_ref, query_value, read_if_given, limit_in, whole_if_given}
 
 -- the result is what the definitions read: the same value, mapped by `view`, or the same rule
 abbrev pub Gives : {X Y : Type 0} → (X → Y) → Result X Rule → Result Y Rule → Type 0
@@ -123,6 +123,30 @@ unlock_in_range parameter keys = do
   valid ← check (is_if_given is_ref keys.ref) J2
   id ← ok_or (lock_id_in parameter) J2
   Ok (record { id = id; force = or_default keys.force Bool.false })
+
+-- the keys of a request to verify an object, each of its kind
+pub record VerifyKeys : Type 0 where
+  pub oid : List ℕ
+  pub size : Num
+
+-- the name and the size, not yet tested for range
+abbrev pub verify_keys : Data → Result VerifyKeys Rule
+verify_keys d = do
+  oid ← if_given as_str (get (codes "oid") d) >>= λ given. ok_or given J1
+  size ← if_given as_number (get (codes "size") d) >>= λ given. ok_or given J1
+  Ok (record { oid = oid; size = size })
+
+-- the number, if an object may have this size
+abbrev pub size_of : Num → Result ℕ Rule
+size_of number = ok_or (as_u64 number) J2 >>= within is_size
+
+-- the form, if its values and the ref of the query are in range
+abbrev pub verify_in_range : List ℕ → VerifyKeys → Result VerifyForm Rule
+verify_in_range query keys = do
+  name ← within is_hex_64 keys.oid
+  size ← size_of keys.size
+  ref ← query_ref query
+  Ok (record { name = name; size = size; ref = ref })
 
 -- ---- queries
 

@@ -1,7 +1,12 @@
 -- A request, in the terms of the definitions.
-use Rattle.std.specs.Prelude.{option_map}
+use Rattle.std.specs.Prelude.{ℕ, List, option_map}
+use Rattle.serde_json.specs.View.{number_view}
 use Rattle.names.specs.Names.{path_text}
-use Rattle.model.specs.Forms.{LockForm, ListForm, VerifyLocksForm, UnlockForm, Request, asks_lock, asks_list, asks_verify_locks, asks_unlock}
+use Rattle.model.specs.Forms.{PutForm, VerifyForm, LockForm, ListForm, VerifyLocksForm, UnlockForm, Request, asks_get, asks_put, asks_verify, asks_lock, asks_list, asks_verify_locks, asks_unlock}
+use Rattle.forms.specs.declared.objects.GetRequest.{GetRequest}
+use Rattle.forms.specs.declared.objects.PutRequest.{PutRequest}
+use Rattle.forms.specs.declared.objects.VerifyRequest.{VerifyRequest}
+use Rattle.forms.specs.declared.objects.VerifyValues.{VerifyValues}
 use Rattle.forms.specs.declared.lock.LockRequest.{LockRequest}
 use Rattle.forms.specs.declared.list.ListRequest.{ListRequest}
 use Rattle.forms.specs.declared.list.ListTexts.{ListTexts}
@@ -10,7 +15,23 @@ use Rattle.forms.specs.declared.verify_locks.VerifyLocksValues.{VerifyLocksValue
 use Rattle.forms.specs.declared.unlock.UnlockRequest.{UnlockRequest}
 use Rattle.forms.specs.declared.request.Request as code
 use Rattle.forms.specs.declared.request.Request.TheVariants as request
-use Rattle.forms.specs.Given.{ListKeys, VerifyLocksKeys, number_given, ref_given, string_given, text_given}
+use Rattle.forms.specs.Given.{ListKeys, VerifyKeys, VerifyLocksKeys, number_given, ref_given, string_given, text_given}
+
+-- the object's name
+abbrev pub get_asked : GetRequest → List ℕ
+get_asked r = r.name
+
+-- the name to store a content under, and the ref
+abbrev pub put_asked : PutRequest → PutForm
+put_asked r = record { name = r.name; ref = ref_given r.ref_name }
+
+-- the values of a body
+abbrev pub verify_given : VerifyValues → VerifyKeys
+verify_given v = record { oid = v.oid.now; size = number_view v.size.now }
+
+-- the object and the ref
+abbrev pub verify_asked : VerifyRequest → VerifyForm
+verify_asked r = record { name = r.name; size = r.size; ref = ref_given r.ref_name }
 
 -- the path and the ref
 abbrev pub lock_asked : LockRequest → LockForm
@@ -55,6 +76,9 @@ unlock_asked r = record { id = r.id; force = r.force }
 
 -- the request
 abbrev pub request_asked : code.Request → Request
+request_asked (request.Get r) = asks_get (get_asked r)
+request_asked (request.Put r) = asks_put (put_asked r)
+request_asked (request.Verify r) = asks_verify (verify_asked r)
 request_asked (request.Lock r) = asks_lock (lock_asked r)
 request_asked (request.List r) = asks_list (list_asked r)
 request_asked (request.VerifyLocks r) = asks_verify_locks (verify_locks_asked r)

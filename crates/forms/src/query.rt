@@ -3,14 +3,27 @@
 ghost use Rattle.std.specs.Prelude.{◌≡◌, IfOk, bytes_eq, option_map};
 ghost use Rattle.std.specs.Cow.{cow_str_bytes};
 ghost use Rattle.form_urlencoded.specs.Form.{raw_pairs};
-ghost use Rattle.model.specs.Forms.{decode_text, query_value};
-ghost use Rattle.forms.specs.Given.{Reads, only, string_given, values_among};
+ghost use Rattle.model.specs.Forms.{decode_text, query_ref, query_value};
+ghost use Rattle.forms.specs.Given.{Reads, only, ref_given, string_given, values_among};
 
+use crate::body::ref_of;
 use crate::refusal::Refusal;
 use form_urlencoded::{decode, raw_pairs};
-use names::Rule;
+use names::{RefName, Rule};
 use std::alloc::{AllocError, Global};
 use std::borrow::CowStr;
+
+/// The ref under the key `ref` of the query; `None` if the key is missing or its value is empty.
+///
+/// # Errors
+///
+/// J2 if the key occurs twice, or its value is not a ref.
+pub(crate) fn query_ref(alloc: Global, query: &str) -> Result<Option<RefName>, Refusal>
+    ensures { Reads ref_given result (query_ref query.now) }
+{
+    let text = query_value(alloc, query, "ref")?;
+    Ok(ref_of(text)?)
+}
 
 /// The value of a key of the query, decoded; `None` if the key is missing or its value is empty.
 ///

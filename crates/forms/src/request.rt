@@ -7,6 +7,7 @@ ghost use Rattle.forms.specs.Requests.{request_asked};
 
 use crate::list::{ListRequest, read_list};
 use crate::lock::{LockRequest, read_lock};
+use crate::objects::{GetRequest, PutRequest, VerifyRequest, read_get, read_put, read_verify};
 use crate::refusal::Refusal;
 use crate::unlock::{UnlockRequest, read_unlock};
 use crate::verify_locks::{VerifyLocksRequest, read_verify_locks};
@@ -16,6 +17,12 @@ use std::alloc::Global;
 /// A client's request.
 #[derive(Debug, Drop)]
 pub enum Request {
+    /// Download an object (Git LFS API, Basic Transfers, "Downloads").
+    Get(GetRequest),
+    /// Upload an object (Git LFS API, Basic Transfers, "Uploads").
+    Put(PutRequest),
+    /// Verify that an object is stored (Git LFS API, Basic Transfers, "Verification").
+    Verify(VerifyRequest),
     /// Lock a path (Git LFS API, File Locking, "Create Lock").
     Lock(LockRequest),
     /// List locks (Git LFS API, File Locking, "List Locks").
@@ -48,6 +55,9 @@ pub fn read_form(
         (request_of (form_of_served form) parameter.now query.now body.now) }
 {
     match form {
+        ServedForm::Get => Ok(Request::Get(read_get(parameter)?)),
+        ServedForm::Put => Ok(Request::Put(read_put(alloc, parameter, query)?)),
+        ServedForm::Verify => Ok(Request::Verify(read_verify(alloc, query, body)?)),
         ServedForm::Lock => Ok(Request::Lock(read_lock(alloc, body)?)),
         ServedForm::List => Ok(Request::List(read_list(alloc, query)?)),
         ServedForm::VerifyLocks => Ok(Request::VerifyLocks(read_verify_locks(alloc, body)?)),
