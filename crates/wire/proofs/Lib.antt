@@ -8,3 +8,4 @@ pub mod Buffers
 pub mod Found
 pub mod Streams
 pub mod Advances
+pub mod Handed

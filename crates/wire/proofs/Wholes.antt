@@ -1,23 +1,10 @@
--- One more piece written.
-use Rattle.std.proofs.Common.{◌≡◌, ℕ, ◌+◌, List, ◌++◌, take, drop, Option, Some, None, sym, ap, subst, ◌∙◌, append_assoc, length, length-append, arith}
+-- A text of two parts, of which some bytes were written.
+use Rattle.std.proofs.Common.{◌≡◌, ℕ, ◌+◌, List, ◌++◌, take, Option, sym, ap, subst, ◌∙◌, length, length-append, arith}
 use Rattle.std.specs.Io.KnownBytes.{Appends}
-use Rattle.std.proofs.Math.Seq.{take-add, take-append-add}
+use Rattle.std.proofs.Math.Seq.{take-append-add}
 use Rattle.std.proofs.lemmas.List.{take-append-le}
-use Rattle.wire.specs.Writes.{IsBeginning}
+use Rattle.names.specs.Streams.{IsBeginning}
 use Rattle.wire.proofs.Appended.{appends_both}
-
-pub appends_more : (old mid new : Option (List ℕ)) (text : List ℕ) (at n : ℕ) → Appends old mid (take at text)
-    → Appends mid new (take n (drop at text)) → Appends old new (take (at + n) text)
-appends_more None mid new text at n a b = tt
-appends_more (Some xs) None new text at n a b = absurd a
-appends_more (Some xs) (Some ys) None text at n a b = b
-appends_more (Some xs) (Some ys) (Some zs) text at n a b =
-    b ∙ ap (λ l. l ++ take n (drop at text)) a ∙ append_assoc xs (take at text) (take n (drop at text)) ∙ ap (λ l. xs ++ l) (sym (take-add at n text))
-
-pub appends_rest : (old mid new : Option (List ℕ)) (text piece : List ℕ) (at n : ℕ) → piece ≡ drop at text → Appends old mid (take at text)
-    → Appends mid new (take n piece) → Appends old new (take (at + n) text)
-appends_rest old mid new text piece at n e a b =
-    let P : List ℕ → Type 0 = λ p. Appends mid new (take n p) in appends_more old mid new text at n a (subst P e b)
 
 pub begins_front : (old new : Option (List ℕ)) (front back : List ℕ) (n : ℕ) → IsBeginning old new front n → IsBeginning old new (front ++ back) n
 begins_front old new front back n is = record {

@@ -6,4 +6,3 @@ pub mod Halts
 pub mod Lending
 pub mod Replies
 pub mod States
-pub mod Writes

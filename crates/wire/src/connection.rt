@@ -13,7 +13,7 @@ use crate::cut::FIELD_LIMIT;
 use crate::head::Head;
 use crate::reading::{Halt, read_head};
 use httparse::spans::{EMPTY_HEADER_SPAN, HeaderSpan, RequestSpans, Span};
-use names::{Rule, Source};
+use names::{BodyFault, Rule, Source};
 use std::alloc::{AllocError, Global};
 use thiserror::Error;
 
@@ -42,17 +42,6 @@ pub enum Stop {
     /// The body of the last message was not read to its end. Nothing was read.
     #[error("a body was not read to its end")]
     Unread,
-}
-
-/// Why bytes of a body were not read.
-#[derive(Clone, Copy, Debug, PartialEq, Eq, Error)]
-pub enum BodyFault {
-    /// The source ended before the body did.
-    #[error("the input ended before the body did")]
-    Ended,
-    /// A read failed.
-    #[error("a read failed")]
-    Device,
 }
 
 /// A connection: reads messages from a source, one after another.
@@ -130,6 +119,13 @@ impl<R: Source + Drop> Conn<R> {
         ensures { result ≡ self.now.left }
     {
         self.left
+    }
+
+    /// The number of failed reads so far.
+    pub(crate) fn failures(&self) -> u64
+        ensures { result ≡ R.failed self.now.source }
+    {
+        self.source.failures()
     }
 
     /// Returns the answer, and remembers it for later calls.

@@ -8,9 +8,9 @@ ghost use Rattle.names.specs.Streams.{HasGrown};
 ghost use Rattle.wire.specs.Connections.{waiting, IsAt, Moves, SameHead};
 ghost use Rattle.wire.specs.Fields.{Shows};
 
-use crate::connection::{BodyFault, Conn, Stop};
+use crate::connection::{Conn, Stop};
 use crate::head::Head;
-use names::Source;
+use names::{Body, BodyFault, Source};
 use std::alloc::Global;
 use thiserror::Error;
 
@@ -152,4 +152,37 @@ impl<'c, R: Source + Drop> Inflow<'c, R> {
             Err(fault) => Err(WholeFault::Body(fault)),
         }
     }
+}
+
+/// The rest of the body, as it arrives.
+impl<R: Source + Drop> Body for Inflow<'_, R> {
+    ghost use Rattle.std.proofs.Common.{refl, ◌∙◌};
+    ghost use Rattle.wire.specs.States.{Hands, by_none, by_both};
+
+    ghost size = { λ i. i.conn.now.left };
+
+    ghost failed = { λ i. R.failed i.conn.now.source };
+
+    ghost moves = { λ old new bytes. (new.conn.ghost_name ≡ old.conn.ghost_name)
+        × Hands old.conn.now new.conn.now bytes };
+
+    ghost is_drained = { λ i. waiting i.conn.now ≡ [] };
+
+    ghost is_ended = { λ i. IsAtEnd (R.left i.conn.now.source) };
+
+    fn left(&self) -> u64 {
+        self.body_left()
+    }
+
+    fn piece(&mut self, piece: &mut [u8]) -> Result<usize, BodyFault> {
+        self.body_piece(piece)
+    }
+
+    fn failures(&self) -> u64 {
+        self.conn.failures()
+    }
+
+    ghost moves_none = { λ i. (refl, by_none i.conn.now) };
+
+    ghost moves_on = { λ a b c x y p q. (q.0 ∙ p.0, by_both a.conn.now b.conn.now c.conn.now x y p.1 q.1) };
 }

@@ -25,10 +25,10 @@ mod reading;
 mod reply;
 mod write;
 
-pub use connection::{BodyFault, Conn, Stop};
+pub use connection::{Conn, Stop};
 pub use cut::{Cut, FIELD_LIMIT, FIELD_ROOM, HEAD_LIMIT, first_head, front_of};
 pub use framing::LARGEST_FORM;
 pub use head::Head;
 pub use inflow::{Inflow, WholeFault};
 pub use reply::{Content, ReplyHead};
-pub use write::{WriteFault, write_reply, write_whole};
+pub use write::write_reply;

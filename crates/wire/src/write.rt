@@ -1,49 +1,16 @@
-//! Writes to a sink that takes some bytes at a time.
+//! Writes replies to a sink that takes some bytes at a time.
 
-ghost use Rattle.std.specs.Prelude.{◌≡◌, ◌≤◌, ◌<◌, ◌+◌, ◌++◌, length, drop, OnOk, IfErr, IfSome, None};
+ghost use Rattle.std.specs.Prelude.{◌≡◌, ◌≤◌, ◌<◌, ◌+◌, ◌++◌, length, OnOk, IfErr, IfSome, None};
 ghost use Rattle.std.specs.Io.KnownBytes.{Appends};
-ghost use Rattle.names.specs.Streams.{HasGrown};
+ghost use Rattle.names.specs.Streams.{HasGrown, IsBeginning};
 ghost use Rattle.wire.specs.Replies.{head_of};
-ghost use Rattle.wire.specs.Writes.{IsBeginning};
 
 use crate::reply::ReplyHead;
 use arrayvec::ArrayVec;
-use names::{ALLOW_LIMIT, Sink};
-use thiserror::Error;
+use names::{ALLOW_LIMIT, Sink, WriteFault, write_whole};
 
 /// The longest reply that is written in one piece, in bytes: its head and its body.
 const SHORT_REPLY: usize = 4_096;
-
-/// A write failed; the sink took a prefix of the text.
-#[derive(Clone, Copy, Debug, PartialEq, Eq, Error)]
-#[error("a write failed after {written} bytes")]
-pub struct WriteFault {
-    /// The number of bytes that it took: fewer than the text has.
-    pub written: usize,
-}
-
-/// Writes all of the text, in as many writes as the sink needs.
-///
-/// # Errors
-///
-/// A [`WriteFault`] if a write fails: the sink counts one failure, and it took exactly the first
-/// `written` bytes of the text. Nothing is written twice, and no write is tried after the failure.
-pub fn write_whole<K: Sink>(sink: &mut K, text: &[u8]) -> Result<(), WriteFault>
-    ensures ok { OnOk result (Appends (K.taken sink.old) (K.taken sink.new) text.now) }
-    ensures good { OnOk result (K.failed sink.new ≡ K.failed sink.old) }
-    ensures part { IfErr result
-        (λ e. IsBeginning (K.taken sink.old) (K.taken sink.new) text.now e.written) }
-    ensures fault { IfErr result (λ _. HasGrown (K.failed sink.old) (K.failed sink.new)) }
-{
-    let mut at = 0;
-    'pieces: while at < text.len() {
-        match sink.write(rest_of(text, at)) {
-            Ok(n) => at += n,
-            Err(_) => return Err(WriteFault { written: at }),
-        }
-    }
-    Ok(())
-}
 
 /// Writes a reply: its head, and then its body. A reply of at most 4,096 bytes is offered to the sink as
 /// one piece.
@@ -114,12 +81,4 @@ fn write_each<K: Sink>(sink: &mut K, front: &[u8], back: &[u8]) -> Result<(), Wr
             written: front.len() + fault.written,
         }),
     }
-}
-
-/// The rest of the text from this position on.
-fn rest_of(text: &[u8], at: usize) -> &[u8]
-    requires { at ≤ length text.now }
-    ensures { result.now ≡ drop at text.now }
-{
-    text.split_at(at).1
 }
