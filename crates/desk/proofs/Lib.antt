@@ -5,3 +5,4 @@ pub mod Apart
 pub mod Releasing
 pub mod Unchanged
 pub mod Showing
+pub mod Arriving

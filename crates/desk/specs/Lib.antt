@@ -6,3 +6,5 @@ pub mod Admission
 pub mod Rights
 pub mod Paging
 pub mod Unlocking
+pub mod Receiving
+pub mod Contents

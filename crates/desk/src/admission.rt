@@ -37,8 +37,9 @@ fn needs_upload(request: &Request) -> bool
     ensures { result ≡ needs_upload (request_asked request.now) }
 {
     match request {
+        Request::Get(_) | Request::List(_) => false,
+        Request::Put(_) | Request::Verify(_) => true,
         Request::Lock(_) | Request::VerifyLocks(_) | Request::Unlock(_) => true,
-        Request::List(_) => false,
     }
 }
 

@@ -118,6 +118,8 @@ fn answer_request<S: Alter>(
         user: &caller.user,
     };
     match request {
+        // No route leads to these yet.
+        Request::Get(_) | Request::Put(_) | Request::Verify(_) => Err(StoreFault::Refused),
         Request::Lock(asked) => lock(store, alloc, &case, asked),
         Request::List(asked) => list(store, alloc, &case, asked),
         Request::VerifyLocks(asked) => verify_locks(store, alloc, &case, asked),

@@ -6,7 +6,9 @@ mod answering;
 mod cases;
 mod listing;
 mod locking;
+mod outcomes;
 mod pages;
+mod receiving;
 mod replies;
 mod rights;
 mod unlocking;
@@ -14,4 +16,6 @@ mod verifying;
 
 pub use admission::RepoRequest;
 pub use answering::answer;
+pub use outcomes::AnswerFault;
+pub use receiving::{Receipt, receive};
 pub use replies::{Body, Reply};

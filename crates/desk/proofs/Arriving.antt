@@ -1,0 +1,305 @@
+-- An upload, from the bytes that arrive to the answer.
+use Rattle.std.proofs.Common.{◌≡◌, ◌∙◌, ◌+◌, ◌≤◌, ℕ, Bool, true, false, List, [], ◌∷◌, ◌++◌, length, Option, Some, None, is_some, Result, Ok, Err, bytes_eq, refl, sym, ap, subst, arith, take, append-nil, append_assoc, length-append, length-take}
+use Rattle.std.specs.Prelude.{IsTrue}
+use Rattle.std.proofs.lemmas.Bool.{true≢false}
+use Rattle.std.proofs.lemmas.Slice.Eq.{bytes_eq-Decides}
+use Rattle.sqlite_trees.specs.declared.store.Store.{Ghosts}
+use Rattle.names.specs.declared.bodies.Body.{Ghosts as BodyGhosts}
+use Rattle.names.specs.Texts.{is_repo}
+use Rattle.names.specs.declared.rules.Rule.TheVariants.{X2}
+use Rattle.model.specs.World.{World, Object, name_of, object_named, with_object}
+use Rattle.model.specs.Answers.{Answer, stores, by_rule, store_refusal}
+use Rattle.model.specs.Objects.{content_verdict}
+use Rattle.model.specs.Bounds.{Ending, changed, unchanged, failed, answer_ending}
+use Rattle.model.specs.Steps.{after}
+use Rattle.tables.specs.Shown.{HasTables}
+use Rattle.tables.specs.Staging.{upload_number}
+use Rattle.tables.specs.declared.Store.{Store}
+use Rattle.tables.specs.declared.fault.StoreFault.{StoreFault}
+use Rattle.tables.specs.declared.rows.UploadId.{UploadId}
+use Rattle.refinement.specs.Left.{From, Keeps, Ends, Gives}
+use Rattle.refinement.specs.Staging.{Stages}
+use Rattle.refinement.proofs.Leading.{leads_none, keeps_still, keeps_then, keeps_ends, ends_reported}
+use Rattle.chunks.specs.Intakes.{IsCut, HasCounted, HasTaken, HasStored}
+use Rattle.chunks.specs.declared.intake.Intake.{Intake}
+use Rattle.uploads.specs.Completing.{Staged, bytes_in, object_of, IsAsBegun, Arrives, Completes}
+use Rattle.uploads.specs.declared.completing.Kept.{Kept}
+use Rattle.uploads.specs.declared.completing.Kept.TheVariants.{New, Already}
+use Rattle.uploads.specs.declared.completing.UploadFault.{UploadFault}
+use Rattle.uploads.specs.declared.completing.UploadFault.TheVariants as upload_fault
+use Rattle.desk.specs.declared.receiving.Receipt.{Receipt}
+use Rattle.desk.specs.declared.receiving.Receipt.TheVariants.{Stored, Differs}
+use Rattle.desk.specs.declared.outcomes.AnswerFault.{AnswerFault}
+use Rattle.desk.specs.declared.outcomes.AnswerFault.TheVariants as fault
+use Rattle.desk.specs.Contents.{HasRead}
+use Rattle.desk.specs.Receiving.{object_from, Takes, Fills, Carries, Settles, Receives}
+
+-- ---- the content
+
+module _ {B : Type 0} (g : BodyGhosts B) where
+  -- no read, or one that failed
+  pub read_none : (b c : B) → g.moves b c [] → g.size c ≡ g.size b → HasRead g b c []
+  read_none b c moves same = record { moves = moves; size = omega (arith, same) }
+
+  pub read_more : ((one two three : B) (front back : List ℕ) → g.moves one two front → g.moves two three back → g.moves one three (front ++ back))
+      → (a b c : B) (xs ys : List ℕ) → HasRead g a b xs → HasRead g b c ys → HasRead g a c (xs ++ ys)
+  read_more moves_on a b c xs ys p q = record {
+    moves = moves_on a b c xs ys p.moves q.moves;
+    size = let e = length-append xs ys in let n = p.size in let m = q.size in omega (arith, e, n, m);
+  }
+
+  -- a read into the front of a piece
+  pub read_piece : (b c : B) (n : ℕ) (piece : List ℕ) → n ≤ length piece → n + g.size c ≡ g.size b → g.moves b c (take n piece) → HasRead g b c (take n piece)
+  read_piece b c n piece within size moves = record {
+    moves = moves;
+    size = let e = length-take n piece in omega (arith, e, within, size);
+  }
+
+-- all of the content was read
+pub all_read : (a b c : ℕ) → a + b ≡ c → b ≡ 0 → a ≡ c
+all_read a b c sum none = omega (arith, sum, none)
+
+nothing : (xs : List ℕ) (n : ℕ) → n ≡ 0 → length xs ≡ n → xs ≡ []
+nothing [] n none is = refl
+nothing (x ∷ xs) n none is = absurd (omega (arith, none, is))
+
+-- ---- the verdict on bytes
+
+has_name : (o : Object) → o.name ≡ name_of o.bytes → content_verdict o ≡ Ok (stores o)
+has_name o same = rw ((bytes_eq-Decides o.name (name_of o.bytes)).1 same) refl
+
+lacks_name : (o : Object) → bytes_eq o.name (name_of o.bytes) ≡ false → content_verdict o ≡ Err (by_rule X2)
+lacks_name o off = rw off refl
+
+-- an object that is there already changes nothing
+same_world : (o : Object) (world : World) → is_some (object_named o.repo o.name world) ≡ true → with_object o world ≡ world
+same_world o world there = rw there refl
+
+quiet : (o : Object) (world : World) → is_some (object_named o.repo o.name world) ≡ true → answer_ending world (Some (Ok (stores o))) ≡ unchanged
+quiet o world there = at (object_named o.repo o.name world) refl there
+  where
+    at : (found : Option Object) → object_named o.repo o.name world ≡ found → is_some found ≡ true → answer_ending world (Some (Ok (stores o))) ≡ unchanged
+    at None e is = absurd (true≢false (sym is))
+    at (Some it) e is = rw e refl
+
+-- the result of a loop that goes on
+abbrev pub taken : Result Unit AnswerFault
+taken = Ok tt
+
+-- the receipt that a completion leads to
+abbrev pub receipt_of : Result Kept UploadFault → Result Receipt StoreFault
+receipt_of (Ok kept) = Ok Stored
+receipt_of (Err upload_fault.Differs) = Ok Differs
+receipt_of (Err (upload_fault.Store f)) = Err f
+
+-- a fault of the store as the fault of an answer
+abbrev pub answered_by : Result Receipt StoreFault → Result Receipt AnswerFault
+answered_by (Ok receipt) = Ok receipt
+answered_by (Err f) = Err (fault.Store f)
+
+module _ {S : Type 0} (g : Ghosts S) where
+  -- ---- what is answered
+
+  module _ (old new : Store S) (world : World) where
+    -- the world is kept, and the store is reported as refusing
+    pub kept_refused : (verdict : Answer) → Keeps g old new world → Gives g old new world verdict store_refusal
+    kept_refused verdict keeps = ends_reported g old new world (after world (Some verdict)) keeps
+
+    carried_new : (o : Object) → o.name ≡ name_of o.bytes → object_named o.repo o.name world ≡ None → Ends g old new changed world (with_object o world) (with_object o world) → Carries g old new world o (Ok Stored)
+    carried_new o same free ends =
+        let ending : changed ≡ answer_ending world (Some (Ok (stores o))) = rw free refl in (
+          has_name o same,
+          subst (λ (v : Answer). Gives g old new world v v) (sym (has_name o same))
+              (subst (λ (e : Ending). Ends g old new e world (with_object o world) (with_object o world)) ending ends),
+        )
+
+    carried_again : (o : Object) → o.name ≡ name_of o.bytes → is_some (object_named o.repo o.name world) ≡ true → Keeps g old new world → Carries g old new world o (Ok Stored)
+    carried_again o same there keeps = (
+      has_name o same,
+      subst (λ (v : Answer). Gives g old new world v v) (sym (has_name o same))
+          (subst (λ (e : Ending). Ends g old new e world (with_object o world) (with_object o world)) (sym (quiet o world there))
+          (subst (λ (w : World). Ends g old new unchanged world w w) (sym (same_world o world there)) keeps)),
+    )
+
+    carried_other : (o : Object) → bytes_eq o.name (name_of o.bytes) ≡ false → Keeps g old new world → Carries g old new world o (Ok Differs)
+    carried_other o off keeps = (lacks_name o off, subst (λ (v : Answer). Gives g old new world v v) (sym (lacks_name o off)) keeps)
+
+    module _ (upload : Staged) (all : upload.size ≡ length (bytes_in upload)) where
+      abbrev object : Object
+      object = object_from upload.repo upload.name (bytes_in upload)
+
+      same_object : IsAsBegun upload → object_of upload ≡ object
+      same_object begun = ap (λ (n : List ℕ). object_from upload.repo n (bytes_in upload)) begun.0
+
+      as_begun : bytes_eq upload.name (name_of (bytes_in upload)) ≡ true → IsAsBegun upload
+      as_begun is = (sym ((bytes_eq-Decides upload.name (name_of (bytes_in upload))).0 is), sym all)
+
+      not_begun : bytes_eq upload.name (name_of (bytes_in upload)) ≡ false → IsAsBegun upload → ⊥
+      not_begun off begun = true≢false (sym ((bytes_eq-Decides upload.name (name_of (bytes_in upload))).1 (sym begun.0)) ∙ off)
+
+      differs : (b : Bool) → bytes_eq upload.name (name_of (bytes_in upload)) ≡ b → Completes g world upload old new (Err upload_fault.Differs) → Carries g old new world object (Ok Differs)
+      differs true is done = absurd (done.0 (as_begun is))
+      differs false is done = carried_other object is done.1
+
+      refused : (b : Bool) (f : StoreFault) → bytes_eq upload.name (name_of (bytes_in upload)) ≡ b → Completes g world upload old new (Err (upload_fault.Store f)) → Carries g old new world object (Err f)
+      refused true f is done =
+          let begun = as_begun is in
+          subst (λ (v : Answer). Gives g old new world v store_refusal) (sym (has_name object (sym begun.0)))
+          (subst (λ (o : Object). Ends g old new failed world (with_object o world) world) (same_object begun) done.0)
+      refused false f is done = kept_refused (content_verdict object) (done.1 (not_begun is))
+
+      -- a completion is carried out as its receipt reports
+      pub completed : (r : Result Kept UploadFault) → Completes g world upload old new r → Carries g old new world object (receipt_of r)
+      completed (Ok New) done =
+          carried_new object (sym done.0.0) done.1 (subst (λ (o : Object). Ends g old new changed world (with_object o world) (with_object o world)) (same_object done.0) done.2)
+      completed (Ok Already) done = carried_again object (sym done.0.0) done.1 done.2
+      completed (Err upload_fault.Differs) done = differs (bytes_eq upload.name (name_of (bytes_in upload))) refl done
+      completed (Err (upload_fault.Store f)) done = refused (bytes_eq upload.name (name_of (bytes_in upload))) f refl done
+
+  pub settled : (old new : Store S) (id : UploadId) (found : List ℕ) (size : ℕ) (r : Result Kept UploadFault)
+      → From g old new (λ world. (upload : Staged) → Arrives g old id upload found size → Completes g world upload old new r)
+      → From g old new (Settles g old new id found size (receipt_of r))
+  settled old new id found size r done = record {
+    honest = done.honest;
+    each = λ honest world h repo name bytes is_repo stored named counted.
+        let upload : Staged = record { repo = repo; name = name; size = size; pieces = stored.pieces } in
+        let arrives : Arrives g old id upload found size = record {
+          repo = is_repo;
+          stages = stored.staged;
+          name = named ∙ ap name_of (sym stored.all);
+          length = counted ∙ ap length (sym stored.all);
+        } in
+        subst (λ (b : List ℕ). Carries g old new world (object_from repo name b) (receipt_of r)) stored.all
+        (completed old new world upload arrives.length r (done.each honest world h upload arrives));
+  }
+
+  -- the same after a call that kept the world
+  carries_then : (a b c : Store S) (world : World) (o : Object) (r : Result Receipt StoreFault) → Keeps g a b world → Carries g b c world o r → Carries g a c world o r
+  carries_then a b c world o (Ok receipt) keeps done = (done.0, keeps_ends g a b c (answer_ending world (Some (content_verdict o))) world (after world (Some (content_verdict o))) (after world (Some (content_verdict o))) keeps done.1)
+  carries_then a b c world o (Err f) keeps done = keeps_ends g a b c failed world (after world (Some (content_verdict o))) world keeps done
+
+  -- ---- the loop
+
+  module _ (a : Store S) (i : Intake) where
+    pub takes_none : From g a a (Takes g a i a i [] taken)
+    takes_none = record {
+      honest = λ k. k;
+      each = λ k world h repo name size bytes had. (
+        keeps_still g a a world (leads_none g a world h),
+        subst (HasTaken g a i repo name size) (sym (append-nil bytes)) had,
+      );
+    }
+
+    -- what happened before a fault
+    pub takes_failed : (b : Store S) (j : Intake) (xs ys : List ℕ) (e : AnswerFault) → From g a b (Takes g a i b j xs taken) → From g a b (Takes g {T = Unit} a i b j ys (Err e))
+    takes_failed b j xs ys e so_far = record {
+      honest = so_far.honest;
+      each = λ k world h repo name size bytes had. ((so_far.each k world h repo name size bytes had).0, tt);
+    }
+
+    module _ (b c : Store S) (j k : Intake) (xs : List ℕ) (so_far : From g a b (Takes g a i b j xs taken))
+        (kept : From g b c (λ world. (repo name : List ℕ) (size : ℕ) (bytes : List ℕ) → HasTaken g b j repo name size bytes → Keeps g b c world)) where
+      pub takes_more : (piece ys : List ℕ) → piece ≡ ys
+          → (HasTables g b → (repo name : List ℕ) (size : ℕ) (bytes : List ℕ) → HasTaken g b j repo name size bytes → HasTaken g c k repo name size (bytes ++ piece))
+          → From g a c (Takes g a i c k (xs ++ ys) taken)
+      takes_more piece ys same step = record {
+        honest = λ clean. so_far.honest (kept.honest clean);
+        each = λ clean world h repo name size bytes had.
+            let it = so_far.each (kept.honest clean) world h repo name size bytes had in (
+              keeps_then g a b c world it.0 (kept.each clean world it.0.holds repo name size (bytes ++ xs) it.1),
+              subst (λ (more : List ℕ). HasTaken g c k repo name size (bytes ++ (xs ++ more))) same
+                  (subst (HasTaken g c k repo name size) (append_assoc bytes xs piece) (step it.0.holds.ready repo name size (bytes ++ xs) it.1)),
+            );
+      }
+
+      pub takes_refused : (ys : List ℕ) (e : AnswerFault) → From g a c (Takes g {T = Unit} a i c k ys (Err e))
+      takes_refused ys e = record {
+        honest = λ clean. so_far.honest (kept.honest clean);
+        each = λ clean world h repo name size bytes had.
+            let it = so_far.each (kept.honest clean) world h repo name size bytes had in
+            (keeps_then g a b c world it.0 (kept.each clean world it.0.holds repo name size (bytes ++ xs) it.1), tt);
+      }
+
+  -- ---- all of the upload
+
+  module _ (a : Store S) (i : Intake) (id : UploadId) (size : ℕ) (same : i.upload ≡ id) (limit : i.size ≡ size) (empty : IsCut i.written i.last.items [] [] × HasCounted i.hasher i.taken []) where
+    -- an intake that begins has taken no byte
+    taken_none : (repo name : List ℕ) → Stages g a (upload_number id) repo name size [] → HasTaken g a i repo name size []
+    taken_none repo name stages = record {
+      limit = limit;
+      within = omega arith;
+      counted = empty.1;
+      cuts = record {
+        pieces = [];
+        cut = empty.0;
+        staged = subst (λ (u : UploadId). Stages g a (upload_number u) repo name size []) (sym same) stages;
+      };
+    }
+
+    pub fills_failed : (b : Store S) (j : Intake) (bytes : List ℕ) (r : Result Unit AnswerFault) (e : AnswerFault) → From g a b (Takes g a i b j bytes r) → From g a b (Fills g a b id size bytes (Err e))
+    fills_failed b j bytes r e so_far = record {
+      honest = so_far.honest;
+      each = λ clean world h repo name stages. ((so_far.each clean world h repo name size [] (taken_none repo name stages)).0, tt);
+    }
+
+    module _ (b c : Store S) (j : Intake) (bytes : List ℕ) (so_far : From g a b (Takes g a i b j bytes taken))
+        (kept : From g b c (λ world. (repo name : List ℕ) (size : ℕ) (bytes : List ℕ) → HasTaken g b j repo name size bytes → Keeps g b c world)) where
+      pub fills_refused : (e : AnswerFault) → From g a c (Fills g a c id size bytes (Err e))
+      fills_refused e = record {
+        honest = λ clean. so_far.honest (kept.honest clean);
+        each = λ clean world h repo name stages.
+            let it = so_far.each (kept.honest clean) world h repo name size [] (taken_none repo name stages) in
+            (keeps_then g a b c world it.0 (kept.each clean world it.0.holds repo name size bytes it.1), tt);
+      }
+
+      pub fills_all : (found : List ℕ × ℕ) → j.upload ≡ i.upload
+          → (HasTables g b → (repo name : List ℕ) (size : ℕ) (bytes : List ℕ) → HasTaken g b j repo name size bytes
+          → (found.0 ≡ name_of bytes) × (found.1 ≡ length bytes) × HasStored g c (upload_number j.upload) repo name size bytes)
+          → From g a c (Fills g {E = AnswerFault} a c id size bytes (Ok found))
+      fills_all found upload stored = record {
+        honest = λ clean. so_far.honest (kept.honest clean);
+        each = λ clean world h repo name stages.
+            let it = so_far.each (kept.honest clean) world h repo name size [] (taken_none repo name stages) in
+            let is = stored it.0.holds.ready repo name size bytes it.1 in (
+              keeps_then g a b c world it.0 (kept.each clean world it.0.holds repo name size bytes it.1),
+              (is.0, is.1, subst (λ (u : UploadId). HasStored g c (upload_number u) repo name size bytes) (upload ∙ same) is.2),
+            );
+      }
+
+  -- ---- from the upload to the answer
+
+  -- whatever the fault is, the world is kept
+  pub received_none : (old new : Store S) (world : World) (repo name bytes : List ℕ) (left : ℕ) (e : AnswerFault) → Keeps g old new world → Receives g old new world repo name bytes left (Err e)
+  received_none old new world repo name bytes left (fault.Store f) keeps = λ rest is. kept_refused old new world (content_verdict (object_from repo name (bytes ++ rest))) keeps
+  received_none old new world repo name bytes left (fault.Body f) keeps = keeps
+
+  -- no content is left
+  received_all : (old new : Store S) (world : World) (repo name bytes : List ℕ) (left : ℕ) (r : Result Receipt StoreFault) → left ≡ 0 → Carries g old new world (object_from repo name bytes) r
+      → Receives g old new world repo name bytes left (answered_by r)
+  received_all old new world repo name bytes left (Ok receipt) none done = done
+  received_all old new world repo name bytes left (Err f) none done = λ rest is.
+      subst (λ (all : List ℕ). Carries g old new world (object_from repo name all) (Err f)) (sym (ap (λ (more : List ℕ). bytes ++ more) (nothing rest left none is) ∙ append-nil bytes)) done
+
+  module _ (a b : Store S) (id : UploadId) (repo name : List ℕ) (size : ℕ) (begun : From g a b (λ world. Keeps g a b world × Stages g b (upload_number id) repo name size [])) where
+    pub received_part : (c : Store S) (bytes : List ℕ) (left : ℕ) (r : Result (List ℕ × ℕ) AnswerFault) (e : AnswerFault) → From g b c (Fills g b c id size bytes r) → From g a c (λ world. Receives g a c world repo name bytes left (Err e))
+    received_part c bytes left r e filled = record {
+      honest = λ clean. begun.honest (filled.honest clean);
+      each = λ clean world h.
+          let it = begun.each (filled.honest clean) world h in
+          let more = filled.each clean world it.0.holds repo name it.1 in
+          received_none a c world repo name bytes left e (keeps_then g a b c world it.0 more.0);
+    }
+
+    pub received : (c d : Store S) (bytes : List ℕ) (left : ℕ) (found : List ℕ × ℕ) (r : Result Receipt StoreFault) → IsTrue (is_repo repo) → length bytes ≡ size → left ≡ 0
+        → From g b c (Fills g {E = AnswerFault} b c id size bytes (Ok found)) → From g c d (Settles g c d id found.0 found.1 r)
+        → From g a d (λ world. Receives g a d world repo name bytes left (answered_by r))
+    received c d bytes left found r is_repo whole none filled settled = record {
+      honest = λ clean. begun.honest (filled.honest (settled.honest clean));
+      each = λ clean world h.
+          let it = begun.each (filled.honest (settled.honest clean)) world h in
+          let more = filled.each (settled.honest clean) world it.0.holds repo name it.1 in
+          let keeps = keeps_then g a b c world it.0 more.0 in
+          let stored = subst (λ (n : ℕ). HasStored g c (upload_number id) repo name n bytes) (sym whole ∙ sym more.1.1) more.1.2 in
+          received_all a d world repo name bytes left r none
+          (carries_then a c d world (object_from repo name bytes) r keeps (settled.each clean world keeps.holds repo name bytes is_repo stored more.1.0 more.1.1));
+    }

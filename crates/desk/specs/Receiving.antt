@@ -1,0 +1,64 @@
+-- The bytes of an upload are received.
+use Rattle.std.specs.Prelude.{◌≡◌, ℕ, List, [], ◌++◌, length, Result, Ok, Err, OnOk, IfOk, IsTrue}
+use Rattle.sqlite_trees.specs.declared.store.Store.{Ghosts}
+use Rattle.names.specs.Texts.{is_repo}
+use Rattle.names.specs.declared.rules.Rule.TheVariants.{X2}
+use Rattle.model.specs.World.{World, Object, name_of}
+use Rattle.model.specs.Answers.{Answer, stores, by_rule, store_refusal}
+use Rattle.model.specs.Objects.{content_verdict}
+use Rattle.tables.specs.Staging.{upload_number}
+use Rattle.tables.specs.declared.Store.{Store}
+use Rattle.tables.specs.declared.fault.StoreFault.{StoreFault}
+use Rattle.tables.specs.declared.rows.UploadId.{UploadId}
+use Rattle.refinement.specs.Left.{Keeps, Gives}
+use Rattle.refinement.specs.Staging.{Stages}
+use Rattle.chunks.specs.Intakes.{HasTaken, HasStored}
+use Rattle.chunks.specs.declared.intake.Intake.{Intake}
+use Rattle.desk.specs.declared.receiving.Receipt.{Receipt}
+use Rattle.desk.specs.declared.receiving.Receipt.TheVariants.{Stored, Differs}
+use Rattle.desk.specs.declared.outcomes.AnswerFault.{AnswerFault}
+use Rattle.desk.specs.declared.outcomes.AnswerFault.TheVariants as fault
+
+-- the object of bytes that arrived
+abbrev pub object_from : (repo name bytes : List ℕ) → Object
+object_from repo name bytes = record { repo = repo; name = name; bytes = bytes }
+
+-- the answer that a receipt reports
+abbrev pub answer_of : Object → Receipt → Answer
+answer_of o Stored = Ok (stores o)
+answer_of o Differs = Err (by_rule X2)
+
+module _ {S : Type 0} (g : Ghosts S) where
+  -- the world is kept, and after an Ok the intake has taken these bytes too
+  abbrev pub Takes : {T E : Type 0} → Store S → Intake → Store S → Intake → List ℕ → Result T E → World → Type 0
+  Takes old i new j more r world =
+      (repo name : List ℕ) (size : ℕ) (bytes : List ℕ) → HasTaken g old i repo name size bytes
+      → Keeps g old new world × OnOk r (HasTaken g new j repo name size (bytes ++ more))
+
+  -- the world is kept, and after an Ok the chunks of the upload are these bytes, of this name and number
+  abbrev pub Fills : {E : Type 0} → Store S → Store S → UploadId → ℕ → List ℕ → Result (List ℕ × ℕ) E → World → Type 0
+  Fills old new id size bytes r world =
+      (repo name : List ℕ) → Stages g old (upload_number id) repo name size []
+      → Keeps g old new world × IfOk r (λ found. (found.0 ≡ name_of bytes) × (found.1 ≡ length bytes)
+      × HasStored g new (upload_number id) repo name size bytes)
+
+  -- the verdict on the object was given and carried out, as the receipt reports; or the store refused
+  abbrev pub Carries : Store S → Store S → World → Object → Result Receipt StoreFault → Type 0
+  Carries old new world o (Ok receipt) =
+      (content_verdict o ≡ answer_of o receipt) × Gives g old new world (content_verdict o) (content_verdict o)
+  Carries old new world o (Err f) = Gives g old new world (content_verdict o) store_refusal
+
+  -- an upload whose bytes have this name, and are as many as it was begun with, was answered
+  abbrev pub Settles : Store S → Store S → UploadId → List ℕ → ℕ → Result Receipt StoreFault → World → Type 0
+  Settles old new id found size r world =
+      (repo name bytes : List ℕ) → IsTrue (is_repo repo) → HasStored g old (upload_number id) repo name size bytes
+      → found ≡ name_of bytes → size ≡ length bytes → Carries old new world (object_from repo name bytes) r
+
+  -- these bytes of an upload arrived, and `left` did not: it was answered if none is left. If the store refused, then
+  -- whatever the rest is; if the bytes ended, the world is kept
+  abbrev pub Receives : Store S → Store S → World → (repo name bytes : List ℕ) → (left : ℕ) → Result Receipt AnswerFault → Type 0
+  Receives old new world repo name bytes left (Ok receipt) =
+      Carries old new world (object_from repo name bytes) (Ok receipt)
+  Receives old new world repo name bytes left (Err (fault.Store f)) =
+      (rest : List ℕ) → length rest ≡ left → Carries old new world (object_from repo name (bytes ++ rest)) (Err f)
+  Receives old new world repo name bytes left (Err (fault.Body cause)) = Keeps g old new world

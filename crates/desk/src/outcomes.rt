@@ -1,0 +1,45 @@
+//! What becomes of a request: it is answered, or why it is not.
+
+ghost use Rattle.std.specs.Prelude.{◌≡◌};
+ghost use Rattle.desk.specs.declared.outcomes.AnswerFault.TheVariants as fault;
+ghost use Rattle.tables.specs.declared.fault.StoreFault.TheVariants as store;
+
+use names::BodyFault;
+use std::alloc::AllocError;
+use tables::StoreFault;
+use thiserror::Error;
+
+/// Why a request was not answered.
+#[derive(Clone, Copy, Debug, PartialEq, Eq, Error)]
+pub enum AnswerFault {
+    /// The store refused, or memory ran out.
+    #[error("{0}")]
+    Store(StoreFault),
+    /// The input ended, or a read failed, within the body of an upload.
+    #[error("{0}")]
+    Body(BodyFault),
+}
+
+impl From<StoreFault> for AnswerFault {
+    ghost from_gives = { λ refused result. result ≡ fault.Store refused };
+
+    fn from(fault: StoreFault) -> AnswerFault {
+        AnswerFault::Store(fault)
+    }
+}
+
+impl From<BodyFault> for AnswerFault {
+    ghost from_gives = { λ cut result. result ≡ fault.Body cut };
+
+    fn from(fault: BodyFault) -> AnswerFault {
+        AnswerFault::Body(fault)
+    }
+}
+
+impl From<AllocError> for AnswerFault {
+    ghost from_gives = { λ _ result. result ≡ fault.Store store.Memory };
+
+    fn from(_error: AllocError) -> AnswerFault {
+        AnswerFault::Store(StoreFault::Memory)
+    }
+}

@@ -1,0 +1,142 @@
+//! Receives the bytes of an upload (Git LFS API, Basic Transfers, "Uploads").
+
+ghost use Rattle.std.specs.Prelude.{◌≡◌, ◌≢◌, ◌<◌, ◌≤◌, ℕ, List, length, take, Err, OnOk, IfErr};
+ghost use Rattle.names.specs.Names.{repo_text};
+ghost use Rattle.refinement.specs.Left.{From};
+ghost use Rattle.desk.specs.Contents.{HasRead, IsReadOut, IsLeftBy};
+ghost use Rattle.desk.specs.Receiving.{Takes, Fills, Settles, Receives};
+
+use crate::outcomes::AnswerFault;
+use chunks::Intake;
+use names::{Body, Oid, RepoName, Size};
+use std::alloc::Global;
+use tables::{Alter, Store, StoreFault, UploadId};
+use uploads::UploadFault;
+
+/// The number of bytes that are read at a time.
+const PIECE: usize = 65_536;
+
+/// The result of an upload whose bytes all arrived.
+#[derive(Clone, Copy, Debug, PartialEq, Eq)]
+pub enum Receipt {
+    /// The repository has the object.
+    Stored,
+    /// The bytes do not have the name of the upload (X2).
+    Differs,
+}
+
+/// The first bytes of the piece.
+fn front(piece: &[u8], count: usize) -> &[u8]
+    requires { count ≤ length piece.now }
+    ensures { result.now ≡ take count piece.now }
+{
+    piece.split_at(count).0
+}
+
+/// Reads the content to its end, and pushes its bytes to the intake. Each piece is read into `buffer`.
+///
+/// # Errors
+///
+/// `Body` if the content was not read to its end, and `Store` of the errors of [`Intake::push`]. The contents of the
+/// store are unchanged.
+fn take_all<S: Alter, B: Body>(
+    store: &mut Store<S>,
+    content: &mut B,
+    intake: &mut Intake,
+    buffer: &mut [u8],
+) -> Result<(), AnswerFault>
+    requires { 0 < length buffer.old }
+    ensures bytes { (bytes : List ℕ) × HasRead B.Body content.old content.new bytes
+        × From S.Store store.old store.new (λ world.
+        Takes S.Store store.old intake.old store.new intake.new bytes result world) }
+    ensures upload { intake.new.upload ≡ intake.old.upload }
+    ensures whole { OnOk result (IsReadOut B.Body content.old content.new) }
+    ensures fault { IfErr result (IsLeftBy B.Body content.old content.new) }
+    ensures known { result ≢ Err (AnswerFault.Store StoreFault.UnknownSchema) }
+{
+    'pieces: while content.left() > 0 {
+        let count = content.piece(buffer)?;
+        intake.push(store, front(buffer, count))?;
+    }
+    Ok(())
+}
+
+/// Reads the content to its end as the bytes of an upload that has none yet, and returns their name and their number.
+///
+/// # Errors
+///
+/// `Body` if the content was not read to its end, and `Store` of the errors of [`Intake::push`] and [`Intake::end`].
+/// The contents of the store are unchanged.
+fn fill<S: Alter, B: Body>(
+    alloc: Global,
+    store: &mut Store<S>,
+    upload: UploadId,
+    size: Size,
+    content: &mut B,
+) -> Result<(Oid, Size), AnswerFault>
+    ensures bytes { (bytes : List ℕ) × HasRead B.Body content.old content.new bytes
+        × From S.Store store.old store.new (λ world.
+        Fills S.Store store.old store.new upload size bytes result world) }
+    ensures whole { OnOk result (IsReadOut B.Body content.old content.new) }
+    ensures fault { IfErr result (IsLeftBy B.Body content.old content.new) }
+    ensures known { result ≢ Err (AnswerFault.Store StoreFault.UnknownSchema) }
+{
+    let mut intake = Intake::begin(alloc, upload, size)?;
+    let mut buffer = vec![in alloc; 0u8; PIECE]?;
+    take_all(store, content, &mut intake, &mut buffer)?;
+    Ok(intake.end(store)?)
+}
+
+/// Makes the upload an object of its repository if its bytes have its name. `found` and `size` are the name and the
+/// number of its bytes.
+///
+/// # Errors
+///
+/// The errors of [`uploads::complete`], which leave the contents of the store unchanged.
+fn settle<S: Alter>(
+    store: &mut Store<S>,
+    upload: UploadId,
+    found: &Oid,
+    size: Size,
+) -> Result<Receipt, StoreFault>
+    ensures world { From S.Store store.old store.new (λ world.
+        Settles S.Store store.old store.new upload found.now size result world) }
+    ensures known { result ≢ Err StoreFault.UnknownSchema }
+{
+    match uploads::complete(store, upload, found, size) {
+        Ok(_) => Ok(Receipt::Stored),
+        Err(UploadFault::Differs) => Ok(Receipt::Differs),
+        Err(UploadFault::Store(fault)) => Err(fault),
+    }
+}
+
+/// Reads the content to its end, and stores it as the object of this name if its bytes have the name.
+///
+/// # Errors
+///
+/// - [`AnswerFault::Store`]: the store refused, or memory ran out; `Refused` also for a content above the largest size
+///   of an object. Some of the content may be unread.
+/// - [`AnswerFault::Body`]: the content was not read to its end.
+///
+/// Both leave the contents of the store unchanged.
+pub fn receive<S: Alter, B: Body>(
+    alloc: Global,
+    store: &mut Store<S>,
+    repo: &RepoName,
+    name: &Oid,
+    content: &mut B,
+) -> Result<Receipt, AnswerFault>
+    ensures bytes { (bytes : List ℕ) × HasRead B.Body content.old content.new bytes
+        × From S.Store store.old store.new (λ world. Receives S.Store store.old store.new world
+        (repo_text repo.now) name.now bytes (B.size content.new) result) }
+    ensures whole { OnOk result (IsReadOut B.Body content.old content.new) }
+    ensures fault { IfErr result (IsLeftBy B.Body content.old content.new) }
+    ensures known { result ≢ Err (AnswerFault.Store StoreFault.UnknownSchema) }
+{
+    let Some(size) = Size::read(content.left()) else {
+        return Err(AnswerFault::Store(StoreFault::Refused));
+    };
+    let upload = uploads::begin(alloc, store, repo, name, size)?;
+    let (found, found_size) = fill(alloc, store, upload, size, content)?;
+    Ok(settle(store, upload, &found, found_size)?)
+}
