@@ -21,7 +21,7 @@ use Rattle.model.specs.Bounds.{unchanged, answer_ending, bound_after}
 use Rattle.model.proofs.Refusals.{IsLate, desk_fails, request_fails, verdict_at}
 use Rattle.model.proofs.Firsts.{begins_with_message}
 use Rattle.wire.specs.Replies.{head_of}
-use Rattle.wire.specs.Writes.{IsBeginning}
+use Rattle.names.specs.Streams.{IsBeginning}
 use Rattle.wire.specs.declared.reply.ReplyHead as wire
 use Rattle.wire.specs.declared.reply.Content.TheVariants.{Json}
 use Rattle.tables.specs.declared.Store.{Store}

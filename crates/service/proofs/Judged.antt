@@ -1,5 +1,5 @@
 -- The verdict on a head, check by check.
-use Rattle.std.proofs.Common.{◌≡◌, ℕ, Bool, true, false, not, ◌||◌, List, [], ◌∷◌, Some, None, Result, Ok, Err, codes, refl, ap, ◌∙◌, subst, ◌≤◌, length, lit≤, bytes_eq, cond}
+use Rattle.std.proofs.Common.{◌≡◌, ℕ, Bool, true, false, not, ◌||◌, List, [], ◌∷◌, Option, Some, None, Result, Ok, Err, codes, refl, sym, ap, ◌∙◌, subst, ◌≤◌, length, lit≤, bytes_eq, cond}
 use Rattle.std.specs.Bool.{⊤}
 use Rattle.std.specs.List.{list_any}
 use Rattle.std.specs.Result.{IfErr}
@@ -11,8 +11,9 @@ use Rattle.httparse.specs.Grammar.{RequestHead}
 use Rattle.names.specs.declared.rules.Rule.{Rule}
 use Rattle.names.specs.declared.rules.Rule.TheVariants.{H6, H7, H8}
 use Rattle.model.specs.declared.Form.{Form}
-use Rattle.model.specs.Reading.{◌>>=◌, check}
-use Rattle.model.specs.Heads.{Route, head_verdict, head_verdict_in, check_framing, route_at, form_of, is_method, accepts, values, methods_of}
+use Rattle.model.specs.declared.Form.TheVariants as form
+use Rattle.model.specs.Reading.{◌>>=◌, check, or_default}
+use Rattle.model.specs.Heads.{Route, head_verdict, head_verdict_in, check_framing, route_at, form_of, is_served, is_method, accepts, values, methods_of}
 use Rattle.model.specs.Steps.{is_h7}
 use Rattle.routes.specs.declared.table.Resource.{Resource}
 use Rattle.routes.specs.declared.table.Resource.TheVariants.{Locks, VerifyLocks, Unlock}
@@ -69,6 +70,20 @@ row_without_put Unlock = refl
 
 pub no_put : (h : RequestHead) (r : Resource) (f : Form) → form_of h.method (row_of r).requests ≡ Some f → is_method (codes "PUT") h ≡ false
 no_put h r f served = no_put_in h.method (row_of r).requests f (row_without_put r) served
+
+-- the first of two forms that are served, or the second
+either_served : (v : Bool) (first : Form) (rest : Option Form) (f : Form) → is_served first ≡ true → (rest ≡ Some f → is_served f ≡ true)
+    → cond v (Some first) rest ≡ Some f → is_served f ≡ true
+either_served true first rest f served other e = sym (ap (λ (o : Option Form). is_served (or_default o first)) e) ∙ served
+either_served false first rest f served other e = other e
+
+-- a method of a resource asks for a form that is served
+pub is_served_by : (method : List ℕ) (r : Resource) (f : Form) → form_of method (row_of r).requests ≡ Some f → is_served f ≡ true
+is_served_by method Locks f e =
+    either_served (bytes_eq method (codes "GET")) form.List _ f refl
+    (either_served (bytes_eq method (codes "POST")) form.Lock None f refl (λ none. absurd (cc))) e
+is_served_by method VerifyLocks f e = either_served (bytes_eq method (codes "POST")) form.VerifyLocks None f refl (λ none. absurd (cc)) e
+is_served_by method Unlock f e = either_served (bytes_eq method (codes "POST")) form.Unlock None f refl (λ none. absurd (cc)) e
 
 -- ---- targets
 

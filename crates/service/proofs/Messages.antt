@@ -1,5 +1,5 @@
 -- A head, and the message that it begins.
-use Rattle.std.proofs.Common.{inl, inr, append-nil, ◌≡◌, ◌∙◌, ◌+◌, ◌<◌, ◌≤◌, ℕ, suc, Bool, true, false, ◌||◌, nat_le, List, [], ◌∷◌, ◌++◌, append_assoc, length, take, drop, codes, Some, Result, Ok, Err, refl, sym, ap, ap₂, subst, arith, cond, length-append, length-take, length-drop, drop-drop, is_err, option_map, lit<, lit≤}
+use Rattle.std.proofs.Common.{inl, inr, append-nil, ◌≡◌, ◌∙◌, ◌+◌, ◌<◌, ◌≤◌, ℕ, suc, Bool, true, false, ◌||◌, nat_le, List, [], ◌∷◌, ◌++◌, append_assoc, length, take, drop, codes, Some, Result, Ok, Err, refl, sym, ap, ap₂, subst, arith, cond, length-append, length-take, length-drop, drop-drop, is_err, option_map, lit<, lit≤, true≢false}
 use Rattle.std.proofs.lemmas.Bool.{true≢false}
 use Rattle.std.proofs.lemmas.Bool.Decides.{nat_tests}
 use Rattle.std.proofs.lemmas.List.{drop_all, drop_at, take_at}
@@ -12,7 +12,7 @@ use Rattle.model.specs.declared.ServedForm.{ServedForm}
 use Rattle.model.specs.declared.ServedForm.TheVariants as served
 use Rattle.model.specs.Reading.{◌>>=◌, check}
 use Rattle.model.specs.Orders.{first}
-use Rattle.model.specs.Heads.{Target, head_verdict, form_of_served, check_framing, body_length, values, at_most, asks_close, content_length, is_measured, is_clear, is_small}
+use Rattle.model.specs.Heads.{Target, head_verdict, form_of_served, is_served, check_framing, body_length, values, at_most, asks_close, content_length, is_measured, is_clear, is_small}
 use Rattle.model.specs.Answers.{Denial, Plan}
 use Rattle.model.specs.World.{World}
 use Rattle.model.specs.Cases.{Setting}
@@ -169,16 +169,19 @@ module _ (bytes after read : List ℕ) (h : RequestHead) (b : BeginsWithHead byt
 -- ---- a message that is cut off
 
 -- a head that asks for no upload is denied by its own rules alone, before its body
-passes_early : (form : ServedForm) (plan : Result Plan Denial) → early_check (form_of_served form) plan ≡ Ok tt
-passes_early served.Lock plan = refl
-passes_early served.List plan = refl
-passes_early served.VerifyLocks plan = refl
-passes_early served.Unlock plan = refl
+passes_early : (form : ServedForm) (plan : Result Plan Denial) → is_served (form_of_served form) ≡ true → early_check (form_of_served form) plan ≡ Ok tt
+passes_early served.Get plan is = refl
+passes_early served.Put plan is = absurd (true≢false (sym is))
+passes_early served.Verify plan is = refl
+passes_early served.Lock plan is = refl
+passes_early served.List plan is = refl
+passes_early served.VerifyLocks plan is = refl
+passes_early served.Unlock plan is = refl
 
 -- nothing denies such a head before its body
 pub no_early_denial : (world : World) (setting : Setting) (h : RequestHead) (t : code.Target) → Asks h t → early_verdict world setting h ≡ Ok tt
 no_early_denial world setting h t is =
-    early_at world setting h (target_seen t) is.target ∙ passes_early t.form (desk_plan world setting (desk_request h (target_seen t) []))
+    early_at world setting h (target_seen t) is.target ∙ passes_early t.form (desk_plan world setting (desk_request h (target_seen t) [])) is.served
 
 -- a head with less than its body
 pub cut_message : (bytes after : List ℕ) (h : RequestHead) → BeginsWithHead bytes h after → length after < body_length h

@@ -3,7 +3,7 @@ use Rattle.std.specs.Prelude.{◌≡◌, ◌≤◌, true, false, length, [], cod
 use Rattle.httparse.specs.Grammar.{RequestHead}
 use Rattle.names.specs.declared.limits.TheConstants.{ALLOW_LIMIT}
 use Rattle.model.specs.Heads as model
-use Rattle.model.specs.Heads.{head_verdict, form_of_served, is_method, query_of, content_length}
+use Rattle.model.specs.Heads.{head_verdict, form_of_served, is_served, is_method, query_of, content_length}
 use Rattle.model.specs.Answers.{by_rule}
 use Rattle.model.specs.Steps.{message, allow}
 use Rattle.routes.specs.Routes.{route_seen}
@@ -24,6 +24,7 @@ pub record Asks (h : RequestHead) (t : Target) : Type 0 where
   pub query : t.query.now ≡ query_of h.target
   pub size : t.size ≡ content_length h
   pub no_put : is_method (codes "PUT") h ≡ false
+  pub served : is_served (form_of_served t.form) ≡ true
 
 -- this rule refuses the head, and the reply names these methods
 pub record IsDenied (h : RequestHead) (d : Denied) : Type 0 where

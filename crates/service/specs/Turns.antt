@@ -3,7 +3,7 @@ use Rattle.std.specs.Prelude.{◌≡◌, ◌≤◌, ℕ, Bool, true, false, List
 use Rattle.std.specs.Io.KnownBytes.{Appends, Consumes}
 use Rattle.httparse.specs.Grammar.{MayBecomeRequest}
 use Rattle.sqlite_trees.specs.declared.store.Store.{Ghosts}
-use Rattle.names.specs.Streams.{HasGrown}
+use Rattle.names.specs.Streams.{HasGrown, IsBeginning}
 use Rattle.model.specs.World.{World}
 use Rattle.model.specs.Cases.{Setting}
 use Rattle.model.specs.Answers.{Answer, is_rule}
@@ -11,8 +11,7 @@ use Rattle.model.specs.Steps.{Message, Exchange, exchanged, Carries, closes, is_
 use Rattle.model.specs.Stream.{BeginsWith, IsUnfinished}
 use Rattle.model.specs.Bounds.{bound_after}
 use Rattle.model.specs.Sessions.{text_of}
-use Rattle.wire.specs.Writes.{IsBeginning}
-use Rattle.wire.specs.declared.connection.BodyFault.{BodyFault}
+use Rattle.names.specs.declared.bodies.BodyFault.{BodyFault}
 use Rattle.tables.specs.declared.Store.{Store}
 use Rattle.refinement.specs.Left.{Leads, Takes}
 use Rattle.desk.specs.Replies.{IsReplyOf}

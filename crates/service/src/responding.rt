@@ -24,11 +24,11 @@ use crate::judging::{Denied, judge};
 use crate::message::{Message, message_of};
 use crate::turn::Setting;
 use desk::{Reply, RepoRequest, answer};
-use names::{ALLOW_LIMIT, Source};
+use names::{ALLOW_LIMIT, BodyFault, Source};
 use routes::Routes;
 use std::alloc::Global;
 use tables::{Alter, Store};
-use wire::{BodyFault, Conn, Inflow, Stop, WholeFault};
+use wire::{Conn, Inflow, Stop, WholeFault};
 
 /// A reply, and how it is sent.
 #[derive(Debug, Drop)]

@@ -2,14 +2,13 @@
 
 ghost use Rattle.std.specs.Prelude.{◌≡◌, ◌≤◌, length, OnOk, IfErr};
 ghost use Rattle.std.specs.Io.KnownBytes.{Appends};
-ghost use Rattle.names.specs.Streams.{HasGrown};
-ghost use Rattle.wire.specs.Writes.{IsBeginning};
+ghost use Rattle.names.specs.Streams.{HasGrown, IsBeginning};
 ghost use Rattle.desk.specs.Replies.{body_text};
 ghost use Rattle.service.specs.Sending.{sent_text};
 
 use desk::{Body, Reply};
-use names::{ALLOW_LIMIT, Sink};
-use wire::{Content, ReplyHead, WriteFault, write_reply};
+use names::{ALLOW_LIMIT, Sink, WriteFault};
+use wire::{Content, ReplyHead, write_reply};
 
 /// The text of a body.
 fn body_of(body: &Body) -> &str

@@ -1,7 +1,7 @@
 use Rattle.std.proofs.Common.{◌≡◌, ◌∙◌, ◌++◌, List, ℕ, refl, subst, OnOk, IfErr, length}
 use Rattle.std.specs.Io.KnownBytes.{Appends}
 use Rattle.wire.specs.Replies.{head_of}
-use Rattle.wire.specs.Writes.{IsBeginning}
+use Rattle.names.specs.Streams.{IsBeginning}
 use Rattle.wire.specs.declared.reply.ReplyHead.{ReplyHead}
 use Rattle.wire.specs.declared.reply.Content.TheVariants.{Json}
 use Rattle.service.specs.Sending.{sent_text}

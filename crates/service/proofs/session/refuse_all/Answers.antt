@@ -2,7 +2,7 @@ use Rattle.std.proofs.Common.{refl, take, [], true, subst, List, ℕ}
 use Rattle.std.specs.Io.KnownBytes.{Appends}
 use Rattle.model.specs.Answers.{store_refusal}
 use Rattle.model.specs.Sessions.{refusal_text}
-use Rattle.wire.specs.Writes.{IsBeginning}
+use Rattle.names.specs.Streams.{IsBeginning}
 use Rattle.service.proofs.Answered.{text_is}
 use Rattle.service.proofs.Serving.{is_part}
 use Rattle.service.proofs.session.refuse_all.Goals as goal
