@@ -3,9 +3,9 @@
 use crate::harness::{Tester, expect, unwrap};
 use crate::heads::head_of_size;
 use crate::streams::FailsOnce;
-use names::{Counted, DeviceFault, SliceSource, Source};
+use names::{Body, BodyFault, Counted, DeviceFault, SliceSource, Source};
 use std::cell::Cell;
-use wire::{BodyFault, Conn, Inflow};
+use wire::{Conn, Inflow};
 
 /// The way a test reads bodies.
 #[derive(Clone, Copy, Debug)]
@@ -21,10 +21,10 @@ fn add(rt: &impl Tester, log: &mut Vec<u8>, bytes: &[u8]) {
 }
 
 /// Reads a body in pieces of 3 bytes, and adds it to the transcript; `?` is a read that failed.
-fn add_pieces<R: Source + Drop>(rt: &impl Tester, inflow: &mut Inflow<'_, R>, log: &mut Vec<u8>) {
+fn add_pieces<B: Body>(rt: &impl Tester, body: &mut B, log: &mut Vec<u8>) {
     for _ in 0..32 {
         let mut piece = [0; 3];
-        match inflow.body_piece(&mut piece) {
+        match body.piece(&mut piece) {
             Ok(0) => break,
             Ok(size) => add(rt, log, &piece[..size]),
             Err(BodyFault::Device) => add(rt, log, b"?"),
@@ -138,6 +138,18 @@ fn messages_do_not_depend_on_the_sizes_of_reads(rt: HostRuntime) {
                 expect(&rt, &(stream, most, way), found.as_slice(), want);
             }
         }
+    }
+}
+
+#[test]
+fn bytes_in_memory_are_a_body(rt: HostRuntime) {
+    for &most in MOSTS {
+        let mut body = SliceSource::new(b"hello, world", most);
+        let mut log = Vec::new(rt.alloc());
+        let before = Body::left(&body);
+        add_pieces(&rt, &mut body, &mut log);
+        expect(&rt, &most, log.as_slice(), b"hello, world");
+        assert!(rt; before == 12 && Body::left(&body) == 0 && Body::failures(&body) == 0);
     }
 }
 

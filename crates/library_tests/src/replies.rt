@@ -2,11 +2,11 @@
 
 use crate::harness::{expect, unwrap};
 use http::StatusCode;
-use names::{ALLOW_LIMIT, Counted, FailAfter, Sink, VecSink};
+use names::{ALLOW_LIMIT, Counted, FailAfter, Sink, VecSink, WriteFault, write_whole};
 use std::alloc::{Alloc, Global};
 use std::io::{self, Write};
 use std::process::Abort;
-use wire::{Content, ReplyHead, WriteFault, write_reply, write_whole};
+use wire::{Content, ReplyHead, write_reply};
 
 /// The head of a reply, with its status as a number.
 #[derive(Clone, Copy)]

@@ -2,9 +2,11 @@
 
 use crate::harness::{Tester, unwrap};
 use forms::{
-    ListRequest, LockRequest, Refusal, Request, UnlockRequest, VerifyLocksRequest, read_form,
+    ListRequest, LockRequest, PutRequest, Refusal, Request, UnlockRequest, VerifyLocksRequest,
+    VerifyRequest, read_form,
 };
 use model::ServedForm;
+use names::Oid;
 use std::alloc::{AllocError, Global};
 
 /// Appends a space and the text, if there is one, under its name.
@@ -23,6 +25,32 @@ fn add_limit(alloc: Global, text: &mut String, limit: Option<i64>) -> Result<(),
         add(text, " limit=", Some(number.as_str()))?;
     }
     Ok(())
+}
+
+/// `get NAME`.
+fn get_text(alloc: Global, name: Oid) -> Result<String, AllocError> {
+    format!(in alloc; "get {name}")
+}
+
+/// `put NAME` or `put NAME ref=REF`.
+fn put_text(alloc: Global, put: &PutRequest) -> Result<String, AllocError> {
+    let name = put.name;
+    let mut text = format!(in alloc; "put {name}")?;
+    if let Some(name) = &put.ref_name {
+        add(&mut text, " ref=", Some(name.as_str()))?;
+    }
+    Ok(text)
+}
+
+/// `verify NAME SIZE` or `verify NAME SIZE ref=REF`.
+fn verify_text(alloc: Global, verify: &VerifyRequest) -> Result<String, AllocError> {
+    let name = verify.name;
+    let size = verify.size;
+    let mut text = format!(in alloc; "verify {name} {size}")?;
+    if let Some(name) = &verify.ref_name {
+        add(&mut text, " ref=", Some(name.as_str()))?;
+    }
+    Ok(text)
 }
 
 /// `PATH` or `PATH at REF`.
@@ -79,6 +107,9 @@ fn asked(
     body: &[u8],
 ) -> Result<String, AllocError> {
     match read_form(alloc, form, parameter, query, body) {
+        Ok(Request::Get(get)) => get_text(alloc, get.name),
+        Ok(Request::Put(put)) => put_text(alloc, &put),
+        Ok(Request::Verify(verify)) => verify_text(alloc, &verify),
         Ok(Request::Lock(lock)) => lock_text(alloc, &lock),
         Ok(Request::List(list)) => list_text(alloc, &list),
         Ok(Request::VerifyLocks(asked)) => verify_locks_text(alloc, &asked),
@@ -386,5 +417,220 @@ fn unlocks_are_asked_by_parameter_and_body(rt: HostRuntime) {
         let form = ServedForm::Unlock;
         let found = unwrap(&rt, asked(rt.alloc(), form, parameter, "force=true", body));
         assert!(rt; found.as_str() == want, "{parameter} {body:?}");
+    }
+}
+
+/// The name of the empty object (FIPS 180-4).
+const NAME: &str = "e3b0c44298fc1c149afbf4c8996fb92427ae41e4649b934ca495991b7852b855";
+
+/// Texts, and whether each is the name of an object.
+const NAMES: &[(&str, bool)] = &[
+    (
+        "e3b0c44298fc1c149afbf4c8996fb92427ae41e4649b934ca495991b7852b855",
+        true,
+    ),
+    (
+        "0000000000000000000000000000000000000000000000000000000000000000",
+        true,
+    ),
+    (
+        "0123456789abcdef0123456789abcdef0123456789abcdef0123456789abcdef",
+        true,
+    ),
+    ("", false),
+    (
+        "e3b0c44298fc1c149afbf4c8996fb92427ae41e4649b934ca495991b7852b85",
+        false,
+    ),
+    (
+        "e3b0c44298fc1c149afbf4c8996fb92427ae41e4649b934ca495991b7852b8550",
+        false,
+    ),
+    (
+        "E3B0C44298FC1C149AFBF4C8996FB92427AE41E4649B934CA495991B7852B855",
+        false,
+    ),
+    (
+        "E3b0c44298fc1c149afbf4c8996fb92427ae41e4649b934ca495991b7852b855",
+        false,
+    ),
+    (
+        "g3b0c44298fc1c149afbf4c8996fb92427ae41e4649b934ca495991b7852b855",
+        false,
+    ),
+    (
+        " 3b0c44298fc1c149afbf4c8996fb92427ae41e4649b934ca495991b7852b855",
+        false,
+    ),
+    (
+        "-3b0c44298fc1c149afbf4c8996fb92427ae41e4649b934ca495991b7852b855",
+        false,
+    ),
+    (
+        "%653b0c44298fc1c149afbf4c8996fb92427ae41e4649b934ca495991b7852b855",
+        false,
+    ),
+    (
+        "%650c44298fc1c149afbf4c8996fb92427ae41e4649b934ca495991b7852b855",
+        false,
+    ),
+    (
+        "\u{e9}b0c44298fc1c149afbf4c8996fb92427ae41e4649b934ca495991b7852b855",
+        false,
+    ),
+];
+
+/// The requests for one object, and what each asks: `@` is the object's name.
+const NAMED: &[(ServedForm, &str)] = &[
+    (ServedForm::Get, "get @"),
+    (ServedForm::Put, "put @"),
+    (ServedForm::Verify, "verify @ 7"),
+];
+
+/// Asserts what the request asks of the object with this name. Get and Put read the name in the
+/// parameter, Verify reads it in the body.
+fn expect_named(
+    rt: &impl Tester,
+    form: ServedForm,
+    name: &str,
+    query: &str,
+    body: &str,
+    want: &str,
+) {
+    let body = unwrap(rt, body.replace(rt.alloc(), "@", name));
+    let want = unwrap(rt, want.replace(rt.alloc(), "@", name));
+    let found = unwrap(
+        rt,
+        asked(rt.alloc(), form, name, query, body.as_str().as_bytes()),
+    );
+    assert!(rt;
+        found.as_str() == want.as_str(),
+        "{form:?} {name} {query} {body}"
+    );
+}
+
+/// Asserts that each request for the object of this name is read, or refused by J2.
+fn expect_name(rt: &impl Tester, name: &str, is_name: bool) {
+    for &(form, want) in NAMED {
+        let want = if is_name { want } else { "J2" };
+        expect_named(rt, form, name, "", r#"{"oid":"@","size":7}"#, want);
+    }
+}
+
+#[test]
+fn objects_have_names_of_64_digits(rt: HostRuntime) {
+    for &(name, is_name) in NAMES {
+        expect_name(&rt, name, is_name);
+    }
+}
+
+/// Queries, and what each of them adds to a request that reads `ref`.
+const REFS: &[(&str, &str)] = &[
+    ("", ""),
+    ("ref", ""),
+    ("ref=", ""),
+    ("ref=refs/heads/main", " ref=refs/heads/main"),
+    ("ref=refs%2Fheads%2Fmain", " ref=refs/heads/main"),
+    ("&r%65f=refs/a&", " ref=refs/a"),
+    ("x=1&ref=refs/a&x=2", " ref=refs/a"),
+    ("Ref=x&refspec=x&refs=x&oid=x&size=x", ""),
+    ("ref=main", "J2"),
+    ("ref=refs", "J2"),
+    ("ref=refs/", "J2"),
+    ("ref=refs/a..b", "J2"),
+    ("ref=refs/a+b", "J2"),
+    ("ref=refs/a%20b", "J2"),
+    ("ref=refs%252Fa", "J2"),
+    ("ref=%FF", "J2"),
+    // The key twice, whatever its values are.
+    ("ref=refs/a&ref=refs/a", "J2"),
+    ("ref=&ref=refs/a", "J2"),
+    ("ref=refs/a&r%65f=", "J2"),
+    ("ref&ref", "J2"),
+];
+
+/// The request with what its query adds, or the rule that refuses it.
+fn with_ref(rt: &impl Tester, request: &str, want: &str) -> String {
+    if want == "J2" {
+        return unwrap(rt, want.to_owned(rt.alloc()));
+    }
+    unwrap(rt, format!(in rt.alloc(); "{request}{want}"))
+}
+
+/// Asserts what each request for an object asks with this query: Get does not read it.
+fn expect_ref(rt: &impl Tester, query: &str, want: &str) {
+    let body = r#"{"oid":"@","size":7}"#;
+    let put = with_ref(rt, "put @", want);
+    let verify = with_ref(rt, "verify @ 7", want);
+    expect_named(rt, ServedForm::Get, NAME, query, "[", "get @");
+    expect_named(rt, ServedForm::Put, NAME, query, "[", put.as_str());
+    expect_named(rt, ServedForm::Verify, NAME, query, body, verify.as_str());
+}
+
+#[test]
+fn uploads_and_their_verification_read_the_ref_of_the_query(rt: HostRuntime) {
+    for &(query, want) in REFS {
+        expect_ref(&rt, query, want);
+    }
+}
+
+/// Queries and bodies, and what a request to verify an object with each of them asks: `@` is a name.
+const STORED: &[(&str, &str, &str)] = &[
+    ("", r#"{"oid":"@","size":0}"#, "verify @ 0"),
+    ("", r#"{"oid":"@","size":1}"#, "verify @ 1"),
+    ("", r#"{"oid":"@","size":268435456}"#, "verify @ 268435456"),
+    ("", "\t{ \"size\" : 7,\r\n\"oid\":\"@\" }\n", "verify @ 7"),
+    ("", r#"{"\u006fid":"@","size":7}"#, "verify @ 7"),
+    // The body's ref is an unknown key, and the last of repeated keys counts.
+    ("", r#"{"oid":"@","size":7,"ref":1,"x":{}}"#, "verify @ 7"),
+    (
+        "",
+        r#"{"oid":1,"oid":"@","size":"1","size":7}"#,
+        "verify @ 7",
+    ),
+    ("", "", "J1"),
+    ("", "[]", "J1"),
+    ("", "null", "J1"),
+    ("", r#""@""#, "J1"),
+    ("", r#"[{"oid":"@","size":7}]"#, "J1"),
+    ("", r#"{"oid":"@","size":7}x"#, "J1"),
+    ("", "{}", "J1"),
+    ("", r#"{"oid":"@"}"#, "J1"),
+    ("", r#"{"size":7}"#, "J1"),
+    ("", r#"{"Oid":"@","size":7}"#, "J1"),
+    ("", r#"{"oid":null,"size":7}"#, "J1"),
+    ("", r#"{"oid":"@","size":null}"#, "J1"),
+    ("", r#"{"oid":7,"size":7}"#, "J1"),
+    ("", r#"{"oid":["@"],"size":7}"#, "J1"),
+    ("", r#"{"oid":"@","size":"7"}"#, "J1"),
+    ("", r#"{"oid":"@","size":true}"#, "J1"),
+    ("", r#"{"oid":"@","size":[7]}"#, "J1"),
+    ("", r#"{"oid":"@","size":7,"size":null}"#, "J1"),
+    ("", r#"{"oid":"@","size":07}"#, "J1"),
+    ("", r#"{"oid":"@","size":1e400}"#, "J1"),
+    ("", r#"{"oid":"@","size":-1}"#, "J2"),
+    ("", r#"{"oid":"@","size":-0}"#, "J2"),
+    ("", r#"{"oid":"@","size":1.5}"#, "J2"),
+    ("", r#"{"oid":"@","size":7.0}"#, "J2"),
+    ("", r#"{"oid":"@","size":7e0}"#, "J2"),
+    ("", r#"{"oid":"@","size":268435457}"#, "J2"),
+    ("", r#"{"oid":"@","size":18446744073709551615}"#, "J2"),
+    ("", r#"{"oid":"@","size":18446744073709551616}"#, "J2"),
+    ("", r#"{"oid":"","size":-1}"#, "J2"),
+    // The shape of the body is checked before its ranges, and before the query.
+    ("", r#"{"oid":"x"}"#, "J1"),
+    ("", r#"{"oid":"x","size":"7"}"#, "J1"),
+    ("", r#"{"oid":7,"size":-1}"#, "J1"),
+    ("", r#"{"size":268435457}"#, "J1"),
+    ("ref=main", r#"{"oid":"@"}"#, "J1"),
+    ("ref=main", r#"{"oid":"@","size":null}"#, "J1"),
+    ("ref=refs/a&ref=refs/a", "[]", "J1"),
+    ("ref=main", r#"{"oid":"@","size":-1}"#, "J2"),
+];
+
+#[test]
+fn objects_are_verified_by_their_body(rt: HostRuntime) {
+    for &(query, body, want) in STORED {
+        expect_named(&rt, ServedForm::Verify, NAME, query, body, want);
     }
 }

@@ -6,6 +6,7 @@
 //! | `tables` | `tables_tests` |
 //! | `tokens` | `tokens_tests` |
 //! | `locks` | `locks_tests` |
+//! | `chunks`, `uploads` | `objects_tests` |
 //! | `cursor` | `cursor_tests` |
 //! | `desk` | `desk_tests` |
 //! | `service` | `service_tests` |
@@ -23,6 +24,8 @@ mod desk_tests;
 mod harness;
 #[cfg(test)]
 mod locks_tests;
+#[cfg(test)]
+mod objects_tests;
 #[cfg(test)]
 mod program_tests;
 #[cfg(test)]

@@ -1,0 +1,271 @@
+//! Objects: uploads that are begun, filled, completed, found, written out and removed.
+
+use crate::harness::{Tester, in_memory, repo, unwrap};
+use chunks::{Intake, pour};
+use desk::{AnswerFault, Receipt, receive};
+use names::{Body, FailAfter, Oid, Size, SliceSource, VecSink};
+use sqlite::MemStore;
+use tables::{Store, StoreFault, UploadId};
+use uploads::{Kept, UploadFault};
+
+/// The SHA-256 of `hello`.
+const HELLO: &str = "2cf24dba5fb0a30e26e83b2ac5b9e29e1b161e5c1fa7425e73043362938b9824";
+
+/// Objects of bytes `x`: their number, their SHA-256 by `sha256sum`, the number of chunks, and the size of the last.
+const OBJECTS: &[(usize, &str, u32, usize)] = &[
+    (
+        0,
+        "e3b0c44298fc1c149afbf4c8996fb92427ae41e4649b934ca495991b7852b855",
+        0,
+        0,
+    ),
+    (
+        1,
+        "2d711642b726b04401627ca9fbac32f5c8530fb1903cc4db02258717921a4881",
+        1,
+        1,
+    ),
+    (
+        65_535,
+        "09ab7495d3e61a76f0deb12cb0306f0696cbb17ffc12131368c7a939f12f56d3",
+        1,
+        65_535,
+    ),
+    (
+        65_536,
+        "1f8745f0d2d1387ec1af2211a3cf417b2e9e885e853472649c1d979d0e9370e3",
+        1,
+        65_536,
+    ),
+    (
+        65_537,
+        "1abe08ebecf1c18cab71f6fe28aaddf20268f85bad78bb9a72f88ca47c874662",
+        2,
+        1,
+    ),
+    (
+        200_000,
+        "91e3faafd322bcdf160f3f0ce886acb092b9b9e2a1e8526b40f21a8898a8700b",
+        4,
+        3_392,
+    ),
+];
+
+/// Repositories, and the number of bytes of a piece in which their uploads arrive.
+const CUTS: &[(&str, usize)] = &[
+    ("studio/bytes", 1),
+    ("studio/thousands", 1_000),
+    ("studio/chunks", 65_536),
+    ("studio/whole", 1_000_000),
+];
+
+fn oid(rt: &impl Tester, text: &str) -> Oid {
+    unwrap(rt, Oid::read(text.as_bytes()).ok_or(()))
+}
+
+fn size_of(rt: &impl Tester, size: usize) -> Size {
+    unwrap(rt, Size::read(size as u64).ok_or(()))
+}
+
+/// Begins an upload in the repository.
+fn begin(
+    rt: &impl Tester,
+    store: &mut Store<MemStore>,
+    name: &str,
+    text: &str,
+    size: usize,
+) -> UploadId {
+    let name = repo(rt, name);
+    let begun = uploads::begin(rt.alloc(), store, &name, &oid(rt, text), size_of(rt, size));
+    unwrap(rt, begun)
+}
+
+/// Pushes the bytes, in pieces of `cut` bytes.
+fn push(
+    intake: &mut Intake,
+    store: &mut Store<MemStore>,
+    bytes: &[u8],
+    cut: usize,
+) -> Result<(), StoreFault> {
+    for piece in bytes.chunks(cut.max(1)) {
+        intake.push(store, piece)?;
+    }
+    Ok(())
+}
+
+/// Uploads the bytes under the name.
+fn upload(
+    rt: &impl Tester,
+    store: &mut Store<MemStore>,
+    name: &str,
+    text: &str,
+    bytes: &[u8],
+    cut: usize,
+) -> Result<Kept, UploadFault> {
+    let id = begin(rt, store, name, text, bytes.len());
+    let mut intake = unwrap(rt, Intake::begin(rt.alloc(), id, size_of(rt, bytes.len())));
+    unwrap(rt, push(&mut intake, store, bytes, cut));
+    let (found, size) = unwrap(rt, intake.end(store));
+    uploads::complete(store, id, &found, size)
+}
+
+/// The size of the object, if the repository has it.
+fn find(rt: &impl Tester, store: &mut Store<MemStore>, name: &str, text: &str) -> Option<u64> {
+    let name = repo(rt, name);
+    unwrap(rt, uploads::find(store, &name, &oid(rt, text))).map(|row| row.size.get())
+}
+
+fn used(rt: &impl Tester, store: &mut Store<MemStore>, name: &str) -> u64 {
+    unwrap(rt, uploads::used(store, &repo(rt, name)))
+}
+
+/// Asserts that the object is written out as these bytes, and has these chunks.
+fn expect_bytes(
+    rt: &impl Tester,
+    store: &mut Store<MemStore>,
+    id: UploadId,
+    bytes: &[u8],
+    count: u32,
+    last: usize,
+) {
+    let mut sink = VecSink::new(rt.alloc(), 7_777);
+    assert!(rt; pour(store, id, &mut sink) == Ok(bytes.len() as u64));
+    assert!(rt; sink.taken() == bytes);
+    assert!(rt; unwrap(rt, store.chunk(id, count)).is_none());
+    if count > 0 {
+        let chunk = unwrap(rt, store.chunk(id, count - 1));
+        assert!(rt; chunk.map_or(0, |chunk| chunk.bytes().len()) == last);
+    }
+}
+
+/// Asserts that an object of this size is stored as it has to be, in pieces of `cut` bytes.
+fn expect_object(
+    rt: &impl Tester,
+    store: &mut Store<MemStore>,
+    name: &str,
+    cut: usize,
+    object: &(usize, &str, u32, usize),
+) {
+    let &(size, text, count, last) = object;
+    let bytes = unwrap(rt, vec![in rt.alloc(); b'x'; size]);
+    let after = used(rt, store, name).saturating_add(size as u64);
+    assert!(rt; find(rt, store, name, text).is_none());
+    assert!(rt; upload(rt, store, name, text, bytes.as_slice(), cut) == Ok(Kept::New));
+    assert!(rt; find(rt, store, name, text) == Some(size as u64));
+    assert!(rt; used(rt, store, name) == after);
+    assert!(rt; upload(rt, store, name, text, bytes.as_slice(), cut) == Ok(Kept::Already));
+    assert!(rt; used(rt, store, name) == after);
+    let row = unwrap(rt, uploads::find(store, &repo(rt, name), &oid(rt, text)));
+    let row = unwrap(rt, row.ok_or(()));
+    expect_bytes(rt, store, row.id, bytes.as_slice(), count, last);
+}
+
+#[test]
+fn objects_are_stored_in_any_cutting(rt: HostRuntime) {
+    let mut store = in_memory(&rt);
+    for (name, cut) in CUTS {
+        for object in OBJECTS {
+            expect_object(&rt, &mut store, name, *cut, object);
+        }
+    }
+    let all = unwrap(&rt, store.objects(rt.alloc(), None));
+    assert_eq!(rt; all.len(), 24);
+    let film = repo(&rt, "studio/whole");
+    let own = unwrap(&rt, store.objects(rt.alloc(), Some(&film)));
+    let mut sizes = own.iter().map(|row| row.size.get());
+    assert_eq!(rt; sizes.next(), Some(65_535));
+    assert_eq!(rt; sizes.next(), Some(65_537));
+    assert_eq!(rt; sizes.next(), Some(65_536));
+    assert_eq!(rt; sizes.next(), Some(1));
+}
+
+/// Receives the bytes as the content of an upload, at most `most` of them per read.
+fn receive_all(
+    rt: &impl Tester,
+    store: &mut Store<MemStore>,
+    text: &str,
+    bytes: &[u8],
+    most: usize,
+) -> Result<Receipt, AnswerFault> {
+    let mut content = SliceSource::new(bytes, most);
+    let film = repo(rt, "studio/film");
+    let receipt = receive(rt.alloc(), store, &film, &oid(rt, text), &mut content);
+    assert!(rt; Body::left(&content) == 0);
+    receipt
+}
+
+#[test]
+fn contents_are_received_in_pieces(rt: HostRuntime) {
+    let mut store = in_memory(&rt);
+    for &(size, text, _, _) in OBJECTS {
+        let bytes = unwrap(&rt, vec![in rt.alloc(); b'x'; size]);
+        let first = receive_all(&rt, &mut store, text, bytes.as_slice(), 7_000);
+        let second = receive_all(&rt, &mut store, text, bytes.as_slice(), 1_000_000);
+        assert!(rt; first == Ok(Receipt::Stored) && second == Ok(Receipt::Stored));
+        assert!(rt; find(&rt, &mut store, "studio/film", text) == Some(size as u64));
+    }
+    let other = receive_all(&rt, &mut store, HELLO, b"abc", 2);
+    assert!(rt; other == Ok(Receipt::Differs));
+    assert!(rt; find(&rt, &mut store, "studio/film", HELLO).is_none());
+    assert_eq!(rt; used(&rt, &mut store, "studio/film"), 396_609);
+}
+
+#[test]
+fn a_staged_upload_is_no_object(rt: HostRuntime) {
+    let mut store = in_memory(&rt);
+    let id = begin(&rt, &mut store, "studio/film", HELLO, 5);
+    let mut intake = unwrap(&rt, Intake::begin(rt.alloc(), id, size_of(&rt, 5)));
+    unwrap(&rt, intake.push(&mut store, b"hell"));
+    assert!(rt; find(&rt, &mut store, "studio/film", HELLO).is_none());
+    // A piece beyond the size is refused, and so is each one after it.
+    assert!(rt; intake.push(&mut store, b"ooo") == Err(StoreFault::Refused));
+    assert!(rt; intake.push(&mut store, b"o") == Err(StoreFault::Refused));
+    begin(&rt, &mut store, "studio/short", HELLO, 5);
+    let second = begin(&rt, &mut store, "studio/film", HELLO, 5);
+    assert!(rt; second != id);
+    assert_eq!(rt; unwrap(&rt, store.staged_uploads(rt.alloc())).len(), 2);
+    assert_eq!(rt; uploads::sweep(rt.alloc(), &mut store), Ok(2));
+    assert_eq!(rt; uploads::sweep(rt.alloc(), &mut store), Ok(0));
+    assert_eq!(rt; used(&rt, &mut store, "studio/film"), 0);
+}
+
+#[test]
+fn other_bytes_are_no_object(rt: HostRuntime) {
+    let mut store = in_memory(&rt);
+    let wrong = upload(&rt, &mut store, "studio/film", HELLO, b"abc", 3);
+    assert!(rt; wrong == Err(UploadFault::Differs));
+    assert!(rt; find(&rt, &mut store, "studio/film", HELLO).is_none());
+    let good = upload(&rt, &mut store, "studio/film", HELLO, b"hello", 2);
+    assert!(rt; good == Ok(Kept::New));
+    assert!(rt; find(&rt, &mut store, "studio/short", HELLO).is_none());
+    let staged = begin(&rt, &mut store, "studio/film", HELLO, 5);
+    unwrap(&rt, uploads::abandon(&mut store, staged));
+    assert!(rt; unwrap(&rt, store.staged_uploads(rt.alloc())).is_empty());
+    assert!(rt; find(&rt, &mut store, "studio/film", HELLO) == Some(5));
+}
+
+#[test]
+fn a_sink_that_fails_took_a_prefix(rt: HostRuntime) {
+    let mut store = in_memory(&rt);
+    let &(size, text, _, _) = &OBJECTS[5];
+    let bytes = unwrap(&rt, vec![in rt.alloc(); b'x'; size]);
+    let kept = upload(
+        &rt,
+        &mut store,
+        "studio/film",
+        text,
+        bytes.as_slice(),
+        65_536,
+    );
+    assert!(rt; kept == Ok(Kept::New));
+    let row = unwrap(
+        &rt,
+        uploads::find(&mut store, &repo(&rt, "studio/film"), &oid(&rt, text)),
+    );
+    let row = unwrap(&rt, row.ok_or(()));
+    let mut sink = FailAfter::new(VecSink::new(rt.alloc(), 50_000), 3);
+    match pour(&mut store, row.id, &mut sink) {
+        Err(fault) => assert_eq!(rt; fault.written, 131_072 - 15_536),
+        Ok(_) => panic!(rt; "a write fails"),
+    }
+}
