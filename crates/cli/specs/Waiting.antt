@@ -1,6 +1,7 @@
 -- How long a connection waits for its client, in nanoseconds.
 use Rattle.std.specs.Prelude.{ℕ, ◌+◌, ◌-◌, ◌*◌, ◌/◌, min, Bool, ◌&&◌, ◌||◌, nat_lt, Option, Some, None}
 
+-- a second, in nanoseconds
 abbrev pub second : ℕ
 second = 1000000000
 
@@ -8,15 +9,15 @@ second = 1000000000
 abbrev pub grace : ℕ
 grace = 30 * second
 
--- the time that a message or a reply of so many bytes may take: a second more for each 16 KiB
+-- the time that a message or a reply may take, of which `moved` bytes were read or written: 30 seconds, and one more for each 16 KiB
 abbrev pub whole_time : ℕ → ℕ
 whole_time moved = (30 + moved / 16384) * second
 
--- how long the next read or write may wait, after this time and so many bytes
+-- how long the next read or write may wait, after this time and this number of bytes
 abbrev pub allowance : ℕ → ℕ → ℕ
 allowance elapsed moved = min (whole_time moved - elapsed) grace
 
--- whether a connection may stay idle: for less than `most`; and once another client has waited for a fifth of a second,
+-- whether a connection may stay idle: for less than `most`; and if another client has waited for a fifth of a second,
 -- for less than 50 milliseconds
 abbrev pub may_idle : ℕ → Option ℕ → ℕ → Bool
 may_idle idled None most = nat_lt idled most

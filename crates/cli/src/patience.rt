@@ -117,7 +117,7 @@ impl Course {
         now.duration_since(self.since.unwrap_or(now))
     }
 
-    /// The same, after so many bytes more.
+    /// The same, after `count` more bytes.
     fn advanced(self, count: usize) -> Course {
         Course {
             moved: self.moved.saturating_add(count as u64),
@@ -162,7 +162,7 @@ impl<C: Clock> PatientReader<'_, '_, C> {
         })
     }
 
-    /// Keeps what the connection is occupied with after a read of so many bytes.
+    /// Keeps what the connection is occupied with after a read of `count` bytes.
     fn keep(&self, course: Course, count: usize) {
         self.course.set(match course.activity {
             Activity::Idle if count > 0 => Course::of(Activity::Message).advanced(count),

@@ -20,3 +20,8 @@ pub returns-in_err-append-clause-world : goal.returns-in_err-append-clause-world
 returns-in_err-append-clause-world g c =
     reads_then g.S.Store c.args.store.now c.loop-next.store c.read_window.new.store _ _ _
     (λ world laws before one sees answers. search rules) c.loop-next.invariant c.in_ok-window.ensures.world
+
+pub returns-in_err-window-clause-world : goal.returns-in_err-window-clause-world
+returns-in_err-window-clause-world g c =
+    reads_then g.S.Store c.args.store.now c.loop-next.store c.read_window.new.store _ _ _
+    (λ world laws before one sees answers. search rules) c.loop-next.invariant c.read_window.ensures.world
