@@ -9,11 +9,12 @@ use Rattle.std.proofs.lemmas.Slice.Eq.{bytes_eq-Decides}
 use Rattle.httparse.specs.Grammar.{RequestHead}
 use Rattle.names.specs.declared.rules.Rule.{Rule}
 use Rattle.names.specs.declared.rules.Rule.TheVariants as rule
-use Rattle.model.specs.Reading.{◌>>=◌, check, ok_or, or_default}
+use Rattle.model.specs.declared.Form.{Form}
+use Rattle.model.specs.Reading.{check, ok_or, or_default}
 use Rattle.model.specs.Policy.{Policy, Repo, repo_named}
 use Rattle.model.specs.World.{World, Object, Token, IsWorld, object_named, name_of, with_object, total}
 use Rattle.model.specs.RepoState.{ObjectSize, object_size, repo_state, size_of, has_room}
-use Rattle.model.specs.Forms.{Request, asks_batch, asks_get, asks_put, asks_verify, asks_lock, asks_list, asks_verify_locks, asks_unlock}
+use Rattle.model.specs.Forms.{Request, request_of, asks_batch, asks_get, asks_put, asks_verify, asks_lock, asks_list, asks_verify_locks, asks_unlock}
 use Rattle.model.specs.Heads.{Target, head_verdict, query_of, content_length, body_length}
 use Rattle.model.specs.Callers.{caller_by, Caller}
 use Rattle.model.specs.Cases.{Setting, Case, case_in, DeskRequest}
@@ -27,9 +28,9 @@ use Rattle.model.specs.Steps.{verdict_on, denial_alone, after, after_grant, Mess
 use Rattle.model.specs.Laws.{quota_of, HasQuotaWithin, StaysInQuota}
 use Rattle.model.proofs.Checks.{passed, then_any, by_rules_ok, found_ok, rules_check_ok}
 use Rattle.model.proofs.Keeping.{keeps_step}
-use Rattle.model.proofs.Refusals.{verdict_refused}
+use Rattle.model.proofs.Refusals.{verdict_at, verdict_refused}
 use Rattle.model.proofs.Rooms.{room_is_quota}
-use Rattle.model.proofs.Serving.{IsPlain, IsFrom, desk_from, request_asked}
+use Rattle.model.proofs.Serving.{IsPlain, IsFrom, IsAsked, desk_from, request_asked}
 use Rattle.model.proofs.Views.{size_stored}
 use Rattle.model.proofs.Lists.{found_passes}
 
@@ -115,25 +116,21 @@ both_if : {A E : Type 0} (P Q : A → Type 0) (r : Result A E) → IfOk r P → 
 both_if P Q (Ok x) a b = (a, b)
 both_if P Q (Err e) a b = tt
 
-verdict_fits : (world : World) (setting : Setting) (head : RequestHead) (body : List ℕ) (target : Target) → head_verdict head ≡ Ok target
-    → IfOk (verdict world setting head body) (GrantFits world setting.policy target.repo (content_length head) body)
-unfolding verdict
-verdict_fits world setting head body target j =
-    let P = PlanFits world setting.policy target.repo (content_length head) in
-    let Q = IsFrom target.form target.parameter in
-    let R = GrantFits world setting.policy target.repo (content_length head) body in
-    let asked = desk_request head target body in
-    subst (λ (r : Result Target Rule). IfOk (by_rules r >>= λ t. desk_verdict world setting (desk_request head t body) body) R) (sym j)
-    (passed (λ plan. P plan × Q plan) R (desk_plan world setting asked) _
-    (both_if P Q (desk_plan world setting asked) (desk_fits world setting asked)
-    (desk_from world setting asked target.form target.parameter (request_asked target.form target.parameter (query_of head.target) body)))
-    (λ plan is. finished plan is.0 is.1))
-  where
-    finished : (plan : Plan) → PlanFits world setting.policy target.repo (content_length head) plan → IsFrom target.form target.parameter plan
-        → IfOk (finish world target.repo body plan) (GrantFits world setting.policy target.repo (content_length head) body)
-    finished (grants g) fits from = plain_fits world setting.policy target.repo (content_length head) body g from
-    finished (sends name size) fits from = then_any (GrantFits world setting.policy target.repo (content_length head) body) (by_rules (ok_or (object_named target.repo name world) rule.X1)) _ (λ o. tt)
-    finished (receives name) fits from = then_any (GrantFits world setting.policy target.repo (content_length head) body) (by_rules (check (bytes_eq name (name_of body)) rule.X2)) _ (λ same. (refl, refl, fits))
+finished_fits : (world : World) (policy : Policy) (repo : List ℕ) (left : ℕ) (body : List ℕ) (f : Form) (parameter : List ℕ) (plan : Plan) → PlanFits world policy repo left plan → IsFrom f parameter plan
+    → IfOk (finish world repo body plan) (GrantFits world policy repo left body)
+finished_fits world policy repo left body f parameter (grants g) fits from = plain_fits world policy repo left body g from
+finished_fits world policy repo left body f parameter (sends name size) fits from = then_any (GrantFits world policy repo left body) (by_rules (ok_or (object_named repo name world) rule.X1)) _ (λ o. tt)
+finished_fits world policy repo left body f parameter (receives name) fits from = then_any (GrantFits world policy repo left body) (by_rules (check (bytes_eq name (name_of body)) rule.X2)) _ (λ same. (refl, refl, fits))
+
+answer_fits : (world : World) (setting : Setting) (asked : DeskRequest) (f : Form) (parameter query given body : List ℕ) → asked.request ≡ request_of f parameter query given
+    → IfOk (desk_verdict world setting asked body) (GrantFits world setting.policy asked.repo asked.left body)
+answer_fits world setting asked f parameter query given body is =
+    let P = PlanFits world setting.policy asked.repo asked.left in
+    let Q = IsFrom f parameter in
+    let asks = subst (λ (r : Result Request Rule). IfOk r (IsAsked f parameter)) (sym is) (request_asked f parameter query given) in
+    passed (λ plan. P plan × Q plan) (GrantFits world setting.policy asked.repo asked.left body) (desk_plan world setting asked) _
+    (both_if P Q (desk_plan world setting asked) (desk_fits world setting asked) (desk_from world setting asked f parameter asks))
+    (λ plan is. finished_fits world setting.policy asked.repo asked.left body f parameter plan is.0 is.1)
 
 -- ---- the total
 
@@ -192,6 +189,15 @@ grant_stays old policy repo left body (releases l) n most w fits size within quo
 
 -- ---- steps and runs
 
+-- a request to the desk, with the whole body of an upload
+pub desk_stays : (old : World) (setting : Setting) (asked : DeskRequest) (f : Form) (parameter query given body n : List ℕ) (most : ℕ) → IsWorld old → asked.request ≡ request_of f parameter query given → length body ≡ asked.left
+    → total n old ≤ most → quota_of n setting.policy ≤ most → total n (after old (Some (desk_verdict old setting asked body))) ≤ most
+desk_stays old setting asked f parameter query given body n most w is size within quota = by_answer (desk_verdict old setting asked body) (answer_fits old setting asked f parameter query given body is)
+  where
+    by_answer : (answer : Answer) → IfOk answer (GrantFits old setting.policy asked.repo asked.left body) → total n (after old (Some answer)) ≤ most
+    by_answer (Ok g) fits = grant_stays old setting.policy asked.repo asked.left body g n most w fits size within quota
+    by_answer (Err d) fits = within
+
 answer_stays : (old : World) (setting : Setting) (head : RequestHead) (body n : List ℕ) (most : ℕ) → IsWorld old → length body ≡ body_length head
     → total n old ≤ most → quota_of n setting.policy ≤ most → total n (after old (Some (verdict old setting head body))) ≤ most
 answer_stays old setting head body n most w size within quota = at (head_verdict head) refl
@@ -199,12 +205,10 @@ answer_stays old setting head body n most w size within quota = at (head_verdict
     same : (target : Target) → head_verdict head ≡ Ok target → length body ≡ content_length head
     same target j = size ∙ ap (λ (r : Result Target Rule). cond (is_err r) 0 (content_length head)) j
 
-    by_answer : (target : Target) → head_verdict head ≡ Ok target → (answer : Answer) → IfOk answer (GrantFits old setting.policy target.repo (content_length head) body) → total n (after old (Some answer)) ≤ most
-    by_answer target j (Ok g) fits = grant_stays old setting.policy target.repo (content_length head) body g n most w fits (same target j) within quota
-    by_answer target j (Err d) fits = within
-
     at : (r : Result Target Rule) → head_verdict head ≡ r → total n (after old (Some (verdict old setting head body))) ≤ most
-    at (Ok target) j = by_answer target j (verdict old setting head body) (verdict_fits old setting head body target j)
+    at (Ok target) j =
+        subst (λ (a : Answer). total n (after old (Some a)) ≤ most) (sym (verdict_at old setting head body target j))
+        (desk_stays old setting (desk_request head target body) target.form target.parameter (query_of head.target) body body n most w refl (same target j) within quota)
     at (Err x) j = subst (λ (a : Answer). total n (after old (Some a)) ≤ most) (sym (verdict_refused old setting head body x j)) within
 
 message_stays : (old : World) (setting : Setting) (asked : Message) (n : List ℕ) (most : ℕ) → IsWorld old → IsMessage asked

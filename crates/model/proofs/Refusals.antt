@@ -3,6 +3,7 @@ use Rattle.std.proofs.Common.{◌≡◌, ℕ, Bool, true, false, not, ◌||◌, 
 use Rattle.std.specs.Result.{IfErr}
 use Rattle.std.specs.Str.{is_utf8}
 use Rattle.std.proofs.lemmas.Bool.{cond_both}
+use Rattle.std.proofs.lemmas.Result.{IfErr-weaker}
 use Rattle.httparse.specs.Grammar.{RequestHead}
 use Rattle.serde_json.specs.Data.{Data, Num, null, boolean, number, string, array, object, Members}
 use Rattle.serde_json.specs.Find.{get_member, as_str, as_number, as_bool, as_u64, as_i64}
@@ -29,7 +30,7 @@ use Rattle.model.specs.Batch.{may_batch, batch_verdict}
 use Rattle.model.specs.Pages.{cursor_in}
 use Rattle.model.specs.Objects.{finish, verify_verdict}
 use Rattle.model.specs.Verdict.{plan_to, plan_for, is_covered, caller_plan, desk_plan, desk_verdict, verdict, early_verdict, early_check, desk_request}
-use Rattle.model.specs.Steps.{is_early, is_of_head, is_h7}
+use Rattle.model.specs.Steps.{is_early, is_of_head, is_h7, is_x2}
 
 -- ---- what a chain of checks may refuse with
 
@@ -62,11 +63,17 @@ pub record IsLate (d : Denial) : Type 0 where
   pub method : is_rule is_h7 (Err d) ≡ false
   pub store : is_store_refusal (Err d) ≡ false
 
-abbrev pub IsLateRule : Rule → Type 0
-IsLateRule r = IsLate (by_rule r)
+-- the same, and no content decides it
+pub record IsOfPlan (d : Denial) : Type 0 where
+  pub late : IsLate d
+  pub content : is_rule is_x2 (Err d) ≡ false
 
-late : {d : Denial} → is_rule is_early (Err d) ≡ false → is_rule is_of_head (Err d) ≡ false → is_rule is_h7 (Err d) ≡ false → is_store_refusal (Err d) ≡ false → IsLate d
-late a b c d = record { early = a; of_head = b; method = c; store = d }
+abbrev pub IsLateRule : Rule → Type 0
+IsLateRule r = IsOfPlan (by_rule r)
+
+late : {d : Denial} → is_rule is_early (Err d) ≡ false → is_rule is_of_head (Err d) ≡ false → is_rule is_h7 (Err d) ≡ false → is_store_refusal (Err d) ≡ false → is_rule is_x2 (Err d) ≡ false
+    → IsOfPlan d
+late a b c d e = record { late = record { early = a; of_head = b; method = c; store = d }; content = e }
 
 -- a check, a required value, and a rule before others
 check_late : (test : Bool) (e : Rule) → IsLateRule e → IfErr (check test e) IsLateRule
@@ -75,28 +82,28 @@ check_late test e is = check_fails IsLateRule test e is
 found_late : {A : Type 0} (o : Option A) (e : Rule) → IsLateRule e → IfErr (ok_or o e) IsLateRule
 found_late o e is = found_fails IsLateRule o e is
 
-rule_late : {A : Type 0} (r : Result A Rule) → IfErr r IsLateRule → IfErr (by_rules r) IsLate
-rule_late r is = rules_fail IsLate r is
+rule_late : {A : Type 0} (r : Result A Rule) → IfErr r IsLateRule → IfErr (by_rules r) IsOfPlan
+rule_late r is = rules_fail IsOfPlan r is
 
 then_late : {A B : Type 0} (r : Result A Rule) (f : A → Result B Rule) → IfErr r IsLateRule → ((x : A) → IfErr (f x) IsLateRule) → IfErr (r >>= f) IsLateRule
 then_late r f is then = fails IsLateRule r f is then
 
-and_late : {A B : Type 0} (r : Result A Denial) (f : A → Result B Denial) → IfErr r IsLate → ((x : A) → IfErr (f x) IsLate) → IfErr (r >>= f) IsLate
-and_late r f is then = fails IsLate r f is then
+and_late : {A B : Type 0} (r : Result A Denial) (f : A → Result B Denial) → IfErr r IsOfPlan → ((x : A) → IfErr (f x) IsOfPlan) → IfErr (r >>= f) IsOfPlan
+and_late r f is then = fails IsOfPlan r f is then
 
 pub caller_fails : (world : World) (now : ℕ) (bearers : List (List ℕ)) → IfErr (caller_by world now bearers) IsLateRule
 caller_fails world now bearers =
-    then_late (ok_or (bearer bearers) rule.A1) _ (found_late (bearer bearers) rule.A1 (late refl refl refl refl)) (λ text.
-    then_late (ok_or (find_token text world) rule.A2) _ (found_late (find_token text world) rule.A2 (late refl refl refl refl)) (λ t.
-    then_late (check (nat_lt now t.expires) rule.A3) _ (check_late (nat_lt now t.expires) rule.A3 (late refl refl refl refl)) (λ good. tt)))
+    then_late (ok_or (bearer bearers) rule.A1) _ (found_late (bearer bearers) rule.A1 (late refl refl refl refl refl)) (λ text.
+    then_late (ok_or (find_token text world) rule.A2) _ (found_late (find_token text world) rule.A2 (late refl refl refl refl refl)) (λ t.
+    then_late (check (nat_lt now t.expires) rule.A3) _ (check_late (nat_lt now t.expires) rule.A3 (late refl refl refl refl refl)) (λ good. tt)))
 
 -- ---- what a form may refuse with
 
 j1_late : IsLateRule rule.J1
-j1_late = late refl refl refl refl
+j1_late = late refl refl refl refl refl
 
 j2_late : IsLateRule rule.J2
-j2_late = late refl refl refl refl
+j2_late = late refl refl refl refl refl
 
 kind_late : {A : Type 0} (o : Option A) → IfErr (ok_or o rule.J1 >>= λ x. Ok (Some x)) IsLateRule
 kind_late o = then_late (ok_or o rule.J1) (λ x. Ok (Some x)) (found_late o rule.J1 j1_late) (λ x. tt)
@@ -158,8 +165,8 @@ batch_late body =
     then_late (batch_keys body) _ (keys_late body) (λ keys.
     then_late (ok_or (operation_in keys.operation) rule.J2) _ (found_late (operation_in keys.operation) rule.J2 j2_late) (λ known.
     then_late (check (is_if_given is_ref keys.ref) rule.J2) _ (range_late (is_if_given is_ref keys.ref)) (λ in_range.
-    then_late (check (nat_le (length keys.objects) object_limit) rule.J3) _ (check_late (nat_le (length keys.objects) object_limit) rule.J3 (late refl refl refl refl)) (λ few.
-    then_late (check (is_if_given has_basic keys.transfers) rule.J4) _ (check_late (is_if_given has_basic keys.transfers) rule.J4 (late refl refl refl refl)) (λ basic. tt)))))
+    then_late (check (nat_le (length keys.objects) object_limit) rule.J3) _ (check_late (nat_le (length keys.objects) object_limit) rule.J3 (late refl refl refl refl refl)) (λ few.
+    then_late (check (is_if_given has_basic keys.transfers) rule.J4) _ (check_late (is_if_given has_basic keys.transfers) rule.J4 (late refl refl refl refl refl)) (λ basic. tt)))))
 
 put_late : (parameter query : List ℕ) → IfErr (put_form parameter query) IsLateRule
 unfolding put_form
@@ -226,63 +233,63 @@ request_fails form.Unlock parameter query body = then_late (unlock_form paramete
 
 -- ---- what the desk may refuse with
 
-permit_late : (d : Decision) (r : Right) (status : ℕ) → IfErr (permit_by d r status) IsLate
+permit_late : (d : Decision) (r : Right) (status : ℕ) → IfErr (permit_by d r status) IsOfPlan
 permit_late (allowed n) r status = tt
-permit_late (denied n) r status = late refl refl refl refl
+permit_late (denied n) r status = late refl refl refl refl refl
 
-pull_late : (policy : Policy) (user repo : List ℕ) (status : ℕ) → IfErr (may_pull policy user repo status) IsLate
+pull_late : (policy : Policy) (user repo : List ℕ) (status : ℕ) → IfErr (may_pull policy user repo status) IsOfPlan
 pull_late policy user repo status = permit_late (decide policy (pull_question user repo)) right.Pull status
 
-push_late : (policy : Policy) (user repo ref : List ℕ) → IfErr (may_push policy user repo ref) IsLate
+push_late : (policy : Policy) (user repo ref : List ℕ) → IfErr (may_push policy user repo ref) IsOfPlan
 push_late policy user repo ref =
     permit_late (decide policy (push_question user repo ref)) right.Push (hiding_status (decide policy (pull_question user repo)))
 
 cursor_late : (cursor : Option (List ℕ)) → IfErr (cursor_in cursor) IsLateRule
 cursor_late None = tt
-cursor_late (Some text) = found_late (lock_id_in text) rule.L4 (late refl refl refl refl)
+cursor_late (Some text) = found_late (lock_id_in text) rule.L4 (late refl refl refl refl refl)
 
-plan_late : (answer : Answer) → IfErr answer IsLate → IfErr (plan_to answer) IsLate
+plan_late : (answer : Answer) → IfErr answer IsOfPlan → IfErr (plan_to answer) IsOfPlan
 plan_late answer is = and_late answer _ is (λ grant. tt)
 
 module _ (c : Case) where
   policy : Policy
   policy = c.setting.policy
 
-  lock_question_late : (r : Right) (l : Lock) → IfErr (permit c.setting.policy (lock_question r c.caller.user l) 403) IsLate
+  lock_question_late : (r : Right) (l : Lock) → IfErr (permit c.setting.policy (lock_question r c.caller.user l) 403) IsOfPlan
   lock_question_late r l = permit_late (decide c.setting.policy (lock_question r c.caller.user l)) r 403
 
-  release_late : (force : Bool) (l : Lock) → IfErr (release_verdict c force l) IsLate
+  release_late : (force : Bool) (l : Lock) → IfErr (release_verdict c force l) IsOfPlan
   release_late force l =
-      cond_both (bytes_eq l.owner c.caller.user) _ _ (λ a. IfErr a IsLate)
+      cond_both (bytes_eq l.owner c.caller.user) _ _ (λ a. IfErr a IsOfPlan)
       (λ _. and_late (permit c.setting.policy (lock_question right.Lock c.caller.user l) 403) _ (lock_question_late right.Lock l) (λ may. tt))
-      (λ _. and_late (by_rules (check force rule.L3)) _ (rule_late (check force rule.L3) (check_late force rule.L3 (late refl refl refl refl))) (λ forced.
+      (λ _. and_late (by_rules (check force rule.L3)) _ (rule_late (check force rule.L3) (check_late force rule.L3 (late refl refl refl refl refl))) (λ forced.
       and_late (permit c.setting.policy (lock_question right.Force c.caller.user l) 403) _ (lock_question_late right.Force l) (λ may. tt)))
 
-  batch_may_late : (asked : BatchForm) (op : Operation) → IfErr (may_batch c asked op) IsLate
+  batch_may_late : (asked : BatchForm) (op : Operation) → IfErr (may_batch c asked op) IsOfPlan
   batch_may_late asked operation.Download = pull_late c.setting.policy c.caller.user c.repo.name 404
   batch_may_late asked operation.Upload = push_late c.setting.policy c.caller.user c.repo.name (ref_or_default asked.ref c.repo)
 
-  pub plan_fails : (left : ℕ) (asked : Request) → IfErr (plan_for c left asked) IsLate
+  pub plan_fails : (left : ℕ) (asked : Request) → IfErr (plan_for c left asked) IsOfPlan
   plan_fails left (asks_batch asked) = plan_late (batch_verdict c asked) (and_late (may_batch c asked asked.operation) _ (batch_may_late asked asked.operation) (λ may. tt))
   plan_fails left (asks_get name) =
       and_late (may_pull c.setting.policy c.caller.user c.repo.name 404) _ (pull_late c.setting.policy c.caller.user c.repo.name 404) (λ may.
-      and_late (by_rules (ok_or (size_of name c.state) rule.X1)) _ (rule_late (ok_or (size_of name c.state) rule.X1) (found_late (size_of name c.state) rule.X1 (late refl refl refl refl))) (λ size. tt))
+      and_late (by_rules (ok_or (size_of name c.state) rule.X1)) _ (rule_late (ok_or (size_of name c.state) rule.X1) (found_late (size_of name c.state) rule.X1 (late refl refl refl refl refl))) (λ size. tt))
   plan_fails left (asks_put asked) =
       let room = has_room left c.state || is_some (size_of asked.name c.state) in
       and_late (may_push c.setting.policy c.caller.user c.repo.name (ref_or_default asked.ref c.repo)) _ (push_late c.setting.policy c.caller.user c.repo.name (ref_or_default asked.ref c.repo)) (λ may.
-      and_late (by_rules (check room rule.X3)) _ (rule_late (check room rule.X3) (check_late room rule.X3 (late refl refl refl refl))) (λ fits. tt))
+      and_late (by_rules (check room rule.X3)) _ (rule_late (check room rule.X3) (check_late room rule.X3 (late refl refl refl refl refl))) (λ fits. tt))
   plan_fails left (asks_verify asked) =
       plan_late (verify_verdict c asked)
       (and_late (may_push c.setting.policy c.caller.user c.repo.name (ref_or_default asked.ref c.repo)) _ (push_late c.setting.policy c.caller.user c.repo.name (ref_or_default asked.ref c.repo)) (λ may.
-      and_late (by_rules (ok_or (size_of asked.name c.state) rule.V1)) _ (rule_late (ok_or (size_of asked.name c.state) rule.V1) (found_late (size_of asked.name c.state) rule.V1 (late refl refl refl refl))) (λ size.
-      and_late (by_rules (check (size == asked.size) rule.V2)) _ (rule_late (check (size == asked.size) rule.V2) (check_late (size == asked.size) rule.V2 (late refl refl refl refl))) (λ same. tt))))
+      and_late (by_rules (ok_or (size_of asked.name c.state) rule.V1)) _ (rule_late (ok_or (size_of asked.name c.state) rule.V1) (found_late (size_of asked.name c.state) rule.V1 (late refl refl refl refl refl))) (λ size.
+      and_late (by_rules (check (size == asked.size) rule.V2)) _ (rule_late (check (size == asked.size) rule.V2) (check_late (size == asked.size) rule.V2 (late refl refl refl refl refl))) (λ same. tt))))
   plan_fails left (asks_lock asked) =
       let there = lock_at (ref_or_default asked.ref c.repo) asked.path c.state in
       let room = nat_lt c.state.made last_lock_id in
       plan_late (lock_verdict c asked)
       (and_late (permit c.setting.policy (lock_question right.Lock c.caller.user (new_lock c asked)) 403) _ (lock_question_late right.Lock (new_lock c asked)) (λ may.
-      and_late (none_or there by_lock) _ (none_fails IsLate there by_lock (λ l. late refl refl refl refl)) (λ free.
-      and_late (by_rules (check room rule.L5)) _ (rule_late (check room rule.L5) (check_late room rule.L5 (late refl refl refl refl))) (λ some. tt))))
+      and_late (none_or there by_lock) _ (none_fails IsOfPlan there by_lock (λ l. late refl refl refl refl refl)) (λ free.
+      and_late (by_rules (check room rule.L5)) _ (rule_late (check room rule.L5) (check_late room rule.L5 (late refl refl refl refl refl))) (λ some. tt))))
   plan_fails left (asks_list asked) =
       plan_late (list_verdict c asked)
       (and_late (may_pull c.setting.policy c.caller.user c.repo.name 403) _ (pull_late c.setting.policy c.caller.user c.repo.name 403) (λ may.
@@ -294,19 +301,19 @@ module _ (c : Case) where
       and_late (by_rules (cursor_in asked.cursor)) _ (rule_late (cursor_in asked.cursor) (cursor_late asked.cursor)) (λ cursor. tt)))
   plan_fails left (asks_unlock asked) =
       plan_late (unlock_verdict c asked)
-      (and_late (by_rules (ok_or (visible_lock c asked.id) rule.L2)) _ (rule_late (ok_or (visible_lock c asked.id) rule.L2) (found_late (visible_lock c asked.id) rule.L2 (late refl refl refl refl))) (λ l. release_late asked.force l))
+      (and_late (by_rules (ok_or (visible_lock c asked.id) rule.L2)) _ (rule_late (ok_or (visible_lock c asked.id) rule.L2) (found_late (visible_lock c asked.id) rule.L2 (late refl refl refl refl refl))) (λ l. release_late asked.force l))
 
 pub caller_plan_fails : (world : World) (setting : Setting) (caller : Caller) (asked : DeskRequest) → IfErr asked.request IsLateRule
-    → IfErr (caller_plan world setting caller asked) IsLate
+    → IfErr (caller_plan world setting caller asked) IsOfPlan
 caller_plan_fails world setting caller asked is =
     let own = bytes_eq caller.repo asked.repo in
-    and_late (by_rules (check own rule.A4)) _ (rule_late (check own rule.A4) (check_late own rule.A4 (late refl refl refl refl))) (λ ok.
-    and_late (by_rules (ok_or (repo_named asked.repo setting.policy) rule.R1)) _ (rule_late (ok_or (repo_named asked.repo setting.policy) rule.R1) (found_late (repo_named asked.repo setting.policy) rule.R1 (late refl refl refl refl))) (λ repo.
+    and_late (by_rules (check own rule.A4)) _ (rule_late (check own rule.A4) (check_late own rule.A4 (late refl refl refl refl refl))) (λ ok.
+    and_late (by_rules (ok_or (repo_named asked.repo setting.policy) rule.R1)) _ (rule_late (ok_or (repo_named asked.repo setting.policy) rule.R1) (found_late (repo_named asked.repo setting.policy) rule.R1 (late refl refl refl refl refl))) (λ repo.
     and_late (by_rules asked.request) _ (rule_late asked.request is) (λ request.
-    and_late (by_rules (check (is_covered caller request) rule.A5)) _ (rule_late (check (is_covered caller request) rule.A5) (check_late (is_covered caller request) rule.A5 (late refl refl refl refl))) (λ covered.
+    and_late (by_rules (check (is_covered caller request) rule.A5)) _ (rule_late (check (is_covered caller request) rule.A5) (check_late (is_covered caller request) rule.A5 (late refl refl refl refl refl))) (λ covered.
     plan_fails (case_in world setting caller repo) asked.left request))))
 
-pub desk_plan_fails : (world : World) (setting : Setting) (asked : DeskRequest) → IfErr asked.request IsLateRule → IfErr (desk_plan world setting asked) IsLate
+pub desk_plan_fails : (world : World) (setting : Setting) (asked : DeskRequest) → IfErr asked.request IsLateRule → IfErr (desk_plan world setting asked) IsOfPlan
 desk_plan_fails world setting asked is =
     and_late (by_rules (caller_by world setting.now asked.bearers)) _ (rule_late (caller_by world setting.now asked.bearers) (caller_fails world setting.now asked.bearers)) (λ caller.
     caller_plan_fails world setting caller asked is)
@@ -314,16 +321,18 @@ desk_plan_fails world setting asked is =
 finish_fails : (world : World) (repo body : List ℕ) (plan : Plan) → IfErr (finish world repo body plan) IsLate
 finish_fails world repo body (grants g) = tt
 finish_fails world repo body (sends name size) =
-    and_late (by_rules (ok_or (object_named repo name world) rule.X1)) _ (rule_late (ok_or (object_named repo name world) rule.X1) (found_late (object_named repo name world) rule.X1 (late refl refl refl refl))) (λ o. tt)
+    let o = object_named repo name world in
+    fails IsLate (by_rules (ok_or o rule.X1)) _ (rules_fail IsLate (ok_or o rule.X1) (found_fails (λ r. IsLate (by_rule r)) o rule.X1 (record { early = refl; of_head = refl; method = refl; store = refl }))) (λ o. tt)
 finish_fails world repo body (receives name) =
     let same = bytes_eq name (name_of body) in
-    and_late (by_rules (check same rule.X2)) _ (rule_late (check same rule.X2) (check_late same rule.X2 (late refl refl refl refl))) (λ is. tt)
+    fails IsLate (by_rules (check same rule.X2)) _ (rules_fail IsLate (check same rule.X2) (check_fails (λ r. IsLate (by_rule r)) same rule.X2 (record { early = refl; of_head = refl; method = refl; store = refl }))) (λ is. tt)
 
 -- the desk never refuses with a rule of the head, nor with a store refusal
 pub desk_fails : (world : World) (setting : Setting) (asked : DeskRequest) (body : List ℕ) → IfErr asked.request IsLateRule
     → IfErr (desk_verdict world setting asked body) IsLate
 desk_fails world setting asked body is =
-    and_late (desk_plan world setting asked) _ (desk_plan_fails world setting asked is) (λ plan. finish_fails world asked.repo body plan)
+    fails IsLate (desk_plan world setting asked) _ (IfErr-weaker (desk_plan world setting asked) IsOfPlan IsLate (λ d of_plan. of_plan.late) (desk_plan_fails world setting asked is))
+    (λ plan. finish_fails world asked.repo body plan)
 
 -- ---- heads
 

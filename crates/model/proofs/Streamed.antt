@@ -163,7 +163,7 @@ smuggling_step = record { policy = studio_is; now = lit≤ tt; asked = refl; car
 smuggling_answered : Answers (print_request smuggling_head ++ print_request first_head ++ first_body) (smuggling_exchange ∷ []) closed
 unfolding on_literals
 smuggling_answered = (
-  print_request first_head ++ first_body,
+  [],
   with_message smuggling_head (print_request first_head ++ first_body)
       (record { reads = record { reads = (smuggling_head_is, refl); short = lit≤ tt }; fields = lit≤ tt }) refl refl,
   (refl, refl),

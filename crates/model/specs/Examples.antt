@@ -105,17 +105,18 @@ TwoAreServed =
 abbrev pub smuggling_head : RequestHead
 smuggling_head = head_of (codes "PUT") (lfs (codes "content/" ++ hello)) (length_field (codes "180") ∷ [])
 
--- while uploads are not served, its reply is H6
+-- the reply to it
 unfoldable pub smuggling_reply : List ℕ
 smuggling_reply =
-    json_head (codes "404 Not Found") (codes "31") (close_line ∷ []) ++ message_of (codes "H6: no such route")
+    json_head (codes "401 Unauthorized") (codes "42") (bearer_line ∷ close_line ∷ [])
+    ++ message_of (codes "A1: a bearer token is needed")
 
 -- its exchange
 abbrev pub smuggling_exchange : Exchange
 smuggling_exchange = record {
   setting = at_now studio;
-  asked = message smuggling_head [] true;
-  given = Some (Err (by_rule rule.H6));
+  asked = message smuggling_head (print_request first_head ++ first_body) true;
+  given = Some (Err (by_rule rule.A1));
 }
 
 -- it is refused from its head, the connection closes, and the message in its body makes no lock

@@ -113,11 +113,8 @@ routes =
 
 -- the requests that the server serves today; a request that it learns to serve is added here
 abbrev pub is_served : Form → Bool
-is_served form.Lock = true
-is_served form.List = true
-is_served form.VerifyLocks = true
-is_served form.Unlock = true
-is_served _ = false
+is_served form.Batch = false
+is_served _ = true
 
 -- the form of a request that is served
 abbrev pub form_of_served : ServedForm → Form
