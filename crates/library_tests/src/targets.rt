@@ -62,6 +62,17 @@ const RESOURCES: &[(&str, Resource, &str)] = &[
     ("/locks/{id}/unlock", Resource::Unlock, "{id}"),
     ("/locks/../unlock", Resource::Unlock, ".."),
     ("/locks/\u{e9}/unlock", Resource::Unlock, "\u{e9}"),
+    ("/content/1", Resource::Content, "1"),
+    ("/content/1?ref=refs/heads/main", Resource::Content, "1"),
+    ("/content/content", Resource::Content, "content"),
+    ("/content/verify", Resource::Content, "verify"),
+    // Not the names of objects, and yet a route.
+    ("/content/%31", Resource::Content, "%31"),
+    ("/content/{oid}", Resource::Content, "{oid}"),
+    ("/content/..", Resource::Content, ".."),
+    ("/content/\u{e9}", Resource::Content, "\u{e9}"),
+    ("/verify", Resource::Verify, ""),
+    ("/verify?ref=refs/heads/main", Resource::Verify, ""),
 ];
 
 /// Whether this text after the address of a repository is a route to the resource, with the parameter.
@@ -122,7 +133,19 @@ const NO_ROUTES: &[&str] = &[
     "/studio/film.git/info/lfs/locks/1/verify",
     "/studio/film/info/lfs/locks/1/unlock",
     "/studio/film.git/info/lfs/objects/batch",
-    "/studio/film.git/info/lfs/verify",
+    "/studio/film.git/info/lfs/content",
+    "/studio/film.git/info/lfs/content/",
+    "/studio/film.git/info/lfs/content?/1",
+    "/studio/film.git/info/lfs/content//1",
+    "/studio/film.git/info/lfs/content/1/",
+    "/studio/film.git/info/lfs/content/1/2",
+    "/studio/film.git/info/lfs/content/1/unlock",
+    "/studio/film.git/info/lfs/Content/1",
+    "/studio/film/info/lfs/content/1",
+    "/studio/film.git/info/lfs/verify/",
+    "/studio/film.git/info/lfs/verify/1",
+    "/studio/film.git/info/lfs/Verify",
+    "/studio/film/info/lfs/verify",
     "/studio/film.git/info/lfs/lock",
     "/studio/film.git/info/lfs/lockss",
     "/studio/film.git/info/lfs/Locks",
@@ -198,22 +221,35 @@ const METHODS: &[(Resource, &[u8], Option<ServedForm>)] = &[
     (Resource::Unlock, b"POST", Some(ServedForm::Unlock)),
     (Resource::Unlock, b"GET", None),
     (Resource::Unlock, b"DELETE", None),
+    (Resource::Content, b"GET", Some(ServedForm::Get)),
+    (Resource::Content, b"PUT", Some(ServedForm::Put)),
+    (Resource::Content, b"", None),
+    (Resource::Content, b"get", None),
+    (Resource::Content, b"put", None),
+    (Resource::Content, b"POST", None),
+    (Resource::Content, b"HEAD", None),
+    (Resource::Content, b"DELETE", None),
+    (Resource::Verify, b"POST", Some(ServedForm::Verify)),
+    (Resource::Verify, b"GET", None),
+    (Resource::Verify, b"PUT", None),
 ];
 
 fn asks(resource: Resource, method: &[u8], form: Option<ServedForm>) -> bool {
     resource.form_of(method) == form
 }
 
-fn serves(resource: Resource, methods: &str) -> bool {
-    resource.allow() == methods && resource.is_json()
+fn serves(resource: Resource, methods: &str, is_json: bool) -> bool {
+    resource.allow() == methods && resource.is_json() == is_json
 }
 
 #[test]
-fn resources_serve_their_methods_and_json(rt: HostRuntime) {
+fn resources_serve_their_methods(rt: HostRuntime) {
     for &(resource, method, form) in METHODS {
         assert!(rt; asks(resource, method, form), "{resource:?} {method:?}");
     }
-    assert!(rt; serves(Resource::Locks, "GET, POST"));
-    assert!(rt; serves(Resource::VerifyLocks, "POST"));
-    assert!(rt; serves(Resource::Unlock, "POST"));
+    assert!(rt; serves(Resource::Locks, "GET, POST", true));
+    assert!(rt; serves(Resource::VerifyLocks, "POST", true));
+    assert!(rt; serves(Resource::Unlock, "POST", true));
+    assert!(rt; serves(Resource::Content, "GET, PUT", false));
+    assert!(rt; serves(Resource::Verify, "POST", true));
 }

@@ -22,10 +22,14 @@ pub enum Resource {
     VerifyLocks,
     /// The release of a lock: `/locks/{id}/unlock`.
     Unlock,
+    /// The content of an object: `/content/{oid}`.
+    Content,
+    /// The verification of an upload: `/verify`.
+    Verify,
 }
 
-/// Where the parameter is in a path: `/OWNER/NAME.git/info/lfs/locks/ID/unlock`, counted from the
-/// empty part before the first slash.
+/// Where the parameter is in a path: `/OWNER/NAME.git/info/lfs/locks/ID/unlock` or
+/// `/OWNER/NAME.git/info/lfs/content/OID`, counted from the empty part before the first slash.
 const PARAMETER_PLACE: usize = 6;
 
 /// The router over the table.
@@ -71,6 +75,16 @@ impl Resource {
             }
             Resource::VerifyLocks => posted(method, ServedForm::VerifyLocks),
             Resource::Unlock => posted(method, ServedForm::Unlock),
+            Resource::Content => {
+                if method == b"GET".as_slice() {
+                    Some(ServedForm::Get)
+                } else if method == b"PUT".as_slice() {
+                    Some(ServedForm::Put)
+                } else {
+                    None
+                }
+            }
+            Resource::Verify => posted(method, ServedForm::Verify),
         }
     }
 
@@ -82,7 +96,8 @@ impl Resource {
     {
         match self {
             Resource::Locks => "GET, POST",
-            Resource::VerifyLocks | Resource::Unlock => "POST",
+            Resource::VerifyLocks | Resource::Unlock | Resource::Verify => "POST",
+            Resource::Content => "GET, PUT",
         }
     }
 
@@ -91,7 +106,8 @@ impl Resource {
         ensures { result ≡ (row_of self).is_json }
     {
         match self {
-            Resource::Locks | Resource::VerifyLocks | Resource::Unlock => true,
+            Resource::Locks | Resource::VerifyLocks | Resource::Unlock | Resource::Verify => true,
+            Resource::Content => false,
         }
     }
 
@@ -103,6 +119,8 @@ impl Resource {
             Resource::Locks => "/{owner}/{name}/info/lfs/locks",
             Resource::VerifyLocks => "/{owner}/{name}/info/lfs/locks/verify",
             Resource::Unlock => "/{owner}/{name}/info/lfs/locks/{id}/unlock",
+            Resource::Content => "/{owner}/{name}/info/lfs/content/{oid}",
+            Resource::Verify => "/{owner}/{name}/info/lfs/verify",
         }
     }
 
@@ -111,8 +129,8 @@ impl Resource {
         ensures { result.now ≡ parameter_in (under_lfs (row_of self).rest) (drop 3 (parts path.now)) }
     {
         match self {
-            Resource::Locks | Resource::VerifyLocks => "",
-            Resource::Unlock => part_at(path, PARAMETER_PLACE).unwrap_or(""),
+            Resource::Locks | Resource::VerifyLocks | Resource::Verify => "",
+            Resource::Unlock | Resource::Content => part_at(path, PARAMETER_PLACE).unwrap_or(""),
         }
     }
 }
@@ -182,6 +200,8 @@ impl Routes {
         add(&mut router, Resource::Locks)?;
         add(&mut router, Resource::VerifyLocks)?;
         add(&mut router, Resource::Unlock)?;
+        add(&mut router, Resource::Content)?;
+        add(&mut router, Resource::Verify)?;
         Ok(Routes { router })
     }
 

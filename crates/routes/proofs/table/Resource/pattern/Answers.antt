@@ -13,3 +13,11 @@ returns-in-VerifyLocks c = rw c.in-VerifyLocks.is refl
 pub returns-in-Unlock : goal.returns-in-Unlock
 unfolding matchit_on_literals
 returns-in-Unlock c = rw c.in-Unlock.is refl
+
+pub returns-in-Content : goal.returns-in-Content
+unfolding matchit_on_literals
+returns-in-Content c = rw c.in-Content.is refl
+
+pub returns-in-Verify : goal.returns-in-Verify
+unfolding matchit_on_literals
+returns-in-Verify c = rw c.in-Verify.is refl
