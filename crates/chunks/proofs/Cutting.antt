@@ -1,10 +1,10 @@
 -- Bytes that are cut into chunks, one after the other.
-use Rattle.std.proofs.Common.{◌≡◌, ◌≤◌, ◌+◌, ℕ, ℤ, List, [], ◌∷◌, ◌++◌, length, Result, Ok, Err, OnOk, OnErr, refl, sym, ap, subst, ◌∙◌, arith, take, append-nil, append_assoc, length-append, length-take}
+use Rattle.std.proofs.Common.{◌≡◌, ◌≤◌, ◌+◌, ℕ, List, [], ◌∷◌, ◌++◌, length, Result, Ok, Err, OnOk, OnErr, sym, ap, subst, ◌∙◌, arith, take, append-nil, append_assoc, length-append, length-take}
 use Rattle.std.specs.List.{concat}
 use Rattle.sqlite_trees.specs.declared.store.Store.{Ghosts}
 use Rattle.model.specs.World.{World}
 use Rattle.tables.specs.declared.Store.{Store}
-use Rattle.tables.specs.Rows.{Chunk, Tables}
+use Rattle.tables.specs.Rows.{Tables}
 use Rattle.tables.specs.Statements.{with_chunk}
 use Rattle.tables.specs.Staging.{upload_number, asked_chunk}
 use Rattle.tables.specs.Shown.{IsHonest, HasTables, Makes, Fails}

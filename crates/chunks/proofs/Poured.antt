@@ -1,5 +1,5 @@
 -- The chunks of an upload, read one after the other and written.
-use Rattle.std.proofs.Common.{◌≡◌, ◌≤◌, ◌<◌, ◌+◌, ℕ, zero, suc, ℤ, pos, Bool, true, false, cond, List, [], ◌∷◌, ◌++◌, map, filter, find, length, take, drop, take-append-drop, slice_get, get_or, option_map, Option, Some, None, refl, sym, ap, subst, ◌∙◌, arith, append-nil, length-append}
+use Rattle.std.proofs.Common.{◌≡◌, ◌≤◌, ◌+◌, ℕ, zero, suc, inl, inr, ◌⊎◌, ℤ, pos, Bool, true, false, List, [], ◌∷◌, ◌++◌, find, length, take, drop, take-append-drop, slice_get, option_map, Option, Some, None, refl, sym, ap, subst, ◌∙◌, arith, append-nil, length-append}
 use Rattle.std.specs.List.{concat}
 use Rattle.std.specs.Ordering.{int_eq}
 use Rattle.std.proofs.lemmas.Int.{ints}
@@ -13,11 +13,15 @@ use Rattle.model.proofs.Lists.{find_filter, find_map}
 use Rattle.tables.specs.Rows.{Chunk, Tables}
 use Rattle.tables.specs.declared.Store.{Store}
 use Rattle.tables.specs.declared.chunks.ChunkRow.{ChunkRow}
+use Rattle.tables.specs.declared.fault.StoreFault.{StoreFault}
 use Rattle.tables.specs.Shown.{IsHonest, IsOpen, HasTables, shown, Moves}
 use Rattle.tables.specs.Statements.{is_of, is_chunk}
-use Rattle.tables.specs.Staging.{asked_chunk, chunk_bytes, IsChunkOf}
+use Rattle.tables.specs.Staging.{chunk_bytes, IsChunkOf}
 use Rattle.refinement.specs.Objects.{chunk_kept, chunks_of, piece_rows, HasPieces}
-use Rattle.chunks.specs.Pouring.{TookFront, TookAll}
+use Rattle.refinement.specs.Staging.{Stores}
+use Rattle.chunks.specs.declared.pouring.PourCause.{PourCause}
+use Rattle.chunks.specs.declared.pouring.PourCause.TheVariants.{Store as ByStore, Device as ByDevice}
+use Rattle.chunks.specs.Pouring.{IsWithin, TookFront, TookAll}
 
 -- ---- which piece a chunk is
 
@@ -101,24 +105,40 @@ poured_all old new written n pieces h none =
 
 -- ---- where it ended
 
+-- nothing was written yet
+pub record IsUntouched (old new : Option (List ℕ)) (written n : ℕ) : Type 0 where
+  pub first : n ≡ 0
+  pub none : written ≡ 0
+  pub taken : Appends old new []
+
 parts : (pieces : List (List ℕ)) (n : ℕ) → concat pieces ≡ concat (take n pieces) ++ concat (drop n pieces)
 parts pieces n = ap concat (sym (take-append-drop n pieces)) ∙ concat-append (take n pieces) (drop n pieces)
 
-took : (old mid new : Option (List ℕ)) (front bytes rest : List ℕ) (k : ℕ) → Appends old mid front → TookFront mid new bytes k → TookFront old new (front ++ (bytes ++ rest)) (length front + k)
-took old mid new front bytes rest k goes t = record {
-  within = (let a = length-append front (bytes ++ rest) in let b = length-append bytes rest in let w = t.within in omega (arith, a, b, w));
-  taken = subst (Appends old new) (sym (take-append-add front (bytes ++ rest) k ∙ ap (λ l. front ++ l) (take-append-le k bytes rest t.within))) (Appends-trans old mid new front (take k bytes) goes t.taken);
+at_most : (cause : PourCause) (written size : ℕ) → IsWithin cause written size → written ≤ size
+at_most (ByStore fault) written size w = w
+at_most ByDevice written size w = omega (arith, w)
+
+within_more : (cause : PourCause) (k a b c : ℕ) → IsWithin cause k b → IsWithin cause (a + k) (a + (b + c))
+within_more (ByStore fault) k a b c w = omega (arith, w)
+within_more ByDevice k a b c w = omega (arith, w)
+
+took : (cause : PourCause) (old mid new : Option (List ℕ)) (front bytes rest : List ℕ) (k : ℕ) → Appends old mid front → TookFront cause mid new bytes k
+    → TookFront cause old new (front ++ (bytes ++ rest)) (length front + k)
+took cause old mid new front bytes rest k goes t = record {
+  within = (let a = length-append front (bytes ++ rest) in let b = length-append bytes rest in
+      subst (IsWithin cause (length front + k)) (sym (a ∙ ap (λ n. length front + n) b)) (within_more cause k (length front) (length bytes) (length rest) t.within));
+  taken = subst (Appends old new) (sym (take-append-add front (bytes ++ rest) k ∙ ap (λ l. front ++ l) (take-append-le k bytes rest (at_most cause k (length bytes) t.within)))) (Appends-trans old mid new front (take k bytes) goes t.taken);
 }
 
 -- nothing of the next piece was written
-pub poured_front : (old new : Option (List ℕ)) (written n : ℕ) (pieces : List (List ℕ)) → HasPoured old new written n pieces → TookFront old new (concat pieces) written
-poured_front old new written n pieces h =
+pub poured_front : (fault : StoreFault) (old new : Option (List ℕ)) (written n : ℕ) (pieces : List (List ℕ)) → HasPoured old new written n pieces → TookFront (ByStore fault) old new (concat pieces) written
+poured_front fault old new written n pieces h =
     let front = concat (take n pieces) in
     let rest = concat (drop n pieces) in
-    let none : TookFront new new [] 0 = record { within = omega arith; taken = Appends-nil new } in
-    let all = took old new new front [] rest 0 h.taken none in
+    let none : TookFront (ByStore fault) new new [] 0 = record { within = omega arith; taken = Appends-nil new } in
+    let all = took (ByStore fault) old new new front [] rest 0 h.taken none in
     let size : length front + 0 ≡ written = (let c = h.count in omega (arith, c)) in
-    subst (λ k. TookFront old new (concat pieces) k) size (subst (λ bytes. TookFront old new bytes (length front + 0)) (sym (parts pieces n)) all)
+    subst (λ k. TookFront (ByStore fault) old new (concat pieces) k) size (subst (λ bytes. TookFront (ByStore fault) old new bytes (length front + 0)) (sym (parts pieces n)) all)
 
 rest_of : (pieces : List (List ℕ)) (n : ℕ) (bytes : List ℕ) → slice_get pieces n ≡ Some bytes → drop n pieces ≡ bytes ∷ drop (suc n) pieces
 rest_of [] n bytes at = absurd (let e : None ≡ Some bytes = at in cc)
@@ -126,13 +146,13 @@ rest_of (p ∷ ps) zero bytes at = ap (λ b. b ∷ ps) (let e : Some p ≡ Some 
 rest_of (p ∷ ps) (suc n) bytes at = rest_of ps n bytes at
 
 -- a part of the next piece was written
-pub poured_part : (old mid new : Option (List ℕ)) (written n k : ℕ) (pieces : List (List ℕ)) (bytes : List ℕ) → HasPoured old mid written n pieces → slice_get pieces n ≡ Some bytes → TookFront mid new bytes k
-    → TookFront old new (concat pieces) (written + k)
-poured_part old mid new written n k pieces bytes h at t =
+pub poured_part : (cause : PourCause) (old mid new : Option (List ℕ)) (written n k : ℕ) (pieces : List (List ℕ)) (bytes : List ℕ) → HasPoured old mid written n pieces → slice_get pieces n ≡ Some bytes → TookFront cause mid new bytes k
+    → TookFront cause old new (concat pieces) (written + k)
+poured_part cause old mid new written n k pieces bytes h at t =
     let front = concat (take n pieces) in
-    let all = took old mid new front bytes (concat (drop (suc n) pieces)) k h.taken t in
+    let all = took cause old mid new front bytes (concat (drop (suc n) pieces)) k h.taken t in
     let same : concat pieces ≡ front ++ (bytes ++ concat (drop (suc n) pieces)) = parts pieces n ∙ ap (λ ps. front ++ concat ps) (rest_of pieces n bytes at) in
-    subst (λ c. TookFront old new (concat pieces) (c + k)) (sym h.count) (subst (λ bs. TookFront old new bs (length front + k)) (sym same) all)
+    subst (λ c. TookFront cause old new (concat pieces) (c + k)) (sym h.count) (subst (λ bs. TookFront cause old new bs (length front + k)) (sym same) all)
 
 -- ---- the chunk that was read
 
@@ -142,3 +162,19 @@ module _ {S : Type 0} (g : Ghosts S) (a b c : Store S) (id : ℤ) (n : ℕ) wher
   piece_read found moves honest answers k h pieces has =
       let it = answers k (moves.ready h) in
       it.1 ∙ ap (λ (t : Tables). option_map (λ (x : Chunk). x.bytes) (find (is_chunk id (pos n)) t.chunks)) (moves.shows (honest k) h it.0) ∙ piece_at id pieces (shown g a).chunks n has
+
+  -- a chunk is read only while the store is open
+  pub was_open : (found : Option ChunkRow) → Moves g (λ t. t) a b → (IsHonest g c → IsHonest g b) → (IsHonest g c → HasTables g b → IsOpen g b × IsChunkOf found (find (is_chunk id (pos n)) (shown g b).chunks))
+      → IsHonest g c → HasTables g a → IsOpen g a
+  was_open found moves honest answers k h = moves.was_open (honest k) (answers k (moves.ready h)).0
+
+-- ---- of the bytes that the store has
+
+module _ {S : Type 0} (g : Ghosts S) (fault : StoreFault) (a : Store S) (id : ℤ) (old new : Option (List ℕ)) (written n : ℕ) where
+  -- nothing more was written
+  pub front_of : IsUntouched old new written n ⊎ IsOpen g a → ((pieces : List (List ℕ)) → HasPieces id pieces (shown g a).chunks → HasPoured old new written n pieces) → IsHonest g a → (bytes : List ℕ) → Stores g a id bytes
+      → TookFront (ByStore fault) old new bytes written
+  front_of (inl u) poured clean bytes stores =
+      let none : TookFront (ByStore fault) old new bytes 0 = record { within = omega arith; taken = u.taken } in subst (λ k. TookFront (ByStore fault) old new bytes k) (sym u.none) none
+  front_of (inr was) poured clean bytes stores =
+      let st = stores clean was in subst (λ bs. TookFront (ByStore fault) old new bs written) st.2 (poured_front fault old new written n st.0 (poured st.0 st.1))

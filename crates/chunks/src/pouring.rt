@@ -7,7 +7,7 @@ ghost use Rattle.tables.specs.Rows.{Chunk};
 ghost use Rattle.tables.specs.Statements.{is_chunk};
 ghost use Rattle.tables.specs.Staging.{upload_number, chunk_bytes, IsChunkOf};
 ghost use Rattle.tables.specs.Shown.{IsHonest, IsOpen, HasTables, shown, Moves, AddsNothing};
-ghost use Rattle.chunks.specs.Pouring.{TookFront, TookAll, IsCause, OfPieces};
+ghost use Rattle.chunks.specs.Pouring.{TookFront, TookAll, IsCause, OfBytes};
 
 use names::{Sink, write_whole};
 use tables::{Alter, ChunkRow, Store, StoreFault, UploadId};
@@ -45,7 +45,8 @@ fn read_chunk<S: Alter>(
         (find (is_chunk (upload_number upload) (pos n)) (shown S.Store store.old).chunks)) }
     ensures same { Moves S.Store (λ t. t) store.old store.new }
     ensures adds { AddsNothing S.Store store.old store.new }
-    ensures fault { IfErr result (λ e. (e.written ≡ written) × ((old : ℕ) → IsCause e.cause old old)) }
+    ensures fault { IfErr result (λ e. (e.written ≡ written)
+        × (fault : StoreFault) × (e.cause ≡ PourCause.Store fault)) }
 {
     match store.chunk(upload, n) {
         Ok(chunk) => Ok(chunk),
@@ -62,7 +63,7 @@ fn write_bytes<K: Sink>(sink: &mut K, bytes: &[u8], written: u64) -> Result<u64,
         × Appends (K.taken sink.old) (K.taken sink.new) bytes.now) }
     ensures good { OnOk result (K.failed sink.new ≡ K.failed sink.old) }
     ensures part { IfErr result (λ e. (k : ℕ) × (e.written ≡ written + k)
-        × TookFront (K.taken sink.old) (K.taken sink.new) bytes.now k) }
+        × TookFront e.cause (K.taken sink.old) (K.taken sink.new) bytes.now k) }
     ensures fault { IfErr result (λ e. IsCause e.cause (K.failed sink.old) (K.failed sink.new)) }
 {
     let Some(total) = written.checked_add(bytes.len() as u64) else {
@@ -84,16 +85,17 @@ fn write_bytes<K: Sink>(sink: &mut K, bytes: &[u8], written: u64) -> Result<u64,
 ///
 /// # Errors
 ///
-/// A [`PourFault`]: the sink took a prefix of the bytes. If the sink is the cause, it counts one failure.
+/// A [`PourFault`]: the sink took a prefix of the bytes. If the sink is the cause, it counts one failure, and it did
+/// not take all of the bytes.
 pub fn pour<S: Alter, K: Sink>(
     store: &mut Store<S>,
     upload: UploadId,
     sink: &mut K,
 ) -> Result<u64, PourFault>
-    ensures all { IfOk result (λ count. OfPieces S.Store store.old store.new (upload_number upload)
+    ensures all { IfOk result (λ count. OfBytes S.Store store.old store.new (upload_number upload)
         (TookAll (K.taken sink.old) (K.taken sink.new) count)) }
-    ensures part { IfErr result (λ e. OfPieces S.Store store.old store.new (upload_number upload)
-        (λ bytes. TookFront (K.taken sink.old) (K.taken sink.new) bytes e.written)) }
+    ensures part { IfErr result (λ e. OfBytes S.Store store.old store.new (upload_number upload)
+        (λ bytes. TookFront e.cause (K.taken sink.old) (K.taken sink.new) bytes e.written)) }
     ensures good { OnOk result (K.failed sink.new ≡ K.failed sink.old) }
     ensures fault { IfErr result (λ e. IsCause e.cause (K.failed sink.old) (K.failed sink.new)) }
     ensures same { Moves S.Store (λ t. t) store.old store.new }

@@ -1,4 +1,4 @@
--- A text of two parts, of which some bytes were written.
+-- A text of two parts, of which some bytes were written, for proofs in other crates.
 use Rattle.std.proofs.Common.{◌≡◌, ℕ, ◌+◌, List, ◌++◌, take, Option, sym, ap, subst, ◌∙◌, length, length-append, arith}
 use Rattle.std.specs.Io.KnownBytes.{Appends}
 use Rattle.std.proofs.Math.Seq.{take-append-add}

@@ -1,8 +1,8 @@
-use Rattle.std.proofs.Common.{◌≡◌, ◌≤◌, ◌+◌, [], ◌++◌, length, take, drop, arith, length-drop, length-take, sym, subst, append-nil}
+use Rattle.std.proofs.Common.{length, take, drop, arith, length-drop, length-take, sym, subst}
 use Rattle.std.proofs.Math.Seq.{take-add}
 use Rattle.std.proofs.lemmas.List.{take_all}
-use Rattle.chunks.specs.Intakes.{Advances, KeepsWithin}
-use Rattle.chunks.proofs.Cutting.{keeps_nothing, count_then, more_advances, advances_then, keeps_after}
+use Rattle.chunks.specs.Intakes.{Advances}
+use Rattle.chunks.proofs.Cutting.{keeps_nothing, count_then, advances_then, keeps_after}
 use Rattle.chunks.proofs.intake.Intake.fill_all.Goals as goal
 
 pub returns-then-len-ge-CHUNK-clause-keeps : goal.returns-then-len-ge-CHUNK-clause-keeps

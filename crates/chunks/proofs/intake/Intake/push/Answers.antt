@@ -1,4 +1,4 @@
-use Rattle.std.proofs.Common.{◌≡◌, ◌+◌, length, arith, sym, ap, subst, ◌∙◌, length-append}
+use Rattle.std.proofs.Common.{◌+◌, length, arith, sym, ap, subst, ◌∙◌, length-append}
 use Rattle.sha2.specs.Hashers.{Holds256}
 use Rattle.chunks.proofs.Cutting.{from_room, from_nothing}
 use Rattle.chunks.proofs.intake.Intake.push.Goals as goal
