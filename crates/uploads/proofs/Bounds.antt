@@ -1,4 +1,4 @@
--- For proofs in other crates: a repository has at most the bytes of its objects and one largest object in the database.
+-- What a repository has in the database is at most the bytes of its objects and one largest object, for proofs in other crates.
 use Rattle.std.proofs.Common.{◌≡◌, ◌∙◌, inl, inr, ℕ, ◌+◌, ◌≤◌, Bool, true, false, not, List, [], ◌∷◌, map, filter, cond, length, bytes_eq, refl, sym, ap, AllPairs, arith, sum_by}
 use Rattle.std.specs.List.{AllByRecursion}
 use Rattle.std.proofs.lemmas.Bool.{true≢false}

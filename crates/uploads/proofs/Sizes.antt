@@ -1,4 +1,4 @@
--- For proofs in other crates: a repository's state has the sizes of the objects that are found, and its room.
+-- The sizes of a repository's objects, and its room, as its state has them, for proofs in other crates.
 use Rattle.std.proofs.Common.{◌≡◌, ◌∙◌, ℕ, ◌+◌, nat_le, List, length, Option, Some, None, option_map, refl, sym, ap}
 use Rattle.std.specs.Cmp.{both_ways}
 use Rattle.std.proofs.lemmas.Bool.{leb-true, le-leb}
