@@ -1,16 +1,24 @@
 -- Which of the checks a request passes.
-use Rattle.std.proofs.Common.{◌≡◌, ℕ, Bool, true, false, not, ◌||◌, List, Some, Result, Ok, Err, bytes_eq, refl, sym, subst, ◌∙◌, Bor}
+use Rattle.std.proofs.Common.{◌≡◌, ℕ, Bool, true, false, not, ◌||◌, List, Option, Some, None, Result, Ok, Err, bytes_eq, refl, sym, ap, subst, ◌∙◌, Bor}
 use Rattle.std.specs.Prelude.{IsErrAnd}
+use Rattle.std.specs.Bool.{⊤}
 use Rattle.names.specs.declared.rules.Rule.{Rule}
-use Rattle.names.specs.declared.rules.Rule.TheVariants.{A5}
+use Rattle.names.specs.declared.rules.Rule.TheVariants.{A4, A5, R1}
 use Rattle.model.specs.Policy.{Policy, Repo, repo_named}
-use Rattle.model.specs.Forms.{Request, needs_upload}
+use Rattle.model.specs.Forms.{Request, needs_upload, request_of}
+use Rattle.model.specs.Heads.{form_of_served}
+use Rattle.model.specs.Reading.{◌>>=◌, check, ok_or}
+use Rattle.model.specs.declared.ServedForm.{ServedForm}
+use Rattle.model.specs.declared.ServedForm.TheVariants as served
+use Rattle.model.proofs.Lists.{found_passes}
+use Rattle.refinement.proofs.Lookups.{same_is}
 use Rattle.forms.specs.declared.refusal.Refusal.{Refusal}
 use Rattle.forms.specs.declared.refusal.Refusal.TheVariants as refusal
 use Rattle.forms.specs.declared.request.Request as form
 use Rattle.forms.specs.Given.{IsRefusedBy, Reads}
 use Rattle.policy.specs.declared.repos.Repo as policy_repo
 use Rattle.desk.specs.Admission.{admission_result, admission_view}
+use Rattle.desk.specs.Asking.{is_put, uploads}
 
 -- a request whose form is refused is not admitted
 pub refused_form : (policy : Policy) (own : List ℕ) (covers : Bool) (repo_asked : List ℕ) (asked : Result Request Rule) (r : Repo) (e : Refusal)
@@ -48,3 +56,58 @@ covered_by false covers b = refl
 
 pub not_needed : (needs covers : Bool) → false ≡ needs → (not needs || covers) ≡ true
 not_needed needs covers a = rw (sym a) refl
+
+-- ---- what an admitted request is
+
+abbrev both : Repo → Request → Result (Repo × Request) Rule
+both r q = Ok (r, q)
+
+-- a value after two steps is one of each
+step : {A B : Type 0} (r : Result A Rule) (f : A → Result B Rule) (y : B) → (r >>= f) ≡ Ok y → (x : A) × (r ≡ Ok x) × (f x ≡ Ok y)
+step (Ok x) f y is = (x, refl, is)
+step (Err e) f y is = absurd (cc)
+
+from_check : (own : Result ⊤ Rule) (named : Result Repo Rule) (asked : Result Request Rule) (covered : Request → Result ⊤ Rule) (r : Repo) (q : Request)
+    → (own >>= λ _. named >>= λ x. asked >>= λ y. covered y >>= λ _. both x y) ≡ both r q → (named ≡ Ok r) × (asked ≡ Ok q)
+from_check own named asked covered r q is =
+    let pair : Repo × Request = (r, q) in
+    let a = step own (λ _. named >>= λ x. asked >>= λ y. covered y >>= λ _. both x y) pair is in
+    let b = step named (λ x. asked >>= λ y. covered y >>= λ _. both x y) pair a.2 in
+    let c = step asked (λ y. covered y >>= λ _. both b.0 y) pair b.2 in
+    let d = step (covered c.0) (λ _. both b.0 c.0) pair c.2 in
+    let first : Result (Repo × Request) Rule → Result Repo Rule = λ v. v >>= λ p. Ok p.0 in
+    let second : Result (Repo × Request) Rule → Result Request Rule = λ v. v >>= λ p. Ok p.1 in
+    (b.1 ∙ ap first d.2, c.1 ∙ ap second d.2)
+
+from_option : (o : Option Repo) (e : Rule) (r : Repo) → ok_or o e ≡ Ok r → o ≡ Some r
+from_option None e r is = absurd (cc)
+from_option (Some x) e r is = cc
+
+-- the repository and the request of an admitted request
+pub admitted : (policy : Policy) (own : List ℕ) (covers : Bool) (repo_asked : List ℕ) (asked : Result Request Rule) (r : Repo) (q : Request)
+    → admission_result policy own covers repo_asked asked ≡ Ok (r, q) → (repo_named repo_asked policy ≡ Some r) × (asked ≡ Ok q)
+admitted policy own covers repo_asked asked r q is =
+    let parts = from_check (check (bytes_eq own repo_asked) A4) (ok_or (repo_named repo_asked policy) R1) asked (λ x. check (not (needs_upload x) || covers) A5) r q is in
+    (from_option (repo_named repo_asked policy) R1 r parts.0, parts.1)
+
+-- the policy's entry has the name that was asked for
+pub own_name : (policy : Policy) (repo_asked : List ℕ) (r : Repo) → repo_named repo_asked policy ≡ Some r → r.name ≡ repo_asked
+own_name policy repo_asked r is = same_is r.name repo_asked (found_passes (λ (x : Repo). bytes_eq x.name repo_asked) policy.repos r is)
+
+asked_by : {A : Type 0} (given : Result A Rule) (ask : A → Request) (v : Bool) (q : Request) → ((x : A) → uploads (ask x) ≡ v) → (given >>= λ x. Ok (ask x)) ≡ Ok q → uploads q ≡ v
+asked_by (Err e) ask v q all is = absurd (cc)
+asked_by (Ok x) ask v q all is = ap (λ (r : Result Request Rule). uploads_if r) (sym is) ∙ all x
+  where
+    uploads_if : Result Request Rule → Bool
+    uploads_if (Ok y) = uploads y
+    uploads_if (Err e) = false
+
+-- a request uploads an object exactly if its form does
+pub same_uploads : (form : ServedForm) (parameter query body : List ℕ) (q : Request) → request_of (form_of_served form) parameter query body ≡ Ok q → uploads q ≡ is_put form
+same_uploads served.Get parameter query body q is = asked_by _ _ false q (λ x. refl) is
+same_uploads served.Put parameter query body q is = asked_by _ _ true q (λ x. refl) is
+same_uploads served.Verify parameter query body q is = asked_by _ _ false q (λ x. refl) is
+same_uploads served.Lock parameter query body q is = asked_by _ _ false q (λ x. refl) is
+same_uploads served.List parameter query body q is = asked_by _ _ false q (λ x. refl) is
+same_uploads served.VerifyLocks parameter query body q is = asked_by _ _ false q (λ x. refl) is
+same_uploads served.Unlock parameter query body q is = asked_by _ _ false q (λ x. refl) is

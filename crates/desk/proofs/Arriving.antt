@@ -1,7 +1,8 @@
 -- An upload, from the bytes that arrive to the answer.
-use Rattle.std.proofs.Common.{◌≡◌, ◌∙◌, ◌+◌, ◌≤◌, ℕ, Bool, true, false, List, [], ◌∷◌, ◌++◌, length, Option, Some, None, is_some, Result, Ok, Err, bytes_eq, refl, sym, ap, subst, arith, take, append-nil, append_assoc, length-append, length-take}
+use Rattle.std.proofs.Common.{◌≡◌, ◌∙◌, ◌+◌, ◌≤◌, ℕ, Bool, true, false, List, [], ◌++◌, length, Option, Some, None, is_some, Result, Ok, Err, bytes_eq, refl, sym, ap, subst, arith, take, append-nil, append_assoc, length-append, length-take}
 use Rattle.std.specs.Prelude.{IsTrue}
 use Rattle.std.proofs.lemmas.Bool.{true≢false}
+use Rattle.std.proofs.lemmas.List.{nil_from_length}
 use Rattle.std.proofs.lemmas.Slice.Eq.{bytes_eq-Decides}
 use Rattle.sqlite_trees.specs.declared.store.Store.{Ghosts}
 use Rattle.names.specs.declared.bodies.Body.{Ghosts as BodyGhosts}
@@ -58,10 +59,6 @@ module _ {B : Type 0} (g : BodyGhosts B) where
 -- all of the content was read
 pub all_read : (a b c : ℕ) → a + b ≡ c → b ≡ 0 → a ≡ c
 all_read a b c sum none = omega (arith, sum, none)
-
-nothing : (xs : List ℕ) (n : ℕ) → n ≡ 0 → length xs ≡ n → xs ≡ []
-nothing [] n none is = refl
-nothing (x ∷ xs) n none is = absurd (omega (arith, none, is))
 
 -- ---- the verdict on bytes
 
@@ -270,15 +267,17 @@ module _ {S : Type 0} (g : Ghosts S) where
 
   -- whatever the fault is, the world is kept
   pub received_none : (old new : Store S) (world : World) (repo name bytes : List ℕ) (left : ℕ) (e : AnswerFault) → Keeps g old new world → Receives g old new world repo name bytes left (Err e)
-  received_none old new world repo name bytes left (fault.Store f) keeps = λ rest is. kept_refused old new world (content_verdict (object_from repo name (bytes ++ rest))) keeps
+  received_none old new world repo name bytes left (fault.Store f) keeps = (λ rest is. kept_refused old new world (content_verdict (object_from repo name (bytes ++ rest))) keeps, λ some. keeps)
   received_none old new world repo name bytes left (fault.Body f) keeps = keeps
 
   -- no content is left
   received_all : (old new : Store S) (world : World) (repo name bytes : List ℕ) (left : ℕ) (r : Result Receipt StoreFault) → left ≡ 0 → Carries g old new world (object_from repo name bytes) r
       → Receives g old new world repo name bytes left (answered_by r)
   received_all old new world repo name bytes left (Ok receipt) none done = done
-  received_all old new world repo name bytes left (Err f) none done = λ rest is.
-      subst (λ (all : List ℕ). Carries g old new world (object_from repo name all) (Err f)) (sym (ap (λ (more : List ℕ). bytes ++ more) (nothing rest left none is) ∙ append-nil bytes)) done
+  received_all old new world repo name bytes left (Err f) none done = (
+    λ rest is. subst (λ (all : List ℕ). Carries g old new world (object_from repo name all) (Err f)) (sym (ap (λ (more : List ℕ). bytes ++ more) (nil_from_length rest (is ∙ none)) ∙ append-nil bytes)) done,
+    λ some. absurd (omega (arith, none, some)),
+  )
 
   module _ (a b : Store S) (id : UploadId) (repo name : List ℕ) (size : ℕ) (begun : From g a b (λ world. Keeps g a b world × Stages g b (upload_number id) repo name size [])) where
     pub received_part : (c : Store S) (bytes : List ℕ) (left : ℕ) (r : Result (List ℕ × ℕ) AnswerFault) (e : AnswerFault) → From g b c (Fills g b c id size bytes r) → From g a c (λ world. Receives g a c world repo name bytes left (Err e))

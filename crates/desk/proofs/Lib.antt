@@ -5,4 +5,11 @@ pub mod Apart
 pub mod Releasing
 pub mod Unchanged
 pub mod Showing
+pub mod Lent
 pub mod Arriving
+pub mod Fetching
+pub mod Pushing
+pub mod Placing
+pub mod Puts
+pub mod Early
+pub mod Bounded

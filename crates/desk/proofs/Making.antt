@@ -1,5 +1,5 @@
 -- From the result of a request for a lock to the reply.
-use Rattle.std.proofs.Common.{◌≡◌, ◌∙◌, ◌<◌, ◌+◌, ℕ, true, nat_lt, Some, None, Option, Result, Ok, Err, IfOk, OnErr, refl, sym, ap, subst, arith}
+use Rattle.std.proofs.Common.{◌≡◌, ◌∙◌, ◌<◌, ◌+◌, ℕ, true, nat_lt, Some, None, Option, Result, Ok, Err, IfOk, OnErr, refl, sym, ap, subst, arith, false}
 use Rattle.std.proofs.lemmas.Bool.Decides.{nat_tests}
 use Rattle.sqlite_trees.specs.declared.store.Store.{Ghosts}
 use Rattle.names.specs.Names.{repo_text, ref_text, path_text}
@@ -18,7 +18,8 @@ use Rattle.refinement.proofs.Leading.{ends_reported}
 use Rattle.locks.specs.Finding.{lock_seen}
 use Rattle.locks.specs.Creating.{state_of, lock_wanted, placed_verdict, answer_of, Creates}
 use Rattle.desk.specs.declared.replies.Reply.{Reply}
-use Rattle.desk.specs.Replies.{IsReplyOf}
+use Rattle.desk.specs.Replies.{IsReplyOf, Lends}
+use Rattle.desk.proofs.Lent.{serves_object, none_lent}
 use Rattle.desk.specs.Done.{Answers}
 use Rattle.desk.specs.Locking.{free_verdict, IsReadyAfter, ReportsCreation, MadeNothing}
 
@@ -62,7 +63,16 @@ module _ {S : Type 0} (g : Ghosts S) (mid new : Store S) (world : World) (w : Ne
   refuses UsedUp none is gives =
       subst (λ (a : Answer). Gives g mid new world a store_refusal) (sym is) (ends_reported g mid new world world (subst (λ (a : Answer). Gives g mid new world a a) is gives))
 
+  creates_plainly : (creation : Creation) → serves_object (answer_of world w creation) ≡ false
+  creates_plainly (Created id) = refl
+  creates_plainly (Held row) = refl
+  creates_plainly UsedUp = refl
+
   pub reported_by : (creation : Creation) (r : Result Reply StoreFault) → Creates g world w mid new (Ok creation) → IfOk r (ReportsCreation creation ready) → OnErr r (MadeNothing creation)
       → Answers g mid new world (placed_verdict world w) r
-  reported_by creation (Ok reply) done reports none = record { shows = subst (IsReplyOf reply) (sym done.0) (shows creation reply done.0 reports); gives = done.2 }
-  reported_by creation (Err fault) done reports none = record { shows = tt; gives = refuses creation none done.0 done.2 }
+  reported_by creation (Ok reply) done reports none = record {
+    shows = subst (IsReplyOf reply) (sym done.0) (shows creation reply done.0 reports);
+    lends = subst (Lends g new reply.body) (sym done.0) (none_lent g new reply.body (answer_of world w creation) (creates_plainly creation) (shows creation reply done.0 reports).body);
+    gives = done.2;
+  }
+  reported_by creation (Err fault) done reports none = record { shows = tt; lends = tt; gives = refuses creation none done.0 done.2 }

@@ -12,6 +12,7 @@ use Rattle.tables.specs.declared.fault.StoreFault.{StoreFault}
 use Rattle.refinement.specs.Left.{Ends}
 use Rattle.refinement.specs.Removal.{without_found}
 use Rattle.locks.specs.Removing.{Removes}
+use Rattle.desk.proofs.Lent.{none_lent}
 use Rattle.desk.specs.declared.cases.Denial as code
 use Rattle.desk.specs.declared.replies.Reply.{Reply}
 use Rattle.desk.specs.Replies.{IsReplyOf}
@@ -140,6 +141,7 @@ module _ {S : Type 0} (g : Ghosts S) (old new : Store S) (world : World) (repo :
   pub removed : (reply : Reply) → IsReplyOf reply (Ok (releases l)) → Removes g world repo id old new (Ok true) → Answers g old new world (Ok (releases l)) (Ok reply)
   removed reply shows done = record {
     shows = shows;
+    lends = none_lent g new reply.body (Ok (releases l)) refl shows.body;
     gives = subst (λ (o : Option Lock). Ends g old new changed world (without_found o world) (without_found o world)) there done.1;
   }
 
@@ -149,5 +151,6 @@ module _ {S : Type 0} (g : Ghosts S) (old new : Store S) (world : World) (repo :
   pub removal_refused : (fault : StoreFault) → Removes g world repo id old new (Err fault) → Answers g old new world (Ok (releases l)) (Err fault)
   removal_refused fault done = record {
     shows = tt;
+    lends = tt;
     gives = subst (λ (o : Option Lock). Ends g old new failed world (without_found o world) world) there done;
   }

@@ -1,5 +1,5 @@
 -- How the definitions decide a request, step by step.
-use Rattle.std.proofs.Common.{◌≡◌, ◌∙◌, ℕ, not, ◌||◌, List, Some, Result, Ok, Err, bytes_eq, refl, sym, ap, ap₂, subst}
+use Rattle.std.proofs.Common.{◌≡◌, ◌∙◌, ℕ, not, ◌||◌, List, Some, Result, Ok, Err, bytes_eq, refl, sym, ap₂, subst}
 use Rattle.std.specs.Prelude.{IsErrAnd}
 use Rattle.std.specs.Bool.{⊤}
 use Rattle.sqlite_trees.specs.declared.store.Store.{Ghosts}
@@ -18,7 +18,7 @@ use Rattle.model.specs.Cases.{Setting, DeskRequest, case_in}
 use Rattle.model.specs.Answers.{Answer, Denial, Plan, by_rule, by_rules, permit, store_refusal}
 use Rattle.model.specs.Locks.{place_verdict, lock_verdict, new_lock}
 use Rattle.model.specs.Objects.{finish}
-use Rattle.model.specs.Verdict.{plan_to, plan_for, caller_plan, desk_verdict}
+use Rattle.model.specs.Verdict.{plan_to, plan_for, caller_plan, desk_plan}
 use Rattle.model.specs.Steps.{after}
 use Rattle.model.specs.Bounds.{failed, left_by, answer_ending}
 use Rattle.forms.specs.Requests.{lock_asked}
@@ -30,9 +30,10 @@ use Rattle.refinement.proofs.Leading.{ends_still, denial_changes_none, still_the
 use Rattle.tokens.specs.Callers.{IsHolder}
 use Rattle.tokens.specs.declared.callers.Caller.{Caller}
 use Rattle.desk.specs.Done.{Answers, given_by}
+use Rattle.desk.proofs.Lent.{none_lent}
 use Rattle.desk.specs.Replies.{IsReplyOf}
 use Rattle.desk.specs.declared.replies.Reply.{Reply}
-use Rattle.desk.specs.Admission.{admission_result, case_verdict, caller_verdict}
+use Rattle.desk.specs.Admission.{admission_result}
 use Rattle.locks.specs.Creating.{state_of, lock_wanted}
 use Rattle.desk.specs.Locking.{IsWantedBy, question_on, allowed_verdict}
 use Rattle.desk.specs.Rights.{IsUserOf, case_policy, case_seen}
@@ -52,35 +53,30 @@ checks_joined (Ok x) (Ok r) (Ok q) covered f = at (covered q)
     at (Err e) = refl
     at (Ok y) = refl
 
-module _ (world : World) (setting : Setting) (asked : DeskRequest) (body : List ℕ) where
-  -- the verdict if a token identifies a caller
-  pub held_by : (who : model.Caller) → caller_by world setting.now asked.bearers ≡ Ok who → desk_verdict world setting asked body ≡ caller_verdict world setting who asked body
+module _ (world : World) (setting : Setting) (asked : DeskRequest) where
+  -- the plan if a token identifies a caller
+  pub held_by : (who : model.Caller) → caller_by world setting.now asked.bearers ≡ Ok who → desk_plan world setting asked ≡ caller_plan world setting who asked
   held_by who is = rw is refl
 
-  -- the verdict if no token does
-  pub held_by_none : (r : Rule) → caller_by world setting.now asked.bearers ≡ Err r → desk_verdict world setting asked body ≡ Err (by_rule r)
+  -- the plan if no token does
+  pub held_by_none : (r : Rule) → caller_by world setting.now asked.bearers ≡ Err r → desk_plan world setting asked ≡ Err (by_rule r)
   held_by_none r is = rw is refl
 
   module _ (who : model.Caller) where
     abbrev admits : Result (Repo × Request) Rule
     admits = admission_result setting.policy who.repo (is_upload who.operation) asked.repo asked.request
 
-    finished : Result Plan Denial → Answer
-    finished plan = plan >>= λ p. finish world asked.repo body p
-
     by_admission : caller_plan world setting who asked ≡ (by_rules admits >>= λ (taken : Repo × Request). plan_for (case_in world setting who taken.0) asked.left taken.1)
     by_admission =
         checks_joined (check (bytes_eq who.repo asked.repo) rule.A4) (ok_or (repo_named asked.repo setting.policy) rule.R1) asked.request
         (λ request. check (not (needs_upload request) || is_upload who.operation) rule.A5) (λ repo request. plan_for (case_in world setting who repo) asked.left request)
 
-    -- the verdict on a request that is refused before the state is read
-    pub not_taken : (r : Rule) → admits ≡ Err r → caller_verdict world setting who asked body ≡ Err (by_rule r)
-    unfolding finished
-    not_taken r is = ap finished by_admission ∙ rw is refl
+    -- the plan for a request that is refused before the state is read
+    pub not_taken : (r : Rule) → admits ≡ Err r → caller_plan world setting who asked ≡ Err (by_rule r)
+    not_taken r is = by_admission ∙ rw is refl
 
-    pub taken_up : (repo : Repo) (request : Request) → admits ≡ Ok (repo, request) → caller_verdict world setting who asked body ≡ case_verdict world (case_in world setting who repo) request asked body
-    unfolding finished
-    taken_up repo request is = ap finished by_admission ∙ rw is refl
+    pub taken_up : (repo : Repo) (request : Request) → admits ≡ Ok (repo, request) → caller_plan world setting who asked ≡ plan_for (case_in world setting who repo) asked.left request
+    taken_up repo request is = by_admission ∙ rw is refl
 
 -- for a caller, the code and the definitions admit the same requests
 pub admitted_alike : (policy : Policy) (c : Caller) (who : model.Caller) (repo_asked : List ℕ) (asked : Result Request Rule) → IsHolder c who
@@ -110,17 +106,18 @@ module _ {S : Type 0} (g : Ghosts S) (old new : Store S) (world : World) (given 
   pub denied_done : (denial : Denial) (reply : Reply) → given ≡ Err denial → IsReplyOf reply (Err denial) → Leads g old new world (λ bound. bound) → Answers g old new world given (Ok reply)
   denied_done denial reply is shows p = subst (λ (v : Answer). Answers g old new world v (Ok reply)) (sym is) (record {
     shows = shows;
+    lends = none_lent g new reply.body (Err denial) refl shows.body;
     gives = ends_still g old new (answer_ending world (Some (Err denial))) world world (denial_changes_none g world denial) p;
   })
 
   -- a refusal of the inner call is passed on as a refusal
   pub passed_on : (P : StoreFault → Type 0) (r : Result Reply StoreFault) → IsErrAnd r P → Gives g old new world given store_refusal → Answers g old new world given r
   passed_on P (Ok reply) is p = absurd is
-  passed_on P (Err fault) is p = record { shows = tt; gives = p }
+  passed_on P (Err fault) is p = record { shows = tt; lends = tt; gives = p }
 
   -- the store refused or memory ran out before anything was tried
   pub refused_done : (fault : StoreFault) → Leads g old new world (λ bound. bound) → Answers g old new world given (Err fault)
-  refused_done fault p = record { shows = tt; gives = ends_still g old new failed world (after world (Some given)) refl p }
+  refused_done fault p = record { shows = tt; lends = tt; gives = ends_still g old new failed world (after world (Some given)) refl p }
 
   pub refused_early : (P : StoreFault → Type 0) (r : Result Reply StoreFault) → IsErrAnd r P → Leads g old new world (λ bound. bound) → Answers g old new world given r
   refused_early P r is p = passed_on P r is (ends_still g old new failed world (after world (Some given)) refl p)
@@ -130,5 +127,6 @@ pub done_then : {S : Type 0} (g : Ghosts S) (old mid new : Store S) (world : Wor
     → Answers g mid new world given r → Answers g old new world given r
 done_then g old mid new world given r p done = record {
   shows = done.shows;
+  lends = done.lends;
   gives = still_then g old mid new world (after world (Some (given_by given r))) (left_by (answer_ending world (Some (given_by given r))) world (after world (Some given))) p done.gives;
 }

@@ -3,17 +3,11 @@ use Rattle.std.specs.Prelude.{ℕ, Bool, not, ◌||◌, List, Result, Ok, bytes_
 use Rattle.std.specs.Borrow.{Bor}
 use Rattle.names.specs.declared.rules.Rule.{Rule}
 use Rattle.names.specs.declared.rules.Rule.TheVariants.{A4, A5, R1}
-use Rattle.model.specs.World.{World}
 use Rattle.model.specs.Reading.{◌>>=◌, check, ok_or}
 use Rattle.model.specs.Policy as model
 use Rattle.model.specs.Policy.{Policy, repo_named}
 use Rattle.model.specs.Forms as form
 use Rattle.model.specs.Forms.{needs_upload}
-use Rattle.model.specs.Callers as caller
-use Rattle.model.specs.Cases.{Setting, Case, DeskRequest}
-use Rattle.model.specs.Answers.{Answer}
-use Rattle.model.specs.Objects.{finish}
-use Rattle.model.specs.Verdict.{plan_for, caller_plan}
 use Rattle.forms.specs.Requests.{request_asked}
 use Rattle.forms.specs.declared.request.Request.{Request}
 use Rattle.policy.specs.Values.{repo_view}
@@ -31,12 +25,3 @@ admission_result policy own covers_upload repo_asked asked = do
 -- the repository and the request, in the terms of the definitions
 abbrev pub admission_view : Bor Repo × Request → model.Repo × form.Request
 admission_view (repo, request) = (repo_view repo.now, request_asked request)
-
--- the verdict on an admitted request
-abbrev pub case_verdict : World → Case → form.Request → DeskRequest → List ℕ → Answer
-case_verdict world c request asked body = plan_for c asked.left request >>= λ plan. finish world asked.repo body plan
-
--- the verdict on a caller's request
-abbrev pub caller_verdict : World → Setting → caller.Caller → DeskRequest → List ℕ → Answer
-caller_verdict world setting who asked body =
-    caller_plan world setting who asked >>= λ plan. finish world asked.repo body plan

@@ -1,11 +1,14 @@
 -- A request, in the terms of the definitions.
-use Rattle.std.specs.Prelude.{ℕ, length, option_map}
-use Rattle.model.specs.Forms.{request_of}
+use Rattle.std.specs.Prelude.{ℕ, Bool, true, false, Result, option_map}
+use Rattle.names.specs.declared.rules.Rule.{Rule}
+use Rattle.model.specs.Forms.{Request, asks_put, request_of}
 use Rattle.model.specs.Heads.{form_of_served}
+use Rattle.model.specs.declared.ServedForm.{ServedForm}
+use Rattle.model.specs.declared.ServedForm.TheVariants as served
 use Rattle.model.specs.World.{World}
 use Rattle.model.specs.Cases.{Setting, DeskRequest}
-use Rattle.model.specs.Answers.{Answer}
-use Rattle.model.specs.Verdict.{desk_verdict}
+use Rattle.model.specs.Answers.{Denial, Plan}
+use Rattle.model.specs.Verdict.{desk_plan}
 use Rattle.policy.specs.Values.{policy_view}
 use Rattle.policy.specs.declared.policies.Policy.{Policy}
 use Rattle.tokens.specs.Bearers.{single_value}
@@ -15,15 +18,29 @@ use Rattle.desk.specs.declared.admission.RepoRequest.{RepoRequest}
 abbrev pub setting_of : Policy → ℕ → Setting
 setting_of policy now = record { policy = policy_view policy; now = now }
 
--- the request to the desk
-abbrev pub request_seen : RepoRequest → DeskRequest
-request_seen a = record {
+-- what it asks
+abbrev pub request_read : RepoRequest → Result Request Rule
+request_read a = request_of (form_of_served a.form) a.parameter.now a.query.now a.body.now
+
+-- the request to the desk, with a content of this size
+abbrev pub request_seen : RepoRequest → ℕ → DeskRequest
+request_seen a size = record {
   bearers = single_value (option_map (λ v. v.now) a.authorization);
   repo = a.repo.now;
-  left = length a.body.now;
-  request = request_of (form_of_served a.form) a.parameter.now a.query.now a.body.now;
+  left = size;
+  request = request_read a;
 }
 
--- the verdict on the request
-abbrev pub verdict_seen : World → Policy → ℕ → RepoRequest → Answer
-verdict_seen world policy now a = desk_verdict world (setting_of policy now) (request_seen a) a.body.now
+-- the plan for the request
+abbrev pub plan_seen : World → Policy → ℕ → RepoRequest → ℕ → Result Plan Denial
+plan_seen world policy now a size = desk_plan world (setting_of policy now) (request_seen a size)
+
+-- the request uploads an object
+abbrev pub is_put : ServedForm → Bool
+is_put served.Put = true
+is_put _ = false
+
+-- the same by what is asked
+abbrev pub uploads : Request → Bool
+uploads (asks_put asked) = true
+uploads _ = false

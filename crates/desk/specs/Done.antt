@@ -1,14 +1,23 @@
 -- An answered request.
-use Rattle.std.specs.Prelude.{◌≢◌, ℕ, List, Result, Ok, Err, IfOk}
+use Rattle.std.specs.Prelude.{◌≡◌, ◌≢◌, ◌<◌, ◌≤◌, ◌+◌, ◌++◌, ℕ, Bool, true, false, List, length, Option, Some, None, Result, Ok, Err, IfOk, IfErr, is_ok, is_err, MatchBool, ⊤}
 use Rattle.sqlite_trees.specs.declared.store.Store.{Ghosts}
-use Rattle.model.specs.World.{World}
-use Rattle.model.specs.Answers.{Answer, store_refusal}
+use Rattle.names.specs.Texts.{largest_object}
+use Rattle.model.specs.Reading.{◌>>=◌}
+use Rattle.model.specs.Policy.{Policy}
+use Rattle.model.specs.World.{World, total}
+use Rattle.model.specs.Answers.{Answer, Denial, Plan, receives, store_refusal}
+use Rattle.model.specs.Objects.{finish}
 use Rattle.model.specs.Views.{SameViews}
+use Rattle.model.specs.Laws.{quota_of}
 use Rattle.tables.specs.declared.Store.{Store}
 use Rattle.tables.specs.declared.fault.StoreFault.{StoreFault}
-use Rattle.refinement.specs.Left.{Gives}
+use Rattle.refinement.specs.Left.{Gives, Keeps}
+use Rattle.uploads.specs.Bounds.{StoresWithin}
 use Rattle.desk.specs.declared.replies.Reply.{Reply}
-use Rattle.desk.specs.Replies.{IsReplyOf}
+use Rattle.desk.specs.declared.outcomes.Answered.{Answered}
+use Rattle.desk.specs.declared.outcomes.AnswerFault.{AnswerFault}
+use Rattle.desk.specs.declared.outcomes.AnswerFault.TheVariants.{Store as by_store, Body as by_body}
+use Rattle.desk.specs.Replies.{IsReplyOf, Lends}
 
 -- the answer that is given: the verdict, or a store refusal if the store refused or memory ran out
 abbrev pub given_by : Answer → Result Reply StoreFault → Answer
@@ -20,7 +29,63 @@ abbrev pub LeavesOthers : List ℕ → World → World → Type 0
 LeavesOthers repo old new = (other : List ℕ) → repo ≢ other → SameViews other old new
 
 module _ {S : Type 0} (g : Ghosts S) where
-  -- a reply shows the verdict, and the given answer is carried out
+  -- a reply shows the verdict, the store has the content that it sends, and the given answer is carried out
   pub record Answers (old new : Store S) (world : World) (verdict : Answer) (r : Result Reply StoreFault) : Type 0 where
     pub shows : IfOk r (λ reply. IsReplyOf reply verdict)
+    pub lends : IfOk r (λ reply. Lends g new reply.body verdict)
     pub gives : Gives g old new world verdict (given_by verdict r)
+
+-- ---- requests with a content
+
+-- the verdict by a plan and a content
+abbrev pub verdict_by : World → List ℕ → Result Plan Denial → List ℕ → Answer
+verdict_by world repo plan content = plan >>= λ granted. finish world repo content granted
+
+-- the same result, of a request whose body was read before
+abbrev pub whole : Result Reply StoreFault → Result Answered AnswerFault
+whole (Ok reply) = Ok (record { reply = reply; leaves_body = false })
+whole (Err fault) = Err (by_store fault)
+
+-- the answer that is given, if any: none if the content is cut off
+abbrev pub given_with : Answer → Result Answered AnswerFault → Option Answer
+given_with verdict (Ok answered) = Some verdict
+given_with verdict (Err (by_store fault)) = Some store_refusal
+given_with verdict (Err (by_body fault)) = None
+
+-- a reply leaves the body exactly if the plan refuses, before the content is read; any other reply is that to the whole content
+abbrev pub IsInTime : Result Plan Denial → (left : ℕ) → Result Answered AnswerFault → Type 0
+IsInTime plan left (Ok answered) =
+    MatchBool answered.leaves_body (is_err plan ≡ true) ((name : List ℕ) × (plan ≡ Ok (receives name)) × (left ≡ 0))
+IsInTime plan left (Err (by_store fault)) = ⊤
+IsInTime plan left (Err (by_body fault)) = is_ok plan ≡ true
+
+-- the request was answered without its content
+abbrev pub IsSettled : Result Answered AnswerFault → Type 0
+IsSettled (Ok answered) = answered.leaves_body ≡ false
+IsSettled (Err (by_store fault)) = ⊤
+IsSettled (Err (by_body fault)) = ⊥
+
+module _ {S : Type 0} (g : Ghosts S) where
+  -- the verdict is answered; or the content is cut off, and the world is kept
+  abbrev pub AnswersIf : Store S → Store S → World → Answer → Result Answered AnswerFault → Type 0
+  AnswersIf old new world verdict (Ok answered) = Answers g old new world verdict (Ok answered.reply)
+  AnswersIf old new world verdict (Err (by_store fault)) = Answers g old new world verdict (Err fault)
+  AnswersIf old new world verdict (Err (by_body fault)) = Keeps g old new world
+
+  -- these bytes of the content were read, and `left` more were not. The answer is that to any content that begins with
+  -- them; that of an upload, to any of its whole length. An upload is denied before its content is read, or answered by
+  -- all of it; after a fault the world is kept unless all of it was read
+  pub record IsAnsweredAs
+      (is_upload : Bool) (old new : Store S) (world : World) (repo : List ℕ) (plan : Result Plan Denial) (bytes : List ℕ)
+      (left : ℕ) (r : Result Answered AnswerFault) : Type 0 where
+    pub answers : (more : List ℕ) → (is_upload ≡ true → length more ≡ left)
+        → AnswersIf old new world (verdict_by world repo plan (bytes ++ more)) r
+    pub in_time : is_upload ≡ true → IsInTime plan left r
+    pub kept : is_upload ≡ true → IfErr r (λ fault. 0 < left → Keeps g old new world)
+
+  -- a repository whose total was at most a bound, under a policy whose quota for it is, now has at most this bound and one
+  -- largest object in the database
+  abbrev pub StaysWithin : Store S → Policy → World → Type 0
+  StaysWithin new policy world =
+      (repo : List ℕ) (most : ℕ) → total repo world ≤ most → quota_of repo policy ≤ most
+      → StoresWithin g new repo (most + largest_object)

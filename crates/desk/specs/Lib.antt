@@ -6,5 +6,6 @@ pub mod Admission
 pub mod Rights
 pub mod Paging
 pub mod Unlocking
+pub mod Objects
 pub mod Receiving
 pub mod Contents

@@ -1,5 +1,6 @@
 -- The bytes of an upload are received.
-use Rattle.std.specs.Prelude.{◌≡◌, ℕ, List, [], ◌++◌, length, Result, Ok, Err, OnOk, IfOk, IsTrue}
+use Rattle.std.specs.Prelude.{◌≡◌, ◌<◌, ℕ, List, [], ◌++◌, length, Result, Ok, Err, OnOk, IfOk, IsTrue, ⊤}
+use Rattle.std.specs.declared.alloc.AllocError.{AllocError}
 use Rattle.sqlite_trees.specs.declared.store.Store.{Ghosts}
 use Rattle.names.specs.Texts.{is_repo}
 use Rattle.names.specs.declared.rules.Rule.TheVariants.{X2}
@@ -14,10 +15,12 @@ use Rattle.refinement.specs.Left.{Keeps, Gives}
 use Rattle.refinement.specs.Staging.{Stages}
 use Rattle.chunks.specs.Intakes.{HasTaken, HasStored}
 use Rattle.chunks.specs.declared.intake.Intake.{Intake}
+use Rattle.desk.specs.declared.replies.Reply.{Reply}
 use Rattle.desk.specs.declared.receiving.Receipt.{Receipt}
 use Rattle.desk.specs.declared.receiving.Receipt.TheVariants.{Stored, Differs}
 use Rattle.desk.specs.declared.outcomes.AnswerFault.{AnswerFault}
 use Rattle.desk.specs.declared.outcomes.AnswerFault.TheVariants as fault
+use Rattle.desk.specs.Replies.{IsReplyOf}
 
 -- the object of bytes that arrived
 abbrev pub object_from : (repo name bytes : List ℕ) → Object
@@ -54,11 +57,18 @@ module _ {S : Type 0} (g : Ghosts S) where
       (repo name bytes : List ℕ) → IsTrue (is_repo repo) → HasStored g old (upload_number id) repo name size bytes
       → found ≡ name_of bytes → size ≡ length bytes → Carries old new world (object_from repo name bytes) r
 
-  -- these bytes of an upload arrived, and `left` did not: it was answered if none is left. If the store refused, then
-  -- whatever the rest is; if the bytes ended, the world is kept
+  -- these bytes of an upload arrived, and `left` more did not. It was answered if none is left. If the store refused,
+  -- it was answered whatever the rest is, and the world is kept unless all arrived; if the bytes ended, the world is kept
   abbrev pub Receives : Store S → Store S → World → (repo name bytes : List ℕ) → (left : ℕ) → Result Receipt AnswerFault → Type 0
   Receives old new world repo name bytes left (Ok receipt) =
       Carries old new world (object_from repo name bytes) (Ok receipt)
   Receives old new world repo name bytes left (Err (fault.Store f)) =
-      (rest : List ℕ) → length rest ≡ left → Carries old new world (object_from repo name (bytes ++ rest)) (Err f)
+      ((rest : List ℕ) → length rest ≡ left → Carries old new world (object_from repo name (bytes ++ rest)) (Err f))
+      × (0 < left → Keeps g old new world)
   Receives old new world repo name bytes left (Err (fault.Body cause)) = Keeps g old new world
+
+-- the reply that a receipt leads to: 200, which needs no memory, or X2
+abbrev pub RepliesReceived : Receipt → Result Reply AllocError → Type 0
+RepliesReceived receipt (Ok reply) = (o : Object) → IsReplyOf reply (answer_of o receipt)
+RepliesReceived Stored (Err error) = ⊥
+RepliesReceived Differs (Err error) = ⊤

@@ -6,7 +6,7 @@ ghost use Rattle.model.specs.Forms.{needs_upload, is_upload};
 ghost use Rattle.policy.specs.Values.{policy_view};
 ghost use Rattle.forms.specs.Given.{Reads};
 ghost use Rattle.forms.specs.Requests.{request_asked};
-ghost use Rattle.desk.specs.Asking.{request_seen};
+ghost use Rattle.desk.specs.Asking.{request_read, is_put};
 ghost use Rattle.desk.specs.Admission.{admission_result, admission_view};
 
 use forms::{Refusal, Request, read_form};
@@ -16,7 +16,7 @@ use policy::{Policy, Repo};
 use std::alloc::Global;
 use tokens::Caller;
 
-/// A request in a repository, from its head and its body.
+/// A request in a repository, from its head and its body. The content of an upload is not part of it.
 #[derive(Clone, Copy, Debug)]
 pub struct RepoRequest<'a> {
     /// The value of `Authorization`, if the head has that field.
@@ -29,7 +29,7 @@ pub struct RepoRequest<'a> {
     pub parameter: &'a str,
     /// The part of the target after its first question mark.
     pub query: &'a str,
-    /// The body.
+    /// The body; empty for an upload, whose body is its content.
     pub body: &'a [u8],
 }
 
@@ -41,6 +41,13 @@ fn needs_upload(request: &Request) -> bool
         Request::Put(_) | Request::Verify(_) => true,
         Request::Lock(_) | Request::VerifyLocks(_) | Request::Unlock(_) => true,
     }
+}
+
+/// Whether the request uploads an object.
+pub(crate) fn is_put(form: ServedForm) -> bool
+    ensures { result ≡ is_put form }
+{
+    matches!(form, ServedForm::Put)
 }
 
 fn is_for_upload(operation: Operation) -> bool
@@ -65,7 +72,7 @@ pub(crate) fn admit<'a>(
 ) -> Result<(&'a Repo, Request), Refusal>
     ensures { Reads admission_view result (admission_result (policy_view policy.entry.now)
         (repo_text caller.entry.now.repo) (is_upload caller.entry.now.operation)
-        asked.entry.now.repo.now (request_seen asked.entry.now).request) }
+        asked.entry.now.repo.now (request_read asked.entry.now)) }
 {
     if caller.repo.as_str() != asked.repo {
         return Err(Rule::A4.into());

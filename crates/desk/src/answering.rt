@@ -1,29 +1,36 @@
 //! The way of a request: identify the caller, admit the request, carry it out.
-ghost use Rattle.std.specs.Prelude.{◌≡◌, ℕ, List, IfOk, Some, Err};
+
+ghost use Rattle.std.specs.Prelude.{◌≡◌, ℕ, List, true, false, IfOk, IfErr, OnOk, Err};
 ghost use Rattle.model.specs.World.{World};
 ghost use Rattle.model.specs.Callers as model;
-ghost use Rattle.model.specs.Cases.{DeskRequest, case_in};
 ghost use Rattle.model.specs.Answers.{by_rule};
 ghost use Rattle.model.specs.Steps.{after};
-ghost use Rattle.policy.specs.Values.{repo_view};
+ghost use Rattle.model.specs.Verdict.{caller_plan, plan_for};
+ghost use Rattle.policy.specs.Values.{policy_view};
 ghost use Rattle.forms.specs.Requests.{request_asked};
 ghost use Rattle.refinement.specs.Left.{From};
 ghost use Rattle.tokens.specs.Callers.{IsHolder};
 ghost use Rattle.desk.specs.Replies.{IsReplyOf};
-ghost use Rattle.desk.specs.Done.{Answers, LeavesOthers, given_by};
-ghost use Rattle.desk.specs.Asking.{setting_of, request_seen, verdict_seen};
-ghost use Rattle.desk.specs.Admission.{case_verdict, caller_verdict};
+ghost use Rattle.desk.specs.Contents.{HasRead, IsLeftBy};
+ghost use Rattle.desk.specs.Done.{Answers, LeavesOthers, IsAnsweredAs, IsSettled, StaysWithin, given_with, verdict_by};
+ghost use Rattle.desk.specs.Rights.{IsUserOf, case_repo, case_seen};
+ghost use Rattle.desk.specs.Asking.{is_put, uploads, plan_seen, request_seen, setting_of};
 
-use crate::admission::{RepoRequest, admit};
+use crate::admission::{RepoRequest, admit, is_put};
 use crate::cases::Case;
+use crate::checking::verify;
+use crate::downloading::get;
 use crate::listing::list;
 use crate::locking::lock;
+use crate::outcomes::{AnswerFault, Answered, whole};
 use crate::replies::Reply;
 use crate::unlocking::unlock;
+use crate::uploading::put;
 use crate::verifying::verify_locks;
 use forms::{Answer, Refusal, Request};
-use names::{Moment, Rule};
-use policy::{Policy, Repo};
+use model::ServedForm;
+use names::{Body, Moment, Rule};
+use policy::Policy;
 use std::alloc::{AllocError, Global};
 use tables::{Alter, Store, StoreFault};
 use tokens::Caller;
@@ -31,36 +38,60 @@ use tokens::Caller;
 /// Answers a request in a repository, and makes the change that the answer reports.
 ///
 /// The reply reports the first rule that refuses: A1 to A3 for the token, A4 and R1 for the
-/// repository, the J rules for the body, A5, the policy's row, and then the conflict; or it reports
-/// what was done.
+/// repository, the J rules for the request, A5, the policy's row, and then the conflict; or it reports
+/// what was done. The bytes of an upload are read from `content` once no rule refuses it; of any other
+/// request `content` is not read.
+///
+/// A repository within its quota then has at most its quota and one largest object in the database.
 ///
 /// # Errors
 ///
-/// A [`StoreFault`] if the store refused or memory ran out. The contents of the store are then unchanged.
-pub fn answer<S: Alter>(
+/// - `Store` if the store refused or memory ran out.
+/// - `Body` if the input ended or a read failed within the bytes of an upload.
+///
+/// The locks, the objects and the tokens of the store are then unchanged.
+pub fn answer<S: Alter, B: Body>(
     alloc: Global,
     store: &mut Store<S>,
     policy: &Policy,
     now: Moment,
     asked: &RepoRequest<'_>,
-) -> Result<Reply, StoreFault>
-    ensures answered { From S.Store store.old store.new (λ world.
-        Answers S.Store store.old store.new world
-        (verdict_seen world policy.entry.now now asked.entry.now) result) }
-    ensures apart { (world : World) → LeavesOthers asked.entry.now.repo.now world (after world
-        (Some (given_by (verdict_seen world policy.entry.now now asked.entry.now) result))) }
+    content: &mut B,
+) -> Result<Answered, AnswerFault>
+    ensures answered { (bytes : List ℕ) × HasRead B.Body content.old content.new bytes
+        × From S.Store store.old store.new (λ world. (size : ℕ)
+        → (is_put asked.entry.now.form ≡ true → size ≡ B.size content.old)
+        → IsAnsweredAs S.Store (is_put asked.entry.now.form) store.old store.new world
+        asked.entry.now.repo.now (plan_seen world policy.entry.now now asked.entry.now size)
+        bytes (B.size content.new) result) }
+    ensures settled { is_put asked.entry.now.form ≡ false → IsSettled result × (content.new ≡ content.old) }
+    ensures leaves { IfOk result (λ a. a.leaves_body ≡ true → content.new ≡ content.old) }
+    ensures whole { IfOk result (λ a. a.leaves_body ≡ false → is_put asked.entry.now.form ≡ true
+        → B.size content.new ≡ 0) }
+    ensures good { OnOk result (B.failed content.new ≡ B.failed content.old) }
+    ensures fault { IfErr result (IsLeftBy B.Body content.old content.new) }
+    ensures apart { (world : World) (size : ℕ) (bytes : List ℕ) → LeavesOthers asked.entry.now.repo.now world
+        (after world (given_with (verdict_by world asked.entry.now.repo.now
+        (plan_seen world policy.entry.now now asked.entry.now size) bytes) result)) }
+    ensures bounded { From S.Store store.old store.new
+        (StaysWithin S.Store store.new (policy_view policy.entry.now)) }
 {
     match tokens::caller(store, asked.authorization, now)? {
-        Ok(caller) => answer_caller(alloc, store, policy, now, &caller, asked),
-        Err(rule) => Ok(refusal(alloc, rule)?),
+        Ok(caller) => answer_caller(alloc, store, policy, now, &caller, asked, content),
+        Err(rule) => Ok(refusal(alloc, asked.form, rule)?),
     }
 }
 
-/// The reply to a request that a rule refuses.
-fn refusal(alloc: Global, rule: Rule) -> Result<Reply, AllocError>
-    ensures { IfOk result (λ reply. IsReplyOf reply (Err (by_rule rule))) }
+/// The answer to a request that a rule refuses before its body.
+fn refusal(alloc: Global, form: ServedForm, rule: Rule) -> Result<Answered, AllocError>
+    ensures shows { IfOk result (λ a. IsReplyOf a.reply (Err (by_rule rule))) }
+    ensures leaves { IfOk result (λ a. a.leaves_body ≡ is_put form) }
 {
-    Reply::telling(alloc, &Answer::Denied(rule))
+    let reply = Reply::telling(alloc, &Answer::Denied(rule))?;
+    Ok(Answered {
+        reply,
+        leaves_body: is_put(form),
+    })
 }
 
 /// Answers the request of the caller.
@@ -68,24 +99,41 @@ fn refusal(alloc: Global, rule: Rule) -> Result<Reply, AllocError>
 /// # Errors
 ///
 /// The errors of [`answer`].
-fn answer_caller<S: Alter>(
+fn answer_caller<S: Alter, B: Body>(
     alloc: Global,
     store: &mut Store<S>,
     policy: &Policy,
     now: Moment,
     caller: &Caller,
     asked: &RepoRequest<'_>,
-) -> Result<Reply, StoreFault>
-    ensures { From S.Store store.old store.new (λ world.
-        (who : model.Caller) → IsHolder caller.entry.now who → Answers S.Store store.old store.new world
-        (caller_verdict world (setting_of policy.entry.now now) who
-        (request_seen asked.entry.now) asked.entry.now.body.now)
-        result) }
+    content: &mut B,
+) -> Result<Answered, AnswerFault>
+    ensures answered { (bytes : List ℕ) × HasRead B.Body content.old content.new bytes
+        × From S.Store store.old store.new (λ world. (who : model.Caller) → IsHolder caller.entry.now who
+        → (size : ℕ) → (is_put asked.entry.now.form ≡ true → size ≡ B.size content.old)
+        → IsAnsweredAs S.Store (is_put asked.entry.now.form) store.old store.new world
+        asked.entry.now.repo.now
+        (caller_plan world (setting_of policy.entry.now now) who (request_seen asked.entry.now size))
+        bytes (B.size content.new) result) }
+    ensures settled { is_put asked.entry.now.form ≡ false → IsSettled result × (content.new ≡ content.old) }
+    ensures leaves { IfOk result (λ a. a.leaves_body ≡ true → content.new ≡ content.old) }
+    ensures whole { IfOk result (λ a. a.leaves_body ≡ false → is_put asked.entry.now.form ≡ true
+        → B.size content.new ≡ 0) }
+    ensures good { OnOk result (B.failed content.new ≡ B.failed content.old) }
+    ensures fault { IfErr result (IsLeftBy B.Body content.old content.new) }
 {
     match admit(alloc, policy, caller, asked) {
-        Ok((repo, request)) => { answer_request(alloc, store, policy, now, caller, repo, &request) }
-        Err(Refusal::Rule(rule)) => Ok(refusal(alloc, rule)?),
-        Err(Refusal::Memory) => Err(StoreFault::Memory),
+        Ok((repo, request)) => {
+            let case = Case {
+                policy,
+                now,
+                repo,
+                user: &caller.user,
+            };
+            answer_request(alloc, store, &case, &request, content)
+        }
+        Err(Refusal::Rule(rule)) => Ok(refusal(alloc, asked.form, rule)?),
+        Err(Refusal::Memory) => Err(AnswerFault::Store(StoreFault::Memory)),
     }
 }
 
@@ -94,35 +142,58 @@ fn answer_caller<S: Alter>(
 /// # Errors
 ///
 /// The errors of [`answer`].
-fn answer_request<S: Alter>(
+fn answer_request<S: Alter, B: Body>(
     alloc: Global,
     store: &mut Store<S>,
-    policy: &Policy,
-    now: Moment,
-    caller: &Caller,
-    repo: &Repo,
+    case: &Case<'_>,
+    request: &Request,
+    content: &mut B,
+) -> Result<Answered, AnswerFault>
+    ensures answered { (bytes : List ℕ) × HasRead B.Body content.old content.new bytes
+        × From S.Store store.old store.new (λ world. (who : model.Caller) → IsUserOf case.entry.now who
+        → (size : ℕ) → (uploads (request_asked request.entry.now) ≡ true → size ≡ B.size content.old)
+        → IsAnsweredAs S.Store (uploads (request_asked request.entry.now)) store.old store.new world
+        (case_repo case.entry.now).name
+        (plan_for (case_seen world case.entry.now who) size (request_asked request.entry.now))
+        bytes (B.size content.new) result) }
+    ensures settled { uploads (request_asked request.entry.now) ≡ false
+        → IsSettled result × (content.new ≡ content.old) }
+    ensures leaves { IfOk result (λ a. a.leaves_body ≡ true → content.new ≡ content.old) }
+    ensures whole { IfOk result (λ a. a.leaves_body ≡ false
+        → uploads (request_asked request.entry.now) ≡ true → B.size content.new ≡ 0) }
+    ensures good { OnOk result (B.failed content.new ≡ B.failed content.old) }
+    ensures fault { IfErr result (IsLeftBy B.Body content.old content.new) }
+{
+    match request {
+        Request::Put(asked) => put(store, alloc, case, asked, content),
+        _ => whole(answer_whole(alloc, store, case, request)),
+    }
+}
+
+/// Answers an admitted request that uploads nothing.
+///
+/// # Errors
+///
+/// A [`StoreFault`], which leaves the contents of the store unchanged; `Refused` for an upload.
+fn answer_whole<S: Alter>(
+    alloc: Global,
+    store: &mut Store<S>,
+    case: &Case<'_>,
     request: &Request,
 ) -> Result<Reply, StoreFault>
-    ensures { From S.Store store.old store.new (λ world.
-        (who : model.Caller) → IsHolder caller.entry.now who → (asked : DeskRequest) (body : List ℕ)
-        → Answers S.Store store.old store.new world
-        (case_verdict world
-        (case_in world (setting_of policy.entry.now now) who (repo_view repo.entry.now))
-        (request_asked request.entry.now) asked body)
+    ensures { From S.Store store.old store.new (λ world. (who : model.Caller) → IsUserOf case.entry.now who
+        → (size : ℕ) (content : List ℕ) → Answers S.Store store.old store.new world
+        (verdict_by world (case_repo case.entry.now).name
+        (plan_for (case_seen world case.entry.now who) size (request_asked request.entry.now)) content)
         result) }
 {
-    let case = Case {
-        policy,
-        now,
-        repo,
-        user: &caller.user,
-    };
     match request {
-        // No route leads to these yet.
-        Request::Get(_) | Request::Put(_) | Request::Verify(_) => Err(StoreFault::Refused),
-        Request::Lock(asked) => lock(store, alloc, &case, asked),
-        Request::List(asked) => list(store, alloc, &case, asked),
-        Request::VerifyLocks(asked) => verify_locks(store, alloc, &case, asked),
-        Request::Unlock(asked) => unlock(store, alloc, &case, asked),
+        Request::Get(asked) => get(store, alloc, case, asked),
+        Request::Put(_) => Err(StoreFault::Refused),
+        Request::Verify(asked) => verify(store, alloc, case, asked),
+        Request::Lock(asked) => lock(store, alloc, case, asked),
+        Request::List(asked) => list(store, alloc, case, asked),
+        Request::VerifyLocks(asked) => verify_locks(store, alloc, case, asked),
+        Request::Unlock(asked) => unlock(store, alloc, case, asked),
     }
 }

@@ -4,6 +4,8 @@
 mod admission;
 mod answering;
 mod cases;
+mod checking;
+mod downloading;
 mod listing;
 mod locking;
 mod outcomes;
@@ -12,10 +14,10 @@ mod receiving;
 mod replies;
 mod rights;
 mod unlocking;
+mod uploading;
 mod verifying;
 
 pub use admission::RepoRequest;
 pub use answering::answer;
-pub use outcomes::AnswerFault;
-pub use receiving::{Receipt, receive};
-pub use replies::{Body, Reply};
+pub use outcomes::{AnswerFault, Answered};
+pub use replies::{Reply, ReplyBody};

@@ -3,11 +3,22 @@
 ghost use Rattle.std.specs.Prelude.{◌≡◌};
 ghost use Rattle.desk.specs.declared.outcomes.AnswerFault.TheVariants as fault;
 ghost use Rattle.tables.specs.declared.fault.StoreFault.TheVariants as store;
+ghost use Rattle.desk.specs.Done.{whole};
 
+use crate::replies::Reply;
 use names::BodyFault;
 use std::alloc::AllocError;
 use tables::StoreFault;
 use thiserror::Error;
+
+/// A request that was answered.
+#[derive(Debug, Drop)]
+pub struct Answered {
+    /// The reply.
+    pub reply: Reply,
+    /// Whether an upload was refused before its body, which is then unread: the connection closes after the reply.
+    pub leaves_body: bool,
+}
 
 /// Why a request was not answered.
 #[derive(Clone, Copy, Debug, PartialEq, Eq, Error)]
@@ -41,5 +52,18 @@ impl From<AllocError> for AnswerFault {
 
     fn from(_error: AllocError) -> AnswerFault {
         AnswerFault::Store(StoreFault::Memory)
+    }
+}
+
+/// The result for a request whose body was read before.
+pub(crate) fn whole(done: Result<Reply, StoreFault>) -> Result<Answered, AnswerFault>
+    ensures { result ≡ whole done }
+{
+    match done {
+        Ok(reply) => Ok(Answered {
+            reply,
+            leaves_body: false,
+        }),
+        Err(fault) => Err(fault.into()),
     }
 }

@@ -18,7 +18,7 @@ const PIECE: usize = 65_536;
 
 /// The result of an upload whose bytes all arrived.
 #[derive(Clone, Copy, Debug, PartialEq, Eq)]
-pub enum Receipt {
+pub(crate) enum Receipt {
     /// The repository has the object.
     Stored,
     /// The bytes do not have the name of the upload (X2).
@@ -119,7 +119,7 @@ fn settle<S: Alter>(
 /// - [`AnswerFault::Body`]: the content was not read to its end.
 ///
 /// Both leave the contents of the store unchanged.
-pub fn receive<S: Alter, B: Body>(
+pub(crate) fn receive<S: Alter, B: Body>(
     alloc: Global,
     store: &mut Store<S>,
     repo: &RepoName,

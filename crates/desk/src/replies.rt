@@ -12,14 +12,19 @@ use forms::Answer;
 use http::StatusCode;
 use names::Rule;
 use std::alloc::{AllocError, Global};
+use tables::ObjectRow;
 
-/// The JSON body of a reply.
+/// The body of a reply.
 #[derive(Debug, Drop)]
-pub enum Body {
-    /// A text built for this reply.
+pub enum ReplyBody {
+    /// A JSON text built for this reply.
     Made(String),
-    /// A constant text, which needs no memory.
+    /// A constant JSON text, which needs no memory.
     Fixed(&'static str),
+    /// No bytes.
+    Empty,
+    /// The bytes of this object, which the store has.
+    Content(ObjectRow),
 }
 
 /// The status and the body of a reply.
@@ -28,7 +33,7 @@ pub struct Reply {
     /// The status.
     pub status: StatusCode,
     /// The body.
-    pub body: Body,
+    pub body: ReplyBody,
     /// Whether this is a store refusal (S1): the store refused or memory ran out, and the connection closes after it.
     pub is_store_refusal: bool,
 }
@@ -69,8 +74,9 @@ fn is_store_refusal(answer: &Answer<'_>) -> bool
 }
 
 impl Reply {
-    ghost use Rattle.std.specs.Prelude.{◌≡◌, IfOk, true, false, Err};
-    ghost use Rattle.model.specs.Answers.{store_refusal, by_rule};
+    ghost use Rattle.std.specs.Prelude.{◌≡◌, IfOk, true, false, length, Ok, Err};
+    ghost use Rattle.model.specs.World.{Object};
+    ghost use Rattle.model.specs.Answers.{Answer, store_refusal, by_rule, serves, stores, confirms};
     ghost use Rattle.model.specs.Steps.{is_of_head};
     ghost use Rattle.forms.specs.Replies.{IsAnswer};
     ghost use Rattle.desk.specs.Replies.{IsReplyOf};
@@ -80,7 +86,7 @@ impl Reply {
     {
         Reply {
             status: StatusCode::INTERNAL_SERVER_ERROR,
-            body: Body::Fixed(refusal_body()),
+            body: ReplyBody::Fixed(refusal_body()),
             is_store_refusal: true,
         }
     }
@@ -93,7 +99,7 @@ impl Reply {
         match fixed_body(rule) {
             Some(text) => Reply {
                 status: Answer::Denied(rule).status(),
-                body: Body::Fixed(text),
+                body: ReplyBody::Fixed(text),
                 is_store_refusal: false,
             },
             None => Reply::store_refused(),
@@ -112,8 +118,32 @@ impl Reply {
         let text = answer.body(alloc)?;
         Ok(Reply {
             status,
-            body: Body::Made(text),
+            body: ReplyBody::Made(text),
             is_store_refusal: is_store_refusal(answer),
         })
+    }
+
+    /// The reply to an upload that was stored, or to an object that was verified: 200, with no body.
+    pub(crate) fn confirmation() -> Reply
+        ensures stored { (o : Object) → IsReplyOf result (Ok (stores o)) }
+        ensures confirmed { IsReplyOf result (Ok confirms) }
+    {
+        Reply {
+            status: StatusCode::OK,
+            body: ReplyBody::Empty,
+            is_store_refusal: false,
+        }
+    }
+
+    /// The reply with the content of an object: 200.
+    pub(crate) fn content(row: ObjectRow) -> Reply
+        ensures shows { (o : Object) → row.size ≡ length o.bytes → IsReplyOf result (Ok (serves o)) }
+        ensures body { result.body ≡ ReplyBody.Content row }
+    {
+        Reply {
+            status: StatusCode::OK,
+            body: ReplyBody::Content(row),
+            is_store_refusal: false,
+        }
     }
 }

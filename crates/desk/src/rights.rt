@@ -2,7 +2,7 @@
 
 ghost use Rattle.std.specs.Prelude.{◌≡◌, IfOk, Err, option_map};
 ghost use Rattle.names.specs.Names.{ref_text};
-ghost use Rattle.model.specs.Answers.{permit};
+ghost use Rattle.model.specs.Answers.{hiding_status, may_push, permit};
 ghost use Rattle.model.specs.Locks.{ref_or_default};
 ghost use Rattle.model.specs.Policy.{decide};
 ghost use Rattle.model.specs.Callers.{is_allowed, is_own, lock_question, may_list, pull_question, push_question, sees};
@@ -98,6 +98,29 @@ pub(crate) fn push_question<'a>(case: &Case<'a>, ref_name: &'a RefName) -> Quest
         ref_name: Some(ref_name),
         path: None,
     }
+}
+
+/// The status that hides the repository, unless the policy allows what the question asks.
+fn hiding_status(policy: &Policy, question: &Question<'_>) -> DenialStatus
+    ensures { denial_status result
+        ≡ hiding_status (decide (policy_view policy.now) (question_view question.now)) }
+{
+    match decide(policy, question) {
+        Verdict::Allow(_) => DenialStatus::Forbidden,
+        Verdict::Deny(_) => DenialStatus::NotFound,
+    }
+}
+
+/// The caller may push objects to the ref, or is denied.
+pub(crate) fn may_push(case: &Case<'_>, ref_name: &RefName) -> Result<(), Denial>
+    ensures { Judges (λ _. tt) result (may_push (case_policy case.entry.now)
+        (case_user case.entry.now) (case_repo case.entry.now).name (ref_text ref_name.now)) }
+{
+    permit(
+        case.policy,
+        &push_question(case, ref_name),
+        hiding_status(case.policy, &pull_question(case)),
+    )
 }
 
 /// Whether the caller has the right on the ref and the path of the lock.

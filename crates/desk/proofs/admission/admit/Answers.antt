@@ -1,9 +1,9 @@
 use Rattle.std.proofs.Common.{sym}
 use Rattle.names.specs.Names.{repo_text}
-use Rattle.model.specs.Forms.{request_of, needs_upload, is_upload}
-use Rattle.model.specs.Heads.{form_of_served}
+use Rattle.model.specs.Forms.{needs_upload, is_upload}
 use Rattle.policy.specs.Values.{policy_view, repo_view}
 use Rattle.forms.specs.Requests.{request_asked}
+use Rattle.desk.specs.Asking.{request_read}
 use Rattle.desk.proofs.Admitting.{refused_form, passed_on, uncovered, taken, is_own, not_covered, covered_by, not_needed}
 use Rattle.desk.proofs.admission.admit.Goals as goal
 use Rattle.desk.proofs.admission.admit.Goals.{else-needs_upload-via-then-needs_upload+else-not-is_for_upload, else-needs_upload-via-else-needs_upload}
@@ -13,7 +13,7 @@ returns-in_err-request c =
     let a = c.args.asked.now in
     passed_on c.in_err-request.field-0.0 c.from_residual.result _ c.from_residual.ensures.1
     (refused_form (policy_view c.args.policy.now) (repo_text c.args.caller.now.repo) (is_upload c.args.caller.now.operation) a.repo.now
-    (request_of (form_of_served a.form) a.parameter.now a.query.now a.body.now) (repo_view c.in-Some.repo.now) c.in_err-request.field-0.0
+    (request_read a) (repo_view c.in-Some.repo.now) c.in_err-request.field-0.0
     (is_own c.as_str.result.now (repo_text c.args.caller.now.repo) a.repo.now c.ne.result c.as_str.ensures.value c.ne.ensures c.if-ne.false)
     (sym c.in-Some.ensures.value) c.in_err-request.ensures)
 
@@ -21,7 +21,7 @@ pub returns-then-not-is_for_upload : goal.returns-then-not-is_for_upload
 returns-then-not-is_for_upload c =
     let a = c.args.asked.now in
     rw c.into-then-not-is_for_upload.ensures (uncovered (policy_view c.args.policy.now) (repo_text c.args.caller.now.repo) (is_upload c.args.caller.now.operation) a.repo.now
-    (request_of (form_of_served a.form) a.parameter.now a.query.now a.body.now) (repo_view c.in-Some.repo.now) (request_asked c.in_ok-request.request)
+    (request_read a) (repo_view c.in-Some.repo.now) (request_asked c.in_ok-request.request)
     (is_own c.as_str.result.now (repo_text c.args.caller.now.repo) a.repo.now c.ne.result c.as_str.ensures.value c.ne.ensures c.if-ne.false)
     (sym c.in-Some.ensures.value) c.in_ok-request.ensures
     (not_covered (needs_upload (request_asked c.in_ok-request.request)) (is_upload c.args.caller.now.operation) c.if-needs_upload.ensures c.if-not-is_for_upload.ensures))
@@ -30,7 +30,7 @@ pub returns : goal.returns
 returns c =
     let a = c.args.asked.now in
     taken (policy_view c.args.policy.now) (repo_text c.args.caller.now.repo) (is_upload c.args.caller.now.operation) a.repo.now
-    (request_of (form_of_served a.form) a.parameter.now a.query.now a.body.now) (repo_view c.in-Some.repo.now) (request_asked c.in_ok-request.request)
+    (request_read a) (repo_view c.in-Some.repo.now) (request_asked c.in_ok-request.request)
     (is_own c.as_str.result.now (repo_text c.args.caller.now.repo) a.repo.now c.ne.result c.as_str.ensures.value c.ne.ensures c.if-ne.false)
     (sym c.in-Some.ensures.value) c.in_ok-request.ensures
     (elim c.else-needs_upload.branch [

@@ -1,56 +1,58 @@
-use Rattle.std.proofs.Common.{◌∙◌, ap, subst, sym}
-use Rattle.model.specs.Answers.{Answer}
-use Rattle.model.specs.Cases.{case_in}
-use Rattle.model.specs.Locks.{list_verdict, lock_verdict, unlock_verdict, verify_locks_verdict}
-use Rattle.policy.specs.Values.{repo_view}
-use Rattle.forms.specs.Requests.{list_asked, lock_asked, request_asked, unlock_asked, verify_locks_asked}
+use Rattle.std.proofs.Common.{◌∙◌, [], refl, sym, ap}
+use Rattle.std.proofs.lemmas.Bool.{true≢false}
+use Rattle.std.proofs.lemmas.Result.{IfOk-weaker}
+use Rattle.model.specs.Objects.{put_verdict}
+use Rattle.model.specs.Verdict.{plan_for}
+use Rattle.forms.specs.Requests.{put_asked, request_asked}
 use Rattle.refinement.proofs.Leading.{from_weaker}
-use Rattle.desk.specs.Asking.{setting_of}
-use Rattle.desk.specs.Admission.{case_verdict}
-use Rattle.desk.specs.Done.{Answers}
-use Rattle.desk.proofs.Verdicts.{answer_finished}
+use Rattle.desk.specs.Asking.{uploads}
+use Rattle.desk.specs.Rights.{case_repo, case_seen}
+use Rattle.desk.proofs.Arriving.{read_none}
+use Rattle.desk.proofs.Early.{alike, answered_whole, fault_whole, good_whole, leaves_whole, read_whole, settled_whole, uploads_none}
 use Rattle.desk.proofs.answering.answer_request.Goals as goal
 
-pub returns-in-Lock : goal.returns-in-Lock
-returns-in-Lock g c =
-    let setting = setting_of c.args.policy.now c.args.now in
-    from_weaker g.S.Store c.args.store.now c.lock.new.store _ _
-    (λ world done who holder asked body.
-    let case = case_in world setting who (repo_view c.args.repo.now) in
-    let form = lock_asked c.in-Lock.asked in
-    let finished = answer_finished world asked.repo body (lock_verdict case form) in
-    let request = ap (λ q. case_verdict world case (request_asked q) asked body) c.in-Lock.is in
-    subst (λ (v : Answer). Answers g.S.Store c.args.store.now c.lock.new.store world v c.lock.result) (sym (request ∙ finished)) (done who holder.user)) c.lock.ensures
+pub returns-in-Put-clause-answered : goal.returns-in-Put-clause-answered
+returns-in-Put-clause-answered g c =
+    let case = c.args.case.now in
+    let done = c.put.ensures.answered in
+    let asks = sym c.in-Put.is in
+    let left = g.B.Body.size c.put.new.content in
+    let repo = (case_repo case).name in (
+      done.0,
+      done.1,
+      from_weaker g.S.Store c.args.store.now c.put.new.store _ _
+          (λ world answered who user size sized.
+          let seen = case_seen world case who in
+          let whole = sized (ap (λ q. uploads (request_asked q)) c.in-Put.is) in
+          alike g.S.Store c.args.store.now c.put.new.store world done.0 left c.put.result _ _ repo repo (put_verdict seen (g.B.Body.size c.args.content.now) (put_asked c.in-Put.asked)) _
+          (ap (λ q. uploads (request_asked q)) asks) refl (ap (λ n. put_verdict seen n (put_asked c.in-Put.asked)) (sym whole) ∙ ap (λ q. plan_for seen size (request_asked q)) asks) (answered who user))
+          done.2,
+    )
 
-pub returns-in-List : goal.returns-in-List
-returns-in-List g c =
-    let setting = setting_of c.args.policy.now c.args.now in
-    from_weaker g.S.Store c.args.store.now c.list.new.store _ _
-    (λ world done who holder asked body.
-    let case = case_in world setting who (repo_view c.args.repo.now) in
-    let form = list_asked c.in-List.asked in
-    let finished = answer_finished world asked.repo body (list_verdict case form) in
-    let request = ap (λ q. case_verdict world case (request_asked q) asked body) c.in-List.is in
-    subst (λ (v : Answer). Answers g.S.Store c.args.store.now c.list.new.store world v c.list.result) (sym (request ∙ finished)) (done who holder.user)) c.list.ensures
+pub returns-in-Put-clause-settled : goal.returns-in-Put-clause-settled
+returns-in-Put-clause-settled g c none = absurd (true≢false (ap (λ q. uploads (request_asked q)) (sym c.in-Put.is) ∙ none))
 
-pub returns-in-VerifyLocks : goal.returns-in-VerifyLocks
-returns-in-VerifyLocks g c =
-    let setting = setting_of c.args.policy.now c.args.now in
-    from_weaker g.S.Store c.args.store.now c.verify_locks.new.store _ _
-    (λ world done who holder asked body.
-    let case = case_in world setting who (repo_view c.args.repo.now) in
-    let form = verify_locks_asked c.in-VerifyLocks.asked in
-    let finished = answer_finished world asked.repo body (verify_locks_verdict case form) in
-    let request = ap (λ q. case_verdict world case (request_asked q) asked body) c.in-VerifyLocks.is in
-    subst (λ (v : Answer). Answers g.S.Store c.args.store.now c.verify_locks.new.store world v c.verify_locks.result) (sym (request ∙ finished)) (done who holder.user)) c.verify_locks.ensures
+pub returns-in-Put-clause-whole : goal.returns-in-Put-clause-whole
+returns-in-Put-clause-whole g c = IfOk-weaker c.put.result _ _ (λ a all stays put. all stays) c.put.ensures.whole
 
-pub returns-in-Unlock : goal.returns-in-Unlock
-returns-in-Unlock g c =
-    let setting = setting_of c.args.policy.now c.args.now in
-    from_weaker g.S.Store c.args.store.now c.unlock.new.store _ _
-    (λ world done who holder asked body.
-    let case = case_in world setting who (repo_view c.args.repo.now) in
-    let form = unlock_asked c.in-Unlock.asked in
-    let finished = answer_finished world asked.repo body (unlock_verdict case form) in
-    let request = ap (λ q. case_verdict world case (request_asked q) asked body) c.in-Unlock.is in
-    subst (λ (v : Answer). Answers g.S.Store c.args.store.now c.unlock.new.store world v c.unlock.result) (sym (request ∙ finished)) (done who holder.user)) c.unlock.ensures
+pub returns-in_default : goal.returns-in_default
+returns-in_default g c =
+    let content = c.args.content.now in
+    let case = c.args.case.now in
+    let done = c.answer_whole.result in
+    rw c.whole.ensures (record {
+      answered = (
+        [],
+        read_none g.B.Body content content (g.met.B.Body.moves_none content) refl,
+        from_weaker g.S.Store c.args.store.now c.answer_whole.new.store _ _
+            (λ world answers who user size sized.
+            answered_whole g.S.Store (uploads (request_asked c.args.request.now)) world (case_repo case).name (plan_for (case_seen world case who) size (request_asked c.args.request.now))
+            c.args.store.now c.answer_whole.new.store (g.B.Body.size content) done (uploads_none c.args.request.now c.in_default.not-Put) (answers who user size))
+            c.answer_whole.ensures,
+      );
+      settled = λ none. (settled_whole done, refl);
+      leaves = leaves_whole content done;
+      whole = read_whole (g.B.Body.size content) (uploads (request_asked c.args.request.now)) done (uploads_none c.args.request.now c.in_default.not-Put);
+      good = good_whole (g.B.Body.failed content) done;
+      fault = fault_whole g.B.Body content done;
+    })

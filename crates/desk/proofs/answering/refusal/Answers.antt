@@ -1,7 +1,6 @@
 use Rattle.std.proofs.Common.{Err, refl}
-use Rattle.std.proofs.lemmas.Result.{IfOk-weaker}
 use Rattle.model.specs.Answers.{by_rule}
 use Rattle.desk.proofs.answering.refusal.Goals as goal
 
-pub returns : goal.returns
-returns c = IfOk-weaker c.telling.result _ _ (λ reply is_reply. is_reply (Err (by_rule c.args.rule)) refl) c.telling.ensures
+pub returns-clause-shows : goal.returns-clause-shows
+returns-clause-shows c = c.in_ok-reply.ensures (Err (by_rule c.args.rule)) refl

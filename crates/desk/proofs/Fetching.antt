@@ -1,0 +1,66 @@
+-- Requests for the content of an object.
+use Rattle.std.proofs.Common.{◌≡◌, ℕ, List, Option, Some, None, Ok, Err, refl, sym, subst}
+use Rattle.sqlite_trees.specs.declared.store.Store.{Ghosts}
+use Rattle.names.specs.declared.rules.Rule.TheVariants.{X1}
+use Rattle.model.specs.World.{World, Object, object_named}
+use Rattle.model.specs.RepoState.{size_of}
+use Rattle.model.specs.Callers.{Caller}
+use Rattle.model.specs.Cases.{Case}
+use Rattle.model.specs.Answers.{Answer, by_rule, may_pull, serves}
+use Rattle.model.specs.Objects.{get_verdict}
+use Rattle.tables.specs.declared.Store.{Store}
+use Rattle.tables.specs.declared.rows.ObjectRow.{ObjectRow}
+use Rattle.refinement.specs.Left.{Reads, From}
+use Rattle.uploads.specs.Finding.{Finds}
+use Rattle.uploads.proofs.Sizes.{size_found}
+use Rattle.desk.specs.declared.replies.Reply.{Reply}
+use Rattle.desk.specs.declared.replies.ReplyBody.{ReplyBody}
+use Rattle.desk.specs.declared.cases.Case as code
+use Rattle.desk.specs.Replies.{Lends}
+use Rattle.desk.specs.Objects.{RepliesFound}
+use Rattle.desk.specs.Rights.{IsUserOf, case_policy, case_repo, case_user, case_seen}
+use Rattle.desk.specs.Done.{Answers, verdict_by}
+use Rattle.desk.proofs.Unchanged.{denial_is_quiet, replied_after, replied_with}
+
+module _ (world : World) (repo : List ℕ) (c : Case) (name content : List ℕ) (may : may_pull c.setting.policy c.caller.user c.repo.name 404 ≡ Ok tt) where
+  -- the verdict if the repository has no object of the name
+  pub get_none : size_of name c.state ≡ None → verdict_by world repo (get_verdict c name) content ≡ Err (by_rule X1)
+  get_none none = rw (may, none) refl
+
+  -- the verdict if it has one
+  pub get_some : (size : ℕ) (o : Object) → size_of name c.state ≡ Some size → object_named repo name world ≡ Some o
+      → verdict_by world repo (get_verdict c name) content ≡ Ok (serves o)
+  get_some size o some there = rw (may, some, there) refl
+
+-- the question that the code asks is that of the definitions
+pub pulls : (case : code.Case) (who : Caller) → IsUserOf case who → may_pull (case_policy case) (case_user case) (case_repo case).name 404 ≡ Ok tt
+    → may_pull (case_policy case) who.user (case_repo case).name 404 ≡ Ok tt
+pulls case who user may = subst (λ (u : List ℕ). may_pull (case_policy case) u (case_repo case).name 404 ≡ Ok tt) user may
+
+module _ {S : Type 0} (g : Ghosts S) (old new : Store S) (case : code.Case) (name : List ℕ) (may : may_pull (case_policy case) (case_user case) (case_repo case).name 404 ≡ Ok tt) where
+  verdict : List ℕ → World → Caller → Answer
+  verdict content world who = verdict_by world (case_repo case).name (get_verdict (case_seen world case who) name) content
+
+  abbrev IsGot : Reply → World → Type 0
+  IsGot reply world = (who : Caller) → IsUserOf case who → (content : List ℕ)
+      → Answers g old new world (verdict_by world (case_repo case).name (get_verdict (case_seen world case who) name) content) (Ok reply)
+
+  -- the object that was found is the reply, or X1
+  pub got : (found : Option ObjectRow) (reply : Reply) → Reads g old new (λ world. Finds g world new (case_repo case).name name found)
+      → RepliesFound found (Ok reply) → From g old new (IsGot reply)
+  unfolding verdict
+  got None reply reads shows = record {
+    honest = reads.same.was_honest;
+    each = λ honest world h who user content.
+        (replied_after g old new case (verdict content) (λ w. Finds g w new (case_repo case).name name None) reads (Err (by_rule X1)) reply (denial_is_quiet g (by_rule X1)) shows
+        (λ w laws none k is_user. get_none w (case_repo case).name (case_seen w case k) name content (pulls case k is_user may)
+        (size_found g w new (case_repo case) name None laws none))).each honest world h who user;
+  }
+  got (Some row) reply reads shows = record {
+    honest = reads.same.was_honest;
+    each = λ honest world h who user content.
+        let found = reads.each honest world h in
+        let is = get_some world (case_repo case).name (case_seen world case who) name content (pulls case who user may) row.size found.0 (size_found g world new (case_repo case) name (Some row) h.laws found) found.1 in
+        replied_with g old new case (verdict content) (λ w. Finds g w new (case_repo case).name name (Some row)) reads (Ok (serves found.0)) reply (λ w. refl) (λ w. refl) (shows.0 found.0 found.2) honest world h who is
+        (subst (λ (b : ReplyBody). Lends g new b (Ok (serves found.0))) (sym shows.1) (found.0, refl, found.3));
+  }

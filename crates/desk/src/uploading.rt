@@ -1,0 +1,133 @@
+//! The request to upload an object (Git LFS API, Basic Transfers, "Uploads").
+
+ghost use Rattle.std.specs.Prelude.{◌≡◌, ◌+◌, ℕ, List, true, false, nat_le, IfOk, IfErr, OnOk};
+ghost use Rattle.model.specs.Callers as model;
+ghost use Rattle.model.specs.Answers.{receives};
+ghost use Rattle.model.specs.RepoState.{repo_state};
+ghost use Rattle.model.specs.Objects.{put_verdict};
+ghost use Rattle.policy.specs.Values.{repo_view};
+ghost use Rattle.forms.specs.Requests.{put_asked};
+ghost use Rattle.refinement.specs.Left.{From, Reads};
+ghost use Rattle.desk.specs.Contents.{HasRead, IsLeftBy};
+ghost use Rattle.desk.specs.Done.{IsAnsweredAs};
+ghost use Rattle.desk.specs.Objects.{has_place};
+ghost use Rattle.desk.specs.Receiving.{RepliesReceived};
+ghost use Rattle.desk.specs.Rights.{IsUserOf, Judges, case_repo, case_seen};
+
+use crate::cases::{Case, Denial};
+use crate::outcomes::{AnswerFault, Answered};
+use crate::receiving::{Receipt, receive};
+use crate::replies::Reply;
+use crate::rights::{denial_reply, may_push, ref_or_default};
+use forms::PutRequest;
+use names::{Body, Oid, Rule};
+use policy::Repo;
+use std::alloc::{AllocError, Global};
+use tables::{Alter, Store, StoreFault};
+
+/// Whether the quota holds an upload of this size, or an object of the name is stored.
+fn has_place<S: Alter>(
+    store: &mut Store<S>,
+    repo: &Repo,
+    name: &Oid,
+    size: u64,
+) -> Result<bool, StoreFault>
+    ensures { Reads S.Store store.old store.new (λ world. IfOk result (λ place. place
+        ≡ has_place size name.now (repo_state (repo_view repo.now) world))) }
+{
+    let used = uploads::used(store, repo.name())?;
+    if fits(used, size, repo.quota()) {
+        return Ok(true);
+    }
+    let found = uploads::find(store, repo.name(), name)?;
+    Ok(found.is_some())
+}
+
+/// Whether the quota holds `size` bytes beside the bytes that are used.
+fn fits(used: u64, size: u64, quota: u64) -> bool
+    ensures { result ≡ nat_le (used + size) quota }
+{
+    match used.checked_add(size) {
+        Some(total) => total <= quota,
+        None => false,
+    }
+}
+
+/// The caller may upload an object of this name and this size, before its bytes are read; or the policy's denial, or
+/// X3.
+///
+/// # Errors
+///
+/// A [`StoreFault`], which leaves the contents of the store unchanged.
+fn may_upload<S: Alter>(
+    store: &mut Store<S>,
+    case: &Case<'_>,
+    asked: &PutRequest,
+    size: u64,
+) -> Result<Result<(), Denial>, StoreFault>
+    ensures { Reads S.Store store.old store.new (λ world.
+        (who : model.Caller) → IsUserOf case.entry.now who → IfOk result
+        (λ verdict. Judges (λ _. receives (put_asked asked.entry.now).name) verdict
+        (put_verdict (case_seen world case.entry.now who) size (put_asked asked.entry.now)))) }
+{
+    if let Err(denial) = may_push(case, ref_or_default(case, asked.ref_name.as_ref())) {
+        return Ok(Err(denial));
+    }
+    if has_place(store, case.repo, &asked.name, size)? {
+        Ok(Ok(()))
+    } else {
+        Ok(Err(Denial::Rule(Rule::X3)))
+    }
+}
+
+/// The reply once all bytes of the upload arrived: 200, or X2.
+fn received_reply(alloc: Global, receipt: Receipt) -> Result<Reply, AllocError>
+    ensures { RepliesReceived receipt result }
+{
+    match receipt {
+        Receipt::Stored => Ok(Reply::confirmation()),
+        Receipt::Differs => denial_reply(alloc, Denial::Rule(Rule::X2)),
+    }
+}
+
+/// Answers a request to upload an object: before its bytes are read the policy's denial or X3; then 200, or X2.
+///
+/// # Errors
+///
+/// `Body` if the content was cut off, and `Store` if the store refused or memory ran out. The objects of the store are
+/// unchanged.
+pub(crate) fn put<S: Alter, B: Body>(
+    store: &mut Store<S>,
+    alloc: Global,
+    case: &Case<'_>,
+    asked: &PutRequest,
+    content: &mut B,
+) -> Result<Answered, AnswerFault>
+    ensures answered { (bytes : List ℕ) × HasRead B.Body content.old content.new bytes
+        × From S.Store store.old store.new (λ world. (who : model.Caller) → IsUserOf case.entry.now who
+        → IsAnsweredAs S.Store true store.old store.new world (case_repo case.entry.now).name
+        (put_verdict (case_seen world case.entry.now who) (B.size content.old) (put_asked asked.entry.now))
+        bytes (B.size content.new) result) }
+    ensures leaves { IfOk result (λ a. a.leaves_body ≡ true → content.new ≡ content.old) }
+    ensures whole { IfOk result (λ a. a.leaves_body ≡ false → B.size content.new ≡ 0) }
+    ensures good { OnOk result (B.failed content.new ≡ B.failed content.old) }
+    ensures fault { IfErr result (IsLeftBy B.Body content.old content.new) }
+{
+    match may_upload(store, case, asked, content.left())? {
+        Ok(()) => {
+            let receipt = receive(alloc, store, case.repo.name(), &asked.name, content)?;
+            let reply = received_reply(alloc, receipt)?;
+            Ok(Answered {
+                reply,
+                leaves_body: false,
+            })
+        }
+        Err(denial) => {
+            let reply = denial_reply(alloc, denial)?;
+            Ok(Answered {
+                reply,
+                leaves_body: true,
+            })
+        }
+    }
+}
