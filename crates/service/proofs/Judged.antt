@@ -1,10 +1,8 @@
 -- The verdict on a head, check by check.
-use Rattle.std.proofs.Common.{◌≡◌, ℕ, Bool, true, false, not, ◌||◌, List, [], ◌∷◌, Option, Some, None, Result, Ok, Err, codes, refl, sym, ap, ◌∙◌, subst, ◌≤◌, length, lit≤, bytes_eq, cond}
+use Rattle.std.proofs.Common.{◌≡◌, ℕ, Bool, true, false, not, ◌||◌, List, [], ◌∷◌, Some, None, Result, Ok, Err, codes, refl, ap, ◌∙◌, subst, ◌≤◌, length, lit≤, bytes_eq, cond}
 use Rattle.std.specs.Bool.{⊤}
-use Rattle.std.specs.List.{list_any}
 use Rattle.std.specs.Result.{IfErr}
 use Rattle.std.specs.Str.{IsUtf8, is_utf8}
-use Rattle.std.proofs.lemmas.Bool.{or_parts}
 use Rattle.std.proofs.lemmas.Str.{IsUtf8-from_is_utf8}
 use Rattle.std.proofs.lemmas.Slice.Eq.{bytes_eq-Decides}
 use Rattle.httparse.specs.Grammar.{RequestHead}
@@ -12,11 +10,14 @@ use Rattle.names.specs.declared.rules.Rule.{Rule}
 use Rattle.names.specs.declared.rules.Rule.TheVariants.{H6, H7, H8}
 use Rattle.model.specs.declared.Form.{Form}
 use Rattle.model.specs.declared.Form.TheVariants as form
-use Rattle.model.specs.Reading.{◌>>=◌, check, or_default}
-use Rattle.model.specs.Heads.{Route, head_verdict, head_verdict_in, check_framing, route_at, form_of, is_served, is_method, accepts, values, methods_of}
+use Rattle.model.specs.declared.ServedForm.{ServedForm}
+use Rattle.model.specs.declared.ServedForm.TheVariants as served
+use Rattle.desk.specs.Asking.{is_put}
+use Rattle.model.specs.Reading.{◌>>=◌, check}
+use Rattle.model.specs.Heads.{Route, head_verdict, head_verdict_in, check_framing, route_at, form_of, form_of_served, is_method, accepts, values, methods_of}
 use Rattle.model.specs.Steps.{is_h7}
 use Rattle.routes.specs.declared.table.Resource.{Resource}
-use Rattle.routes.specs.declared.table.Resource.TheVariants.{Locks, VerifyLocks, Unlock}
+use Rattle.routes.specs.declared.table.Resource.TheVariants.{Locks, VerifyLocks, Unlock, Content, Verify}
 use Rattle.routes.specs.Table.{row_of}
 use Rattle.service.specs.Judging.{IsDenied}
 use Rattle.service.specs.declared.judging.Denied.{Denied}
@@ -45,45 +46,47 @@ pub asked : (h : RequestHead) (route : Route) (form : Form) → check_framing h 
 unfolding head_verdict_in
 asked h route form whole there served wanted = rw (whole, there, served, wanted) refl
 
--- ---- no route that is served has PUT
+-- ---- PUT is the method of an upload
 
-abbrev has_put : List (List ℕ × Form) → Bool
-has_put requests = list_any (λ (r : List ℕ × Form). bytes_eq r.0 (codes "PUT")) requests
+abbrev is_put_form : Form → Bool
+is_put_form form.Put = true
+is_put_form _ = false
 
-no_put_in : (method : List ℕ) (requests : List (List ℕ × Form)) (f : Form) → has_put requests ≡ false → form_of method requests ≡ Some f → bytes_eq method (codes "PUT") ≡ false
-no_put_in method [] f none served = absurd (cc)
-no_put_in method (r ∷ requests) f none served =
-    at (bytes_eq method r.0) refl (no_put_in method requests f apart.1) served
+-- in these rows, exactly the uploads have the method PUT
+abbrev PutsAlike : List (List ℕ × Form) → Type 0
+PutsAlike [] = ⊤
+PutsAlike (r ∷ requests) = (bytes_eq r.0 (codes "PUT") ≡ is_put_form r.1) × PutsAlike requests
+
+put_in : (method : List ℕ) (requests : List (List ℕ × Form)) (f : Form) → PutsAlike requests → form_of method requests ≡ Some f → bytes_eq method (codes "PUT") ≡ is_put_form f
+put_in method [] f alike served = absurd (cc)
+put_in method (r ∷ requests) f alike served = at (bytes_eq method r.0) refl (put_in method requests f alike.1) served
   where
-    apart : (bytes_eq r.0 (codes "PUT") ≡ false) × (has_put requests ≡ false)
-    apart = or_parts (bytes_eq r.0 (codes "PUT")) (has_put requests) none
+    same : Some r.1 ≡ Some f → r.1 ≡ f
+    same e = cc
 
-    at : (v : Bool) → bytes_eq method r.0 ≡ v → (form_of method requests ≡ Some f → bytes_eq method (codes "PUT") ≡ false)
-        → cond v (Some r.1) (form_of method requests) ≡ Some f → bytes_eq method (codes "PUT") ≡ false
-    at true is rest e = ap (λ (m : List ℕ). bytes_eq m (codes "PUT")) ((bytes_eq-Decides method r.0).0 is) ∙ apart.0
+    at : (v : Bool) → bytes_eq method r.0 ≡ v → (form_of method requests ≡ Some f → bytes_eq method (codes "PUT") ≡ is_put_form f)
+        → cond v (Some r.1) (form_of method requests) ≡ Some f → bytes_eq method (codes "PUT") ≡ is_put_form f
+    at true is rest e = ap (λ (m : List ℕ). bytes_eq m (codes "PUT")) ((bytes_eq-Decides method r.0).0 is) ∙ alike.0 ∙ ap is_put_form (same e)
     at false is rest e = rest e
 
-row_without_put : (r : Resource) → has_put (row_of r).requests ≡ false
-row_without_put Locks = refl
-row_without_put VerifyLocks = refl
-row_without_put Unlock = refl
+row_puts : (r : Resource) → PutsAlike (row_of r).requests
+row_puts Locks = (refl, (refl, tt))
+row_puts VerifyLocks = (refl, tt)
+row_puts Unlock = (refl, tt)
+row_puts Content = (refl, (refl, tt))
+row_puts Verify = (refl, tt)
 
-pub no_put : (h : RequestHead) (r : Resource) (f : Form) → form_of h.method (row_of r).requests ≡ Some f → is_method (codes "PUT") h ≡ false
-no_put h r f served = no_put_in h.method (row_of r).requests f (row_without_put r) served
+served_put : (f : ServedForm) → is_put_form (form_of_served f) ≡ is_put f
+served_put served.Get = refl
+served_put served.Put = refl
+served_put served.Verify = refl
+served_put served.Lock = refl
+served_put served.List = refl
+served_put served.VerifyLocks = refl
+served_put served.Unlock = refl
 
--- the first of two forms that are served, or the second
-either_served : (v : Bool) (first : Form) (rest : Option Form) (f : Form) → is_served first ≡ true → (rest ≡ Some f → is_served f ≡ true)
-    → cond v (Some first) rest ≡ Some f → is_served f ≡ true
-either_served true first rest f served other e = sym (ap (λ (o : Option Form). is_served (or_default o first)) e) ∙ served
-either_served false first rest f served other e = other e
-
--- a method of a resource asks for a form that is served
-pub is_served_by : (method : List ℕ) (r : Resource) (f : Form) → form_of method (row_of r).requests ≡ Some f → is_served f ≡ true
-is_served_by method Locks f e =
-    either_served (bytes_eq method (codes "GET")) form.List _ f refl
-    (either_served (bytes_eq method (codes "POST")) form.Lock None f refl (λ none. absurd (cc))) e
-is_served_by method VerifyLocks f e = either_served (bytes_eq method (codes "POST")) form.VerifyLocks None f refl (λ none. absurd (cc)) e
-is_served_by method Unlock f e = either_served (bytes_eq method (codes "POST")) form.Unlock None f refl (λ none. absurd (cc)) e
+pub puts : (h : RequestHead) (r : Resource) (f : ServedForm) → form_of h.method (row_of r).requests ≡ Some (form_of_served f) → is_method (codes "PUT") h ≡ is_put f
+puts h r f served = put_in h.method (row_of r).requests (form_of_served f) (row_puts r) served ∙ served_put f
 
 -- ---- targets
 

@@ -1,4 +1,8 @@
 pub mod Judged
 pub mod Messages
+pub mod Sent
 pub mod Answered
 pub mod Serving
+pub mod Responses
+pub mod Bodies
+pub mod Bounded

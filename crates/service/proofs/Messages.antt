@@ -1,5 +1,5 @@
 -- A head, and the message that it begins.
-use Rattle.std.proofs.Common.{inl, inr, append-nil, ◌≡◌, ◌∙◌, ◌+◌, ◌<◌, ◌≤◌, ℕ, suc, Bool, true, false, ◌||◌, nat_le, List, [], ◌∷◌, ◌++◌, append_assoc, length, take, drop, codes, Some, Result, Ok, Err, refl, sym, ap, ap₂, subst, arith, cond, length-append, length-take, length-drop, drop-drop, is_err, option_map, lit<, lit≤, true≢false}
+use Rattle.std.proofs.Common.{inl, inr, append-nil, ◌≡◌, ◌∙◌, ◌<◌, ◌≤◌, ℕ, suc, Bool, true, false, ◌||◌, nat_le, List, [], ◌∷◌, ◌++◌, append_assoc, length, take, drop, codes, Option, Some, Bor, Result, Ok, Err, refl, sym, ap, ap₂, subst, arith, cond, length-append, is_err, option_map, lit<, lit≤, true≢false}
 use Rattle.std.proofs.lemmas.Bool.{true≢false}
 use Rattle.std.proofs.lemmas.Bool.Decides.{nat_tests}
 use Rattle.std.proofs.lemmas.List.{drop_all, drop_at, take_at}
@@ -8,29 +8,24 @@ use Rattle.std.specs.Bool.{⊤}
 use Rattle.httparse.specs.Grammar.{RequestHead, print_request, ReadsRequest, MayBecomeRequest}
 use Rattle.names.specs.declared.rules.Rule.{Rule}
 use Rattle.names.specs.declared.rules.Rule.TheVariants as rule
-use Rattle.model.specs.declared.ServedForm.{ServedForm}
-use Rattle.model.specs.declared.ServedForm.TheVariants as served
 use Rattle.model.specs.Reading.{◌>>=◌, check}
 use Rattle.model.specs.Orders.{first}
-use Rattle.model.specs.Heads.{Target, head_verdict, form_of_served, is_served, check_framing, body_length, values, at_most, asks_close, content_length, is_measured, is_clear, is_small}
-use Rattle.model.specs.Answers.{Denial, Plan}
-use Rattle.model.specs.World.{World}
-use Rattle.model.specs.Cases.{Setting}
-use Rattle.model.specs.Verdict.{early_check, early_verdict, desk_plan, desk_request}
+use Rattle.model.specs.Heads.{Target, head_verdict, check_framing, body_length, values, at_most, asks_close, content_length, is_measured, is_clear, is_small}
 use Rattle.model.specs.Steps.{Message, message, bad_head, is_of_head}
 use Rattle.model.specs.Stream.{BeginsWithHead, BeginsWith, with_message, with_bad_head, message_with, IsUnfinished, BeginsBadly}
-use Rattle.model.proofs.Refusals.{IsHeadRule, head_fails, verdict_refused, early_at}
+use Rattle.model.proofs.Refusals.{IsHeadRule, head_fails, verdict_refused}
 use Rattle.model.proofs.Streamed.{first_is_first}
 use Rattle.model.proofs.Tests.{both_true}
 use Rattle.wire.proofs.Streams.{head_more}
 use Rattle.tokens.specs.Bearers.{single_value}
 use Rattle.wire.specs.Connections.{Refuses}
 use Rattle.service.proofs.Judged.{not_framed, framing_rule, refused}
-use Rattle.service.specs.Judging.{Asks, IsDenied, target_seen}
-use Rattle.service.specs.Messages.{IsRefused, IsWhole, whole_message}
+use Rattle.desk.specs.Asking.{is_put}
+use Rattle.service.specs.Judging.{AsksFor, IsDenied, target_seen}
+use Rattle.service.specs.Messages.{Asks, IsCopyOf, IsRefused, target_asked, whole_message}
 use Rattle.service.specs.declared.judging.Denied as judging
 use Rattle.service.specs.declared.judging.Target as code
-use Rattle.service.specs.declared.message.Message as whole
+use Rattle.service.specs.declared.message.Asked.{Asked}
 
 -- ---- a head that is refused
 
@@ -123,9 +118,9 @@ shorter : (bytes : List ℕ) (head : RequestHead) (rest : List ℕ) → ReadsReq
 unfolding print_request
 shorter bytes head rest r = omega (arith, simp length-append at (ap length r.1))
 
--- the body has as many bytes as the target says
-pub body_is : (h : RequestHead) (t : code.Target) → Asks h t → body_length h ≡ t.size
-body_is h t is = ap (λ (v : Result Target Rule). cond (is_err v) 0 (content_length h)) is.target ∙ sym is.size
+-- the body of a head that is not refused has the length that the head says
+pub body_is : (h : RequestHead) (target : Target) → head_verdict h ≡ Ok target → body_length h ≡ content_length h
+body_is h target is = ap (λ (v : Result Target Rule). cond (is_err v) 0 (content_length h)) is
 
 le_true : (n m : ℕ) → n ≤ m → nat_le n m ≡ true
 le_true n m h = grind (arith, nat_tests)
@@ -133,16 +128,20 @@ le_true n m h = grind (arith, nat_tests)
 le_false : (n m : ℕ) → m < n → nat_le n m ≡ false
 le_false n m h = grind (arith, nat_tests)
 
--- a head that is judged, with a body of its length
-pub is_whole : (h : RequestHead) (body : List ℕ) (m : whole.Message) → Asks h m.target → m.body.now ≡ body → length body ≡ content_length h
-    → option_map (λ v. v.now) m.authorization ≡ first (values (codes "authorization") h) → m.is_last ≡ asks_close h → IsWhole h body m
-is_whole h body m is same size bearer last = record {
-  asks = is;
-  bearers = the_first (values (codes "authorization") h) (one_authorization h (framed_if_judged h (target_seen m.target) is.target)) ∙ ap single_value (sym bearer);
-  same_body = same;
-  size = ap length same ∙ size ∙ sym is.size;
-  last = sym last;
+-- a head that is judged, with copies of its texts
+pub asks_copy : (h : RequestHead) (t : code.Target) (value : Option (Bor (List ℕ))) (is_last : Bool) (a : Asked) → AsksFor h t → IsCopyOf t value is_last a
+    → option_map (λ (v : Bor (List ℕ)). v.now) value ≡ first (values (codes "authorization") h) → is_last ≡ asks_close h → Asks h a
+asks_copy h t value is_last a is copy bearer last = record {
+  target = is.target ∙ ap (λ (x : Target). Ok x) (same_target t value is_last a copy);
+  query = copy.query ∙ is.query;
+  bearers =
+      the_first (values (codes "authorization") h) (one_authorization h (framed_if_judged h (target_seen t) is.target)) ∙ ap single_value (sym bearer ∙ sym copy.authorization);
+  last = sym (copy.last ∙ last);
+  put = is.put ∙ ap is_put (sym copy.form);
 }
+  where
+    same_target : (t : code.Target) (value : Option (Bor (List ℕ))) (is_last : Bool) (a : Asked) → IsCopyOf t value is_last a → target_seen t ≡ target_asked a
+    same_target t value is_last a copy = rw (copy.repo, copy.form, copy.parameter) refl
 
 -- a head at the front of some bytes, and what was read after it
 module _ (bytes after read : List ℕ) (h : RequestHead) (b : BeginsWithHead bytes h after) where
@@ -167,21 +166,6 @@ module _ (bytes after read : List ℕ) (h : RequestHead) (b : BeginsWithHead byt
   message_there = with_message h (after ++ read) (head_more bytes h after read b) refl refl
 
 -- ---- a message that is cut off
-
--- a head that asks for no upload is denied by its own rules alone, before its body
-passes_early : (form : ServedForm) (plan : Result Plan Denial) → is_served (form_of_served form) ≡ true → early_check (form_of_served form) plan ≡ Ok tt
-passes_early served.Get plan is = refl
-passes_early served.Put plan is = absurd (true≢false (sym is))
-passes_early served.Verify plan is = refl
-passes_early served.Lock plan is = refl
-passes_early served.List plan is = refl
-passes_early served.VerifyLocks plan is = refl
-passes_early served.Unlock plan is = refl
-
--- nothing denies such a head before its body
-pub no_early_denial : (world : World) (setting : Setting) (h : RequestHead) (t : code.Target) → Asks h t → early_verdict world setting h ≡ Ok tt
-no_early_denial world setting h t is =
-    early_at world setting h (target_seen t) is.target ∙ passes_early t.form (desk_plan world setting (desk_request h (target_seen t) [])) is.served
 
 -- a head with less than its body
 pub cut_message : (bytes after : List ℕ) (h : RequestHead) → BeginsWithHead bytes h after → length after < body_length h

@@ -1,19 +1,21 @@
 -- A connection, message by message.
-use Rattle.std.proofs.Common.{◌≡◌, ◌∙◌, ◌+◌, ◌<◌, ℕ, suc, true, List, [], ◌∷◌, ◌++◌, length, take, drop, get_or, map, Option, Some, None, is_some, refl, sym, ap, subst, append-nil, append_assoc, add-zero}
+use Rattle.std.proofs.Common.{◌≡◌, ◌∙◌, ◌+◌, ◌<◌, ℕ, suc, Bool, true, List, [], ◌∷◌, ◌++◌, length, take, drop, get_or, map, Option, Some, None, Ok, is_some, refl, sym, ap, ap₂, subst, append-nil, append_assoc, add-zero}
 use Rattle.std.proofs.Math.Seq.{drop-cons}
 use Rattle.std.proofs.lemmas.List.{take-append-drop, map-append}
 use Rattle.std.specs.Io.KnownBytes.{Appends, Consumes}
 use Rattle.sqlite_trees.specs.declared.store.Store.{Ghosts}
-use Rattle.model.specs.World.{World}
+use Rattle.model.specs.World.{World, Object}
 use Rattle.model.specs.Cases.{Setting}
-use Rattle.model.specs.Steps.{Exchange, Event, exchanged, Run, closes_if}
+use Rattle.model.specs.Answers.{Answer, serves}
+use Rattle.model.specs.Replies.{reply_of, head_text}
+use Rattle.model.specs.Steps.{Message, message, bad_head, Exchange, Event, exchanged, Run, allow, closes, closes_if}
 use Rattle.model.specs.Stream.{BeginsWith, IsUnfinished}
 use Rattle.model.specs.Progress.{IsProgress, fresh, with_exchange}
 use Rattle.model.specs.Views.{SameViews}
 use Rattle.model.specs.Bounds.{bound_of_run}
 use Rattle.model.specs.Laws.{NoneAsks}
 use Rattle.model.specs.Sessions as model
-use Rattle.model.specs.Sessions.{Session, IsSession, IsPartOf, text_of, text_if, reply_count}
+use Rattle.model.specs.Sessions.{Session, IsSession, IsWritten, IsPartOf, BreaksInContent, session_text, text_of, text_if, reply_count}
 use Rattle.model.proofs.Progress.{run_append, begun, IsNextExchange, goes_on, ends_unfinished, ends_unread, ends_closed, breaks_off}
 use Rattle.model.proofs.Apart.{sessions_leave_views}
 use Rattle.wire.proofs.Appended.{appends_both}
@@ -76,12 +78,71 @@ ends_by s rest old new end.InputEnded early p less = ends_unfinished s rest old 
 ends_by s rest old new end.ReadFailed early p less = ends_unread s rest old new p less
 ends_by s rest old new end.Closed early p less = absurd early
 ends_by s rest old new end.WriteFailed early p less = absurd early
+ends_by s rest old new end.StoreFailed early p less = absurd early
 
 open_by : (bytes : List ℕ) (exchanges : List Exchange) (e : End) → IsEarly e → IsLeftOpen bytes exchanges → HasNoBadHead bytes exchanges e
 open_by bytes exchanges end.InputEnded early is = is
 open_by bytes exchanges end.ReadFailed early is = is
 open_by bytes exchanges end.Closed early is = absurd early
 open_by bytes exchanges end.WriteFailed early is = absurd early
+open_by bytes exchanges end.StoreFailed early is = absurd early
+
+-- ---- a reply that breaks off within its content
+
+-- a reply with the content of an object lists no methods
+no_methods : (asked : Message) (o : Object) → ◌≡◌ {A = List ℕ} (allow asked (Ok (serves o))) []
+no_methods (message head body whole) o = refl
+no_methods bad_head o = refl
+
+-- its head
+head_served : (e : Exchange) (given : Answer) (o : Object) → e.given ≡ Some given → given ≡ Ok (serves o)
+    → head_text (reply_of given) (allow e.asked given) (closes e) ≡ head_text (reply_of (Ok (serves o))) [] (closes e)
+head_served e given o gave is =
+    ap (λ (a : Answer). head_text (reply_of a) (allow e.asked a) (closes e)) is ∙ ap (λ (m : List ℕ). head_text (reply_of (Ok (serves o))) m (closes e)) (no_methods e.asked o)
+
+-- its whole text
+text_served : (e : Exchange) (o : Object) → e.given ≡ Some (Ok (serves o)) → text_of e ≡ head_text (reply_of (Ok (serves o))) [] (closes e) ++ o.bytes
+text_served e o is =
+    ap (text_if e.asked) is
+    ∙ ap₂ (λ (m : List ℕ) (c : Bool). head_text (reply_of (Ok (serves o))) m c ++ o.bytes) (no_methods e.asked o) (sym (ap (closes_if e.asked) is))
+
+-- the head and a prefix of the object are a part of the text
+content_part : (e : Exchange) (o : Object) (n : ℕ) → e.given ≡ Some (Ok (serves o)) → n < length o.bytes
+    → IsPartOf (head_text (reply_of (Ok (serves o))) [] (closes e) ++ take n o.bytes) (text_of e)
+content_part e o n is less =
+    let head = head_text (reply_of (Ok (serves o))) [] (closes e) in
+    let part = is_part o.bytes n less in
+    record {
+      byte = part.byte;
+      rest = part.rest;
+      is = text_served e o is ∙ ap (λ (t : List ℕ). head ++ t) part.is ∙ sym (append_assoc head (take n o.bytes) (part.byte ∷ part.rest));
+    }
+
+-- a session that breaks off there, after replies that were written whole
+content_breaks : (before : List Exchange) (e : Exchange) (o : Object) (n : ℕ) → e.given ≡ Some (Ok (serves o)) → n < length o.bytes
+    → {setting : Setting} (bytes written : List ℕ) (answered : ℕ) → IsWritten (record { setting = setting; bytes = bytes; exchanges = before; written = written; answered = answered })
+    → BreaksInContent (record {
+      setting = setting;
+      bytes = bytes;
+      exchanges = before ++ e ∷ [];
+      written = written ++ (head_text (reply_of (Ok (serves o))) [] (closes e) ++ take n o.bytes);
+      answered = answered;
+    })
+content_breaks before e o n is less bytes written answered whole =
+    let head = head_text (reply_of (Ok (serves o))) [] (closes e) in
+    let part = is_part o.bytes n less in
+    record {
+      before = before;
+      last = e;
+      object = o;
+      part = take n o.bytes;
+      rest = part.byte ∷ part.rest;
+      order = refl;
+      serving = is;
+      beginning = part.is;
+      written = ap (λ (t : List ℕ). t ++ (head ++ take n o.bytes)) whole.written ∙ sym (append_assoc (session_text before) head (take n o.bytes));
+      answered = whole.answered;
+    }
 
 -- ---- a session so far, and one more turn
 
@@ -213,6 +274,29 @@ module _ {S : Type 0} (g : Ghosts S) (setting : Setting) (world : World) (was : 
           apart = apart_by (s.exchanges ++ e ∷ []) kept session.run;
         }
 
+    -- the store fails within the content of an object
+    fails : EndsTurn g setting (waits ++ read) next s.kept mid new is more_is (Some end.StoreFailed)
+        → IsServed g setting (bytes ++ read) world old new was more_is (record { answered = answered; end = end.StoreFailed })
+    fails (e, kept, turn, (rest, begins), (given, gave, broke)) =
+        let all = bytes ++ read in
+        let o = broke.object in
+        let serving : e.given ≡ Some (Ok (serves o)) = gave ∙ ap Some broke.serving in
+        let head = head_text (reply_of (Ok (serves o))) [] (closes e) in
+        let part = head ++ take broke.written o.bytes in
+        let session = breaks_off (so_far all s.exchanges s.written answered) (waits ++ read) rest world s.kept kept e part now (next_exchange (waits ++ read) rest e kept begins turn all)
+        (content_part e o broke.written serving broke.less) in
+        record {
+          exchanges = s.exchanges ++ e ∷ [];
+          written = s.written ++ part;
+          kept = kept;
+          session = record { ends = (session.ends.0, content_breaks s.exchanges e o broke.written serving broke.less all s.written answered now.written); under = session.under; run = session.run };
+          bad_head = tt;
+          taken = appends_both was is more_is s.written part s.taken (subst (λ (t : List ℕ). Appends is more_is (t ++ take broke.written o.bytes)) (head_served e given o gave broke.serving) broke.taken);
+          leads = leads_one e kept turn;
+          run = leads_on (s.exchanges ++ e ∷ []) kept session.run;
+          apart = apart_by (s.exchanges ++ e ∷ []) kept session.run;
+        }
+
     none_more : (how : End) → IsServed g setting (bytes ++ read) world old new was more_is (record { answered = answered; end = how })
         → IsServed g setting (bytes ++ read) world old new was more_is (record { answered = answered + 0; end = how })
     none_more how is = subst (λ (k : ℕ). IsServed g setting (bytes ++ read) world old new was more_is (record { answered = k; end = how })) (sym (add-zero answered)) is
@@ -224,6 +308,7 @@ module _ {S : Type 0} (g : Ghosts S) (setting : Setting) (world : World) (was : 
     ends end.ReadFailed (left, same) = none_more end.ReadFailed (ends_early end.ReadFailed tt left same)
     ends end.Closed turn = shuts turn
     ends end.WriteFailed turn = none_more end.WriteFailed (breaks turn)
+    ends end.StoreFailed turn = none_more end.StoreFailed (fails turn)
 
 -- there was no memory for the connection
 pub unserved : {S : Type 0} (g : Ghosts S) (setting : Setting) (world : World) (store : Store S) (was is : Option (List ℕ)) (served : Served) → IsRefusal was is served → Holds g store world

@@ -1,12 +1,13 @@
 -- What the service reports of a head: what it asks for, or the rule that refuses it.
-use Rattle.std.specs.Prelude.{◌≡◌, ◌≤◌, true, false, length, [], codes, Result, Ok, Err}
+use Rattle.std.specs.Prelude.{◌≡◌, ◌≤◌, true, length, [], codes, Result, Ok, Err}
 use Rattle.httparse.specs.Grammar.{RequestHead}
 use Rattle.names.specs.declared.limits.TheConstants.{ALLOW_LIMIT}
 use Rattle.model.specs.Heads as model
-use Rattle.model.specs.Heads.{head_verdict, form_of_served, is_served, is_method, query_of, content_length}
+use Rattle.model.specs.Heads.{head_verdict, form_of_served, is_method, query_of, content_length}
 use Rattle.model.specs.Answers.{by_rule}
 use Rattle.model.specs.Steps.{message, allow}
 use Rattle.routes.specs.Routes.{route_seen}
+use Rattle.desk.specs.Asking.{is_put}
 use Rattle.service.specs.declared.judging.Target.{Target}
 use Rattle.service.specs.declared.judging.Denied.{Denied}
 
@@ -18,13 +19,12 @@ target_seen t = record {
   form = form_of_served t.form;
 }
 
--- the head asks for this target, with this query and `size` bytes of body; it uploads nothing
-pub record Asks (h : RequestHead) (t : Target) : Type 0 where
+-- the head asks for this target, with this query and `size` bytes of body; only an upload has the method PUT
+pub record AsksFor (h : RequestHead) (t : Target) : Type 0 where
   pub target : head_verdict h ≡ Ok (target_seen t)
   pub query : t.query.now ≡ query_of h.target
   pub size : t.size ≡ content_length h
-  pub no_put : is_method (codes "PUT") h ≡ false
-  pub served : is_served (form_of_served t.form) ≡ true
+  pub put : is_method (codes "PUT") h ≡ is_put t.form
 
 -- this rule refuses the head, and the reply names these methods
 pub record IsDenied (h : RequestHead) (d : Denied) : Type 0 where
@@ -34,5 +34,5 @@ pub record IsDenied (h : RequestHead) (d : Denied) : Type 0 where
 
 -- `judge`'s result is correct for this head
 abbrev pub IsJudged : RequestHead → Result Target Denied → Type 0
-IsJudged h (Ok t) = Asks h t
+IsJudged h (Ok t) = AsksFor h t
 IsJudged h (Err d) = IsDenied h d

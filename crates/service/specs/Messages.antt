@@ -1,35 +1,74 @@
--- A message that was read, as the service reports it.
-use Rattle.std.specs.Prelude.{◌≡◌, ◌≤◌, true, false, List, ℕ, [], length, codes, option_map, Some, Ok, Err, Result}
+-- A head that was read, as the service reports it.
+use Rattle.std.specs.Prelude.{◌≡◌, ◌≤◌, Bool, true, List, ℕ, length, codes, string_bytes, Option, option_map, Some, Ok, Err, Result}
+use Rattle.std.specs.Borrow.{Bor}
 use Rattle.httparse.specs.Grammar.{RequestHead}
 use Rattle.names.specs.declared.limits.TheConstants.{ALLOW_LIMIT}
 use Rattle.model.specs.World.{World}
-use Rattle.model.specs.Heads.{values, asks_close, content_length}
+use Rattle.model.specs.Heads as model_head
+use Rattle.model.specs.Heads.{head_verdict, form_of_served, is_method, query_of, values, asks_close}
 use Rattle.model.specs.Cases.{Setting}
 use Rattle.model.specs.Answers.{by_rule}
 use Rattle.model.specs.Steps as model
 use Rattle.model.specs.Steps.{verdict_on, is_of_head, closes_after, allow}
 use Rattle.model.specs.Stream.{BeginsWith}
 use Rattle.tokens.specs.Bearers.{single_value}
-use Rattle.service.specs.Judging.{Asks, IsDenied}
+use Rattle.routes.specs.Routes.{route_seen}
+use Rattle.desk.specs.Asking.{is_put}
+use Rattle.desk.specs.declared.admission.RepoRequest.{RepoRequest}
+use Rattle.service.specs.Judging.{IsDenied}
+use Rattle.service.specs.declared.judging.Target.{Target}
 use Rattle.service.specs.declared.judging.Denied.{Denied}
-use Rattle.service.specs.declared.message.Message.{Message}
+use Rattle.service.specs.declared.message.Asked.{Asked}
+use Rattle.service.specs.declared.message.HeadFault.{HeadFault}
+use Rattle.service.specs.declared.message.HeadFault.TheVariants as fault
 
 -- a head and its whole body
 abbrev pub whole_message : RequestHead → List ℕ → model.Message
 whole_message head body = model.message head body true
 
--- an accepted head with this body, and the facts about both
-pub record IsWhole (head : RequestHead) (body : List ℕ) (m : Message) : Type 0 where
-  pub asks : Asks head m.target
-  pub bearers : values (codes "authorization") head ≡ single_value (option_map (λ v. v.now) m.authorization)
-  pub same_body : m.body.now ≡ body
-  pub size : length m.body.now ≡ m.target.size
-  pub last : asks_close head ≡ m.is_last
+-- ---- what a head asks
 
--- the head and a body of its length are read as this message; or a rule refuses the head
-abbrev pub IsRead : RequestHead → List ℕ → Result Message Denied → Type 0
-IsRead head body (Ok m) = length body ≡ content_length head → IsWhole head body m
-IsRead head body (Err d) = IsDenied head d
+-- the copy of a target, of the value of Authorization, and of whether the message is the last
+pub record IsCopyOf (t : Target) (value : Option (Bor (List ℕ))) (is_last : Bool) (a : Asked) : Type 0 where
+  pub repo : string_bytes a.repo ≡ (route_seen t.route).repo
+  pub form : a.form ≡ t.form
+  pub parameter : string_bytes a.parameter ≡ t.route.parameter.now
+  pub query : string_bytes a.query ≡ t.query.now
+  pub authorization : option_map (λ v. v.items) a.authorization ≡ option_map (λ (v : Bor (List ℕ)). v.now) value
+  pub last : a.is_last ≡ is_last
+
+-- the target that is asked for, in the terms of the definitions
+abbrev pub target_asked : Asked → model_head.Target
+target_asked a = record {
+  repo = string_bytes a.repo;
+  parameter = string_bytes a.parameter;
+  form = form_of_served a.form;
+}
+
+-- the head asks this; only an upload has the method PUT
+pub record Asks (h : RequestHead) (a : Asked) : Type 0 where
+  pub target : head_verdict h ≡ Ok (target_asked a)
+  pub query : string_bytes a.query ≡ query_of h.target
+  pub bearers : values (codes "authorization") h ≡ single_value (option_map (λ v. v.items) a.authorization)
+  pub last : asks_close h ≡ a.is_last
+  pub put : is_method (codes "PUT") h ≡ is_put a.form
+
+-- the head asks this; or a rule refuses it; or it is not refused, and there is no memory for its texts
+abbrev pub IsRead : RequestHead → Result Asked HeadFault → Type 0
+IsRead h (Ok a) = Asks h a
+IsRead h (Err (fault.Denied d)) = IsDenied h d
+IsRead h (Err fault.Memory) = (target : model_head.Target) × (head_verdict h ≡ Ok target)
+
+-- the request to the desk, with this body
+pub record IsRequestOf (a : Asked) (given : List ℕ) (request : RepoRequest) : Type 0 where
+  pub authorization : option_map (λ v. v.now) request.authorization ≡ option_map (λ v. v.items) a.authorization
+  pub repo : request.repo.now ≡ string_bytes a.repo
+  pub form : request.form ≡ a.form
+  pub parameter : request.parameter.now ≡ string_bytes a.parameter
+  pub query : request.query.now ≡ string_bytes a.query
+  pub body : request.body.now ≡ given
+
+-- ---- a refused head
 
 -- a message at the front of the bytes that a head rule refuses in every world
 pub record IsRefused (bytes : List ℕ) (asked : model.Message) (d : Denied) : Type 0 where

@@ -1,14 +1,45 @@
--- The text of a reply, with the lines that the connection adds.
-use Rattle.std.specs.Prelude.{ℕ, Bool, List, None, ◌++◌}
-use Rattle.model.specs.Replies as model
-use Rattle.model.specs.Replies.{json, head_text}
-use Rattle.desk.specs.Replies.{body_text}
-use Rattle.desk.specs.declared.replies.Reply.{Reply}
+-- The text of a reply, all of it or a part, as it is written.
+use Rattle.std.specs.Prelude.{◌≡◌, ◌<◌, ◌≤◌, ℕ, Bool, List, [], ◌++◌, length, take, Option, Result, Ok, Err, ⊤}
+use Rattle.std.specs.Io.KnownBytes.{Appends}
+use Rattle.names.specs.Streams.{IsBeginning}
+use Rattle.model.specs.World.{Object}
+use Rattle.model.specs.Answers.{Answer, serves}
+use Rattle.model.specs.Replies.{reply_of, reply_text, head_text, body_text}
+use Rattle.chunks.specs.declared.pouring.PourCause.{PourCause}
+use Rattle.chunks.specs.declared.pouring.PourCause.TheVariants.{Store as ByStore, Device as ByDevice}
+use Rattle.service.specs.declared.sending.SendFault.{SendFault}
+use Rattle.service.specs.declared.sending.SendFault.TheVariants.{Sink, Store}
 
--- the status and the body of the reply
-abbrev pub reply_seen : Reply → model.Reply
-reply_seen reply = record { status = reply.status; rule = None; body = json (body_text reply.body) }
+-- the text of the reply to an answer, without the content of an object
+abbrev pub front_text : Answer → List ℕ → Bool → List ℕ
+front_text given allow close = let r = reply_of given in head_text r allow close ++ body_text r.body []
 
--- the head and the body; `allow` is the list of methods, and `close` says whether the server closes after the reply
-abbrev pub sent_text : Reply → List ℕ → Bool → List ℕ
-sent_text reply allow close = head_text (reply_seen reply) allow close ++ body_text reply.body
+-- the text was written, all of it or, if the result is an error, a prefix
+abbrev pub Writes : {T E : Type 0} → List ℕ → Option (List ℕ) → Option (List ℕ) → Result T E → Type 0
+Writes text was is (Ok x) = Appends was is text
+Writes text was is (Err e) = (written : ℕ) × IsBeginning was is text written
+
+-- the result for a content of which this number of bytes was written: the sink failed, or the store before the last byte;
+-- it is no error if the store failed after the last byte
+abbrev pub EndsContent : {T : Type 0} → PourCause → (written size : ℕ) → Result T SendFault → Type 0
+EndsContent ByDevice written size (Err Sink) = ⊤
+EndsContent ByDevice written size (Err Store) = ⊥
+EndsContent ByDevice written size (Ok x) = ⊥
+EndsContent (ByStore fault) written size (Err Sink) = ⊥
+EndsContent (ByStore fault) written size (Err Store) = written < size
+EndsContent (ByStore fault) written size (Ok x) = size ≤ written
+
+-- the answer serves an object; the head of the reply and a prefix of the object, not all of it, were written
+pub record BreaksOff (given : Answer) (allow : List ℕ) (close : Bool) (was is : Option (List ℕ)) : Type 0 where
+  pub object : Object
+  pub serving : given ≡ Ok (serves object)
+  pub written : ℕ
+  pub less : written < length object.bytes
+  pub taken : Appends was is (head_text (reply_of given) allow close ++ take written object.bytes)
+
+-- the reply to the answer was written: all of it, a prefix if a write failed, or less than its content if the store failed
+abbrev pub Sends :
+    {T : Type 0} → Answer → List ℕ → Bool → Option (List ℕ) → Option (List ℕ) → Result T SendFault → Type 0
+Sends given allow close was is (Ok x) = Appends was is (reply_text given allow close)
+Sends given allow close was is (Err Sink) = (written : ℕ) × IsBeginning was is (reply_text given allow close) written
+Sends given allow close was is (Err Store) = BreaksOff given allow close was is

@@ -16,7 +16,7 @@ use Rattle.model.specs.Laws.{NoneAsks}
 use Rattle.tables.specs.declared.Store.{Store}
 use Rattle.refinement.specs.Left.{Leads}
 use Rattle.service.specs.declared.ends.End.{End}
-use Rattle.service.specs.declared.ends.End.TheVariants.{InputEnded, Closed, ReadFailed, WriteFailed}
+use Rattle.service.specs.declared.ends.End.TheVariants.{InputEnded, Closed, ReadFailed, WriteFailed, StoreFailed}
 use Rattle.service.specs.declared.ends.Served.{Served}
 
 -- why the connection ended, in the terms of the definitions
@@ -25,6 +25,7 @@ end_seen InputEnded = model.InputEnded
 end_seen Closed = model.Closed
 end_seen ReadFailed = model.ReadFailed
 end_seen WriteFailed = model.WriteFailed
+end_seen StoreFailed = model.StoreFailed
 
 -- the bytes after the last message may still become a head
 abbrev pub IsLeftOpen : List ℕ → List Exchange → Type 0
@@ -36,6 +37,7 @@ HasNoBadHead bytes exchanges InputEnded = IsLeftOpen bytes exchanges
 HasNoBadHead bytes exchanges ReadFailed = IsLeftOpen bytes exchanges
 HasNoBadHead bytes exchanges Closed = ⊤
 HasNoBadHead bytes exchanges WriteFailed = ⊤
+HasNoBadHead bytes exchanges StoreFailed = ⊤
 
 -- the connection's exchanges, the bytes written, the world that they led the store to, and what a stop leaves;
 -- any run that ends in the old world can be continued by them, and views of other repositories do not change

@@ -1,41 +1,27 @@
 -- One message of a connection, and its answer.
-use Rattle.std.specs.Prelude.{◌≡◌, ◌≤◌, ℕ, Bool, true, false, List, [], ◌++◌, length, Option, Some, None, is_some, MatchBool, Result, Ok, Err}
-use Rattle.std.specs.Io.KnownBytes.{Appends, Consumes}
+use Rattle.std.specs.Prelude.{◌≡◌, ℕ, Bool, true, false, List, [], ◌++◌, Option, Some, None, is_some, MatchBool, Result, Ok, Err, ⊤}
+use Rattle.std.specs.Io.KnownBytes.{Appends}
 use Rattle.httparse.specs.Grammar.{MayBecomeRequest}
 use Rattle.sqlite_trees.specs.declared.store.Store.{Ghosts}
 use Rattle.names.specs.Streams.{HasGrown, IsBeginning}
 use Rattle.model.specs.World.{World}
 use Rattle.model.specs.Cases.{Setting}
-use Rattle.model.specs.Answers.{Answer, is_rule}
-use Rattle.model.specs.Steps.{Message, Exchange, exchanged, Carries, closes, is_of_head, is_h7}
+use Rattle.model.specs.Answers.{Answer}
+use Rattle.model.specs.Steps.{Message, Exchange, exchanged, allow, closes}
 use Rattle.model.specs.Stream.{BeginsWith, IsUnfinished}
-use Rattle.model.specs.Bounds.{bound_after}
+use Rattle.model.specs.Replies.{reply_text}
 use Rattle.model.specs.Sessions.{text_of}
-use Rattle.names.specs.declared.bodies.BodyFault.{BodyFault}
 use Rattle.tables.specs.declared.Store.{Store}
 use Rattle.refinement.specs.Left.{Leads, Takes}
-use Rattle.desk.specs.Replies.{IsReplyOf}
-use Rattle.desk.specs.declared.replies.Reply.{Reply}
-use Rattle.service.specs.Sending.{sent_text}
+use Rattle.desk.specs.Replies.{IsReplyOf, Lends}
+use Rattle.service.specs.Sending.{BreaksOff}
 use Rattle.service.specs.declared.ends.End.{End}
-use Rattle.service.specs.declared.ends.End.TheVariants.{InputEnded, Closed, ReadFailed, WriteFailed}
+use Rattle.service.specs.declared.ends.End.TheVariants.{InputEnded, Closed, ReadFailed, WriteFailed, StoreFailed}
 use Rattle.service.specs.declared.responding.Response.{Response}
 
 -- a message and the answer to it, under a policy and at a moment
 abbrev pub exchange : Setting → Message → Option Answer → Exchange
 exchange setting asked given = record { setting = setting; asked = asked; given = given }
-
--- the reply shows an answer that carries out the verdict, and the store was led to the world after it
-pub record IsAnswered
-    {S : Type 0} (g : Ghosts S) (world : World) (setting : Setting) (asked : Message)
-    (old new : Store S) (reply : Reply) : Type 0 where
-  pub given : Answer
-  pub kept : World
-  pub tells : IsReplyOf reply given
-  pub carries : Carries world (exchange setting asked (Some given)) kept
-  pub leads : Leads g old new kept (bound_after world (exchanged (exchange setting asked (Some given))))
-  pub of_head : is_rule is_of_head given ≡ false
-  pub method : is_rule is_h7 given ≡ false
 
 -- the bytes begin with the message of the exchange, whatever follows them, and the next ones follow it
 abbrev pub IsFirst : List ℕ → Exchange → List ℕ → Type 0
@@ -49,15 +35,19 @@ pub record IsTurn
 
 -- ---- a response
 
--- the bytes begin with the message that the response answers; the next ones follow it if the connection stays open
+-- the bytes begin with the message that the response answers, and the store has the content that the reply sends; the
+-- next bytes follow the message if the connection stays open
 pub record IsResponse
     {S : Type 0} (g : Ghosts S) (setting : Setting) (bytes next : List ℕ) (world : World) (old new : Store S) (r : Response) : Type 0 where
   pub e : Exchange
   pub kept : World
   pub turn : IsTurn g setting world old new e kept
-  pub some : is_some e.given ≡ true
+  pub given : Answer
+  pub is : e.given ≡ Some given
+  pub tells : IsReplyOf r.reply given
+  pub lends : Lends g new r.reply.body given
+  pub methods : r.allow.now ≡ allow e.asked given
   pub closes : closes e ≡ r.close
-  pub text : sent_text r.reply r.allow.now r.close ≡ text_of e
   pub begins : MatchBool r.close ((rest : List ℕ) × BeginsWith bytes e.asked rest) (IsFirst bytes e next)
 
 -- the bytes hold no complete message: less than a head, or a head with less than its body, which is not answered
@@ -78,13 +68,24 @@ Responds g setting bytes next world old new (Err end) = IsIncomplete g setting b
 
 -- ---- what is written
 
--- the text was written, all of it or a prefix, and the connection is closed after it if `close` is set
-abbrev pub IsSent : Option (List ℕ) → Option (List ℕ) → List ℕ → Bool → Option End → Type 0
-IsSent old new text close None = (close ≡ false) × Appends old new text
-IsSent old new text close (Some Closed) = (close ≡ true) × Appends old new text
-IsSent old new text close (Some WriteFailed) = (written : ℕ) × IsBeginning old new text written
-IsSent old new text close (Some InputEnded) = ⊥
-IsSent old new text close (Some ReadFailed) = ⊥
+-- the reply to the answer was written: all of it, a prefix if a write failed, or less than its content if the store failed
+abbrev pub IsSent : Option (List ℕ) → Option (List ℕ) → Answer → List ℕ → Bool → Option End → Type 0
+IsSent old new given allow close None = Appends old new (reply_text given allow close)
+IsSent old new given allow close (Some Closed) = Appends old new (reply_text given allow close)
+IsSent old new given allow close (Some WriteFailed) =
+    (written : ℕ) × IsBeginning old new (reply_text given allow close) written
+IsSent old new given allow close (Some StoreFailed) = BreaksOff given allow close old new
+IsSent old new given allow close (Some InputEnded) = ⊥
+IsSent old new given allow close (Some ReadFailed) = ⊥
+
+-- how a connection ends with a reply: it goes on, the server closes it if `close` is set, or a write or the store failed
+abbrev pub EndsReply : (close : Bool) → Option End → Type 0
+EndsReply close None = close ≡ false
+EndsReply close (Some Closed) = close ≡ true
+EndsReply close (Some WriteFailed) = ⊤
+EndsReply close (Some StoreFailed) = ⊤
+EndsReply close (Some InputEnded) = ⊥
+EndsReply close (Some ReadFailed) = ⊥
 
 -- a write failed exactly if the connection ended for that
 abbrev pub IsCounted : ℕ → ℕ → Option End → Type 0
@@ -94,7 +95,8 @@ IsCounted old new _ = new ≡ old
 -- ---- a turn
 
 -- the message at the front of the bytes was answered and the reply written, so that the connection goes on with the
--- next bytes or ends; or the bytes hold no complete message, and nothing is written
+-- next bytes or ends; or only a part of the reply was written, since a write or the store failed; or the bytes hold no
+-- complete message, and nothing is written
 abbrev pub EndsTurn :
     {S : Type 0} (g : Ghosts S) → Setting → (bytes next : List ℕ) → World → (old new : Store S)
     → Option (List ℕ) → Option (List ℕ) → Option End → Type 0
@@ -107,6 +109,9 @@ EndsTurn g setting bytes next world old new was is (Some Closed) =
 EndsTurn g setting bytes next world old new was is (Some WriteFailed) =
     (e : Exchange) × (kept : World) × IsTurn g setting world old new e kept × ((rest : List ℕ) × BeginsWith bytes e.asked rest)
     × ((written : ℕ) × IsBeginning was is (text_of e) written)
+EndsTurn g setting bytes next world old new was is (Some StoreFailed) =
+    (e : Exchange) × (kept : World) × IsTurn g setting world old new e kept × ((rest : List ℕ) × BeginsWith bytes e.asked rest)
+    × ((given : Answer) × (e.given ≡ Some given) × BreaksOff given (allow e.asked given) (closes e) was is)
 EndsTurn g setting bytes next world old new was is (Some InputEnded) =
     IsIncomplete g setting bytes world old new × (is ≡ was)
 EndsTurn g setting bytes next world old new was is (Some ReadFailed) =

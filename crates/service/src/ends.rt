@@ -11,6 +11,8 @@ pub enum End {
     ReadFailed,
     /// A write failed.
     WriteFailed,
+    /// The store failed within the content of an object.
+    StoreFailed,
 }
 
 /// The result of serving a connection.

@@ -1,42 +1,129 @@
-//! A message: a head and its body (RFC 9112, Message Format).
+//! What a message asks: its head, copied from the connection's buffer.
 
+ghost use Rattle.std.specs.Prelude.{◌≡◌, IfOk, option_map};
 ghost use Rattle.httparse.specs.Grammar.{RequestHead};
 ghost use Rattle.wire.specs.Fields.{Shows};
-ghost use Rattle.service.specs.Messages.{IsRead};
+ghost use Rattle.service.specs.Messages.{IsCopyOf, IsRead, IsRequestOf};
+ghost use Rattle.service.specs.declared.message.HeadFault.TheVariants as fault;
 
 use crate::judging::{Denied, Target, judge};
+use desk::RepoRequest;
+use model::ServedForm;
 use routes::Routes;
+use std::alloc::{AllocError, Global};
 use wire::Head;
 
-/// An accepted head and its body.
-#[derive(Clone, Copy, Debug)]
-pub(crate) struct Message<'m> {
-    /// What the head asks for.
-    pub target: Target<'m>,
+/// What an accepted head asks. Its texts are copies: the buffer that the head is in is borrowed while the body is read.
+#[derive(Debug, Drop)]
+pub(crate) struct Asked {
+    /// The repository, as `owner/name`. It may not be a valid name.
+    pub repo: String,
+    /// What the method asks of the resource.
+    pub form: ServedForm,
+    /// The route's parameter; empty if the route has none.
+    pub parameter: String,
+    /// The part of the target after its first question mark.
+    pub query: String,
     /// The value of the first `Authorization` field, if any.
-    pub authorization: Option<&'m [u8]>,
-    /// The body.
-    pub body: &'m [u8],
+    pub authorization: Option<Vec<u8>>,
     /// Whether the head asks to close the connection after this message.
     pub is_last: bool,
 }
 
-/// The message of a head and its whole body.
+/// Why a head is not answered by the desk.
+#[derive(Clone, Copy, Debug)]
+pub(crate) enum HeadFault {
+    /// A rule refuses it.
+    Denied(Denied),
+    /// There is no memory for its texts.
+    Memory,
+}
+
+impl From<Denied> for HeadFault {
+    ghost from_gives = { λ denied result. result ≡ fault.Denied denied };
+
+    fn from(denied: Denied) -> HeadFault {
+        HeadFault::Denied(denied)
+    }
+}
+
+impl From<AllocError> for HeadFault {
+    ghost from_gives = { λ _ result. result ≡ fault.Memory };
+
+    fn from(_error: AllocError) -> HeadFault {
+        HeadFault::Memory
+    }
+}
+
+/// A copy of the value, if there is one.
+fn copy_of(alloc: Global, value: Option<&[u8]>) -> Result<Option<Vec<u8>>, AllocError>
+    ensures { IfOk result (λ copy. option_map (λ v. v.items) copy ≡ option_map (λ v. v.now) value.entry) }
+{
+    match value {
+        Some(bytes) => Ok(Some(Vec::from_slice(alloc, bytes)?)),
+        None => Ok(None),
+    }
+}
+
+/// Copies what the head asks.
+fn copy_asked(
+    alloc: Global,
+    target: &Target<'_>,
+    authorization: Option<&[u8]>,
+    is_last: bool,
+) -> Result<Asked, AllocError>
+    ensures { IfOk result (IsCopyOf target.entry.now authorization.entry is_last) }
+{
+    Ok(Asked {
+        repo: target.route.repo_text(alloc)?,
+        form: target.form,
+        parameter: String::from_str(alloc, target.route.parameter)?,
+        query: String::from_str(alloc, target.query)?,
+        authorization: copy_of(alloc, authorization)?,
+        is_last,
+    })
+}
+
+/// Reads what the head asks.
 ///
 /// # Errors
 ///
-/// The rule that refuses the head, as [`judge`] returns it.
-pub(crate) fn message_of<'m>(
-    routes: &Routes,
-    head: &Head<'m>,
-    body: &'m [u8],
-) -> Result<Message<'m>, Denied>
-    ensures { (h : RequestHead) → Shows head.now h → IsRead h body.now result }
+/// The rule that refuses the head, as [`judge`] returns it; or no memory.
+pub(crate) fn read_head(alloc: Global, routes: &Routes, head: &Head<'_>) -> Result<Asked, HeadFault>
+    ensures { (h : RequestHead) → Shows head.now h → IsRead h result }
 {
-    Ok(Message {
-        target: judge(routes, head)?,
-        authorization: head.first("authorization"),
-        body,
-        is_last: head.asks_close(),
-    })
+    let target = judge(routes, head)?;
+    let asked = copy_asked(
+        alloc,
+        &target,
+        head.first("authorization"),
+        head.asks_close(),
+    )?;
+    Ok(asked)
+}
+
+impl Asked {
+    /// The value of `Authorization`, if any.
+    fn authorization(&self) -> Option<&[u8]>
+        ensures { option_map (λ v. v.now) result ≡ option_map (λ v. v.items) self.now.authorization }
+    {
+        match &self.authorization {
+            Some(value) => Some(value.as_slice()),
+            None => None,
+        }
+    }
+
+    /// The request to the desk, with this body.
+    pub(crate) fn request<'a>(&'a self, body: &'a [u8]) -> RepoRequest<'a>
+        ensures { IsRequestOf self.now body.now result }
+    {
+        RepoRequest {
+            authorization: self.authorization(),
+            repo: self.repo.as_str(),
+            form: self.form,
+            parameter: self.parameter.as_str(),
+            query: self.query.as_str(),
+            body,
+        }
+    }
 }

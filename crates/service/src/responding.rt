@@ -1,31 +1,29 @@
 //! The response to the next message of a connection.
 
-ghost use Rattle.std.specs.Prelude.{◌≡◌, ◌≢◌, ◌+◌, ◌≤◌, ◌<◌, ◌||◌, [], ◌++◌, ℕ, List, true, false, length, codes, option_map, IfOk, IfErr, Ok, Err};
+ghost use Rattle.std.specs.Prelude.{◌≡◌, ◌≢◌, ◌≤◌, ◌<◌, [], ◌++◌, ℕ, List, true, false, length, IfOk, IfErr, OnOk, Err};
 ghost use Rattle.std.specs.Io.KnownBytes.{Consumes, IsAtEnd};
 ghost use Rattle.httparse.specs.Grammar.{RequestHead};
 ghost use Rattle.names.specs.Streams.{HasGrown};
-ghost use Rattle.model.specs.Heads.{values, content_length};
+ghost use Rattle.model.specs.Heads.{content_length};
 ghost use Rattle.model.specs.Answers.{by_rule, store_refusal};
 ghost use Rattle.model.specs.Steps.{is_of_head};
 ghost use Rattle.model.specs.Stream.{BeginsWithHead};
 ghost use Rattle.refinement.specs.Left.{From};
-ghost use Rattle.tokens.specs.Bearers.{single_value};
-ghost use Rattle.desk.specs.Asking.{setting_of};
+ghost use Rattle.desk.specs.Asking.{setting_of, is_put};
 ghost use Rattle.desk.specs.Replies.{IsReplyOf};
-ghost use Rattle.wire.specs.Connections.{waiting, weight, IsAt, Moves, SameHead};
-ghost use Rattle.wire.specs.States.{source_of, body_left, IsOpen};
-ghost use Rattle.service.specs.Judging.{Asks};
-ghost use Rattle.service.specs.Messages.{whole_message};
-ghost use Rattle.service.specs.Responding.{IsSifted, IsCutShort, IsEarly};
-ghost use Rattle.service.specs.Turns.{IsAnswered, Responds};
+ghost use Rattle.wire.specs.Connections.{waiting, weight, IsAt};
+ghost use Rattle.wire.specs.States.{source_of, body_left, IsOpen, HandsOut};
+ghost use Rattle.service.specs.Messages.{Asks};
+ghost use Rattle.service.specs.Responding.{IsEarly, RespondsBy};
+ghost use Rattle.service.specs.Turns.{Responds};
 
 use crate::ends::End;
-use crate::judging::{Denied, judge};
-use crate::message::{Message, message_of};
+use crate::judging::Denied;
+use crate::message::{Asked, HeadFault, read_head};
 use crate::turn::Setting;
-use desk::{Reply, RepoRequest, answer};
+use desk::{AnswerFault, Answered, Reply, answer};
+use model::ServedForm;
 use names::{ALLOW_LIMIT, BodyFault, Source};
-use routes::Routes;
 use std::alloc::Global;
 use tables::{Alter, Store};
 use wire::{Conn, Inflow, Stop, WholeFault};
@@ -39,17 +37,6 @@ pub(crate) struct Response {
     pub allow: &'static str,
     /// Whether the server closes the connection after the reply.
     pub close: bool,
-}
-
-/// Why there is no body to answer.
-#[derive(Clone, Copy, Debug)]
-enum NoBody {
-    /// A rule refuses the head.
-    Denied(Denied),
-    /// There is no memory for the body.
-    Memory,
-    /// The input ended or failed within the body.
-    Fault(BodyFault),
 }
 
 impl Response {
@@ -88,102 +75,103 @@ fn store_refused() -> Response
     Response::last(Reply::store_refused(), "")
 }
 
-/// Reads the body, unless a rule refuses the head.
-fn read_body<R: Source + Drop>(
+/// Reads the body before the request is answered, unless it is the content of an upload.
+///
+/// # Errors
+///
+/// The errors of [`Inflow::body_whole`].
+fn body_before<R: Source + Drop>(
     alloc: Global,
-    routes: &Routes,
+    form: ServedForm,
     inflow: &mut Inflow<'_, R>,
-) -> Result<Vec<u8>, NoBody>
+) -> Result<Vec<u8>, WholeFault>
     ensures same_reference { inflow.new.conn.ghost_name ≡ inflow.old.conn.ghost_name }
-    ensures same_head { SameHead inflow.old.conn.now inflow.new.conn.now }
-    ensures sifted { (h : RequestHead) → IsAt inflow.old.conn.now h → IsSifted h result }
-    ensures bytes { (read : List ℕ) × (part : List ℕ)
-        × Moves inflow.old.conn.now inflow.new.conn.now read part
-        × (length part + body_left inflow.new.conn.now ≡ body_left inflow.old.conn.now)
-        × IfOk result (λ body. (part ≡ body.items) × (body_left inflow.new.conn.now ≡ 0)) }
-    ensures cut { IfErr result (λ none. IsCutShort none (body_left inflow.new.conn.now)
-        (waiting inflow.new.conn.now)) }
-    ensures ended { result ≡ Err (NoBody.Fault BodyFault.Ended)
+    ensures part { (part : List ℕ) × HandsOut inflow.old.conn.now inflow.new.conn.now part
+        × IfOk result (λ body. part ≡ body.items) }
+    ensures upload { is_put form ≡ true → IfOk result (λ body. (body.items ≡ [])
+        × (inflow.new.conn.now ≡ inflow.old.conn.now)) }
+    ensures whole { is_put form ≡ false → OnOk result (body_left inflow.new.conn.now ≡ 0) }
+    ensures cut { IfErr result (λ fault. (is_put form ≡ false) × (fault ≢ WholeFault.Memory
+        → (0 < body_left inflow.new.conn.now) × (waiting inflow.new.conn.now ≡ []))) }
+    ensures ended { result ≡ Err (WholeFault.Body BodyFault.Ended)
         → IsAtEnd (R.left (source_of inflow.new.conn.now)) }
-    ensures good { result ≢ Err (NoBody.Fault BodyFault.Device)
+    ensures good { result ≢ Err (WholeFault.Body BodyFault.Device)
         → R.failed (source_of inflow.new.conn.now) ≡ R.failed (source_of inflow.old.conn.now) }
-    ensures fault { result ≡ Err (NoBody.Fault BodyFault.Device)
+    ensures fault { result ≡ Err (WholeFault.Body BodyFault.Device)
         → HasGrown (R.failed (source_of inflow.old.conn.now))
         (R.failed (source_of inflow.new.conn.now)) }
 {
-    if let Err(denied) = judge(routes, &inflow.head()) {
-        return Err(NoBody::Denied(denied));
-    }
-    match inflow.body_whole(alloc) {
-        Ok(body) => Ok(body),
-        Err(WholeFault::Memory) => Err(NoBody::Memory),
-        Err(WholeFault::Body(fault)) => Err(NoBody::Fault(fault)),
+    match form {
+        ServedForm::Put => Ok(Vec::new(alloc)),
+        _ => inflow.body_whole(alloc),
     }
 }
 
-/// Answers a message and carries out the answer. The reply is the store refusal if the store fails or
-/// memory runs out.
-fn answer_message<S: Alter>(
-    alloc: Global,
-    store: &mut Store<S>,
-    setting: &Setting<'_>,
-    message: &Message<'_>,
-) -> Reply
-    ensures { From S.Store store.old store.new (λ world. (head : RequestHead)
-        → Asks head message.entry.now.target
-        → values (codes "authorization") head
-        ≡ single_value (option_map (λ v. v.now) message.entry.now.authorization)
-        → length message.entry.now.body.now ≡ message.entry.now.target.size
-        → IsAnswered S.Store world (setting_of setting.entry.now.policy.now setting.entry.now.now)
-        (whole_message head message.entry.now.body.now) store.old store.new result) }
+/// The response by what the desk did.
+///
+/// # Errors
+///
+/// The body's fault, if the content of an upload was cut off.
+fn response_by(done: Result<Answered, AnswerFault>, is_last: bool) -> Result<Response, BodyFault>
+    ensures { RespondsBy done is_last result }
 {
-    let Ok(repo) = message.target.route.repo_text(alloc) else {
-        return Reply::store_refused();
-    };
-    let asked = RepoRequest {
-        authorization: message.authorization,
-        repo: repo.as_str(),
-        form: message.target.form,
-        parameter: message.target.route.parameter,
-        query: message.target.query,
-        body: message.body,
-    };
-    match answer(alloc, store, setting.policy, setting.now, &asked) {
-        Ok(reply) => reply,
-        Err(_) => Reply::store_refused(),
+    match done {
+        Ok(answered) => {
+            let close = is_last || answered.leaves_body || answered.reply.is_store_refusal;
+            Ok(Response {
+                reply: answered.reply,
+                allow: "",
+                close,
+            })
+        }
+        Err(AnswerFault::Store(_)) => Ok(store_refused()),
+        Err(AnswerFault::Body(fault)) => Err(fault),
     }
 }
 
-/// The response to a message.
-fn response_to<S: Alter>(
+/// Answers a message whose head was read. The reply is the store refusal if the store fails or memory runs out.
+///
+/// # Errors
+///
+/// The body's fault, if the input ended or failed within it. Nothing is answered then, and nothing changes.
+fn answer_asked<S: Alter, R: Source + Drop>(
     alloc: Global,
     store: &mut Store<S>,
     setting: &Setting<'_>,
-    message: &Message<'_>,
-) -> Response
-    ensures allow { result.allow.now ≡ [] }
-    ensures close { result.close ≡ (message.entry.now.is_last || result.reply.is_store_refusal) }
-    ensures answered { From S.Store store.old store.new (λ world. (head : RequestHead)
-        → Asks head message.entry.now.target
-        → values (codes "authorization") head
-        ≡ single_value (option_map (λ v. v.now) message.entry.now.authorization)
-        → length message.entry.now.body.now ≡ message.entry.now.target.size
-        → IsAnswered S.Store world (setting_of setting.entry.now.policy.now setting.entry.now.now)
-        (whole_message head message.entry.now.body.now) store.old store.new result.reply) }
+    asked: &Asked,
+    inflow: &mut Inflow<'_, R>,
+) -> Result<Response, BodyFault>
+    ensures same_reference { inflow.new.conn.ghost_name ≡ inflow.old.conn.ghost_name }
+    ensures handed { (given : List ℕ) × HandsOut inflow.old.conn.now inflow.new.conn.now given }
+    ensures open { IfOk result (λ r. r.close ≡ false → body_left inflow.new.conn.now ≡ 0) }
+    ensures allow { IfOk result (λ r. r.allow.now ≡ []) }
+    ensures ended { result ≡ Err BodyFault.Ended
+        → IsAtEnd (R.left (source_of inflow.new.conn.now)) }
+    ensures good { result ≢ Err BodyFault.Device
+        → R.failed (source_of inflow.new.conn.now) ≡ R.failed (source_of inflow.old.conn.now) }
+    ensures fault { result ≡ Err BodyFault.Device
+        → HasGrown (R.failed (source_of inflow.old.conn.now))
+        (R.failed (source_of inflow.new.conn.now)) }
+    ensures turn { From S.Store store.old store.new (λ world. (bytes : List ℕ) (h : RequestHead)
+        → BeginsWithHead bytes h (waiting inflow.old.conn.now)
+        → body_left inflow.old.conn.now ≡ content_length h → Asks h asked.entry.now
+        → (read : List ℕ)
+        × Consumes (R.left (source_of inflow.old.conn.now)) (R.left (source_of inflow.new.conn.now)) read
+        × Responds S.Store (setting_of setting.entry.now.policy.now setting.entry.now.now)
+        (bytes ++ read) (waiting inflow.new.conn.now) world store.old store.new result) }
 {
-    let reply = answer_message(alloc, store, setting, message);
-    let close = message.is_last || reply.is_store_refusal;
-    Response {
-        reply,
-        allow: "",
-        close,
+    match body_before(alloc, asked.form, inflow) {
+        Ok(body) => {
+            let request = asked.request(&body);
+            let done = answer(alloc, store, setting.policy, setting.now, &request, inflow);
+            response_by(done, asked.is_last)
+        }
+        Err(WholeFault::Memory) => Ok(store_refused()),
+        Err(WholeFault::Body(fault)) => Err(fault),
     }
 }
 
 /// Reads the rest of the message whose head was read, and answers it.
-///
-/// The texts of a head are slices of the connection's buffer, which reading the body borrows: so the
-/// head is judged before the body, and its texts are read after it.
 ///
 /// # Errors
 ///
@@ -196,10 +184,7 @@ fn respond<S: Alter, R: Source + Drop>(
     inflow: &mut Inflow<'_, R>,
 ) -> Result<Response, BodyFault>
     ensures same_reference { inflow.new.conn.ghost_name ≡ inflow.old.conn.ghost_name }
-    ensures same_head { SameHead inflow.old.conn.now inflow.new.conn.now }
-    ensures same_source { R.reference (source_of inflow.new.conn.now)
-        ≡ R.reference (source_of inflow.old.conn.now) }
-    ensures lighter { weight inflow.new.conn.now ≤ weight inflow.old.conn.now }
+    ensures handed { (given : List ℕ) × HandsOut inflow.old.conn.now inflow.new.conn.now given }
     ensures open { IfOk result (λ r. r.close ≡ false → body_left inflow.new.conn.now ≡ 0) }
     ensures short { (h : RequestHead) → IsAt inflow.old.conn.now h
         → IfOk result (λ r. length r.allow.now ≤ ALLOW_LIMIT) }
@@ -218,15 +203,10 @@ fn respond<S: Alter, R: Source + Drop>(
         × Responds S.Store (setting_of setting.entry.now.policy.now setting.entry.now.now)
         (bytes ++ read) (waiting inflow.new.conn.now) world store.old store.new result) }
 {
-    let body = match read_body(alloc, setting.routes, inflow) {
-        Ok(body) => body,
-        Err(NoBody::Denied(denied)) => return Ok(refusal(denied)),
-        Err(NoBody::Memory) => return Ok(store_refused()),
-        Err(NoBody::Fault(fault)) => return Err(fault),
-    };
-    match message_of(setting.routes, &inflow.head(), &body) {
-        Ok(message) => Ok(response_to(alloc, store, setting, &message)),
-        Err(denied) => Ok(refusal(denied)),
+    match read_head(alloc, setting.routes, &inflow.head()) {
+        Ok(asked) => answer_asked(alloc, store, setting, &asked, inflow),
+        Err(HeadFault::Denied(denied)) => Ok(refusal(denied)),
+        Err(HeadFault::Memory) => Ok(store_refused()),
     }
 }
 

@@ -4,13 +4,15 @@ ghost use Rattle.std.specs.Prelude.{◌≡◌, ◌≢◌, ◌≤◌, ◌+◌, �
 ghost use Rattle.std.specs.Io.KnownBytes.{Consumes, IsAtEnd};
 ghost use Rattle.names.specs.Streams.{HasGrown, most_counted};
 ghost use Rattle.refinement.specs.Left.{From};
+ghost use Rattle.policy.specs.Values.{policy_view};
 ghost use Rattle.desk.specs.Asking.{setting_of};
+ghost use Rattle.desk.specs.Done.{StaysWithin};
 ghost use Rattle.wire.specs.Connections.{waiting, weight};
 ghost use Rattle.wire.specs.States.{source_of, IsOpen};
 ghost use Rattle.service.specs.Served.{IsServed, IsRefusal, IsCountedAs, Serves, closing};
 
 use crate::ends::{End, Served};
-use crate::sending::send;
+use crate::sending::send_front;
 use crate::turn::{Setting, take_turn};
 use desk::Reply;
 use names::{Moment, Sink, Source};
@@ -62,7 +64,7 @@ fn closing(end: End) -> usize
 {
     match end {
         End::Closed => 1,
-        End::InputEnded | End::ReadFailed | End::WriteFailed => 0,
+        End::InputEnded | End::ReadFailed | End::WriteFailed | End::StoreFailed => 0,
     }
 }
 
@@ -72,7 +74,7 @@ fn refuse_all<K: Sink>(sink: &mut K) -> Served
     ensures known { result.end ≢ End.ReadFailed }
     ensures refusal { IsRefusal (K.taken sink.old) (K.taken sink.new) result }
 {
-    match send(sink, &Reply::store_refused(), "", true) {
+    match send_front(sink, &Reply::store_refused(), "", true) {
         Ok(()) => Served {
             answered: 1,
             end: End::Closed,
@@ -89,13 +91,14 @@ fn refuse_all<K: Sink>(sink: &mut K) -> Served
 ///
 /// The connection takes its memory once, for the longest head, and for each message the size of its
 /// body. It closes after a refused head, after a store refusal, and after a message that asks for it.
-/// A message that the end of the input or a failed read cuts off gets no reply. If there is no memory
-/// for the connection, only the store refusal is written, nothing is read, and nothing changes.
+/// A message that the end of the input or a failed read cuts off gets no reply. If the store fails within the
+/// content of an object, the connection ends there. If there is no memory for the connection, only the store
+/// refusal is written, nothing is read, and nothing changes.
 ///
 /// The new contents of the store and the text written follow from the messages, step by step, whatever
 /// came before. What a stop leaves follows from the same steps: after a reply to a change, only the
 /// world with that change is left. A user's view of a repository changes only if a message asks about
-/// that repository.
+/// that repository. A repository within its quota then has at most its quota and one largest object in the database.
 pub fn serve<S: Alter, R: Source, K: Sink>(
     alloc: Global,
     store: &mut Store<S>,
@@ -115,6 +118,7 @@ pub fn serve<S: Alter, R: Source, K: Sink>(
           was = K.taken sink.old;
           is = K.taken sink.new;
         }) world store.old store.new result) }
+    ensures bounded { From S.Store store.old store.new (StaysWithin S.Store store.new (policy_view policy.entry.now)) }
     ensures input_ended { result.end ≡ End.InputEnded → IsAtEnd (R.left source.new) }
     ensures no_fault { result.end ≢ End.ReadFailed → R.failed source.new ≡ R.failed source.old }
     ensures read_failed { result.end ≡ End.ReadFailed

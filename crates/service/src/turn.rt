@@ -4,16 +4,17 @@ ghost use Rattle.std.specs.Prelude.{◌≡◌, ◌≢◌, ◌≤◌, ◌<◌, �
 ghost use Rattle.std.specs.Io.KnownBytes.{Consumes, IsAtEnd};
 ghost use Rattle.names.specs.Streams.{HasGrown};
 ghost use Rattle.names.specs.Texts.{last_moment};
-ghost use Rattle.refinement.specs.Left.{From};
+ghost use Rattle.model.specs.Answers.{Answer};
+ghost use Rattle.refinement.specs.Left.{From, Reads};
 ghost use Rattle.desk.specs.Asking.{setting_of};
+ghost use Rattle.desk.specs.Replies.{IsReplyOf, Lends};
 ghost use Rattle.wire.specs.Connections.{waiting, weight};
 ghost use Rattle.wire.specs.States.{source_of, IsOpen};
-ghost use Rattle.service.specs.Sending.{sent_text};
-ghost use Rattle.service.specs.Turns.{IsSent, IsCounted, EndsTurn};
+ghost use Rattle.service.specs.Turns.{IsSent, EndsReply, IsCounted, EndsTurn};
 
 use crate::ends::End;
 use crate::responding::{Response, next_response};
-use crate::sending::send;
+use crate::sending::{SendFault, send};
 use names::{ALLOW_LIMIT, Moment, Sink, Source};
 use policy::Policy;
 use routes::Routes;
@@ -31,17 +32,24 @@ pub(crate) struct Setting<'a> {
 }
 
 /// Writes the response. Returns why the connection ends after it; `None` if it goes on.
-fn deliver<K: Sink>(sink: &mut K, response: &Response) -> Option<End>
+fn deliver<S: Alter, K: Sink>(
+    store: &mut Store<S>,
+    sink: &mut K,
+    response: &Response,
+) -> Option<End>
     requires { length response.now.allow.now ≤ ALLOW_LIMIT }
-    ensures sent { IsSent (K.taken sink.old) (K.taken sink.new)
-        (sent_text response.now.reply response.now.allow.now response.now.close)
-        response.now.close result }
+    ensures sent { Reads S.Store store.old store.new (λ world. (given : Answer)
+        → IsReplyOf response.now.reply given → Lends S.Store store.old response.now.reply.body given
+        → IsSent (K.taken sink.old) (K.taken sink.new) given response.now.allow.now
+        response.now.close result) }
+    ensures ends { EndsReply response.now.close result }
     ensures counted { IsCounted (K.failed sink.old) (K.failed sink.new) result }
 {
-    match send(sink, &response.reply, response.allow, response.close) {
+    match send(store, sink, &response.reply, response.allow, response.close) {
         Ok(()) if response.close => Some(End::Closed),
         Ok(()) => None,
-        Err(_) => Some(End::WriteFailed),
+        Err(SendFault::Sink) => Some(End::WriteFailed),
+        Err(SendFault::Store) => Some(End::StoreFailed),
     }
 }
 
@@ -71,7 +79,7 @@ pub(crate) fn take_turn<S: Alter, R: Source + Drop, K: Sink>(
         store.old store.new (K.taken sink.old) (K.taken sink.new) result) }
 {
     match next_response(alloc, store, setting, conn) {
-        Ok(response) => deliver(sink, &response),
+        Ok(response) => deliver(store, sink, &response),
         Err(end) => Some(end),
     }
 }

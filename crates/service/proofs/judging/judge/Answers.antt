@@ -2,7 +2,7 @@ use Rattle.std.proofs.Common.{refl, sym}
 use Rattle.names.specs.declared.rules.Rule.TheVariants.{H6, H8}
 use Rattle.model.specs.Heads.{form_of_served}
 use Rattle.routes.specs.Routes.{route_seen}
-use Rattle.service.proofs.Judged.{not_framed, not_routed, not_served, not_accepted, asked, framing_rule, refused, unserved, no_put, is_served_by}
+use Rattle.service.proofs.Judged.{not_framed, not_routed, not_served, not_accepted, asked, framing_rule, refused, unserved, puts}
 use Rattle.service.proofs.judging.judge.Goals as goal
 
 pub returns-in-Err : goal.returns-in-Err
@@ -36,6 +36,5 @@ returns c h shows =
       target = asked h (route_seen c.in-Some.route) (form_of_served c.in-Some-form_of.form) (c.in-Ok.ensures h shows).0 (c.in-Some.ensures h shows).0 served (sym (c.if-not-accepts.ensures h shows));
       query = (c.in-Some.ensures h shows).1;
       size = (c.in-Ok.ensures h shows).1;
-      no_put = no_put h c.in-Some.route.resource (form_of_served c.in-Some-form_of.form) served;
-      served = is_served_by h.method c.in-Some.route.resource (form_of_served c.in-Some-form_of.form) served;
+      put = puts h c.in-Some.route.resource c.in-Some-form_of.form served;
     }

@@ -1,4 +1,4 @@
-use Rattle.std.proofs.Common.{◌≡◌, ◌++◌, [], inl, inr, append_assoc, refl, rules, subst, sym, List, ℕ}
+use Rattle.std.proofs.Common.{◌≡◌, ◌++◌, append_assoc, refl, rules, subst, List, ℕ}
 use Rattle.std.proofs.KnownBytes.{Consumes-trans}
 use Rattle.policy.proofs.InRange.{IsPolicy-policy_view}
 use Rattle.refinement.proofs.Leading.{from_weaker, leads_none}
@@ -7,8 +7,8 @@ use Rattle.wire.specs.States.{source_of}
 use Rattle.desk.specs.Asking.{setting_of}
 use Rattle.service.specs.declared.judging.Denied.{Denied}
 use Rattle.service.specs.Turns.{IsResponse, IsIncomplete}
-use Rattle.service.proofs.Answered.{refused_response}
 use Rattle.service.proofs.Messages.{stop_refused}
+use Rattle.service.proofs.Responses.{refused_response}
 use Rattle.service.proofs.responding.next_response.Goals as goal
 
 pub returns-in-Ok-respond-clause-turn : goal.returns-in-Ok-respond-clause-turn

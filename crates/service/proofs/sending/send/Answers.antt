@@ -1,24 +1,22 @@
-use Rattle.std.proofs.Common.{◌≡◌, ◌∙◌, ◌++◌, List, ℕ, refl, subst, OnOk, IfErr, length}
-use Rattle.std.specs.Io.KnownBytes.{Appends}
-use Rattle.wire.specs.Replies.{head_of}
-use Rattle.names.specs.Streams.{IsBeginning}
-use Rattle.wire.specs.declared.reply.ReplyHead.{ReplyHead}
-use Rattle.wire.specs.declared.reply.Content.TheVariants.{Json}
-use Rattle.service.specs.Sending.{sent_text}
-use Rattle.service.proofs.Answered.{sent_is}
-use Rattle.service.proofs.sending.send.Given.{Over}
+use Rattle.refinement.proofs.Leading.{reads_none}
+use Rattle.service.proofs.Sent.{sends_content, front_fails}
 use Rattle.service.proofs.sending.send.Goals as goal
 
-abbrev head : (g : Over) → goal.After-write_reply g → ReplyHead
-head g c = record { status = c.args.reply.now.status; content = Json; size = length c.as_bytes-body.result.now; allow = c.args.allow; close = c.args.close }
+pub returns-in-Ok-clause-sends : goal.returns-in-Ok-clause-sends
+returns-in-Ok-clause-sends g c =
+    let content = c.send_content.ensures.content in
+    record {
+      same = content.same;
+      adds = content.adds;
+      each = λ honest world h given tells lends.
+          sends_content given c.args.allow.now c.args.close (g.K.Sink.taken c.args.sink.now) (g.K.Sink.taken c.send_front.new.sink) (g.K.Sink.taken c.send_content.new.sink) c.send_content.result
+          (c.in-Ok.ensures.ok given tells) (content.each honest world h given tells.body lends);
+    }
 
-said : (g : Over) (c : goal.After-write_reply g) → (head_of (head g c) ++ c.as_bytes-body.result.now) ≡ sent_text c.args.reply.now c.args.allow.now c.args.close
-said g c = sent_is (head g c) c.args.reply.now c.as_bytes-body.result.now refl refl refl (c.as_bytes-body.ensures.value ∙ c.body_of.ensures)
-
-pub returns-clause-ok : goal.returns-clause-ok
-returns-clause-ok g c =
-    subst (λ (t : List ℕ). OnOk c.write_reply.result (Appends (g.K.Sink.taken c.args.sink.now) (g.K.Sink.taken c.write_reply.new.sink) t)) (said g c) c.write_reply.ensures.ok
-
-pub returns-clause-part : goal.returns-clause-part
-returns-clause-part g c =
-    subst (λ (t : List ℕ). IfErr c.write_reply.result (λ e. IsBeginning (g.K.Sink.taken c.args.sink.now) (g.K.Sink.taken c.write_reply.new.sink) t e.written)) (said g c) c.write_reply.ensures.part
+pub returns-in-Err-clause-sends : goal.returns-in-Err-clause-sends
+returns-in-Err-clause-sends g c =
+    reads_none g.S.Store c.args.store.now _
+    (λ honest world h given tells lends. (
+      c.in-Err.field-0.written,
+      front_fails given c.args.allow.now c.args.close (g.K.Sink.taken c.args.sink.now) (g.K.Sink.taken c.send_front.new.sink) c.in-Err.field-0.written (c.in-Err.ensures.part given tells),
+    ))

@@ -1,6 +1,6 @@
-use Rattle.std.proofs.Common.{◌≡◌, ◌∙◌, ◌+◌, ◌++◌, [], List, ℕ, arith, refl, subst, sym}
+use Rattle.std.proofs.Common.{◌∙◌, ◌+◌, ◌++◌, [], ℕ, arith, refl, subst, sym}
 use Rattle.std.proofs.KnownBytes.{Consumes-nil, Consumes-trans}
-use Rattle.wire.specs.Connections.{waiting, weight}
+use Rattle.wire.specs.Connections.{waiting}
 use Rattle.wire.specs.States.{source_of}
 use Rattle.desk.specs.Asking.{setting_of}
 use Rattle.service.specs.Served.{IsServed}

@@ -5,6 +5,7 @@ use Rattle.model.specs.Sessions.{WritesRefusal}
 use Rattle.refinement.proofs.Leading.{from_weaker}
 use Rattle.service.specs.Served.{unread_session, end_seen}
 use Rattle.service.specs.declared.ends.End.{End}
+use Rattle.service.proofs.Bounded.{bounded}
 use Rattle.service.proofs.Serving.{unserved}
 use Rattle.service.proofs.session.serve.Goals as goal
 
@@ -31,3 +32,9 @@ returns-in-Err-clause-input_ended g c e =
     let r = c.refuse_all.ensures.refusal in
     let setting = setting_of c.args.policy.now c.args.now in
     absurd (subst (λ (end : End). WritesRefusal (unread_session setting r.written c.refuse_all.result.answered) (end_seen end)) e (r.writes setting))
+
+pub returns-in-Err-clause-bounded : goal.returns-in-Err-clause-bounded
+returns-in-Err-clause-bounded g c = bounded g.S.Store _ c.args.store.now c.args.store.now c.refuse_all.result (returns-in-Err-clause-session g c)
+
+pub returns-clause-bounded : goal.returns-clause-bounded
+returns-clause-bounded g c = bounded g.S.Store _ c.args.store.now c.answer_all-served.new.store c.answer_all-served.result (returns-clause-session g c)

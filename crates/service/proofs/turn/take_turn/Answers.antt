@@ -7,14 +7,21 @@ use Rattle.service.proofs.turn.take_turn.Goals as goal
 
 pub returns-in-Ok-clause-turn : goal.returns-in-Ok-clause-turn
 returns-in-Ok-clause-turn g c =
-    from_weaker g.S.Store c.args.store.now c.next_response.new.store _ _
-    (λ world it.
-    let s = c.args.setting.now in (
-      it.0,
-      it.1,
-      sent g.S.Store (setting_of s.policy.now s.now) (waiting c.args.conn.now ++ it.0) (waiting c.next_response.new.conn) world c.args.store.now c.next_response.new.store
-          (g.K.Sink.taken c.args.sink.now) (g.K.Sink.taken c.deliver.new.sink) c.in-Ok.response c.deliver.result it.2 c.deliver.ensures.sent,
-    )) c.in-Ok.ensures.turn
+    let s = c.args.setting.now in
+    let turn = c.in-Ok.ensures.turn in
+    let read = c.deliver.ensures.sent in
+    record {
+      honest = λ k. turn.honest (read.same.was_honest k);
+      each = λ honest world h.
+          let it = turn.each (read.same.was_honest honest) world h in
+          let a = it.2 in (
+            it.0,
+            it.1,
+            sent g.S.Store (setting_of s.policy.now s.now) (waiting c.args.conn.now ++ it.0) (waiting c.next_response.new.conn) world c.args.store.now c.next_response.new.store c.deliver.new.store
+                (g.K.Sink.taken c.args.sink.now) (g.K.Sink.taken c.deliver.new.sink) c.in-Ok.response c.deliver.result a read.same read.adds c.deliver.ensures.ends
+                (read.each honest a.kept a.turn.takes.leads.holds a.given a.tells a.lends),
+          );
+    }
 
 pub returns-in-Err-clause-turn : goal.returns-in-Err-clause-turn
 returns-in-Err-clause-turn g c =
