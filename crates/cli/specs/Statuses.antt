@@ -1,7 +1,7 @@
 -- The program's exit status, and the fault that it reports.
 use Rattle.std.specs.Prelude.{ℕ, Bool}
 use Rattle.service.specs.declared.ends.End.{End}
-use Rattle.service.specs.declared.ends.End.TheVariants.{InputEnded, Closed, ReadFailed, WriteFailed}
+use Rattle.service.specs.declared.ends.End.TheVariants.{InputEnded, Closed, ReadFailed, WriteFailed, StoreFailed}
 use Rattle.tables.specs.declared.fault.StoreFault.{StoreFault}
 use Rattle.tables.specs.declared.fault.StoreFault.TheVariants as tables
 use Rattle.policy.specs.declared.faults.PolicyFault.{PolicyFault}
@@ -50,3 +50,4 @@ is_good InputEnded = Bool.true
 is_good Closed = Bool.true
 is_good ReadFailed = Bool.false
 is_good WriteFailed = Bool.false
+is_good StoreFailed = Bool.false

@@ -70,7 +70,7 @@ pub(crate) fn is_good(end: End) -> bool
 {
     match end {
         End::InputEnded | End::Closed => true,
-        End::ReadFailed | End::WriteFailed => false,
+        End::ReadFailed | End::WriteFailed | End::StoreFailed => false,
     }
 }
 
@@ -96,8 +96,8 @@ fn serve_opened<S: Storage + Drop, R: Read, W: Write>(
 /// # Errors
 ///
 /// `Clock`, `PolicyFile` and `Policy`, which leave the database unopened; `Store` and `Memory` if it
-/// could not be opened; and `Session` if reading or writing failed: what was answered before remains
-/// valid.
+/// could not be opened; and `Session` if reading or writing failed, or the store within the content of an
+/// object: what was answered before remains valid.
 pub(crate) fn session<S: Start, R: Read, W: Write>(
     rt: &HostRuntime,
     args: &SessionArgs<'_>,
