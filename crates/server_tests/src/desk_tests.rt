@@ -2,9 +2,9 @@
 
 use crate::harness::{Tester, unwrap};
 use crate::server::{NOW, Server};
-use desk::{Body, Reply, RepoRequest, answer};
+use desk::{Reply, ReplyBody, RepoRequest, answer};
 use model::ServedForm;
-use names::Moment;
+use names::{Moment, SliceSource};
 
 /// Ann's upload token, her download token, and her token for a repository that the policy does not have.
 const ANN: &[u8] = b"Bearer aaaaaaaaaaaaaaaaaaaaaaaaaaaaaaaaaaaaaaaaaaaaaaaaaaaaaaaaaaaaaaaa";
@@ -89,8 +89,18 @@ fn expect_answer(rt: &impl Tester, server: &mut Server, case: &Case) {
         body,
     };
     let now = unwrap(rt, Moment::read(NOW).ok_or(()));
-    let reply = answer(rt.alloc(), &mut server.store, &server.policy, now, &asked);
-    let reply = unwrap(rt, reply);
+    let mut content = SliceSource::new(b"", 1);
+    let answered = answer(
+        rt.alloc(),
+        &mut server.store,
+        &server.policy,
+        now,
+        &asked,
+        &mut content,
+    );
+    let answered = unwrap(rt, answered);
+    let reply = answered.reply;
+    assert!(rt; !answered.leaves_body, "{want}");
     assert!(rt; reply.status.as_u16() == status, "{want}");
     assert_eq!(rt; text_of(&reply), want);
     assert!(rt; !reply.is_store_refusal, "{want}");
@@ -98,8 +108,9 @@ fn expect_answer(rt: &impl Tester, server: &mut Server, case: &Case) {
 
 fn text_of(reply: &Reply) -> &str {
     match &reply.body {
-        Body::Made(text) => text.as_str(),
-        Body::Fixed(text) => text,
+        ReplyBody::Made(text) => text.as_str(),
+        ReplyBody::Fixed(text) => text,
+        ReplyBody::Empty | ReplyBody::Content(_) => "",
     }
 }
 

@@ -2,8 +2,7 @@
 
 use crate::harness::{Tester, in_memory, repo, unwrap};
 use chunks::{Intake, pour};
-use desk::{AnswerFault, Receipt, receive};
-use names::{Body, FailAfter, Oid, Size, SliceSource, VecSink};
+use names::{FailAfter, Oid, Size, SliceSource, VecSink};
 use sqlite::MemStore;
 use tables::{Store, StoreFault, UploadId};
 use uploads::{Kept, UploadFault};
@@ -177,37 +176,6 @@ fn objects_are_stored_in_any_cutting(rt: HostRuntime) {
     assert_eq!(rt; sizes.next(), Some(65_537));
     assert_eq!(rt; sizes.next(), Some(65_536));
     assert_eq!(rt; sizes.next(), Some(1));
-}
-
-/// Receives the bytes as the content of an upload, at most `most` of them per read.
-fn receive_all(
-    rt: &impl Tester,
-    store: &mut Store<MemStore>,
-    text: &str,
-    bytes: &[u8],
-    most: usize,
-) -> Result<Receipt, AnswerFault> {
-    let mut content = SliceSource::new(bytes, most);
-    let film = repo(rt, "studio/film");
-    let receipt = receive(rt.alloc(), store, &film, &oid(rt, text), &mut content);
-    assert!(rt; Body::left(&content) == 0);
-    receipt
-}
-
-#[test]
-fn contents_are_received_in_pieces(rt: HostRuntime) {
-    let mut store = in_memory(&rt);
-    for &(size, text, _, _) in OBJECTS {
-        let bytes = unwrap(&rt, vec![in rt.alloc(); b'x'; size]);
-        let first = receive_all(&rt, &mut store, text, bytes.as_slice(), 7_000);
-        let second = receive_all(&rt, &mut store, text, bytes.as_slice(), 1_000_000);
-        assert!(rt; first == Ok(Receipt::Stored) && second == Ok(Receipt::Stored));
-        assert!(rt; find(&rt, &mut store, "studio/film", text) == Some(size as u64));
-    }
-    let other = receive_all(&rt, &mut store, HELLO, b"abc", 2);
-    assert!(rt; other == Ok(Receipt::Differs));
-    assert!(rt; find(&rt, &mut store, "studio/film", HELLO).is_none());
-    assert_eq!(rt; used(&rt, &mut store, "studio/film"), 396_609);
 }
 
 #[test]

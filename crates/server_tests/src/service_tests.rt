@@ -4,6 +4,7 @@ mod arrivals;
 mod bodies;
 mod callers;
 mod connections;
+mod contents;
 mod framing;
 mod heads;
 mod judging;
