@@ -21,7 +21,7 @@ import time
 sys.dont_write_bytecode = True
 from protocol_reading import REQUESTS, Refused, Server, denial
 
-SERVED = {"Lock", "List", "VerifyLocks", "Unlock"}
+SERVED = {"Lock", "List", "VerifyLocks", "Unlock", "Get", "Put", "Verify"}
 POLICY = """base = "https://lfs.example"
 token_seconds = 3600
 

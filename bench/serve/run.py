@@ -32,7 +32,7 @@ token_seconds = 86400
 [[repo]]
 name = "studio/film"
 default_ref = "refs/heads/main"
-quota = 1000000
+quota = 100000000000
 
 [[row]]
 effect = "allow"
