@@ -118,7 +118,11 @@ def main():
             oid, _ = put(client, os.urandom(256 << 20))
             after_put = custody.memory()
             get(client, oid)
-        print(f"memory: {custody.at_rest} KiB at rest, {before} KiB before 256 MiB, {after_put} KiB after its PUT, {custody.memory()} KiB after its GET")
+        after_get = custody.memory()
+        print(f"memory: {custody.at_rest} KiB at rest, {before} KiB before 256 MiB, {after_put} KiB after its PUT, {after_get} KiB after its GET")
+        added = max(after_put, after_get) - before
+        print(f"256 MiB up and down: {added} KiB of memory more (at most 4096)")
+        is_met = is_met and added <= 4096
         custody.stop()
     return 0 if is_met else 1
 

@@ -1,7 +1,9 @@
 -- Bytes that are cut into chunks, one after the other.
-use Rattle.std.proofs.Common.{◌≡◌, ◌≤◌, ◌+◌, ℕ, List, [], ◌∷◌, ◌++◌, length, Result, Ok, Err, OnOk, OnErr, sym, ap, subst, ◌∙◌, arith, take, append-nil, append_assoc, length-append, length-take}
-use Rattle.std.specs.List.{concat}
+use Rattle.std.proofs.Common.{◌≡◌, ◌<◌, ◌≤◌, ◌+◌, ℕ, List, [], ◌∷◌, ◌++◌, length, Result, Ok, Err, OnOk, OnErr, sym, ap, subst, ◌∙◌, arith, take, append-nil, append_assoc, length-append, length-take}
+use Rattle.std.specs.List.{AllByRecursion, concat}
+use Rattle.std.proofs.lemmas.List.{nil_from_length}
 use Rattle.sqlite_trees.specs.declared.store.Store.{Ghosts}
+use Rattle.sqlite_trees.proofs.ListLemmas.{all-append}
 use Rattle.model.specs.World.{World}
 use Rattle.tables.specs.declared.Store.{Store}
 use Rattle.tables.specs.Rows.{Tables}
@@ -10,29 +12,57 @@ use Rattle.tables.specs.Staging.{upload_number, asked_chunk}
 use Rattle.tables.specs.Shown.{IsHonest, HasTables, Makes, Fails}
 use Rattle.refinement.specs.Representation.{Holds}
 use Rattle.refinement.specs.Left.{Keeps, From}
+use Rattle.refinement.specs.Staging.{Stages}
 use Rattle.refinement.proofs.Leading.{leads_none, keeps_still, keeps_then, was_by}
 use Rattle.refinement.proofs.Staged.{stages_more, keeps_chunk}
 use Rattle.chunks.specs.declared.intake.Intake.{Intake}
-use Rattle.chunks.specs.Intakes.{IsCut, KeepsCount, Cuts, HasTaken, HasStored, Advances, KeepsWithin}
+use Rattle.chunks.specs.Intakes.{chunk_size, AreChunks, IsCut, KeepsCount, Cuts, HasTaken, Advances, Finishes, KeepsWithin}
 
 pub at_most : (n : ℕ) (xs : List ℕ) → length (take n xs) ≤ length xs
 at_most n xs = let e = length-take n xs in omega (arith, e)
+
+-- the first bytes, as many as there is room for
+pub fits_in : (last rest : List ℕ) (n : ℕ) → n + length last ≤ chunk_size → length (last ++ take n rest) ≤ chunk_size
+fits_in last rest n room = let e = length-append last (take n rest) in let t = length-take n rest in omega (arith, e, t, room)
+
+-- the bytes in memory, and as many more as there was room for
+pub fills : (all last more : List ℕ) → all ≡ last ++ more → length all ≡ chunk_size → length (last ++ more) ≤ chunk_size
+fills all last more is full = let e = sym (ap length is) ∙ full in omega (arith, e)
 
 -- one piece more
 concat_more : (pieces : List (List ℕ)) (last : List ℕ) → concat (pieces ++ last ∷ []) ≡ concat pieces ++ last
 concat_more [] last = append-nil last
 concat_more (p ∷ ps) last = ap (λ l. p ++ l) (concat_more ps last) ∙ sym (append_assoc p (concat ps) last)
 
+-- full chunks, and then one that has at least one byte
+chunks_then : (pieces : List (List ℕ)) (last : List ℕ) → AllByRecursion (λ (p : List ℕ). length p ≡ chunk_size) pieces → 0 < length last → length last ≤ chunk_size → AreChunks (pieces ++ last ∷ [])
+chunks_then [] last full some short = (some, short)
+chunks_then (p ∷ []) last full some short = (full.0, (some, short))
+chunks_then (p ∷ q ∷ ps) last full some short = (full.0, chunks_then (q ∷ ps) last full.1 some short)
+
+-- full chunks
+full_chunks : (pieces : List (List ℕ)) → AllByRecursion (λ (p : List ℕ). length p ≡ chunk_size) pieces → AreChunks pieces
+full_chunks [] full = tt
+full_chunks (p ∷ []) full = let e = full.0 in (omega (arith, e), omega (arith, e))
+full_chunks (p ∷ q ∷ ps) full = (full.0, full_chunks (q ∷ ps) full.1)
+
 -- the bytes in memory are one piece more
-cut_chunk : (written : ℕ) (last : List ℕ) (pieces : List (List ℕ)) (bytes : List ℕ) → IsCut written last pieces bytes → IsCut (written + 1) [] (pieces ++ last ∷ []) (bytes ++ [])
-cut_chunk written last pieces bytes h = record {
+all_of : (last : List ℕ) (pieces : List (List ℕ)) (bytes : List ℕ) → concat pieces ++ last ≡ bytes → concat (pieces ++ last ∷ []) ≡ bytes
+all_of last pieces bytes all = concat_more pieces last ∙ all
+
+-- the bytes in memory are one full chunk more
+cut_chunk : (written : ℕ) (last : List ℕ) (pieces : List (List ℕ)) (bytes : List ℕ) → length last ≡ chunk_size → IsCut written last pieces bytes → IsCut (written + 1) [] (pieces ++ last ∷ []) (bytes ++ [])
+cut_chunk written last pieces bytes full h = record {
   count = ap (λ k. k + 1) h.count ∙ sym (length-append pieces (last ∷ []));
-  all = append-nil _ ∙ concat_more pieces last ∙ h.all ∙ sym (append-nil bytes);
+  full = all-append (λ (p : List ℕ). length p ≡ chunk_size) pieces (last ∷ []) h.full (full, tt);
+  short = omega arith;
+  all = append-nil _ ∙ all_of last pieces bytes h.all ∙ sym (append-nil bytes);
 }
 
 -- more bytes in memory
-pub cut_more : (written : ℕ) (last more : List ℕ) (pieces : List (List ℕ)) (bytes : List ℕ) → IsCut written last pieces bytes → IsCut written (last ++ more) pieces (bytes ++ more)
-cut_more written last more pieces bytes h = record { count = h.count; all = sym (append_assoc (concat pieces) last more) ∙ ap (λ l. l ++ more) h.all }
+pub cut_more : (written : ℕ) (last more : List ℕ) (pieces : List (List ℕ)) (bytes : List ℕ) → length (last ++ more) ≤ chunk_size → IsCut written last pieces bytes → IsCut written (last ++ more) pieces (bytes ++ more)
+cut_more written last more pieces bytes short h =
+    record { count = h.count; full = h.full; short = short; all = sym (append_assoc (concat pieces) last more) ∙ ap (λ l. l ++ more) h.all }
 
 -- the pieces and the bytes in memory are no more bytes than all
 within : (written : ℕ) (last : List ℕ) (pieces : List (List ℕ)) (bytes : List ℕ) → IsCut written last pieces bytes → length (concat pieces) + length last ≡ length bytes
@@ -70,38 +100,61 @@ module _ {S : Type 0} (g : Ghosts S) where
         cuts.staged (let e = within i.written i.last.items cuts.pieces bytes cuts.cut in omega (arith, e, fits)) h;
   }
 
-  pub chunk_advances : (s t : Store S) (i j : Intake) → Makes g (step i) s t → j.upload ≡ i.upload → j.written ≡ i.written + 1 → j.last.items ≡ [] → Advances g s i t j []
-  chunk_advances s t i j made upload written last ready repo name size bytes cuts =
+  -- its bytes are one piece more of the staged upload
+  chunk_staged : (s t : Store S) (i : Intake) → Makes g (step i) s t → HasTables g s → (repo name : List ℕ) (size : ℕ) (bytes : List ℕ) (cuts : Cuts g s i repo name size bytes)
+      → Stages g t (upload_number i.upload) repo name size (cuts.pieces ++ i.last.items ∷ [])
+  chunk_staged s t i made ready repo name size bytes cuts =
       let at : step i ≡ with_chunk (asked_chunk (upload_number i.upload) (length cuts.pieces) i.last.items) = ap (λ n. with_chunk (asked_chunk (upload_number i.upload) n i.last.items)) cuts.cut.count in
       let moves = subst (λ f. Makes g f s t) at made in
-      record {
-        pieces = cuts.pieces ++ i.last.items ∷ [];
-        cut = rw (written, last) (cut_chunk i.written i.last.items cuts.pieces bytes cuts.cut);
-        staged = rw upload (stages_more g s t (upload_number i.upload) repo name size cuts.pieces i.last.items ready moves.moves cuts.staged);
-      }
+      stages_more g s t (upload_number i.upload) repo name size cuts.pieces i.last.items ready moves.moves cuts.staged
+
+  pub chunk_advances : (s t : Store S) (i j : Intake) → Makes g (step i) s t → j.upload ≡ i.upload → j.written ≡ i.written + 1 → j.last.items ≡ [] → length i.last.items ≡ chunk_size → Advances g s i t j []
+  chunk_advances s t i j made upload written last full ready repo name size bytes cuts = record {
+    pieces = cuts.pieces ++ i.last.items ∷ [];
+    cut = rw (written, last) (cut_chunk i.written i.last.items cuts.pieces bytes full cuts.cut);
+    staged = rw upload (chunk_staged s t i made ready repo name size bytes cuts);
+  }
+
+  pub chunk_finishes : (s t : Store S) (i : Intake) → Makes g (step i) s t → 0 < length i.last.items → Finishes g s i t
+  chunk_finishes s t i made some ready repo name size bytes cuts = record {
+    pieces = cuts.pieces ++ i.last.items ∷ [];
+    chunks = chunks_then cuts.pieces i.last.items cuts.cut.full some cuts.cut.short;
+    all = all_of i.last.items cuts.pieces bytes cuts.cut.all;
+    staged = chunk_staged s t i made ready repo name size bytes cuts;
+  }
+
+  -- with no bytes in memory, the chunks are all the bytes
+  pub none_finishes : (s : Store S) (i : Intake) → length i.last.items ≡ 0 → Finishes g s i s
+  none_finishes s i none ready repo name size bytes cuts = record {
+    pieces = cuts.pieces;
+    chunks = full_chunks cuts.pieces cuts.cut.full;
+    all = sym (append-nil (concat cuts.pieces)) ∙ ap (λ l. concat cuts.pieces ++ l) (sym (nil_from_length i.last.items none)) ∙ cuts.cut.all;
+    staged = cuts.staged;
+  }
 
   -- ---- bytes in memory, and one chunk
 
-  more_held : (s : Store S) (i j : Intake) (part : List ℕ) → j.upload ≡ i.upload → j.written ≡ i.written → j.last.items ≡ i.last.items ++ part
+  more_held : (s : Store S) (i j : Intake) (part : List ℕ) → j.upload ≡ i.upload → j.written ≡ i.written → j.last.items ≡ i.last.items ++ part → length (i.last.items ++ part) ≤ chunk_size
       → (repo name : List ℕ) (size : ℕ) (bytes : List ℕ) → Cuts g s i repo name size bytes → Cuts g s j repo name size (bytes ++ part)
-  more_held s i j part upload written last repo name size bytes cuts = record {
+  more_held s i j part upload written last short repo name size bytes cuts = record {
     pieces = cuts.pieces;
-    cut = rw (written, last) (cut_more i.written i.last.items part cuts.pieces bytes cuts.cut);
+    cut = rw (written, last) (cut_more i.written i.last.items part cuts.pieces bytes short cuts.cut);
     staged = rw upload cuts.staged;
   }
 
   -- after more bytes came into memory, a chunk was written
-  pub more_kept : (s t : Store S) (i j : Intake) (part : List ℕ) (limit : ℕ) → length part ≤ limit → j.upload ≡ i.upload → j.written ≡ i.written → j.last.items ≡ i.last.items ++ part → KeepsWithin g s j t 0 → KeepsWithin g s i t limit
-  more_kept s t i j part limit less upload written last k = record {
+  pub more_kept : (s t : Store S) (i j : Intake) (part : List ℕ) (limit : ℕ) → length part ≤ limit → j.upload ≡ i.upload → j.written ≡ i.written → j.last.items ≡ i.last.items ++ part → length (i.last.items ++ part) ≤ chunk_size → KeepsWithin g s j t 0
+      → KeepsWithin g s i t limit
+  more_kept s t i j part limit less upload written last short k = record {
     honest = k.honest;
     ready = k.ready;
     kept = λ repo name size bytes cuts fits world h.
-        k.kept repo name size (bytes ++ part) (more_held s i j part upload written last repo name size bytes cuts) (let e = length-append bytes part in omega (arith, e, less, fits)) world h;
+        k.kept repo name size (bytes ++ part) (more_held s i j part upload written last short repo name size bytes cuts) (let e = length-append bytes part in omega (arith, e, less, fits)) world h;
   }
 
   -- more bytes came into memory
-  pub more_advances : (s : Store S) (i j : Intake) (part : List ℕ) → j.upload ≡ i.upload → j.written ≡ i.written → j.last.items ≡ i.last.items ++ part → Advances g s i s j part
-  more_advances s i j part upload written last ready = more_held s i j part upload written last
+  pub more_advances : (s : Store S) (i j : Intake) (part : List ℕ) → j.upload ≡ i.upload → j.written ≡ i.written → j.last.items ≡ i.last.items ++ part → length (i.last.items ++ part) ≤ chunk_size → Advances g s i s j part
+  more_advances s i j part upload written last short ready = more_held s i j part upload written last short
 
   -- no more bytes
   pub advances_none : (s : Store S) (i : Intake) → Advances g s i s i []
@@ -138,11 +191,3 @@ module _ {S : Type 0} (g : Ghosts S) where
   -- nothing was written
   pub from_nothing : (s : Store S) (i : Intake) → From g s s (λ world. (repo name : List ℕ) (size : ℕ) (bytes : List ℕ) → HasTaken g s i repo name size bytes → Keeps g s s world)
   from_nothing s i = record { honest = λ k. k; each = λ clean world h repo name size bytes taken. keeps_still g s s world (leads_none g s world h) }
-
-  -- with no bytes in memory, the chunks are all the bytes
-  pub stored : (t : Store S) (j : Intake) (repo name : List ℕ) (size : ℕ) (bytes : List ℕ) → j.last.items ≡ [] → Cuts g t j repo name size (bytes ++ []) → HasStored g t (upload_number j.upload) repo name size bytes
-  stored t j repo name size bytes empty cuts = record {
-    pieces = cuts.pieces;
-    all = sym (append-nil (concat cuts.pieces)) ∙ ap (λ l. concat cuts.pieces ++ l) (sym empty) ∙ cuts.cut.all ∙ append-nil bytes;
-    staged = cuts.staged;
-  }

@@ -1,6 +1,6 @@
 -- What an intake has taken, and what of it is stored.
-use Rattle.std.specs.Prelude.{◌≡◌, ◌≤◌, ◌+◌, ℕ, ℤ, List, ◌++◌, length}
-use Rattle.std.specs.List.{concat}
+use Rattle.std.specs.Prelude.{◌≡◌, ◌<◌, ◌≤◌, ◌+◌, ℕ, ℤ, List, [], ◌∷◌, ◌++◌, length, ⊤}
+use Rattle.std.specs.List.{AllByRecursion, concat}
 use Rattle.sha2.specs.Hashers.{Holds256}
 use Rattle.sha2.specs.declared.Sha256.{Sha256}
 use Rattle.sqlite_trees.specs.declared.store.Store.{Ghosts}
@@ -17,9 +17,18 @@ use Rattle.chunks.specs.declared.intake.Intake.{Intake}
 abbrev pub chunk_size : ℕ
 chunk_size = 65536
 
--- these bytes were cut into these pieces, of which there are `written`, and the last ones, which are in memory
+-- the pieces are chunks: each but the last is full, and the last one has at least one byte
+abbrev pub AreChunks : List (List ℕ) → Type 0
+AreChunks [] = ⊤
+AreChunks (last ∷ []) = (0 < length last) × (length last ≤ chunk_size)
+AreChunks (piece ∷ pieces) = (length piece ≡ chunk_size) × AreChunks pieces
+
+-- these bytes were cut into these pieces, of which there are `written` and each is a full chunk, and the last ones, which are
+-- in memory
 pub record IsCut (written : ℕ) (last : List ℕ) (pieces : List (List ℕ)) (bytes : List ℕ) : Type 0 where
   pub count : written ≡ length pieces
+  pub full : AllByRecursion (λ piece. length piece ≡ chunk_size) pieces
+  pub short : length last ≤ chunk_size
   pub all : concat pieces ++ last ≡ bytes
 
 -- the intake hashed and counted these bytes
@@ -57,6 +66,7 @@ module _ {S : Type 0} (g : Ghosts S) where
   -- an upload is staged for this repository, name and size, and its chunks are these bytes
   pub record HasStored (s : Store S) (id : ℤ) (repo name : List ℕ) (size : ℕ) (bytes : List ℕ) : Type 0 where
     pub pieces : List (List ℕ)
+    pub chunks : AreChunks pieces
     pub all : concat pieces ≡ bytes
     pub staged : Stages g s id repo name size pieces
 
@@ -65,6 +75,12 @@ module _ {S : Type 0} (g : Ghosts S) where
   Advances s i t j more =
       HasTables g s → (repo name : List ℕ) (size : ℕ) (bytes : List ℕ) → Cuts s i repo name size bytes
       → Cuts t j repo name size (bytes ++ more)
+
+  -- all bytes of the intake's upload are in its chunks
+  abbrev pub Finishes : Store S → Intake → Store S → Type 0
+  Finishes s i t =
+      HasTables g s → (repo name : List ℕ) (size : ℕ) (bytes : List ℕ) → Cuts s i repo name size bytes
+      → HasStored t (upload_number i.upload) repo name size bytes
 
   -- each world that the store held is kept, if the upload has room for this number of bytes more
   pub record KeepsWithin (s : Store S) (i : Intake) (t : Store S) (more : ℕ) : Type 0 where

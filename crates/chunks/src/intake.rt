@@ -8,7 +8,7 @@ ghost use Rattle.model.specs.World.{name_of};
 ghost use Rattle.tables.specs.Shown.{HasTables};
 ghost use Rattle.tables.specs.Staging.{upload_number};
 ghost use Rattle.refinement.specs.Left.{From, Keeps};
-ghost use Rattle.chunks.specs.Intakes.{IsCut, HasCounted, KeepsCount, HasTaken, HasStored, Advances, KeepsWithin};
+ghost use Rattle.chunks.specs.Intakes.{IsCut, HasCounted, KeepsCount, HasTaken, HasStored, Advances, Finishes, KeepsWithin};
 
 use names::{Oid, Size};
 use sha2::{Digest, Sha256};
@@ -63,7 +63,10 @@ impl Intake {
     fn write_chunk<S: Alter>(&mut self, store: &mut Store<S>) -> Result<(), StoreFault>
         ensures same { KeepsCount self.old self.new }
         ensures empty { OnOk result (self.new.last.items ≡ []) }
-        ensures advances { OnOk result (Advances S.Store store.old self.old store.new self.new []) }
+        ensures advances { length self.old.last.items ≡ CHUNK
+            → OnOk result (Advances S.Store store.old self.old store.new self.new []) }
+        ensures finishes { 0 < length self.old.last.items
+            → OnOk result (Finishes S.Store store.old self.old store.new) }
         ensures keeps { KeepsWithin S.Store store.old self.old store.new 0 }
         ensures known { result ≢ Err StoreFault.UnknownSchema }
     {
@@ -79,8 +82,7 @@ impl Intake {
     /// Writes the bytes in memory as the last chunk, if there are any.
     fn write_last<S: Alter>(&mut self, store: &mut Store<S>) -> Result<(), StoreFault>
         ensures same { KeepsCount self.old self.new }
-        ensures empty { OnOk result (self.new.last.items ≡ []) }
-        ensures advances { OnOk result (Advances S.Store store.old self.old store.new self.new []) }
+        ensures finishes { OnOk result (Finishes S.Store store.old self.old store.new) }
         ensures keeps { KeepsWithin S.Store store.old self.old store.new 0 }
         ensures known { result ≢ Err StoreFault.UnknownSchema }
     {

@@ -1,5 +1,6 @@
 pub mod Beginning
 pub mod Bounds
 pub mod Finding
+pub mod Listing
 pub mod Completing
 pub mod Removing

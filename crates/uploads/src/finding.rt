@@ -1,13 +1,15 @@
 //! Finds objects.
 
-ghost use Rattle.std.specs.Prelude.{◌≡◌, ◌≢◌, Err, IfOk};
+ghost use Rattle.std.specs.Prelude.{◌≡◌, ◌≢◌, Err, IfOk, option_map};
 ghost use Rattle.names.specs.Names.{repo_text};
 ghost use Rattle.model.specs.World.{total};
 ghost use Rattle.refinement.specs.Left.{Reads};
 ghost use Rattle.uploads.specs.Finding.{Finds};
+ghost use Rattle.uploads.specs.Listing.{Lists};
 
 use names::{Oid, RepoName};
-use tables::{Alter, ObjectRow, Store, StoreFault};
+use std::alloc::Global;
+use tables::{Alter, ObjectRow, Store, StoreFault, UploadRow};
 
 /// Returns the object that the repository has under this name, if there is one: the upload that has its bytes, and
 /// its size.
@@ -38,4 +40,23 @@ pub fn used<S: Alter>(store: &mut Store<S>, repo: &RepoName) -> Result<u64, Stor
         IfOk result (λ n. n ≡ total (repo_text repo.now) world)) }
 {
     store.used(repo)
+}
+
+/// Returns the objects of the repository, or of all repositories, in the order of repositories and names: of each its
+/// repository, its name, its size, and the upload that has its bytes.
+///
+/// # Errors
+///
+/// `Refused` or `Memory`. The contents of the store are unchanged in any case.
+pub fn all<S: Alter>(
+    alloc: Global,
+    store: &mut Store<S>,
+    repo: Option<&RepoName>,
+) -> Result<Vec<UploadRow>, StoreFault>
+    ensures known { result ≢ Err StoreFault.UnknownSchema }
+    ensures world { Reads S.Store store.old store.new (λ world.
+        IfOk result (λ found. Lists S.Store world store.new
+        (option_map (λ r. repo_text r.now) repo.entry) found.items)) }
+{
+    store.objects(alloc, repo)
 }

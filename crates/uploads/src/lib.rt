@@ -14,6 +14,6 @@ mod removing;
 
 pub use beginning::begin;
 pub use completing::{Kept, UploadFault, complete};
-pub use finding::{find, used};
+pub use finding::{all, find, used};
 pub use laws::bound_law;
 pub use removing::{abandon, sweep};

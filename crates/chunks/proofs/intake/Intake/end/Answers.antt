@@ -1,9 +1,6 @@
 use Rattle.std.proofs.Common.{arith, sym, subst, ◌∙◌}
 use Rattle.sha2.specs.Hashers.{Holds256}
-use Rattle.chunks.specs.Intakes.{HasStored}
-use Rattle.tables.specs.Staging.{upload_number}
-use Rattle.tables.specs.declared.rows.UploadId.{UploadId}
-use Rattle.chunks.proofs.Cutting.{from_room, stored}
+use Rattle.chunks.proofs.Cutting.{from_room}
 use Rattle.chunks.proofs.intake.Intake.end.Goals as goal
 
 pub returns-in_err-write_last-clause-kept : goal.returns-in_err-write_last-clause-kept
@@ -28,9 +25,8 @@ returns-clause-kept g c =
 
 pub returns-clause-stored : goal.returns-clause-stored
 returns-clause-stored g c ready repo name size bytes taken =
-    let last = c.in_ok-write_last.ensures in
-    let is = stored g.S.Store c.write_last.new.store c.write_last.new.self repo name size bytes last.empty (last.advances ready repo name size bytes taken.cuts) in (
+    let last = c.in_ok-write_last.ensures in (
       c.in_ok-name_of.ensures.value bytes (subst (λ h. Holds256 h bytes) (sym last.same.hasher) taken.counted.hashed),
       c.in-Some.ensures.value ∙ last.same.taken ∙ taken.counted.count,
-      subst (λ (u : UploadId). HasStored g.S.Store c.write_last.new.store (upload_number u) repo name size bytes) last.same.upload is,
+      last.finishes ready repo name size bytes taken.cuts,
     )

@@ -1,6 +1,6 @@
-use Rattle.std.proofs.Common.{[], take, length, refl, append-nil, subst}
-use Rattle.chunks.specs.Intakes.{Advances}
-use Rattle.chunks.proofs.Cutting.{at_most, keeps_nothing, more_kept, more_advances, advances_then}
+use Rattle.std.proofs.Common.{[], ◌≡◌, take, length, refl, arith, append-nil, subst}
+use Rattle.chunks.specs.Intakes.{chunk_size, Advances}
+use Rattle.chunks.proofs.Cutting.{at_most, fits_in, fills, keeps_nothing, more_kept, more_advances, advances_then}
 use Rattle.chunks.proofs.intake.Intake.fill.Goals as goal
 
 pub returns-in_err-extend_from_slice-clause-keeps : goal.returns-in_err-extend_from_slice-clause-keeps
@@ -10,7 +10,9 @@ pub returns-in_err-write_chunk-clause-keeps : goal.returns-in_err-write_chunk-cl
 returns-in_err-write_chunk-clause-keeps g c =
     let i = c.args.self.now in
     let part = take c.min-size.result c.args.rest.now in
-    more_kept g.S.Store c.args.store.now c.write_chunk.new.store i (record i { last = c.extend_from_slice.new.self }) part (length c.args.rest.now) (at_most c.min-size.result c.args.rest.now) refl refl c.in_ok-extend_from_slice.ensures.items c.write_chunk.ensures.keeps
+    let len = c.if-len-eq-CHUNK.true in
+    let fits = fills (c.extend_from_slice.new.self).items i.last.items part c.in_ok-extend_from_slice.ensures.items (omega (arith, len, c.len-2.ensures)) in
+    more_kept g.S.Store c.args.store.now c.write_chunk.new.store i (record i { last = c.extend_from_slice.new.self }) part (length c.args.rest.now) (at_most c.min-size.result c.args.rest.now) refl refl c.in_ok-extend_from_slice.ensures.items fits c.write_chunk.ensures.keeps
 
 pub returns-in_ok-write_chunk-clause-advances : goal.returns-in_ok-write_chunk-clause-advances
 returns-in_ok-write_chunk-clause-advances g c =
@@ -19,19 +21,25 @@ returns-in_ok-write_chunk-clause-advances g c =
     let part = take c.min-size.result c.args.rest.now in
     let a = c.args.store.now in
     let b = c.write_chunk.new.store in
+    let len = c.if-len-eq-CHUNK.true in
+    let full : length j.last.items ≡ chunk_size = omega (arith, len, c.len-2.ensures) in
+    let fits = fills j.last.items i.last.items part c.in_ok-extend_from_slice.ensures.items full in
     subst (Advances g.S.Store a i b c.write_chunk.new.self) (append-nil part)
-    (advances_then g.S.Store a a b i j c.write_chunk.new.self part [] (λ h. h) (more_advances g.S.Store a i j part refl refl c.in_ok-extend_from_slice.ensures.items) c.in_ok-write_chunk.ensures.advances)
+    (advances_then g.S.Store a a b i j c.write_chunk.new.self part [] (λ h. h) (more_advances g.S.Store a i j part refl refl c.in_ok-extend_from_slice.ensures.items fits) (c.in_ok-write_chunk.ensures.advances full))
 
 pub returns-in_ok-write_chunk-clause-keeps : goal.returns-in_ok-write_chunk-clause-keeps
 returns-in_ok-write_chunk-clause-keeps g c =
     let i = c.args.self.now in
     let part = take c.min-size.result c.args.rest.now in
-    more_kept g.S.Store c.args.store.now c.write_chunk.new.store i (record i { last = c.extend_from_slice.new.self }) part (length c.args.rest.now) (at_most c.min-size.result c.args.rest.now) refl refl c.in_ok-extend_from_slice.ensures.items c.write_chunk.ensures.keeps
+    let len = c.if-len-eq-CHUNK.true in
+    let fits = fills (c.extend_from_slice.new.self).items i.last.items part c.in_ok-extend_from_slice.ensures.items (omega (arith, len, c.len-2.ensures)) in
+    more_kept g.S.Store c.args.store.now c.write_chunk.new.store i (record i { last = c.extend_from_slice.new.self }) part (length c.args.rest.now) (at_most c.min-size.result c.args.rest.now) refl refl c.in_ok-extend_from_slice.ensures.items fits c.write_chunk.ensures.keeps
 
 pub returns-else-len-eq-CHUNK-clause-advances : goal.returns-else-len-eq-CHUNK-clause-advances
 returns-else-len-eq-CHUNK-clause-advances g c =
     let i = c.args.self.now in
-    more_advances g.S.Store c.args.store.now i (record i { last = c.extend_from_slice.new.self }) (take c.min-size.result c.args.rest.now) refl refl c.in_ok-extend_from_slice.ensures.items
+    let fits = fits_in i.last.items c.args.rest.now c.min-size.result (omega (arith, c.requires, c.len.ensures, c.min-size.ensures)) in
+    more_advances g.S.Store c.args.store.now i (record i { last = c.extend_from_slice.new.self }) (take c.min-size.result c.args.rest.now) refl refl c.in_ok-extend_from_slice.ensures.items fits
 
 pub returns-else-len-eq-CHUNK-clause-keeps : goal.returns-else-len-eq-CHUNK-clause-keeps
 returns-else-len-eq-CHUNK-clause-keeps g c = keeps_nothing g.S.Store c.args.store.now c.args.self.now (length c.args.rest.now)

@@ -1,0 +1,23 @@
+use Rattle.std.proofs.Common.{option_map}
+use Rattle.std.proofs.lemmas.Result.{IfOk-weaker}
+use Rattle.names.specs.Names.{repo_text}
+use Rattle.tables.specs.Shown.{shown, IsOpen}
+use Rattle.tables.specs.Staging.{AreUploadsOf, objects_of}
+use Rattle.uploads.specs.Listing.{Lists}
+use Rattle.uploads.proofs.Listed.{lists_by}
+use Rattle.uploads.proofs.finding.all.Goals as goal
+
+pub returns-clause-world : goal.returns-clause-world
+returns-clause-world g c = record {
+  same = c.objects.ensures.same;
+  adds = c.objects.ensures.adds;
+  each = λ honest world h.
+      let old = c.args.store.now in
+      let new = c.objects.new.self in
+      let repo = option_map (λ r. repo_text r.now) c.args.repo in
+      IfOk-weaker c.objects.result
+      (λ found. IsOpen g.S.Store old × AreUploadsOf found.items (objects_of repo (shown g.S.Store old)))
+      (λ found. Lists g.S.Store world new repo found.items)
+      (λ found is. lists_by g.S.Store old new world repo h.ready c.objects.ensures.same (h.shows (c.objects.ensures.same.was_honest honest) is.0) found.items is.1)
+      (c.objects.ensures.answers honest h.ready);
+}

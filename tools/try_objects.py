@@ -1,0 +1,235 @@
+#!/usr/bin/env python3
+"""Tries `custody serve` with objects, and reads what it stored with the command sqlite3.
+
+    tools/try_objects.py [--program FILE] [--only NAME]...
+
+Each check starts a server on a new database and a free port of this machine, and prints one line. A database is read
+by sqlite3 while the server is killed, from a copy, and then by a server again. The names of objects come from the
+command sha256sum. The last line counts the checks; the status is 1 if one failed. It needs Linux, python3, sqlite3 and
+sha256sum, and takes about two minutes. Without --program it is bin/custody.
+"""
+import argparse
+import shutil
+import signal
+import subprocess
+import sys
+from pathlib import Path
+
+from try_server import TOP, message, require, run_all
+
+POLICY = """base = "https://lfs.example"
+token_seconds = 86400
+
+[[repo]]
+name = "studio/film"
+default_ref = "refs/heads/main"
+quota = 1000000000
+
+[[repo]]
+name = "studio/game"
+default_ref = "refs/heads/main"
+quota = 1000000000
+
+[[row]]
+effect = "allow"
+users = ["ann"]
+repos = ["*"]
+refs = ["*"]
+paths = ["*"]
+rights = ["pull", "push", "list", "lock"]
+"""
+CHUNK = 65_536
+SIZES = [0, 1, CHUNK - 1, CHUNK, CHUNK + 1, 256 << 20]
+HELLO = "2cf24dba5fb0a30e26e83b2ac5b9e29e1b161e5c1fa7425e73043362938b9824"
+
+
+def name_of(path):
+    """The SHA-256 of the file, by sha256sum."""
+    found = subprocess.run(["sha256sum", path], check=True, capture_output=True, text=True)
+    return found.stdout.split()[0]
+
+
+def file_of(server, size):
+    """A file of this many bytes, and its name."""
+    path = f"{server.room}/content"
+    pattern = bytes(range(251)) * 4177
+    with open(path, "wb") as out:
+        left = size
+        while left > 0:
+            left -= out.write(pattern[:left])
+    return path, name_of(path)
+
+
+def content(repo, oid):
+    return f"/{repo}.git/info/lfs/content/{oid}"
+
+
+def head(method, target, length, letter="a"):
+    return message(method, target, letter=letter, more=f"Content-Length: {length}\r\n")
+
+
+def put(server, oid, data, repo="studio/film", letter="a", step=1 << 30):
+    """Uploads the data, at most `step` bytes a write, and returns the status."""
+    with server.client(600) as client:
+        text = head("PUT", content(repo, oid), len(data), letter) + data
+        for at in range(0, len(text), step):
+            client.send(text[at : at + step])
+        return client.reply()[0]
+
+
+def get(server, oid, repo="studio/film", letter="a"):
+    """Downloads the object, and returns the status and the body."""
+    with server.client(600) as client:
+        return client.ask(message("GET", content(repo, oid), letter=letter))
+
+
+def verify(server, oid, size):
+    """Asks whether the object is stored, and returns the status."""
+    with server.client(600) as client:
+        return client.ask(message("POST", "/studio/film.git/info/lfs/verify", {"oid": oid, "size": size}))[0]
+
+
+def stored(server, question):
+    """The lines that sqlite3 prints for the question, on a copy of the database. The server is killed and started."""
+    server.end(signal.SIGKILL)
+    copy = Path(f"{server.room}/copy")
+    shutil.rmtree(copy, ignore_errors=True)
+    copy.mkdir()
+    for file in Path(server.room).glob("custody.db*"):
+        shutil.copy(file, copy)
+    text = f"PRAGMA integrity_check; {question}"
+    found = subprocess.run(["sqlite3", f"{copy}/custody.db", text], check=True, capture_output=True, text=True)
+    server.start()
+    lines = found.stdout.split()
+    require(lines[:1] == ["ok"], f"sqlite3 says {lines[:1]} of the database")
+    return lines[1:]
+
+
+def expect_stored(server, question, want):
+    found = stored(server, question)
+    require(found == want, f"{question} prints {found}, not {want}")
+
+
+# For each upload: its repository, size, whether it is an object, and the number, the last number and the bytes of its chunks.
+UPLOADS = """SELECT repo, size, done, count(n), coalesce(max(n), -1), coalesce(sum(length(bytes)), 0)
+FROM uploads LEFT JOIN chunks ON upload = id GROUP BY id ORDER BY id;"""
+
+
+def row(size, repo="studio/film"):
+    """The line of UPLOADS for an object of this size."""
+    count = -(-size // CHUNK)
+    return f"{repo}|{size}|1|{count}|{count - 1}|{size}"
+
+
+def check_sizes(server, _):
+    """Objects beside the size of a chunk, and of the largest size."""
+    for size in SIZES:
+        path, oid = file_of(server, size)
+        require(get(server, oid)[0] == 404, f"an object of {size} bytes exists before its upload")
+        require(verify(server, oid, size) == 404, f"an object of {size} bytes is verified before its upload")
+        require(put(server, oid, Path(path).read_bytes()) == 200, f"an upload of {size} bytes was refused")
+        require(verify(server, oid, size) == 200, f"an object of {size} bytes is not verified")
+        status, data = get(server, oid)
+        Path(path).write_bytes(data)
+        require((status, name_of(path)) == (200, oid), f"an object of {size} bytes came back with {status}, as {name_of(path)}")
+    expect_stored(server, UPLOADS, [row(size) for size in SIZES])
+    expect_stored(server, "SELECT name, used FROM repos;", [f"studio/film|{sum(SIZES)}"])
+    expect_stored(server, "SELECT DISTINCT length(bytes) FROM chunks ORDER BY 1;", ["1", str(CHUNK - 1), str(CHUNK)])
+    for size in SIZES:
+        path, oid = file_of(server, size)
+        Path(path).write_bytes(get(server, oid)[1])
+        require(name_of(path) == oid, f"an object of {size} bytes differs after a restart")
+    return f"{len(SIZES)} objects of up to {SIZES[-1]} bytes, each as it was uploaded, before and after restarts"
+
+
+def check_bytes(server, _):
+    """Objects that are sent byte by byte."""
+    for size in SIZES[:-1]:
+        path, oid = file_of(server, size)
+        data = Path(path).read_bytes()
+        require(put(server, oid, bytes(size) + b"x", step=1) == 422, f"other bytes than those of {size} bytes were not refused")
+        require(get(server, oid)[0] == 404, f"an object of {size} bytes exists before its upload")
+        require(put(server, oid, data, step=1) == 200, f"an upload of {size} bytes was refused")
+        require(get(server, oid) == (200, data), f"an object of {size} bytes differs")
+    expect_stored(server, UPLOADS, [row(size) for size in SIZES[:-1]])
+    return f"{len(SIZES) - 1} objects of up to {SIZES[-2]} bytes"
+
+
+def check_cut(server, _):
+    """Uploads whose connection ends within the content."""
+    size = 200_000
+    path, oid = file_of(server, size)
+    data = Path(path).read_bytes()
+    edges = [number * CHUNK + beside for number in range(4) for beside in (-1, 0, 1)]
+    cuts = sorted({*range(0, size, 10_000), *(edge for edge in edges if 0 <= edge < size)})
+    for cut in cuts:
+        with server.client() as client:
+            client.send(head("PUT", content("studio/film", oid), size) + data[:cut])
+            client.socket.shutdown(1)
+            require(client.socket.recv(1) == b"", f"an upload that was cut after {cut} bytes got a reply")
+        full = cut // CHUNK
+        expect_stored(server, UPLOADS, [f"studio/film|{size}|0|{full}|{full - 1}|{full * CHUNK}"])
+        expect_stored(server, "SELECT count(*) FROM repos;", ["0"])
+        require(get(server, oid)[0] == 404, f"an upload that was cut after {cut} bytes is served")
+    require(put(server, HELLO, b"hello") == 200, "the next upload was refused")
+    expect_stored(server, UPLOADS, [row(5)])
+    require(put(server, oid, data) == 200, "the upload was refused")
+    require(get(server, oid) == (200, data), "the object differs")
+    expect_stored(server, UPLOADS, [row(5), row(size)])
+    return f"{len(cuts)} uploads that were cut left no object, and one staged upload with its full chunks"
+
+
+def check_repositories(server, _):
+    """Two repositories with the same object."""
+    words = ["authenticate", *server.files(), "--user", "ann", "--random", f"{server.room}/second", "studio/game", "upload"]
+    Path(f"{server.room}/second").write_bytes(b"\xbb" * 32)
+    server.end(signal.SIGTERM)
+    subprocess.run([server.program, *words], check=True, stdout=subprocess.DEVNULL)
+    server.start()
+    path, oid = file_of(server, 100_000)
+    data = Path(path).read_bytes()
+    require(put(server, oid, data) == 200, "the first upload was refused")
+    require(get(server, oid, "studio/game", "b")[0] == 404, "an object of another repository is served")
+    require(get(server, oid, "studio/game", "a")[0] == 404, "a token of another repository is accepted")
+    require(put(server, oid, data, "studio/game", "b") == 200, "the second upload was refused")
+    for repo, letter in (("studio/film", "a"), ("studio/game", "b")):
+        require(get(server, oid, repo, letter) == (200, data), f"the object of {repo} differs")
+    expect_stored(server, UPLOADS, [row(100_000), row(100_000, "studio/game")])
+    expect_stored(server, "SELECT name, used FROM repos ORDER BY name;", ["studio/film|100000", "studio/game|100000"])
+    return "two repositories store the same object, each for itself"
+
+
+def check_refused(server, _):
+    """Uploads that are refused, before their content and after it, and an upload of what is stored."""
+    require(put(server, HELLO, b"abc") == 422, "other bytes were not refused")
+    require(put(server, HELLO, b"hello", letter="c") == 401, "an unknown token was not refused")
+    lock = message("POST", "/studio/film.git/info/lfs/locks", {"path": "art/hero.psd"})
+    require(put(server, "xyz", lock) == 422, "an upload without a name was not refused")
+    expect_stored(server, UPLOADS, [])
+    expect_stored(server, "SELECT count(*) FROM locks; SELECT count(*) FROM chunks;", ["0", "0"])
+    for data in (b"hello", b"hello"):
+        require(put(server, HELLO, data) == 200, "an upload was refused")
+    require(put(server, HELLO, b"jello") == 422, "other bytes were not refused")
+    require(get(server, HELLO) == (200, b"hello"), "the object differs")
+    expect_stored(server, UPLOADS, [row(5)])
+    return "refused uploads left no row, and an object that was uploaded twice has one"
+
+
+CHECKS = {
+    "sizes": check_sizes,
+    "bytes": check_bytes,
+    "cut": check_cut,
+    "repositories": check_repositories,
+    "refused": check_refused,
+}
+
+
+def main():
+    parser = argparse.ArgumentParser(description=__doc__.splitlines()[0])
+    parser.add_argument("--program", default=str(TOP / "bin/custody"), help="the program [default: bin/custody]")
+    parser.add_argument("--only", action="append", choices=CHECKS, help="only this check")
+    return run_all(CHECKS, parser.parse_args(), POLICY)
+
+
+if __name__ == "__main__":
+    sys.exit(main())
