@@ -6,10 +6,9 @@ use Rattle.names.specs.declared.rules.Rule.{Rule}
 use Rattle.names.specs.declared.rules.Rule.TheVariants.{A4, A5, R1}
 use Rattle.model.specs.Policy.{Policy, Repo, repo_named}
 use Rattle.model.specs.Forms.{Request, needs_upload, request_of}
-use Rattle.model.specs.Heads.{form_of_served}
 use Rattle.model.specs.Reading.{◌>>=◌, check, ok_or}
-use Rattle.model.specs.declared.ServedForm.{ServedForm}
-use Rattle.model.specs.declared.ServedForm.TheVariants as served
+use Rattle.model.specs.declared.Form.{Form}
+use Rattle.model.specs.declared.Form.TheVariants as asks
 use Rattle.model.proofs.Lists.{found_passes}
 use Rattle.refinement.proofs.Lookups.{same_is}
 use Rattle.forms.specs.declared.refusal.Refusal.{Refusal}
@@ -103,11 +102,12 @@ asked_by (Ok x) ask v q all is = ap (λ (r : Result Request Rule). uploads_if r)
     uploads_if (Err e) = false
 
 -- a request uploads an object exactly if its form does
-pub same_uploads : (form : ServedForm) (parameter query body : List ℕ) (q : Request) → request_of (form_of_served form) parameter query body ≡ Ok q → uploads q ≡ is_put form
-same_uploads served.Get parameter query body q is = asked_by _ _ false q (λ x. refl) is
-same_uploads served.Put parameter query body q is = asked_by _ _ true q (λ x. refl) is
-same_uploads served.Verify parameter query body q is = asked_by _ _ false q (λ x. refl) is
-same_uploads served.Lock parameter query body q is = asked_by _ _ false q (λ x. refl) is
-same_uploads served.List parameter query body q is = asked_by _ _ false q (λ x. refl) is
-same_uploads served.VerifyLocks parameter query body q is = asked_by _ _ false q (λ x. refl) is
-same_uploads served.Unlock parameter query body q is = asked_by _ _ false q (λ x. refl) is
+pub same_uploads : (f : Form) (parameter query body : List ℕ) (q : Request) → request_of f parameter query body ≡ Ok q → uploads q ≡ is_put f
+same_uploads asks.Batch parameter query body q is = asked_by _ _ false q (λ x. refl) is
+same_uploads asks.Get parameter query body q is = asked_by _ _ false q (λ x. refl) is
+same_uploads asks.Put parameter query body q is = asked_by _ _ true q (λ x. refl) is
+same_uploads asks.Verify parameter query body q is = asked_by _ _ false q (λ x. refl) is
+same_uploads asks.Lock parameter query body q is = asked_by _ _ false q (λ x. refl) is
+same_uploads asks.List parameter query body q is = asked_by _ _ false q (λ x. refl) is
+same_uploads asks.VerifyLocks parameter query body q is = asked_by _ _ false q (λ x. refl) is
+same_uploads asks.Unlock parameter query body q is = asked_by _ _ false q (λ x. refl) is

@@ -4,7 +4,6 @@ use Rattle.std.proofs.lemmas.List.{length-replicate}
 use Rattle.sqlite_trees.specs.declared.store.Store.{Ghosts}
 use Rattle.names.specs.declared.bodies.Body as Body
 use Rattle.model.specs.World.{World, total}
-use Rattle.model.specs.Heads.{form_of_served}
 use Rattle.model.specs.Answers.{Answer}
 use Rattle.model.specs.Steps.{after}
 use Rattle.model.proofs.Quota.{desk_stays}
@@ -49,7 +48,7 @@ module _ {S : Type 0} (g : Ghosts S) (old new : Store S) where
           let all = length-replicate (b.size content) 0 in
           let read = done.1.size in
           let answers = (done.2.each honest world h size (λ put. omega (arith, known, all, read))).answers rest (λ put. all) in
-          let kept = desk_stays world (setting_of policy now) (request_seen asked size) (form_of_served asked.form) asked.parameter.now asked.query.now asked.body.now body repo most h.laws refl refl within quota in
+          let kept = desk_stays world (setting_of policy now) (request_seen asked size) asked.form asked.parameter.now asked.query.now asked.body.now body repo most h.laws refl refl within quota in
           let found = answer_holds (λ w. total repo w ≤ most) world (verdict_by world asked.repo.now (plan_seen world policy now asked size) body) r answers within kept in
           stores_within g new found.0 repo most found.1 found.2;
     }

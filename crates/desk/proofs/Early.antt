@@ -110,6 +110,7 @@ fault_whole g content (Ok reply) = tt
 fault_whole g content (Err f) = refl
 
 pub uploads_none : (request : code.Request) → ((asked : PutRequest) → request ≡ form.Put asked → ⊥) → uploads (request_asked request) ≡ false
+uploads_none (form.Batch asked) other = refl
 uploads_none (form.Get asked) other = refl
 uploads_none (form.Put asked) other = absurd (other asked refl)
 uploads_none (form.Verify asked) other = refl

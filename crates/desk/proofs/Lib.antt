@@ -10,6 +10,7 @@ pub mod Arriving
 pub mod Fetching
 pub mod Pushing
 pub mod Placing
+pub mod Offering
 pub mod Puts
 pub mod Early
 pub mod Bounded

@@ -2,9 +2,8 @@
 use Rattle.std.specs.Prelude.{ℕ, Bool, true, false, Result, option_map}
 use Rattle.names.specs.declared.rules.Rule.{Rule}
 use Rattle.model.specs.Forms.{Request, asks_put, request_of}
-use Rattle.model.specs.Heads.{form_of_served}
-use Rattle.model.specs.declared.ServedForm.{ServedForm}
-use Rattle.model.specs.declared.ServedForm.TheVariants as served
+use Rattle.model.specs.declared.Form.{Form}
+use Rattle.model.specs.declared.Form.TheVariants as form
 use Rattle.model.specs.World.{World}
 use Rattle.model.specs.Cases.{Setting, DeskRequest}
 use Rattle.model.specs.Answers.{Denial, Plan}
@@ -20,7 +19,7 @@ setting_of policy now = record { policy = policy_view policy; now = now }
 
 -- what it asks
 abbrev pub request_read : RepoRequest → Result Request Rule
-request_read a = request_of (form_of_served a.form) a.parameter.now a.query.now a.body.now
+request_read a = request_of a.form a.parameter.now a.query.now a.body.now
 
 -- the request to the desk, with a content of this size
 abbrev pub request_seen : RepoRequest → ℕ → DeskRequest
@@ -36,8 +35,8 @@ abbrev pub plan_seen : World → Policy → ℕ → RepoRequest → ℕ → Resu
 plan_seen world policy now a size = desk_plan world (setting_of policy now) (request_seen a size)
 
 -- the request uploads an object
-abbrev pub is_put : ServedForm → Bool
-is_put served.Put = true
+abbrev pub is_put : Form → Bool
+is_put form.Put = true
 is_put _ = false
 
 -- the same by what is asked

@@ -7,5 +7,6 @@ pub mod Rights
 pub mod Paging
 pub mod Unlocking
 pub mod Objects
+pub mod Batching
 pub mod Receiving
 pub mod Contents

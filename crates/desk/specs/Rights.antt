@@ -38,6 +38,12 @@ case_seen world case who = case_in world (setting_of case.policy.now case.now) w
 abbrev pub IsUserOf : Case → Caller → Type 0
 IsUserOf case who = case_user case ≡ who.user
 
+-- the same, with the token that the caller presented
+pub record IsCallerOf (case : Case) (who : Caller) : Type 0 where
+  pub user : IsUserOf case who
+  pub token : case.token.now ≡ who.token
+  pub expires : case.expires ≡ who.expires
+
 -- the caller has the right on the ref and the path of the lock
 abbrev pub has_right : Case → Right → Lock → Bool
 has_right case right l = is_allowed (decide (case_policy case) (lock_question right (case_user case) l))

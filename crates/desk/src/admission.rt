@@ -10,7 +10,7 @@ ghost use Rattle.desk.specs.Asking.{request_read, is_put};
 ghost use Rattle.desk.specs.Admission.{admission_result, admission_view};
 
 use forms::{Refusal, Request, read_form};
-use model::ServedForm;
+use model::Form;
 use names::{Operation, Rule};
 use policy::{Policy, Repo};
 use std::alloc::Global;
@@ -24,7 +24,7 @@ pub struct RepoRequest<'a> {
     /// The repository's text in the target.
     pub repo: &'a str,
     /// The request that the route and the method make.
-    pub form: ServedForm,
+    pub form: Form,
     /// The route's parameter; empty if the route has none.
     pub parameter: &'a str,
     /// The part of the target after its first question mark.
@@ -37,6 +37,7 @@ fn needs_upload(request: &Request) -> bool
     ensures { result ≡ needs_upload (request_asked request.now) }
 {
     match request {
+        Request::Batch(asked) => is_for_upload(asked.operation),
         Request::Get(_) | Request::List(_) => false,
         Request::Put(_) | Request::Verify(_) => true,
         Request::Lock(_) | Request::VerifyLocks(_) | Request::Unlock(_) => true,
@@ -44,10 +45,10 @@ fn needs_upload(request: &Request) -> bool
 }
 
 /// Whether the request uploads an object.
-pub(crate) fn is_put(form: ServedForm) -> bool
+pub(crate) fn is_put(form: Form) -> bool
     ensures { result ≡ is_put form }
 {
-    matches!(form, ServedForm::Put)
+    matches!(form, Form::Put)
 }
 
 fn is_for_upload(operation: Operation) -> bool
@@ -67,7 +68,7 @@ fn is_for_upload(operation: Operation) -> bool
 pub(crate) fn admit<'a>(
     alloc: Global,
     policy: &'a Policy,
-    caller: &Caller,
+    caller: &Caller<'_>,
     asked: &RepoRequest<'_>,
 ) -> Result<(&'a Repo, Request), Refusal>
     ensures { Reads admission_view result (admission_result (policy_view policy.entry.now)

@@ -13,10 +13,11 @@ ghost use Rattle.tokens.specs.Callers.{IsHolder};
 ghost use Rattle.desk.specs.Replies.{IsReplyOf};
 ghost use Rattle.desk.specs.Contents.{HasRead, IsLeftBy};
 ghost use Rattle.desk.specs.Done.{Answers, LeavesOthers, IsAnsweredAs, IsSettled, StaysWithin, given_with, verdict_by};
-ghost use Rattle.desk.specs.Rights.{IsUserOf, case_repo, case_seen};
+ghost use Rattle.desk.specs.Rights.{IsCallerOf, case_repo, case_seen};
 ghost use Rattle.desk.specs.Asking.{is_put, uploads, plan_seen, request_seen, setting_of};
 
 use crate::admission::{RepoRequest, admit, is_put};
+use crate::batching::batch;
 use crate::cases::Case;
 use crate::checking::verify;
 use crate::downloading::get;
@@ -28,7 +29,7 @@ use crate::unlocking::unlock;
 use crate::uploading::put;
 use crate::verifying::verify_locks;
 use forms::{Answer, Refusal, Request};
-use model::ServedForm;
+use model::Form;
 use names::{Body, Moment, Rule};
 use policy::Policy;
 use std::alloc::{AllocError, Global};
@@ -83,7 +84,7 @@ pub fn answer<S: Alter, B: Body>(
 }
 
 /// The answer to a request that a rule refuses before its body.
-fn refusal(alloc: Global, form: ServedForm, rule: Rule) -> Result<Answered, AllocError>
+fn refusal(alloc: Global, form: Form, rule: Rule) -> Result<Answered, AllocError>
     ensures shows { IfOk result (λ a. IsReplyOf a.reply (Err (by_rule rule))) }
     ensures leaves { IfOk result (λ a. a.leaves_body ≡ is_put form) }
 {
@@ -104,7 +105,7 @@ fn answer_caller<S: Alter, B: Body>(
     store: &mut Store<S>,
     policy: &Policy,
     now: Moment,
-    caller: &Caller,
+    caller: &Caller<'_>,
     asked: &RepoRequest<'_>,
     content: &mut B,
 ) -> Result<Answered, AnswerFault>
@@ -129,6 +130,8 @@ fn answer_caller<S: Alter, B: Body>(
                 now,
                 repo,
                 user: &caller.user,
+                token: caller.token,
+                expires: caller.expires,
             };
             answer_request(alloc, store, &case, &request, content)
         }
@@ -150,7 +153,7 @@ fn answer_request<S: Alter, B: Body>(
     content: &mut B,
 ) -> Result<Answered, AnswerFault>
     ensures answered { (bytes : List ℕ) × HasRead B.Body content.old content.new bytes
-        × From S.Store store.old store.new (λ world. (who : model.Caller) → IsUserOf case.entry.now who
+        × From S.Store store.old store.new (λ world. (who : model.Caller) → IsCallerOf case.entry.now who
         → (size : ℕ) → (uploads (request_asked request.entry.now) ≡ true → size ≡ B.size content.old)
         → IsAnsweredAs S.Store (uploads (request_asked request.entry.now)) store.old store.new world
         (case_repo case.entry.now).name
@@ -181,13 +184,14 @@ fn answer_whole<S: Alter>(
     case: &Case<'_>,
     request: &Request,
 ) -> Result<Reply, StoreFault>
-    ensures { From S.Store store.old store.new (λ world. (who : model.Caller) → IsUserOf case.entry.now who
+    ensures { From S.Store store.old store.new (λ world. (who : model.Caller) → IsCallerOf case.entry.now who
         → (size : ℕ) (content : List ℕ) → Answers S.Store store.old store.new world
         (verdict_by world (case_repo case.entry.now).name
         (plan_for (case_seen world case.entry.now who) size (request_asked request.entry.now)) content)
         result) }
 {
     match request {
+        Request::Batch(asked) => batch(store, alloc, case, asked),
         Request::Get(asked) => get(store, alloc, case, asked),
         Request::Put(_) => Err(StoreFault::Refused),
         Request::Verify(asked) => verify(store, alloc, case, asked),

@@ -19,6 +19,10 @@ pub(crate) struct Case<'a> {
     pub repo: &'a Repo,
     /// The caller.
     pub user: &'a UserName,
+    /// The text of the caller's token, as it was presented.
+    pub token: &'a str,
+    /// The moment from which on the token is no longer valid.
+    pub expires: Moment,
     pub ghost in_range: { now ≤ last_moment },
 }
 

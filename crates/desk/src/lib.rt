@@ -3,6 +3,7 @@
 
 mod admission;
 mod answering;
+mod batching;
 mod cases;
 mod checking;
 mod downloading;
@@ -19,5 +20,6 @@ mod verifying;
 
 pub use admission::RepoRequest;
 pub use answering::answer;
+pub use batching::batch_objects;
 pub use outcomes::{AnswerFault, Answered};
 pub use replies::{Reply, ReplyBody};

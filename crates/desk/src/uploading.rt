@@ -44,7 +44,7 @@ fn has_place<S: Alter>(
 }
 
 /// Whether the quota holds `size` bytes beside the bytes that are used.
-fn fits(used: u64, size: u64, quota: u64) -> bool
+pub(crate) fn fits(used: u64, size: u64, quota: u64) -> bool
     ensures { result ≡ nat_le (used + size) quota }
 {
     match used.checked_add(size) {

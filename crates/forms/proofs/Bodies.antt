@@ -1,5 +1,5 @@
 -- What a body asks for, by way of its JSON value.
-use Rattle.std.proofs.Common.{◌≡◌, ℕ, Bool, true, false, ◌&&◌, List, Option, Some, None, Result, Ok, Err, refl, sym, ap, ◌∙◌, codes, if◌then◌else◌, option_and_then, IsTrue}
+use Rattle.std.proofs.Common.{◌≡◌, ℕ, Bool, true, false, ◌&&◌, List, Option, Some, None, Result, Ok, Err, refl, sym, ap, ◌∙◌, codes, if◌then◌else◌, length, nat_le, option_and_then, IsTrue}
 use Rattle.std.specs.Str.{is_utf8, IsUtf8}
 use Rattle.std.proofs.lemmas.Bool.{true≢false}
 use Rattle.std.proofs.lemmas.Str.{IsUtf8-from_is_utf8, is_utf8-from_IsUtf8}
@@ -8,10 +8,12 @@ use Rattle.serde_json.specs.Read.{read}
 use Rattle.serde_json.specs.Find.{as_object, as_str, as_number, as_bool, as_u64}
 use Rattle.names.specs.Texts.{is_hex_64, is_lock_path, is_ref, lock_id_in}
 use Rattle.names.specs.declared.rules.Rule.{Rule}
-use Rattle.names.specs.declared.rules.Rule.TheVariants.{J1, J2}
+use Rattle.names.specs.declared.rules.Rule.TheVariants.{J1, J2, J3, J4}
+use Rattle.names.specs.declared.operations.Operation.{Operation}
 use Rattle.model.specs.Reading.{◌>>=◌, check, ok_or, or_default}
-use Rattle.model.specs.Forms.{VerifyForm, LockForm, verify_form, lock_form, verify_locks_form, unlock_form, members_of, as_name, optional, is_if_given, is_size, if_not_empty, query_ref, whole_if_given}
-use Rattle.forms.specs.Given.{VerifyKeys, VerifyLocksKeys, UnlockKeys, verify_keys, verify_in_range, lock_fields, in_range, value_of, if_object, object_of, verify_locks_keys, verify_locks_in_range, unlock_keys, unlock_in_range, within}
+use Rattle.model.specs.Forms as form
+use Rattle.model.specs.Forms.{BatchForm, BatchObject, VerifyForm, LockForm, batch_form, verify_form, lock_form, verify_locks_form, unlock_form, members_of, as_array_of, as_batch_object, as_name, has_basic, object_limit, operation_in, optional, is_if_given, is_size, if_not_empty, query_ref, whole_if_given}
+use Rattle.forms.specs.Given.{BatchKeys, ObjectKeys, VerifyLocksKeys, UnlockKeys, batch_keys, batch_objects, batch_in_range, object_keys, verify_in_range, lock_fields, in_range, value_of, if_object, object_of, verify_locks_keys, verify_locks_in_range, unlock_keys, unlock_in_range, within}
 
 pub no_text : (body : List ℕ) → ¬ (IsUtf8 body) → None ≡ value_of body
 no_text body bad = at (is_utf8 body) refl
@@ -77,7 +79,7 @@ by_object more steps same body =
 
 -- ---- the requests: reading the keys and then testing their ranges gives what the interleaved checks of the definitions give
 
-abbrev verify : List ℕ → Num → VerifyKeys
+abbrev verify : List ℕ → Num → ObjectKeys
 verify oid size = record { oid = oid; size = size }
 
 abbrev verified : List ℕ → ℕ → Option (List ℕ) → VerifyForm
@@ -105,17 +107,17 @@ verify_chain (Ok (Some name)) (Err e) r = refl
 verify_chain (Ok (Some name)) (Ok None) r = refl
 verify_chain (Ok (Some name)) (Ok (Some size)) r = name_first name (as_u64 size) r
 
-pub verify_by_value : (query body : List ℕ) → verify_form query body ≡ (ok_or (object_of body) J1 >>= λ d. verify_keys d >>= verify_in_range query)
+pub verify_by_value : (query body : List ℕ) → verify_form query body ≡ (ok_or (object_of body) J1 >>= λ d. object_keys d >>= verify_in_range query)
 unfolding verify_form
 verify_by_value query body =
     by_object _ _ (λ ms. verify_chain (optional as_str (codes "oid") ms) (optional as_number (codes "size") ms) (query_ref query)) body
 
-abbrev form : List ℕ → Option (List ℕ) → LockForm
-form path ref = record { path = path; ref = ref }
+abbrev lock : List ℕ → Option (List ℕ) → LockForm
+lock path ref = record { path = path; ref = ref }
 
 lock_chain : (p : Result (Option (List ℕ)) Rule) (r : Result (Option (List ℕ)) Rule)
-    → ((p >>= λ given. ok_or given J1) >>= λ path. r >>= λ ref. check (is_lock_path path && is_if_given is_ref ref) J2 >>= λ valid. Ok (form path ref))
-    ≡ ((p >>= λ given. ok_or given J1 >>= λ path. r >>= λ ref. Ok (form path ref)) >>= in_range)
+    → ((p >>= λ given. ok_or given J1) >>= λ path. r >>= λ ref. check (is_lock_path path && is_if_given is_ref ref) J2 >>= λ valid. Ok (lock path ref))
+    ≡ ((p >>= λ given. ok_or given J1 >>= λ path. r >>= λ ref. Ok (lock path ref)) >>= in_range)
 lock_chain (Err e) r = refl
 lock_chain (Ok None) r = refl
 lock_chain (Ok (Some path)) (Err e) = refl
@@ -127,8 +129,8 @@ lock_by_value body =
     by_object _ _ (λ ms. lock_chain (optional as_str (codes "path") ms) (optional as_name (codes "ref") ms)) body
 
 -- the texts of a form are in range if each of them is
-pub joined : (path : List ℕ) (ref : Option (List ℕ)) → in_range (form path ref) ≡ (within is_lock_path path >>= λ p. within (is_if_given is_ref) ref >>= λ r. Ok (form p r))
-joined path ref = both_within is_lock_path (is_if_given is_ref) path ref (λ p r. Ok (form p r))
+pub joined : (path : List ℕ) (ref : Option (List ℕ)) → in_range (lock path ref) ≡ (within is_lock_path path >>= λ p. within (is_if_given is_ref) ref >>= λ r. Ok (lock p r))
+joined path ref = both_within is_lock_path (is_if_given is_ref) path ref (λ p r. Ok (lock p r))
 
 abbrev verify_locks : Option (List ℕ) → Option (List ℕ) → Option Num → VerifyLocksKeys
 verify_locks ref cursor limit = record { ref = ref; cursor = cursor; limit = limit }
@@ -161,3 +163,70 @@ pub unlock_by_value : (parameter body : List ℕ) → unlock_form parameter body
 unfolding unlock_form
 unlock_by_value parameter body =
     by_object _ _ (λ ms. unlock_chain parameter (optional as_bool (codes "force") ms) (optional as_name (codes "ref") ms)) body
+
+-- ---- a batch, whose objects are read after its other keys
+
+in_turn : {A B C : Type 0} (first : Result A Rule) (second : A → Result B Rule) (third : B → Result C Rule)
+    → ((first >>= second) >>= third) ≡ (first >>= λ x. second x >>= third)
+in_turn (Ok x) second third = refl
+in_turn (Err e) second third = refl
+
+abbrev batch : List ℕ → Option (List (List ℕ)) → Option (List ℕ) → Option (List ℕ) → List BatchObject → form.BatchKeys
+batch operation transfers ref hash_algo objects =
+    record { operation = operation; transfers = transfers; ref = ref; hash_algo = hash_algo; objects = objects }
+
+abbrev without_objects : List ℕ → Bool → Option (List ℕ) → Option (List ℕ) → BatchKeys
+without_objects operation basic ref hash_algo =
+    record { operation = operation; basic = basic; ref = ref; hash_algo = hash_algo }
+
+-- the checks after the keys
+abbrev batch_checks : form.BatchKeys → Result BatchForm Rule
+batch_checks keys = do
+  operation ← ok_or (operation_in keys.operation) J2
+  in_range ← check (is_if_given is_ref keys.ref) J2
+  few ← check (nat_le (length keys.objects) object_limit) J3
+  basic ← check (is_if_given has_basic keys.transfers) J4
+  Ok (record { operation = operation; ref = keys.ref; hash_algo = keys.hash_algo; objects = keys.objects })
+
+abbrev batched : Option (List ℕ) → List BatchObject → Operation → Option (List ℕ) → BatchForm
+batched hash_algo objects operation ref =
+    record { operation = operation; ref = ref; hash_algo = hash_algo; objects = objects }
+
+-- the checks after the ranges
+abbrev last_checks : Option (List (List ℕ)) → BatchForm → Result BatchForm Rule
+last_checks transfers asked = do
+  few ← check (nat_le (length asked.objects) object_limit) J3
+  basic ← check (is_if_given has_basic transfers) J4
+  Ok asked
+
+operation_first : (found : Option Operation) (transfers : Option (List (List ℕ))) (ref hash_algo : Option (List ℕ)) (objects : List BatchObject)
+    → (ok_or found J2 >>= λ way. check (is_if_given is_ref ref) J2 >>= λ valid. last_checks transfers (batched hash_algo objects way ref))
+    ≡ (ok_or found J2 >>= λ way. within (is_if_given is_ref) ref >>= λ name. last_checks transfers (batched hash_algo objects way name))
+operation_first None transfers ref hash_algo objects = refl
+operation_first (Some way) transfers ref hash_algo objects =
+    one_within (is_if_given is_ref) ref (λ name. last_checks transfers (batched hash_algo objects way name))
+
+batch_ranges : (operation : List ℕ) (transfers : Option (List (List ℕ))) (ref hash_algo : Option (List ℕ)) (objects : List BatchObject)
+    → batch_checks (batch operation transfers ref hash_algo objects) ≡ batch_in_range (without_objects operation (is_if_given has_basic transfers) ref hash_algo) objects
+batch_ranges operation transfers ref hash_algo objects =
+    operation_first (operation_in operation) transfers ref hash_algo objects
+
+batch_chain : (o : Result (Option (List ℕ)) Rule) (t : Result (Option (List (List ℕ))) Rule) (r h : Result (Option (List ℕ)) Rule) (s : Result (Option (List BatchObject)) Rule)
+    → (((o >>= λ given. ok_or given J1) >>= λ operation. t >>= λ transfers. r >>= λ ref. h >>= λ hash_algo. (s >>= λ given. ok_or given J1) >>= λ objects. Ok (batch operation transfers ref hash_algo objects)) >>= batch_checks)
+    ≡ (((o >>= λ given. ok_or given J1) >>= λ operation. (t >>= λ transfers. Ok (is_if_given has_basic transfers)) >>= λ basic. r >>= λ ref. h >>= λ hash_algo. Ok (without_objects operation basic ref hash_algo))
+    >>= λ keys. (s >>= λ given. ok_or given J1) >>= λ objects. batch_in_range keys objects)
+batch_chain (Err e) t r h s = refl
+batch_chain (Ok None) t r h s = refl
+batch_chain (Ok (Some operation)) (Err e) r h s = refl
+batch_chain (Ok (Some operation)) (Ok transfers) (Err e) h s = refl
+batch_chain (Ok (Some operation)) (Ok transfers) (Ok ref) (Err e) s = refl
+batch_chain (Ok (Some operation)) (Ok transfers) (Ok ref) (Ok hash_algo) (Err e) = refl
+batch_chain (Ok (Some operation)) (Ok transfers) (Ok ref) (Ok hash_algo) (Ok None) = refl
+batch_chain (Ok (Some operation)) (Ok transfers) (Ok ref) (Ok hash_algo) (Ok (Some objects)) =
+    batch_ranges operation transfers ref hash_algo objects
+
+pub batch_by_value : (body : List ℕ) → batch_form body ≡ (ok_or (object_of body) J1 >>= λ d. batch_keys d >>= λ keys. batch_objects d >>= λ objects. batch_in_range keys objects)
+unfolding batch_form form.batch_keys
+batch_by_value body =
+    in_turn (ok_or (members_of body) J1) _ batch_checks
+    ∙ by_object _ _ (λ ms. batch_chain (optional as_str (codes "operation") ms) (optional (as_array_of as_str) (codes "transfers") ms) (optional as_name (codes "ref") ms) (optional as_str (codes "hash_algo") ms) (optional (as_array_of as_batch_object) (codes "objects") ms)) body

@@ -4,3 +4,5 @@ pub mod Numbers
 pub mod Texts
 pub mod Pages
 pub mod Refusals
+pub mod Batches
+pub mod ShownOffers

@@ -10,8 +10,8 @@ abbrev pub action_of : Action → model.Action
 action_of a = record { href = a.href.now; token = a.token.now; expires_in = a.expires_in }
 
 -- its JSON, with this value of the header field
-abbrev pub action_json : Action → List ℕ → Data
-action_json a authorization = object (members (
-    (codes "expires_in", number (unsigned a.expires_in))
+abbrev pub action_json : ℕ → List ℕ → List ℕ → Data
+action_json expires_in authorization href = object (members (
+    (codes "expires_in", number (unsigned expires_in))
     ∷ (codes "header", object (members ((codes "Authorization", string authorization) ∷ [])))
-    ∷ (codes "href", string a.href.now) ∷ []))
+    ∷ (codes "href", string href) ∷ []))

@@ -2,15 +2,16 @@
 use Rattle.std.specs.Prelude.{◌≡◌, ℕ, List, not, filter, Ok, Err}
 use Rattle.model.specs.World.{Lock}
 use Rattle.model.specs.Callers.{is_own}
-use Rattle.model.specs.Answers.{Page, by_rule, by_row, by_lock, makes_lock, lists, splits, releases}
+use Rattle.model.specs.Answers.{Page, by_rule, by_row, by_lock, offers, makes_lock, lists, splits, releases}
 use Rattle.model.specs.Answers as model
 use Rattle.forms.specs.declared.answer.Answer.{Answer}
-use Rattle.forms.specs.declared.answer.Answer.TheVariants.{Locked, Held, Listed, Split, Released, Denied, DeniedByRow}
+use Rattle.forms.specs.declared.answer.Answer.TheVariants.{Offered, Locked, Held, Listed, Split, Released, Denied, DeniedByRow}
 use Rattle.forms.specs.declared.answer.DenialStatus.{DenialStatus}
 use Rattle.forms.specs.declared.answer.DenialStatus.TheVariants.{Forbidden, NotFound}
 use Rattle.forms.specs.declared.page.ShownPage.{ShownPage}
 use Rattle.forms.specs.declared.page.SplitPage.{SplitPage}
 use Rattle.forms.specs.ShownLocks.{IsOf, AreOf}
+use Rattle.forms.specs.Offers.{offers_shown}
 
 -- the status of a denial by the policy
 abbrev pub denial_status : DenialStatus → ℕ
@@ -30,6 +31,7 @@ IsSplitOf shown user page =
 
 -- the code's answer represents this answer of the definitions
 abbrev pub IsAnswer : Answer → model.Answer → Type 0
+IsAnswer (Offered batch) given = given ≡ Ok (offers (offers_shown batch.now))
 IsAnswer (Locked shown) given = (l : Lock) × IsOf shown.now l × (given ≡ Ok (makes_lock l))
 IsAnswer (Held shown) given = (l : Lock) × IsOf shown.now l × (given ≡ Err (by_lock l))
 IsAnswer (Listed shown) given = (page : Page) × IsPageOf shown.now page × (given ≡ Ok (lists page))

@@ -1,12 +1,16 @@
 -- A request, in the terms of the definitions.
-use Rattle.std.specs.Prelude.{ℕ, List, option_map}
+use Rattle.std.specs.Prelude.{ℕ, List, map, option_map, string_bytes}
 use Rattle.serde_json.specs.View.{number_view}
 use Rattle.names.specs.Names.{path_text}
-use Rattle.model.specs.Forms.{PutForm, VerifyForm, LockForm, ListForm, VerifyLocksForm, UnlockForm, Request, asks_get, asks_put, asks_verify, asks_lock, asks_list, asks_verify_locks, asks_unlock}
+use Rattle.model.specs.Forms as form
+use Rattle.model.specs.Forms.{BatchForm, PutForm, VerifyForm, LockForm, ListForm, VerifyLocksForm, UnlockForm, Request, asks_batch, asks_get, asks_put, asks_verify, asks_lock, asks_list, asks_verify_locks, asks_unlock}
+use Rattle.forms.specs.declared.batch.BatchObject.{BatchObject}
+use Rattle.forms.specs.declared.batch.BatchRequest.{BatchRequest}
+use Rattle.forms.specs.declared.batch.BatchValues.{BatchValues}
 use Rattle.forms.specs.declared.objects.GetRequest.{GetRequest}
 use Rattle.forms.specs.declared.objects.PutRequest.{PutRequest}
 use Rattle.forms.specs.declared.objects.VerifyRequest.{VerifyRequest}
-use Rattle.forms.specs.declared.objects.VerifyValues.{VerifyValues}
+use Rattle.forms.specs.declared.objects.ObjectValues.{ObjectValues}
 use Rattle.forms.specs.declared.lock.LockRequest.{LockRequest}
 use Rattle.forms.specs.declared.list.ListRequest.{ListRequest}
 use Rattle.forms.specs.declared.list.ListTexts.{ListTexts}
@@ -15,7 +19,29 @@ use Rattle.forms.specs.declared.verify_locks.VerifyLocksValues.{VerifyLocksValue
 use Rattle.forms.specs.declared.unlock.UnlockRequest.{UnlockRequest}
 use Rattle.forms.specs.declared.request.Request as code
 use Rattle.forms.specs.declared.request.Request.TheVariants as request
-use Rattle.forms.specs.Given.{ListKeys, VerifyKeys, VerifyLocksKeys, number_given, ref_given, string_given, text_given}
+use Rattle.forms.specs.Given.{BatchKeys, ListKeys, ObjectKeys, VerifyLocksKeys, number_given, ref_given, string_given, text_given}
+
+-- the name and the size, as they were given
+abbrev pub object_asked : BatchObject → form.BatchObject
+object_asked o = record { oid = string_bytes o.oid; size = o.size }
+
+-- the values of a body, except its objects
+abbrev pub batch_given : BatchValues → BatchKeys
+batch_given v = record {
+  operation = v.operation.now;
+  basic = v.basic;
+  ref = text_given v.ref_name;
+  hash_algo = text_given v.hash_algo;
+}
+
+-- the objects, the direction and the ref
+abbrev pub batch_asked : BatchRequest → BatchForm
+batch_asked r = record {
+  operation = r.operation;
+  ref = ref_given r.ref_name;
+  hash_algo = string_given r.hash_algo;
+  objects = map object_asked r.objects.items;
+}
 
 -- the object's name
 abbrev pub get_asked : GetRequest → List ℕ
@@ -25,9 +51,9 @@ get_asked r = r.name
 abbrev pub put_asked : PutRequest → PutForm
 put_asked r = record { name = r.name; ref = ref_given r.ref_name }
 
--- the values of a body
-abbrev pub verify_given : VerifyValues → VerifyKeys
-verify_given v = record { oid = v.oid.now; size = number_view v.size.now }
+-- the name and the size, as they were given
+abbrev pub object_given : ObjectValues → ObjectKeys
+object_given v = record { oid = v.oid.now; size = number_view v.size.now }
 
 -- the object and the ref
 abbrev pub verify_asked : VerifyRequest → VerifyForm
@@ -76,6 +102,7 @@ unlock_asked r = record { id = r.id; force = r.force }
 
 -- the request
 abbrev pub request_asked : code.Request → Request
+request_asked (request.Batch r) = asks_batch (batch_asked r)
 request_asked (request.Get r) = asks_get (get_asked r)
 request_asked (request.Put r) = asks_put (put_asked r)
 request_asked (request.Verify r) = asks_verify (verify_asked r)

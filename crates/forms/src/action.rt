@@ -20,27 +20,31 @@ pub struct Action<'a> {
     pub expires_in: u64,
 }
 
-/// The JSON value, with the value of the header field.
-fn action_value(
+/// The JSON value of an action, with the value of the header field.
+pub(crate) fn action_value(
     alloc: Global,
-    action: &Action<'_>,
+    expires_in: u64,
     authorization: &str,
+    href: &str,
 ) -> Result<Value, AllocError>
-    ensures { IfOk result (λ value. view value ≡ action_json action.now authorization.now) }
+    ensures { IfOk result
+        (λ value. view value ≡ action_json expires_in authorization.now href.now) }
 {
-    json!(in alloc; {"expires_in": action.expires_in, "header": {"Authorization": authorization}, "href": action.href})
+    json!(in alloc; {"expires_in": expires_in, "header": {"Authorization": authorization}, "href": href})
 }
 
 /// `action_value`, serialized.
 fn action_text(
     alloc: Global,
-    action: &Action<'_>,
+    expires_in: u64,
     authorization: &str,
+    href: &str,
 ) -> Result<String, AllocError>
     ensures { IfOk result
-        (λ text. string_bytes text ≡ compact_text (action_json action.now authorization.now)) }
+        (λ text. string_bytes text
+        ≡ compact_text (action_json expires_in authorization.now href.now)) }
 {
-    action_value(alloc, action, authorization)?.to_string(alloc)
+    action_value(alloc, expires_in, authorization, href)?.to_string(alloc)
 }
 
 impl Action<'_> {
@@ -55,6 +59,6 @@ impl Action<'_> {
     {
         let token = self.token;
         let authorization = format!(in alloc; "Bearer {token}")?;
-        action_text(alloc, self, authorization.as_str())
+        action_text(alloc, self.expires_in, authorization.as_str(), self.href)
     }
 }

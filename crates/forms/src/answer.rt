@@ -5,6 +5,7 @@ ghost use Rattle.serde_json.specs.View.{view};
 ghost use Rattle.serde_json.specs.Written.{compact_text};
 ghost use Rattle.model.specs.Replies.{rule_status, rule_message, row_message, right_text, row_reason, with_code, message_json};
 
+use crate::offers::{ShownBatch, batch_body};
 use crate::page::{ShownPage, SplitPage, list_body, split_body};
 use crate::shown_lock::{ShownLock, held_body, lock_body};
 use http::StatusCode;
@@ -40,6 +41,8 @@ impl DenialStatus {
 /// An answer to a client.
 #[derive(Clone, Copy, Debug)]
 pub enum Answer<'a> {
+    /// The objects of a batch: 200.
+    Offered(&'a ShownBatch<'a>),
     /// The lock was made: 201, with the lock.
     Locked(&'a ShownLock<'a>),
     /// The path is already locked: L1, 409, with the lock that holds it.
@@ -75,6 +78,7 @@ impl Answer<'_> {
         match self {
             Answer::Locked(_) => StatusCode::CREATED,
             Answer::Held(_) => StatusCode::CONFLICT,
+            Answer::Offered(_) => StatusCode::OK,
             Answer::Listed(_) | Answer::Split(_) | Answer::Released(_) => StatusCode::OK,
             Answer::Denied(rule) => status_of_rule(*rule),
             Answer::DeniedByRow { status, .. } => status.status_code(),
@@ -92,6 +96,7 @@ impl Answer<'_> {
             ≡ json (string_bytes text)) }
     {
         match self {
+            Answer::Offered(batch) => batch_body(alloc, batch),
             Answer::Locked(lock) => lock_body(alloc, lock),
             Answer::Held(lock) => held_body(alloc, lock),
             Answer::Listed(page) => list_body(alloc, page),
@@ -110,7 +115,7 @@ impl Answer<'_> {
 }
 
 /// The status of a rule that refuses; 403 if the rule has none.
-fn status_of_rule(rule: Rule) -> StatusCode
+pub(crate) fn status_of_rule(rule: Rule) -> StatusCode
     ensures { result ≡ rule_status rule }
 {
     let number = rule.status().unwrap_or(403);

@@ -192,7 +192,7 @@ pub(crate) fn read_cursor(alloc: Global, text: Option<&str>) -> Result<Option<St
 }
 
 /// A copy of the text, if one is given.
-fn copied(alloc: Global, text: Option<&str>) -> Result<Option<String>, AllocError>
+pub(crate) fn copied(alloc: Global, text: Option<&str>) -> Result<Option<String>, AllocError>
     ensures { IfOk result
         (λ copy. string_given copy ≡ text_given text.entry) }
 {

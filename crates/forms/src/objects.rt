@@ -5,8 +5,8 @@ ghost use Rattle.std.specs.Prelude.{◌≡◌};
 ghost use Rattle.serde_json.specs.View.{number_view, view};
 ghost use Rattle.names.specs.Texts.{is_hex_64};
 ghost use Rattle.model.specs.Forms.{put_form, verify_form};
-ghost use Rattle.forms.specs.Given.{Gives, Reads, size_of, verify_in_range, verify_keys, within};
-ghost use Rattle.forms.specs.Requests.{get_asked, put_asked, verify_asked, verify_given};
+ghost use Rattle.forms.specs.Given.{Gives, Reads, size_of, verify_in_range, object_keys, within};
+ghost use Rattle.forms.specs.Requests.{get_asked, put_asked, verify_asked, object_given};
 
 use crate::body::{number_if_given, object_of, text_if_given};
 use crate::query::query_ref;
@@ -42,11 +42,11 @@ pub struct VerifyRequest {
     pub ref_name: Option<RefName>,
 }
 
-/// The values under the keys of a body.
+/// The name and the size of an object, as they were given.
 #[derive(Clone, Copy)]
-struct VerifyValues<'a> {
-    oid: &'a str,
-    size: &'a Number,
+pub(crate) struct ObjectValues<'a> {
+    pub(crate) oid: &'a str,
+    pub(crate) size: &'a Number,
 }
 
 /// Reads the request to download the object that the route's parameter names.
@@ -84,17 +84,17 @@ pub(crate) fn read_verify(alloc: Global, query: &str, body: &[u8]) -> Result<Ver
     ensures { Reads verify_asked result (verify_form query.now body.now) }
 {
     let object = object_of(alloc, body)?;
-    let values = verify_values(&object)?;
+    let values = object_values(&object)?;
     verify_of(alloc, query, values)
 }
 
-/// The values of an object, not yet tested for range.
+/// The name and the size in a JSON object, not yet tested for range.
 ///
 /// # Errors
 ///
 /// J1 if one of them is missing or of another kind.
-fn verify_values(object: &Value) -> Result<VerifyValues<'_>, Rule>
-    ensures { Gives verify_given result (verify_keys (view object.now)) }
+pub(crate) fn object_values(object: &Value) -> Result<ObjectValues<'_>, Rule>
+    ensures { Gives object_given result (object_keys (view object.now)) }
 {
     let Some(oid) = text_if_given(object.get("oid"))? else {
         return Err(Rule::J1);
@@ -102,7 +102,7 @@ fn verify_values(object: &Value) -> Result<VerifyValues<'_>, Rule>
     let Some(size) = number_if_given(object.get("size"))? else {
         return Err(Rule::J1);
     };
-    Ok(VerifyValues { oid, size })
+    Ok(ObjectValues { oid, size })
 }
 
 /// The request with these values, under the query's ref.
@@ -110,9 +110,9 @@ fn verify_values(object: &Value) -> Result<VerifyValues<'_>, Rule>
 /// # Errors
 ///
 /// J2 if one of them or the ref is out of range, or the key `ref` occurs twice.
-fn verify_of(alloc: Global, query: &str, values: VerifyValues<'_>) -> Result<VerifyRequest, Refusal>
+fn verify_of(alloc: Global, query: &str, values: ObjectValues<'_>) -> Result<VerifyRequest, Refusal>
     ensures { Reads verify_asked result
-        (verify_in_range query.now (verify_given values.entry)) }
+        (verify_in_range query.now (object_given values.entry)) }
 {
     let name = name_of(values.oid)?;
     let size = size_of(values.size)?;

@@ -1,22 +1,24 @@
 //! Requests of any form, read from the route's parameter, the query and the body.
 
 ghost use Rattle.model.specs.Forms.{request_of};
-ghost use Rattle.model.specs.Heads.{form_of_served};
 ghost use Rattle.forms.specs.Given.{Reads};
 ghost use Rattle.forms.specs.Requests.{request_asked};
 
+use crate::batch::{BatchRequest, read_batch};
 use crate::list::{ListRequest, read_list};
 use crate::lock::{LockRequest, read_lock};
 use crate::objects::{GetRequest, PutRequest, VerifyRequest, read_get, read_put, read_verify};
 use crate::refusal::Refusal;
 use crate::unlock::{UnlockRequest, read_unlock};
 use crate::verify_locks::{VerifyLocksRequest, read_verify_locks};
-use model::ServedForm;
+use model::Form;
 use std::alloc::Global;
 
 /// A client's request.
 #[derive(Debug, Drop)]
 pub enum Request {
+    /// Find out how to download or upload objects (Git LFS API, Batch).
+    Batch(BatchRequest),
     /// Download an object (Git LFS API, Basic Transfers, "Downloads").
     Get(GetRequest),
     /// Upload an object (Git LFS API, Basic Transfers, "Uploads").
@@ -46,21 +48,22 @@ pub enum Request {
 /// The first of the J rules that refuses it, or `Memory`.
 pub fn read_form(
     alloc: Global,
-    form: ServedForm,
+    form: Form,
     parameter: &str,
     query: &str,
     body: &[u8],
 ) -> Result<Request, Refusal>
     ensures { Reads request_asked result
-        (request_of (form_of_served form) parameter.now query.now body.now) }
+        (request_of form parameter.now query.now body.now) }
 {
     match form {
-        ServedForm::Get => Ok(Request::Get(read_get(parameter)?)),
-        ServedForm::Put => Ok(Request::Put(read_put(alloc, parameter, query)?)),
-        ServedForm::Verify => Ok(Request::Verify(read_verify(alloc, query, body)?)),
-        ServedForm::Lock => Ok(Request::Lock(read_lock(alloc, body)?)),
-        ServedForm::List => Ok(Request::List(read_list(alloc, query)?)),
-        ServedForm::VerifyLocks => Ok(Request::VerifyLocks(read_verify_locks(alloc, body)?)),
-        ServedForm::Unlock => Ok(Request::Unlock(read_unlock(alloc, parameter, body)?)),
+        Form::Batch => Ok(Request::Batch(read_batch(alloc, body)?)),
+        Form::Get => Ok(Request::Get(read_get(parameter)?)),
+        Form::Put => Ok(Request::Put(read_put(alloc, parameter, query)?)),
+        Form::Verify => Ok(Request::Verify(read_verify(alloc, query, body)?)),
+        Form::Lock => Ok(Request::Lock(read_lock(alloc, body)?)),
+        Form::List => Ok(Request::List(read_list(alloc, query)?)),
+        Form::VerifyLocks => Ok(Request::VerifyLocks(read_verify_locks(alloc, body)?)),
+        Form::Unlock => Ok(Request::Unlock(read_unlock(alloc, parameter, body)?)),
     }
 }

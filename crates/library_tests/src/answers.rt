@@ -7,7 +7,7 @@ use names::{LockId, Rule};
 use std::alloc::{AllocError, Global};
 
 /// The status, a space and the body.
-fn text_of(alloc: Global, answer: &Answer<'_>) -> Result<String, AllocError> {
+pub(crate) fn text_of(alloc: Global, answer: &Answer<'_>) -> Result<String, AllocError> {
     let body = answer.body(alloc)?;
     let status = answer.status().as_u16();
     format!(in alloc; "{status} {body}")
@@ -200,6 +200,25 @@ const RULES: &[(Rule, &str)] = &[
         r#"422 {"message":"J1: the body has the wrong shape"}"#,
     ),
     (Rule::J2, r#"422 {"message":"J2: a field is out of range"}"#),
+    (Rule::J3, r#"413 {"message":"J3: too many objects"}"#),
+    (Rule::J4, r#"422 {"message":"J4: no transfer in common"}"#),
+    (
+        Rule::X1,
+        r#"404 {"message":"X1: the object is not stored"}"#,
+    ),
+    (
+        Rule::X2,
+        r#"422 {"message":"X2: the bytes do not have this name"}"#,
+    ),
+    (
+        Rule::X3,
+        r#"507 {"message":"X3: the quota does not hold the object"}"#,
+    ),
+    (
+        Rule::V1,
+        r#"404 {"message":"V1: the object is not stored"}"#,
+    ),
+    (Rule::V2, r#"422 {"message":"V2: the stored size differs"}"#),
     (Rule::L2, r#"404 {"message":"L2: no such lock"}"#),
     (
         Rule::L3,

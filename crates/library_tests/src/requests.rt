@@ -1,16 +1,17 @@
 //! `forms`: requests from parameters, queries and JSON.
 
+use crate::batches::batch_text;
 use crate::harness::{Tester, unwrap};
 use forms::{
     ListRequest, LockRequest, PutRequest, Refusal, Request, UnlockRequest, VerifyLocksRequest,
     VerifyRequest, read_form,
 };
-use model::ServedForm;
+use model::Form;
 use names::Oid;
 use std::alloc::{AllocError, Global};
 
 /// Appends a space and the text, if there is one, under its name.
-fn add(text: &mut String, name: &str, value: Option<&str>) -> Result<(), AllocError> {
+pub(crate) fn add(text: &mut String, name: &str, value: Option<&str>) -> Result<(), AllocError> {
     if let Some(value) = value {
         text.push_str(name)?;
         text.push_str(value)?;
@@ -99,14 +100,15 @@ fn unlock_text(alloc: Global, unlock: &UnlockRequest) -> Result<String, AllocErr
 }
 
 /// What a request asks, or the rule that refuses it.
-fn asked(
+pub(crate) fn asked(
     alloc: Global,
-    form: ServedForm,
+    form: Form,
     parameter: &str,
     query: &str,
     body: &[u8],
 ) -> Result<String, AllocError> {
     match read_form(alloc, form, parameter, query, body) {
+        Ok(Request::Batch(batch)) => batch_text(alloc, &batch),
         Ok(Request::Get(get)) => get_text(alloc, get.name),
         Ok(Request::Put(put)) => put_text(alloc, &put),
         Ok(Request::Verify(verify)) => verify_text(alloc, &verify),
@@ -121,7 +123,7 @@ fn asked(
 
 /// Asserts that the body asks for this lock, or is refused by this rule.
 fn expect_asked(rt: &impl Tester, body: &[u8], want: &str) {
-    let found = unwrap(rt, asked(rt.alloc(), ServedForm::Lock, "", "", body));
+    let found = unwrap(rt, asked(rt.alloc(), Form::Lock, "", "", body));
     assert!(rt; found.as_str() == want, "{body:?}");
 }
 
@@ -332,7 +334,7 @@ const LISTS: &[(&str, &str)] = &[
 #[test]
 fn lists_are_asked_by_their_query(rt: HostRuntime) {
     for &(query, want) in LISTS {
-        let found = unwrap(&rt, asked(rt.alloc(), ServedForm::List, "x", query, b"["));
+        let found = unwrap(&rt, asked(rt.alloc(), Form::List, "x", query, b"["));
         assert!(rt; found.as_str() == want, "{query}");
     }
 }
@@ -378,7 +380,7 @@ const VERIFICATIONS: &[(&[u8], &str)] = &[
 #[test]
 fn verifications_are_asked_by_their_body(rt: HostRuntime) {
     for &(body, want) in VERIFICATIONS {
-        let form = ServedForm::VerifyLocks;
+        let form = Form::VerifyLocks;
         let found = unwrap(&rt, asked(rt.alloc(), form, "x", "limit=5", body));
         assert!(rt; found.as_str() == want, "{body:?}");
     }
@@ -414,7 +416,7 @@ const UNLOCKS: &[(&str, &[u8], &str)] = &[
 #[test]
 fn unlocks_are_asked_by_parameter_and_body(rt: HostRuntime) {
     for &(parameter, body, want) in UNLOCKS {
-        let form = ServedForm::Unlock;
+        let form = Form::Unlock;
         let found = unwrap(&rt, asked(rt.alloc(), form, parameter, "force=true", body));
         assert!(rt; found.as_str() == want, "{parameter} {body:?}");
     }
@@ -481,22 +483,15 @@ const NAMES: &[(&str, bool)] = &[
 ];
 
 /// The requests for one object, and what each asks: `@` is the object's name.
-const NAMED: &[(ServedForm, &str)] = &[
-    (ServedForm::Get, "get @"),
-    (ServedForm::Put, "put @"),
-    (ServedForm::Verify, "verify @ 7"),
+const NAMED: &[(Form, &str)] = &[
+    (Form::Get, "get @"),
+    (Form::Put, "put @"),
+    (Form::Verify, "verify @ 7"),
 ];
 
 /// Asserts what the request asks of the object with this name. Get and Put read the name in the
 /// parameter, Verify reads it in the body.
-fn expect_named(
-    rt: &impl Tester,
-    form: ServedForm,
-    name: &str,
-    query: &str,
-    body: &str,
-    want: &str,
-) {
+fn expect_named(rt: &impl Tester, form: Form, name: &str, query: &str, body: &str, want: &str) {
     let body = unwrap(rt, body.replace(rt.alloc(), "@", name));
     let want = unwrap(rt, want.replace(rt.alloc(), "@", name));
     let found = unwrap(
@@ -562,9 +557,9 @@ fn expect_ref(rt: &impl Tester, query: &str, want: &str) {
     let body = r#"{"oid":"@","size":7}"#;
     let put = with_ref(rt, "put @", want);
     let verify = with_ref(rt, "verify @ 7", want);
-    expect_named(rt, ServedForm::Get, NAME, query, "[", "get @");
-    expect_named(rt, ServedForm::Put, NAME, query, "[", put.as_str());
-    expect_named(rt, ServedForm::Verify, NAME, query, body, verify.as_str());
+    expect_named(rt, Form::Get, NAME, query, "[", "get @");
+    expect_named(rt, Form::Put, NAME, query, "[", put.as_str());
+    expect_named(rt, Form::Verify, NAME, query, body, verify.as_str());
 }
 
 #[test]
@@ -631,6 +626,6 @@ const STORED: &[(&str, &str, &str)] = &[
 #[test]
 fn objects_are_verified_by_their_body(rt: HostRuntime) {
     for &(query, body, want) in STORED {
-        expect_named(&rt, ServedForm::Verify, NAME, query, body, want);
+        expect_named(&rt, Form::Verify, NAME, query, body, want);
     }
 }

@@ -1,7 +1,7 @@
 //! `routes`: the route of a target.
 
 use crate::harness::{Tester, unwrap};
-use model::ServedForm;
+use model::Form;
 use routes::{Resource, Routes, path_of, query_of};
 
 /// Targets, and the owner and the name of the repository that each leads to.
@@ -49,6 +49,8 @@ fn targets_lead_to_the_locks_of_a_repository(rt: HostRuntime) {
 
 /// What follows the address of a repository, and the resource and the parameter that it leads to.
 const RESOURCES: &[(&str, Resource, &str)] = &[
+    ("/objects/batch", Resource::Batch, ""),
+    ("/objects/batch?a", Resource::Batch, ""),
     ("/locks", Resource::Locks, ""),
     ("/locks?id=1", Resource::Locks, ""),
     ("/locks/verify", Resource::VerifyLocks, ""),
@@ -132,7 +134,15 @@ const NO_ROUTES: &[&str] = &[
     "/studio/film.git/info/lfs/locks/1/2/unlock",
     "/studio/film.git/info/lfs/locks/1/verify",
     "/studio/film/info/lfs/locks/1/unlock",
-    "/studio/film.git/info/lfs/objects/batch",
+    "/studio/film.git/info/lfs/objects",
+    "/studio/film.git/info/lfs/objects/",
+    "/studio/film.git/info/lfs/objects?/batch",
+    "/studio/film.git/info/lfs/objects/batch/",
+    "/studio/film.git/info/lfs/objects/batch/1",
+    "/studio/film.git/info/lfs/objects/Batch",
+    "/studio/film.git/info/lfs/objects/1",
+    "/studio/film.git/info/lfs/batch",
+    "/studio/film/info/lfs/objects/batch",
     "/studio/film.git/info/lfs/content",
     "/studio/film.git/info/lfs/content/",
     "/studio/film.git/info/lfs/content?/1",
@@ -200,10 +210,15 @@ fn paths_end_and_queries_begin_at_the_first_question_mark(rt: HostRuntime) {
     }
 }
 
-/// Methods, and what each asks of a resource: docs/PROTOCOL.md, "Routes", as far as it is served.
-const METHODS: &[(Resource, &[u8], Option<ServedForm>)] = &[
-    (Resource::Locks, b"GET", Some(ServedForm::List)),
-    (Resource::Locks, b"POST", Some(ServedForm::Lock)),
+/// Methods, and what each asks of a resource: docs/PROTOCOL.md, "Routes".
+const METHODS: &[(Resource, &[u8], Option<Form>)] = &[
+    (Resource::Batch, b"POST", Some(Form::Batch)),
+    (Resource::Batch, b"", None),
+    (Resource::Batch, b"post", None),
+    (Resource::Batch, b"GET", None),
+    (Resource::Batch, b"PUT", None),
+    (Resource::Locks, b"GET", Some(Form::List)),
+    (Resource::Locks, b"POST", Some(Form::Lock)),
     (Resource::Locks, b"", None),
     (Resource::Locks, b"get", None),
     (Resource::Locks, b"post", None),
@@ -212,29 +227,25 @@ const METHODS: &[(Resource, &[u8], Option<ServedForm>)] = &[
     (Resource::Locks, b"PUT", None),
     (Resource::Locks, b"HEAD", None),
     (Resource::Locks, b"OPTIONS", None),
-    (
-        Resource::VerifyLocks,
-        b"POST",
-        Some(ServedForm::VerifyLocks),
-    ),
+    (Resource::VerifyLocks, b"POST", Some(Form::VerifyLocks)),
     (Resource::VerifyLocks, b"GET", None),
-    (Resource::Unlock, b"POST", Some(ServedForm::Unlock)),
+    (Resource::Unlock, b"POST", Some(Form::Unlock)),
     (Resource::Unlock, b"GET", None),
     (Resource::Unlock, b"DELETE", None),
-    (Resource::Content, b"GET", Some(ServedForm::Get)),
-    (Resource::Content, b"PUT", Some(ServedForm::Put)),
+    (Resource::Content, b"GET", Some(Form::Get)),
+    (Resource::Content, b"PUT", Some(Form::Put)),
     (Resource::Content, b"", None),
     (Resource::Content, b"get", None),
     (Resource::Content, b"put", None),
     (Resource::Content, b"POST", None),
     (Resource::Content, b"HEAD", None),
     (Resource::Content, b"DELETE", None),
-    (Resource::Verify, b"POST", Some(ServedForm::Verify)),
+    (Resource::Verify, b"POST", Some(Form::Verify)),
     (Resource::Verify, b"GET", None),
     (Resource::Verify, b"PUT", None),
 ];
 
-fn asks(resource: Resource, method: &[u8], form: Option<ServedForm>) -> bool {
+fn asks(resource: Resource, method: &[u8], form: Option<Form>) -> bool {
     resource.form_of(method) == form
 }
 
@@ -247,6 +258,7 @@ fn resources_serve_their_methods(rt: HostRuntime) {
     for &(resource, method, form) in METHODS {
         assert!(rt; asks(resource, method, form), "{resource:?} {method:?}");
     }
+    assert!(rt; serves(Resource::Batch, "POST", true));
     assert!(rt; serves(Resource::Locks, "GET, POST", true));
     assert!(rt; serves(Resource::VerifyLocks, "POST", true));
     assert!(rt; serves(Resource::Unlock, "POST", true));

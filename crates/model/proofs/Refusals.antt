@@ -21,7 +21,7 @@ use Rattle.model.specs.Policy.{Policy, Decision, allowed, denied, decide, repo_n
 use Rattle.model.specs.World.{World, Lock, find_token, object_named, name_of}
 use Rattle.model.specs.RepoState.{size_of, has_room, lock_at}
 use Rattle.model.specs.Forms.{Request, asks_batch, asks_get, asks_put, asks_verify, asks_lock, asks_list, asks_verify_locks, asks_unlock, BatchForm, request_of, batch_keys, batch_form, put_form, verify_form, lock_form, list_form, verify_locks_form, unlock_form, members_of, if_given, optional, required_member, as_name, as_array_of, as_batch_object, operation_in, is_if_given, has_basic, object_limit, query_value, query_values, query_single, query_ref, read_if_given, limit_in, whole_if_given, is_size}
-use Rattle.model.specs.Heads.{Target, RouteRow, head_verdict, head_verdict_in, check_framing, is_measured, is_clear, is_small, at_most, form_of, accepts, values, route_in, route_of_parts, served_routes, path_of, repo_text, row_fits}
+use Rattle.model.specs.Heads.{Target, RouteRow, head_verdict, check_framing, is_measured, is_clear, is_small, at_most, form_of, accepts, values, route_at, routes, route_of_parts, path_of, repo_text, row_fits}
 use Rattle.model.specs.Callers.{Caller, caller_by, bearer, pull_question, push_question, lock_question}
 use Rattle.model.specs.Cases.{Setting, Case, case_in, DeskRequest}
 use Rattle.model.specs.Answers.{Answer, Denial, by_rule, by_lock, by_rules, permit_by, permit, hiding_status, may_pull, may_push, is_rule, is_store_refusal, Plan, grants, sends, receives}
@@ -346,26 +346,26 @@ framing_fails head =
     fails IsHeadRule (check (is_clear head) rule.H4) _ (check_fails IsHeadRule (is_clear head) rule.H4 refl) (λ c.
     check_fails IsHeadRule (is_small head) rule.H5 refl)))
 
-parts_fail : (table : List RouteRow) (parts : List (List ℕ)) → IfErr (route_of_parts table parts) IsHeadRule
-parts_fail table ([] ∷ owner ∷ part ∷ rest) =
+parts_fail : (parts : List (List ℕ)) → IfErr (route_of_parts parts) IsHeadRule
+parts_fail ([] ∷ owner ∷ part ∷ rest) =
     fails IsHeadRule (check _ rule.H6) _ (check_fails IsHeadRule _ rule.H6 refl) (λ a.
     fails IsHeadRule (ok_or (repo_text owner part) rule.H6) _ (found_fails IsHeadRule (repo_text owner part) rule.H6 refl) (λ b.
-    fails IsHeadRule (ok_or (find (row_fits rest) table) rule.H6) _ (found_fails IsHeadRule (find (row_fits rest) table) rule.H6 refl) (λ c. tt)))
-parts_fail table [] = refl
-parts_fail table ([] ∷ []) = refl
-parts_fail table ([] ∷ owner ∷ []) = refl
-parts_fail table ((b ∷ bs) ∷ rest) = refl
+    fails IsHeadRule (ok_or (find (row_fits rest) routes) rule.H6) _ (found_fails IsHeadRule (find (row_fits rest) routes) rule.H6 refl) (λ c. tt)))
+parts_fail [] = refl
+parts_fail ([] ∷ []) = refl
+parts_fail ([] ∷ owner ∷ []) = refl
+parts_fail ((b ∷ bs) ∷ rest) = refl
 
-route_fails : (table : List RouteRow) (target : List ℕ) → IfErr (route_in table target) IsHeadRule
-route_fails table target =
-    fails IsHeadRule (check (is_utf8 target) rule.H6) _ (check_fails IsHeadRule (is_utf8 target) rule.H6 refl) (λ text. parts_fail table (parts (path_of target)))
+route_fails : (target : List ℕ) → IfErr (route_at target) IsHeadRule
+route_fails target =
+    fails IsHeadRule (check (is_utf8 target) rule.H6) _ (check_fails IsHeadRule (is_utf8 target) rule.H6 refl) (λ text. parts_fail (parts (path_of target)))
 
 -- a head is refused with a rule of heads
 pub head_fails : (head : RequestHead) → IfErr (head_verdict head) IsHeadRule
-unfolding head_verdict_in
+unfolding head_verdict
 head_fails head =
     fails IsHeadRule (check_framing head) _ (framing_fails head) (λ whole.
-    fails IsHeadRule (route_in served_routes head.target) _ (route_fails served_routes head.target) (λ route.
+    fails IsHeadRule (route_at head.target) _ (route_fails head.target) (λ route.
     fails IsHeadRule (ok_or (form_of head.method route.row.requests) rule.H7) _ (found_fails IsHeadRule (form_of head.method route.row.requests) rule.H7 refl) (λ form.
     let acceptable = not route.row.is_json || accepts (values (codes "accept") head) in
     fails IsHeadRule (check acceptable rule.H8) (λ ok. Ok (record { repo = route.repo; parameter = route.parameter; form = form })) (check_fails IsHeadRule acceptable rule.H8 refl) (λ ok. tt))))

@@ -10,10 +10,9 @@ use Rattle.names.specs.Texts.{largest_object, parts, is_empty}
 use Rattle.names.specs.declared.rules.Rule.TheVariants as rule
 use Rattle.model.specs.declared.Form.{Form}
 use Rattle.model.specs.Reading.{check, ok_or}
-use Rattle.model.specs.Heads.{Target, Route, RouteRow, head_verdict, head_verdict_in, has_served, served_row, served_routes, is_served, check_framing, is_measured, is_clear, is_small, is_method, content_length, largest_form, route_at, routes, route_of_parts, repo_text, row_fits, path_of, form_of, values, at_most, accepts}
+use Rattle.model.specs.Heads.{Target, Route, RouteRow, head_verdict, check_framing, is_measured, is_clear, is_small, is_method, content_length, largest_form, route_at, routes, route_of_parts, repo_text, row_fits, path_of, form_of, values, at_most, accepts}
 use Rattle.model.proofs.Tests.{both_true}
 use Rattle.model.proofs.Checks.{passed, then_any, found_ok, check_ok, find_ok}
-use Rattle.model.proofs.Lists.{each_map, each_filter, each_weaker}
 
 abbrev IsMethod : List ℕ → Type 0
 IsMethod method = (bytes_eq method (codes "GET") ≡ true) ⊎ (bytes_eq method (codes "POST") ≡ true) ⊎ (bytes_eq method (codes "PUT") ≡ true)
@@ -53,24 +52,16 @@ RouteMethods route = AllByRecursion (λ (r : List ℕ × Form). IsMethod r.0) ro
 abbrev RowMethods : RouteRow → Type 0
 RowMethods row = AllByRecursion (λ (r : List ℕ × Form). IsMethod r.0) row.requests
 
--- a part of the table has no other methods
-served_methods : AllByRecursion RowMethods served_routes
-served_methods =
-    each_map RowMethods served_row (filter has_served routes)
-    (each_weaker RowMethods (λ row. RowMethods (served_row row)) (filter has_served routes)
-    (λ row all. each_filter (λ (r : List ℕ × Form). IsMethod r.0) (λ (r : List ℕ × Form). is_served r.1) row.requests all)
-    (each_filter RowMethods has_served routes routes_methods))
-
-parts_methods : (table : List RouteRow) (parts : List (List ℕ)) → AllByRecursion RowMethods table → IfOk (route_of_parts table parts) RouteMethods
-parts_methods table ([] ∷ owner ∷ part ∷ rest) methods =
+parts_methods : (parts : List (List ℕ)) → IfOk (route_of_parts parts) RouteMethods
+parts_methods ([] ∷ owner ∷ part ∷ rest) =
     then_any RouteMethods (check (list_all (λ p. not (is_empty p)) (owner ∷ part ∷ rest)) rule.H6) _ (λ a.
     then_any RouteMethods (ok_or (repo_text owner part) rule.H6) _ (λ b.
-    passed RowMethods RouteMethods (ok_or (find (row_fits rest) table) rule.H6) _
-    (found_ok _ (find (row_fits rest) table) rule.H6 (find_ok _ (row_fits rest) table methods)) (λ row all. all)))
-parts_methods table [] methods = tt
-parts_methods table ([] ∷ []) methods = tt
-parts_methods table ([] ∷ owner ∷ []) methods = tt
-parts_methods table ((b ∷ bs) ∷ rest) methods = tt
+    passed RowMethods RouteMethods (ok_or (find (row_fits rest) routes) rule.H6) _
+    (found_ok _ (find (row_fits rest) routes) rule.H6 (find_ok _ (row_fits rest) routes routes_methods)) (λ row all. all)))
+parts_methods [] = tt
+parts_methods ([] ∷ []) = tt
+parts_methods ([] ∷ owner ∷ []) = tt
+parts_methods ((b ∷ bs) ∷ rest) = tt
 
 -- ---- the sizes
 
@@ -111,10 +102,10 @@ measured head f (inr (inl post)) = small_is (content_length head) (is_method (co
 measured head f (inr (inr put)) = small_is (content_length head) (is_method (codes "POST") head) (is_method (codes "PUT") head) f.1 (inr put)
 
 pub judged_small : (head : RequestHead) → IfOk (head_verdict head) (λ _. content_length head ≤ largest_object)
-unfolding head_verdict_in
+unfolding head_verdict
 judged_small head =
     let P : Target → Type 0 = λ _. content_length head ≤ largest_object in
     passed (λ _. IsFramed head) P (check_framing head) _ (framed_is head) (λ whole framed_well.
-    passed RouteMethods P (route_at head.target) _ (then_any RouteMethods (check (is_utf8 head.target) rule.H6) _ (λ text. parts_methods served_routes (parts (path_of head.target)) served_methods)) (λ route all.
+    passed RouteMethods P (route_at head.target) _ (then_any RouteMethods (check (is_utf8 head.target) rule.H6) _ (λ text. parts_methods (parts (path_of head.target)))) (λ route all.
     passed (λ _. IsMethod head.method) P (ok_or (form_of head.method route.row.requests) rule.H7) _ (found_ok _ (form_of head.method route.row.requests) rule.H7 (form_method head.method route.row.requests all)) (λ form served.
     then_any P (check (not route.row.is_json || accepts (values (codes "accept") head)) rule.H8) (λ acceptable. Ok (record { repo = route.repo; parameter = route.parameter; form = form })) (λ ok. measured head framed_well served))))

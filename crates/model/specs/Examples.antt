@@ -8,7 +8,7 @@ use Rattle.model.specs.declared.Form.TheVariants as form
 use Rattle.model.specs.declared.Right.TheVariants as right
 use Rattle.names.specs.declared.operations.Operation.TheVariants as operation
 use Rattle.model.specs.World.{World, nothing, with_lock, without_lock, with_object, without_expired}
-use Rattle.model.specs.Heads.{Target, values, routes, head_verdict_in, route_in, methods_of}
+use Rattle.model.specs.Heads.{Target, values, head_verdict, route_at, methods_of}
 use Rattle.model.specs.Callers.{caller_by}
 use Rattle.model.specs.Cases.{DeskRequest}
 use Rattle.model.specs.Answers.{Answer, Denial, by_rule, by_row, by_lock, makes_lock, stores, confirms, releases, may_push, store_refusal}
@@ -165,7 +165,7 @@ MethodIsRefused = reply_in with_ann (message (head_of (codes "DELETE") (lfs (cod
 -- a request of the whole table of routes asks for this form
 abbrev pub leads : List ℕ → List ℕ → Form → List ℕ → Type 0
 leads method rest form parameter =
-    head_verdict_in routes (head_of method (lfs rest) (length_field (codes "0") ∷ []))
+    head_verdict (head_of method (lfs rest) (length_field (codes "0") ∷ []))
     ≡ Ok (record { repo = film; parameter = parameter; form = form })
 
 -- the routes, with what each method asks for
@@ -178,7 +178,7 @@ RoutesLead =
     × leads (codes "GET") (codes "content/x") form.Get (codes "x")
     × leads (codes "PUT") (codes "content/x") form.Put (codes "x")
     × leads (codes "POST") (codes "verify") form.Verify []
-    × (methods_of (route_in routes (lfs (codes "content/x"))) ≡ codes "GET, PUT")
+    × (methods_of (route_at (lfs (codes "content/x"))) ≡ codes "GET, PUT")
 
 -- ---- callers
 

@@ -11,8 +11,6 @@ use Rattle.names.specs.declared.rules.Rule.{Rule}
 use Rattle.names.specs.declared.rules.Rule.TheVariants.{H2, H3, H4, H5, H6, H7, H8}
 use Rattle.model.specs.declared.Form.{Form}
 use Rattle.model.specs.declared.Form.TheVariants as form
-use Rattle.model.specs.declared.ServedForm.{ServedForm}
-use Rattle.model.specs.declared.ServedForm.TheVariants as served
 use Rattle.model.specs.Reading.{◌>>=◌, check, ok_or, or_default}
 use Rattle.model.specs.Orders.{first}
 
@@ -111,33 +109,6 @@ routes =
     ∷ json_route (literal (codes "verify") ∷ []) (post form.Verify ∷ [])
     ∷ []
 
--- the requests that the server serves today; a request that it learns to serve is added here
-abbrev pub is_served : Form → Bool
-is_served form.Batch = false
-is_served _ = true
-
--- the form of a request that is served
-abbrev pub form_of_served : ServedForm → Form
-form_of_served served.Get = form.Get
-form_of_served served.Put = form.Put
-form_of_served served.Verify = form.Verify
-form_of_served served.Lock = form.Lock
-form_of_served served.List = form.List
-form_of_served served.VerifyLocks = form.VerifyLocks
-form_of_served served.Unlock = form.Unlock
-
--- one of the route's methods is served
-abbrev pub has_served : RouteRow → Bool
-has_served row = list_any (λ (r : List ℕ × Form). is_served r.1) row.requests
-
--- the route with the methods that are served
-abbrev pub served_row : RouteRow → RouteRow
-served_row row = record row { requests = filter (λ (r : List ℕ × Form). is_served r.1) row.requests }
-
--- the part of the table that is served
-abbrev pub served_routes : List RouteRow
-served_routes = map served_row (filter has_served routes)
-
 -- the segments of a route after the repository's two
 abbrev pub under_lfs : List Segment → List Segment
 under_lfs rest = literal (codes "info") ∷ literal (codes "lfs") ∷ rest
@@ -171,13 +142,13 @@ pub record Route : Type 0 where
   pub row : RouteRow
 
 -- the route of a path, by its parts: /owner/name.git/info/lfs/.., with no empty part
-abbrev pub route_of_parts : List RouteRow → List (List ℕ) → Result Route Rule
-route_of_parts table ([] ∷ owner ∷ part ∷ rest) = do
+abbrev pub route_of_parts : List (List ℕ) → Result Route Rule
+route_of_parts ([] ∷ owner ∷ part ∷ rest) = do
   whole ← check (list_all (λ p. not (is_empty p)) (owner ∷ part ∷ rest)) H6
   repo ← ok_or (repo_text owner part) H6
-  row ← ok_or (find (row_fits rest) table) H6
+  row ← ok_or (find (row_fits rest) routes) H6
   Ok (record { repo = repo; parameter = parameter_in (under_lfs row.rest) rest; row = row })
-route_of_parts table _ = Err H6
+route_of_parts _ = Err H6
 
 -- the byte before a query
 abbrev pub question_mark : ℕ
@@ -191,13 +162,9 @@ path_of target = before_first (λ b. b == question_mark) target
 abbrev pub query_of : List ℕ → List ℕ
 query_of target = drop (length (path_of target) + 1) target
 
--- the route of a target in a table
-abbrev pub route_in : List RouteRow → List ℕ → Result Route Rule
-route_in table target = check (is_utf8 target) H6 >>= λ text. route_of_parts table (parts (path_of target))
-
--- the served route of a target
+-- the route of a target
 abbrev pub route_at : List ℕ → Result Route Rule
-route_at target = route_in served_routes target
+route_at target = check (is_utf8 target) H6 >>= λ text. route_of_parts (parts (path_of target))
 
 -- the form that the method asks for
 abbrev pub form_of : List ℕ → List (List ℕ × Form) → Option Form
@@ -253,18 +220,14 @@ pub record Target : Type 0 where
   pub parameter : List ℕ
   pub form : Form
 
--- the first rule that refuses the head, or what it asks for, by a table of routes
-unfoldable pub head_verdict_in : List RouteRow → RequestHead → Result Target Rule
-head_verdict_in table head = do
+-- the first rule that refuses the head, or what it asks for
+unfoldable pub head_verdict : RequestHead → Result Target Rule
+head_verdict head = do
   whole ← check_framing head
-  route ← route_in table head.target
+  route ← route_at head.target
   form ← ok_or (form_of head.method route.row.requests) H7
   acceptable ← check (not route.row.is_json || accepts (values (codes "accept") head)) H8
   Ok (record { repo = route.repo; parameter = route.parameter; form = form })
-
--- the same by the routes that are served
-abbrev pub head_verdict : RequestHead → Result Target Rule
-head_verdict head = head_verdict_in served_routes head
 
 -- the size of the body of the head, in bytes; a refused head has no body
 abbrev pub body_length : RequestHead → ℕ

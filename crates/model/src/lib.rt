@@ -55,23 +55,3 @@ pub enum Form {
     /// Release a lock.
     Unlock,
 }
-
-/// The forms of the requests that are served. A request that the server learns to serve gets its
-/// variant here.
-#[derive(Clone, Copy, Debug, PartialEq, Eq, Hash)]
-pub enum ServedForm {
-    /// The content of an object.
-    Get,
-    /// Upload an object.
-    Put,
-    /// Whether an object is stored.
-    Verify,
-    /// Lock a path.
-    Lock,
-    /// A list of locks.
-    List,
-    /// The locks of a ref, one's own apart.
-    VerifyLocks,
-    /// Release a lock.
-    Unlock,
-}

@@ -9,7 +9,7 @@ use Rattle.matchit.proofs.RenameLemmas.{first-rename}
 use Rattle.model.specs.Heads.{Segment}
 use Rattle.names.specs.Texts.{parts}
 use Rattle.routes.specs.declared.table.Resource.{Resource}
-use Rattle.routes.specs.declared.table.Resource.TheVariants.{Locks, VerifyLocks, Unlock, Content, Verify}
+use Rattle.routes.specs.declared.table.Resource.TheVariants.{Batch, Locks, VerifyLocks, Unlock, Content, Verify}
 use Rattle.routes.specs.Patterns.{patterns, fitting, row_at, is_some_text}
 use Rattle.routes.specs.Table.{whole_row, table, table_routed, rows_in, resource_at}
 use Rattle.routes.proofs.Rows.{joined, are_good, are_all_apart}
@@ -76,13 +76,16 @@ bytes-of (b ∷ path) h = (h 0, bytes-of path (λ i. h (suc i)))
 
 -- ---- the table of routes
 
--- the router's order of the rows finds the same resource: the locks after the content, and the content first
+-- the router's order of the rows finds the same resource: batches after all but the last, the locks after the content,
+-- and the content first
 routed-fitting : (rest : List (List ℕ)) → fitting table rest ≡ fitting table_routed rest
 routed-fitting rest =
     let below_locks = map whole_row (VerifyLocks ∷ Unlock ∷ []) in
     let others = map whole_row (VerifyLocks ∷ Unlock ∷ Content ∷ []) in
-    let last = map whole_row (Verify ∷ []) in
-    fitting-later (whole_row Locks).0 Locks others last rest (apart-from (whole_row Locks).0 others refl)
+    let before_batch = map whole_row (Locks ∷ VerifyLocks ∷ Unlock ∷ Content ∷ []) in
+    let last = map whole_row (Batch ∷ Verify ∷ []) in
+    fitting-later (whole_row Batch).0 Batch before_batch (map whole_row (Verify ∷ [])) rest (apart-from (whole_row Batch).0 before_batch refl)
+    ∙ fitting-later (whole_row Locks).0 Locks others last rest (apart-from (whole_row Locks).0 others refl)
     ∙ sym (fitting-later (whole_row Content).0 Content below_locks (whole_row Locks ∷ last) rest (apart-from (whole_row Content).0 below_locks refl))
 
 routed-row : (parts : List (List ℕ)) → row_at table_routed parts ≡ row_at table parts

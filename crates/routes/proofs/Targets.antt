@@ -7,7 +7,7 @@ use Rattle.names.specs.declared.rules.Rule.{Rule}
 use Rattle.names.specs.declared.rules.Rule.TheVariants.{H6}
 use Rattle.model.specs.Reading.{◌>>=◌, check, ok_or}
 use Rattle.names.specs.Texts.{parts}
-use Rattle.model.specs.Heads.{Route, RouteRow, under_lfs, parameter_in, row_fits, repo_text, route_of_parts, served_routes, path_of, route_at}
+use Rattle.model.specs.Heads.{Route, RouteRow, under_lfs, parameter_in, row_fits, repo_text, route_of_parts, path_of, route_at}
 use Rattle.routes.specs.Patterns.{is_some_text, fitting, row_at}
 use Rattle.routes.specs.declared.table.Resource.{Resource}
 use Rattle.routes.specs.Table.{row_of, resources, whole_row, table, resource_at}
@@ -55,7 +55,7 @@ by_checks true (Some resource) None rest = refl
 by_checks true None (Some repo) rest = refl
 by_checks true (Some resource) (Some repo) rest = refl
 
-of_parts : (ps : List (List ℕ)) → route_of_parts served_routes ps ≡ by_resource (drop 3 ps) (row_at table ps) (slice_get ps 1) (slice_get ps 2)
+of_parts : (ps : List (List ℕ)) → route_of_parts ps ≡ by_resource (drop 3 ps) (row_at table ps) (slice_get ps 1) (slice_get ps 2)
 of_parts [] = refl
 of_parts ((b ∷ front) ∷ []) = refl
 of_parts ((b ∷ front) ∷ owner ∷ []) = refl
@@ -70,8 +70,8 @@ of_parts ([] ∷ owner ∷ part ∷ rest) =
 pub by_parts : (target path : List ℕ) (resource : Option Resource) (o p : Option (List ℕ)) → IsUtf8 target → path ≡ path_of target
     → resource ≡ resource_at path → o ≡ slice_get (parts path) 1 → p ≡ slice_get (parts path) 2 → route_at target ≡ by_resource (drop 3 (parts path)) resource o p
 by_parts target path resource o p utf8 e f g h =
-    ap (λ v. check v H6 >>= λ text. route_of_parts served_routes (parts (path_of target))) (is_utf8-from_IsUtf8 target utf8)
-    ∙ ap (λ t. route_of_parts served_routes (parts t)) (sym e) ∙ of_parts (parts path)
+    ap (λ v. check v H6 >>= λ text. route_of_parts (parts (path_of target))) (is_utf8-from_IsUtf8 target utf8)
+    ∙ ap (λ t. route_of_parts (parts t)) (sym e) ∙ of_parts (parts path)
     ∙ ap (λ x. by_resource (drop 3 (parts path)) x (slice_get (parts path) 1) (slice_get (parts path) 2)) (sym f)
     ∙ ap (λ x. by_resource (drop 3 (parts path)) resource x (slice_get (parts path) 2)) (sym g) ∙ ap (λ x. by_resource (drop 3 (parts path)) resource o x) (sym h)
 

@@ -6,11 +6,12 @@ use Rattle.matchit.specs.Router.{RouteOf, rename}
 use Rattle.model.specs.Heads.{Segment, literal, parameter, RouteRow, json_route, content_route, get, post, put, under_lfs}
 use Rattle.model.specs.declared.Form.TheVariants as form
 use Rattle.routes.specs.declared.table.Resource.{Resource}
-use Rattle.routes.specs.declared.table.Resource.TheVariants.{Locks, VerifyLocks, Unlock, Content, Verify}
+use Rattle.routes.specs.declared.table.Resource.TheVariants.{Batch, Locks, VerifyLocks, Unlock, Content, Verify}
 use Rattle.routes.specs.Patterns.{tokens, row_at}
 
 -- the row of the definitions' table for a resource
 abbrev pub row_of : Resource → RouteRow
+row_of Batch = json_route (literal (codes "objects") ∷ literal (codes "batch") ∷ []) (post form.Batch ∷ [])
 row_of Locks = json_route (literal (codes "locks") ∷ []) (get form.List ∷ post form.Lock ∷ [])
 row_of VerifyLocks = json_route (literal (codes "locks") ∷ literal (codes "verify") ∷ []) (post form.VerifyLocks ∷ [])
 row_of Unlock = json_route (literal (codes "locks") ∷ parameter ∷ literal (codes "unlock") ∷ []) (post form.Unlock ∷ [])
@@ -19,7 +20,7 @@ row_of Verify = json_route (literal (codes "verify") ∷ []) (post form.Verify �
 
 -- all resources, in the order of the definitions' table
 abbrev pub resources : List Resource
-resources = Locks ∷ VerifyLocks ∷ Unlock ∷ Content ∷ Verify ∷ []
+resources = Batch ∷ Locks ∷ VerifyLocks ∷ Unlock ∷ Content ∷ Verify ∷ []
 
 -- the pattern of a resource's whole path, with the resource
 abbrev pub whole_row : Resource → List Segment × Resource
@@ -43,4 +44,4 @@ rows_in router = rename (λ route. route.value) router
 
 -- the patterns of all resources, in the router's order: by their bytes, and a pattern is after all that begin with it
 abbrev pub table_routed : List (List Segment × Resource)
-table_routed = map whole_row (Content ∷ VerifyLocks ∷ Unlock ∷ Locks ∷ Verify ∷ [])
+table_routed = map whole_row (Content ∷ VerifyLocks ∷ Unlock ∷ Locks ∷ Batch ∷ Verify ∷ [])

@@ -3,20 +3,22 @@
 ghost use Rattle.std.specs.Prelude.{◌≡◌, ◌∷◌, [], None, OnOk, option_map};
 ghost use Rattle.matchit.specs.Order.{placed};
 ghost use Rattle.matchit.specs.Router.{nearest};
-ghost use Rattle.model.specs.Heads.{form_of, form_of_served, post};
+ghost use Rattle.model.specs.Heads.{form_of, post};
 ghost use Rattle.routes.specs.Patterns.{patterns};
 ghost use Rattle.routes.specs.Table.{pattern_of, rows_in, table_routed};
 
 use crate::target::{part_at, path_of, without_git};
 use matchit::{InsertError, Router};
-use model::ServedForm;
+use model::Form;
 use names::ALLOW_LIMIT;
 use std::alloc::{AllocError, Global};
 
 /// A resource in a repository: a row of the table of routes.
 #[derive(Clone, Copy, Debug, PartialEq, Eq, Hash)]
 pub enum Resource {
-    /// The locks: `/locks` after the repository's address.
+    /// The batches of objects: `/objects/batch` after the repository's address.
+    Batch,
+    /// The locks: `/locks`.
     Locks,
     /// The locks that a push is checked against: `/locks/verify`.
     VerifyLocks,
@@ -56,35 +58,36 @@ impl Resource {
     ghost use Rattle.std.specs.Prelude.{◌≡◌, ◌≤◌, IsOkAnd, drop, length, map, option_map};
     ghost use Rattle.matchit.specs.Route.{parse_route};
     ghost use Rattle.names.specs.Texts.{parts};
-    ghost use Rattle.model.specs.Heads.{form_of, form_of_served, comma_list, parameter_in, under_lfs};
+    ghost use Rattle.model.specs.Heads.{form_of, comma_list, parameter_in, under_lfs};
     ghost use Rattle.routes.specs.Table.{row_of, pattern_of};
 
     /// The request that the method makes here; `None` if the method is not served (H7).
     ///
     /// Methods are compared byte by byte (RFC 9110, Methods).
-    pub fn form_of(self, method: &[u8]) -> Option<ServedForm>
-        ensures { option_map form_of_served result ≡ form_of method.now (row_of self).requests }
+    pub fn form_of(self, method: &[u8]) -> Option<Form>
+        ensures { result ≡ form_of method.now (row_of self).requests }
     {
         match self {
+            Resource::Batch => posted(method, Form::Batch),
             Resource::Locks => {
                 if method == b"GET".as_slice() {
-                    Some(ServedForm::List)
+                    Some(Form::List)
                 } else {
-                    posted(method, ServedForm::Lock)
+                    posted(method, Form::Lock)
                 }
             }
-            Resource::VerifyLocks => posted(method, ServedForm::VerifyLocks),
-            Resource::Unlock => posted(method, ServedForm::Unlock),
+            Resource::VerifyLocks => posted(method, Form::VerifyLocks),
+            Resource::Unlock => posted(method, Form::Unlock),
             Resource::Content => {
                 if method == b"GET".as_slice() {
-                    Some(ServedForm::Get)
+                    Some(Form::Get)
                 } else if method == b"PUT".as_slice() {
-                    Some(ServedForm::Put)
+                    Some(Form::Put)
                 } else {
                     None
                 }
             }
-            Resource::Verify => posted(method, ServedForm::Verify),
+            Resource::Verify => posted(method, Form::Verify),
         }
     }
 
@@ -96,7 +99,7 @@ impl Resource {
     {
         match self {
             Resource::Locks => "GET, POST",
-            Resource::VerifyLocks | Resource::Unlock | Resource::Verify => "POST",
+            Resource::Batch | Resource::VerifyLocks | Resource::Unlock | Resource::Verify => "POST",
             Resource::Content => "GET, PUT",
         }
     }
@@ -106,7 +109,8 @@ impl Resource {
         ensures { result ≡ (row_of self).is_json }
     {
         match self {
-            Resource::Locks | Resource::VerifyLocks | Resource::Unlock | Resource::Verify => true,
+            Resource::Batch | Resource::Locks | Resource::VerifyLocks => true,
+            Resource::Unlock | Resource::Verify => true,
             Resource::Content => false,
         }
     }
@@ -116,6 +120,7 @@ impl Resource {
         ensures { IsOkAnd (parse_route result.now) (λ scan. scan.pattern ≡ pattern_of self) }
     {
         match self {
+            Resource::Batch => "/{owner}/{name}/info/lfs/objects/batch",
             Resource::Locks => "/{owner}/{name}/info/lfs/locks",
             Resource::VerifyLocks => "/{owner}/{name}/info/lfs/locks/verify",
             Resource::Unlock => "/{owner}/{name}/info/lfs/locks/{id}/unlock",
@@ -129,15 +134,15 @@ impl Resource {
         ensures { result.now ≡ parameter_in (under_lfs (row_of self).rest) (drop 3 (parts path.now)) }
     {
         match self {
-            Resource::Locks | Resource::VerifyLocks | Resource::Verify => "",
+            Resource::Batch | Resource::Locks | Resource::VerifyLocks | Resource::Verify => "",
             Resource::Unlock | Resource::Content => part_at(path, PARAMETER_PLACE).unwrap_or(""),
         }
     }
 }
 
 /// The request that POST makes; `None` for any other method.
-fn posted(method: &[u8], form: ServedForm) -> Option<ServedForm>
-    ensures { option_map form_of_served result ≡ form_of method.now (post (form_of_served form) ∷ []) }
+fn posted(method: &[u8], form: Form) -> Option<Form>
+    ensures { result ≡ form_of method.now (post form ∷ []) }
 {
     if method == b"POST".as_slice() {
         Some(form)
@@ -197,6 +202,7 @@ impl Routes {
     /// Fails only if memory runs out: no two rows of the table conflict.
     pub fn new(alloc: Global) -> Result<Self, AllocError> {
         let mut router = Router::new(alloc);
+        add(&mut router, Resource::Batch)?;
         add(&mut router, Resource::Locks)?;
         add(&mut router, Resource::VerifyLocks)?;
         add(&mut router, Resource::Unlock)?;

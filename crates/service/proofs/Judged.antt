@@ -10,14 +10,12 @@ use Rattle.names.specs.declared.rules.Rule.{Rule}
 use Rattle.names.specs.declared.rules.Rule.TheVariants.{H6, H7, H8}
 use Rattle.model.specs.declared.Form.{Form}
 use Rattle.model.specs.declared.Form.TheVariants as form
-use Rattle.model.specs.declared.ServedForm.{ServedForm}
-use Rattle.model.specs.declared.ServedForm.TheVariants as served
 use Rattle.desk.specs.Asking.{is_put}
 use Rattle.model.specs.Reading.{◌>>=◌, check}
-use Rattle.model.specs.Heads.{Route, head_verdict, head_verdict_in, check_framing, route_at, form_of, form_of_served, is_method, accepts, values, methods_of}
+use Rattle.model.specs.Heads.{Route, head_verdict, check_framing, route_at, form_of, is_method, accepts, values, methods_of}
 use Rattle.model.specs.Steps.{is_h7}
 use Rattle.routes.specs.declared.table.Resource.{Resource}
-use Rattle.routes.specs.declared.table.Resource.TheVariants.{Locks, VerifyLocks, Unlock, Content, Verify}
+use Rattle.routes.specs.declared.table.Resource.TheVariants.{Batch, Locks, VerifyLocks, Unlock, Content, Verify}
 use Rattle.routes.specs.Table.{row_of}
 use Rattle.service.specs.Judging.{IsDenied}
 use Rattle.service.specs.declared.judging.Denied.{Denied}
@@ -25,68 +23,56 @@ use Rattle.service.specs.declared.judging.Denied.{Denied}
 -- ---- the checks in their order
 
 pub not_framed : (h : RequestHead) (r : Rule) → check_framing h ≡ Err r → head_verdict h ≡ Err r
-unfolding head_verdict_in
+unfolding head_verdict
 not_framed h r is = rw is refl
 
 pub not_routed : (h : RequestHead) → check_framing h ≡ Ok tt → route_at h.target ≡ Err H6 → head_verdict h ≡ Err H6
-unfolding head_verdict_in
+unfolding head_verdict
 not_routed h whole nowhere = rw (whole, nowhere) refl
 
 pub not_served : (h : RequestHead) (route : Route) → check_framing h ≡ Ok tt → route_at h.target ≡ Ok route → form_of h.method route.row.requests ≡ None → head_verdict h ≡ Err H7
-unfolding head_verdict_in
+unfolding head_verdict
 not_served h route whole there other = rw (whole, there, other) refl
 
 pub not_accepted : (h : RequestHead) (route : Route) (form : Form) → check_framing h ≡ Ok tt → route_at h.target ≡ Ok route → form_of h.method route.row.requests ≡ Some form
     → (not route.row.is_json || accepts (values (codes "accept") h)) ≡ false → head_verdict h ≡ Err H8
-unfolding head_verdict_in
+unfolding head_verdict
 not_accepted h route form whole there served other = rw (whole, there, served, other) refl
 
 pub asked : (h : RequestHead) (route : Route) (form : Form) → check_framing h ≡ Ok tt → route_at h.target ≡ Ok route → form_of h.method route.row.requests ≡ Some form
     → (not route.row.is_json || accepts (values (codes "accept") h)) ≡ true → head_verdict h ≡ Ok (record { repo = route.repo; parameter = route.parameter; form = form })
-unfolding head_verdict_in
+unfolding head_verdict
 asked h route form whole there served wanted = rw (whole, there, served, wanted) refl
 
 -- ---- PUT is the method of an upload
 
-abbrev is_put_form : Form → Bool
-is_put_form form.Put = true
-is_put_form _ = false
-
 -- in these rows, exactly the uploads have the method PUT
 abbrev PutsAlike : List (List ℕ × Form) → Type 0
 PutsAlike [] = ⊤
-PutsAlike (r ∷ requests) = (bytes_eq r.0 (codes "PUT") ≡ is_put_form r.1) × PutsAlike requests
+PutsAlike (r ∷ requests) = (bytes_eq r.0 (codes "PUT") ≡ is_put r.1) × PutsAlike requests
 
-put_in : (method : List ℕ) (requests : List (List ℕ × Form)) (f : Form) → PutsAlike requests → form_of method requests ≡ Some f → bytes_eq method (codes "PUT") ≡ is_put_form f
+put_in : (method : List ℕ) (requests : List (List ℕ × Form)) (f : Form) → PutsAlike requests → form_of method requests ≡ Some f → bytes_eq method (codes "PUT") ≡ is_put f
 put_in method [] f alike served = absurd (cc)
 put_in method (r ∷ requests) f alike served = at (bytes_eq method r.0) refl (put_in method requests f alike.1) served
   where
     same : Some r.1 ≡ Some f → r.1 ≡ f
     same e = cc
 
-    at : (v : Bool) → bytes_eq method r.0 ≡ v → (form_of method requests ≡ Some f → bytes_eq method (codes "PUT") ≡ is_put_form f)
-        → cond v (Some r.1) (form_of method requests) ≡ Some f → bytes_eq method (codes "PUT") ≡ is_put_form f
-    at true is rest e = ap (λ (m : List ℕ). bytes_eq m (codes "PUT")) ((bytes_eq-Decides method r.0).0 is) ∙ alike.0 ∙ ap is_put_form (same e)
+    at : (v : Bool) → bytes_eq method r.0 ≡ v → (form_of method requests ≡ Some f → bytes_eq method (codes "PUT") ≡ is_put f)
+        → cond v (Some r.1) (form_of method requests) ≡ Some f → bytes_eq method (codes "PUT") ≡ is_put f
+    at true is rest e = ap (λ (m : List ℕ). bytes_eq m (codes "PUT")) ((bytes_eq-Decides method r.0).0 is) ∙ alike.0 ∙ ap is_put (same e)
     at false is rest e = rest e
 
 row_puts : (r : Resource) → PutsAlike (row_of r).requests
+row_puts Batch = (refl, tt)
 row_puts Locks = (refl, (refl, tt))
 row_puts VerifyLocks = (refl, tt)
 row_puts Unlock = (refl, tt)
 row_puts Content = (refl, (refl, tt))
 row_puts Verify = (refl, tt)
 
-served_put : (f : ServedForm) → is_put_form (form_of_served f) ≡ is_put f
-served_put served.Get = refl
-served_put served.Put = refl
-served_put served.Verify = refl
-served_put served.Lock = refl
-served_put served.List = refl
-served_put served.VerifyLocks = refl
-served_put served.Unlock = refl
-
-pub puts : (h : RequestHead) (r : Resource) (f : ServedForm) → form_of h.method (row_of r).requests ≡ Some (form_of_served f) → is_method (codes "PUT") h ≡ is_put f
-puts h r f served = put_in h.method (row_of r).requests (form_of_served f) (row_puts r) served ∙ served_put f
+pub puts : (h : RequestHead) (r : Resource) (f : Form) → form_of h.method (row_of r).requests ≡ Some f → is_method (codes "PUT") h ≡ is_put f
+puts h r f served = put_in h.method (row_of r).requests f (row_puts r) served
 
 -- ---- targets
 

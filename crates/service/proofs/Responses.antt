@@ -15,9 +15,7 @@ use Rattle.model.specs.Policy.{IsPolicy}
 use Rattle.model.specs.Reading.{◌>>=◌}
 use Rattle.model.specs.declared.Form.{Form}
 use Rattle.model.specs.declared.Form.TheVariants as form
-use Rattle.model.specs.declared.ServedForm.{ServedForm}
-use Rattle.model.specs.declared.ServedForm.TheVariants as served
-use Rattle.model.specs.Heads.{Target, head_verdict, form_of_served, query_of, asks_close, is_method, body_length, content_length}
+use Rattle.model.specs.Heads.{Target, head_verdict, query_of, asks_close, is_method, body_length, content_length}
 use Rattle.model.specs.Forms.{request_of}
 use Rattle.model.specs.Cases.{Setting, DeskRequest}
 use Rattle.model.specs.Answers.{Answer, Denial, Plan, receives, by_rule, by_row, by_lock, is_rule, is_store_refusal, store_refusal}
@@ -70,14 +68,15 @@ made_as h a body size request is made same =
     rw (made.authorization, made.repo, made.form, made.parameter, made.query, made.body, same, is.query, is.bearers) refl
 
 -- what an upload asks does not depend on its body
-put_asks : (f : ServedForm) (parameter query body other : List ℕ) → is_put f ≡ true → request_of (form_of_served f) parameter query body ≡ request_of (form_of_served f) parameter query other
-put_asks served.Put parameter query body other put = refl
-put_asks served.Get parameter query body other put = absurd (true≢false (sym put))
-put_asks served.Verify parameter query body other put = absurd (true≢false (sym put))
-put_asks served.Lock parameter query body other put = absurd (true≢false (sym put))
-put_asks served.List parameter query body other put = absurd (true≢false (sym put))
-put_asks served.VerifyLocks parameter query body other put = absurd (true≢false (sym put))
-put_asks served.Unlock parameter query body other put = absurd (true≢false (sym put))
+put_asks : (f : Form) (parameter query body other : List ℕ) → is_put f ≡ true → request_of f parameter query body ≡ request_of f parameter query other
+put_asks form.Batch parameter query body other put = absurd (true≢false (sym put))
+put_asks form.Put parameter query body other put = refl
+put_asks form.Get parameter query body other put = absurd (true≢false (sym put))
+put_asks form.Verify parameter query body other put = absurd (true≢false (sym put))
+put_asks form.Lock parameter query body other put = absurd (true≢false (sym put))
+put_asks form.List parameter query body other put = absurd (true≢false (sym put))
+put_asks form.VerifyLocks parameter query body other put = absurd (true≢false (sym put))
+put_asks form.Unlock parameter query body other put = absurd (true≢false (sym put))
 
 pub put_alike : (world : World) (setting : Setting) (h : RequestHead) (a : Asked) (body other : List ℕ) → is_put a.form ≡ true → plan_made world setting h a body ≡ plan_made world setting h a other
 put_alike world setting h a body other put =
@@ -99,12 +98,12 @@ late_answer (Err denial) late = record { early = late.early; of_head = late.of_h
 pub late_verdict : (world : World) (setting : Setting) (h : RequestHead) (a : Asked) (body : List ℕ) → Asks h a → IsLateAnswer (verdict world setting h body)
 late_verdict world setting h a body is =
     subst IsLateAnswer (sym (verdict_is world setting h a body is))
-    (late_answer _ (desk_fails world setting (request_made h a body) body (request_fails (form_of_served a.form) (target_asked a).parameter (query_of h.target) body)))
+    (late_answer _ (desk_fails world setting (request_made h a body) body (request_fails a.form (target_asked a).parameter (query_of h.target) body)))
 
 -- the denial of a plan
 of_plan : (world : World) (setting : Setting) (h : RequestHead) (a : Asked) (body : List ℕ) (d : Denial) → plan_made world setting h a body ≡ Err d → IsOfPlan d
 of_plan world setting h a body d is =
-    IfErr-at_err IsOfPlan is (desk_plan_fails world setting (request_made h a body) (request_fails (form_of_served a.form) (target_asked a).parameter (query_of h.target) body))
+    IfErr-at_err IsOfPlan is (desk_plan_fails world setting (request_made h a body) (request_fails a.form (target_asked a).parameter (query_of h.target) body))
 
 -- a late answer is not a certain one
 not_sure : (given : Answer) → is_rule is_early given ≡ false → is_sure (Some given) ≡ false
@@ -141,14 +140,15 @@ unsure world setting h target body false is =
 
 -- ---- before the body of an upload
 
-put_form : (f : ServedForm) → is_put f ≡ true → form_of_served f ≡ form.Put
-put_form served.Put put = refl
-put_form served.Get put = absurd (true≢false (sym put))
-put_form served.Verify put = absurd (true≢false (sym put))
-put_form served.Lock put = absurd (true≢false (sym put))
-put_form served.List put = absurd (true≢false (sym put))
-put_form served.VerifyLocks put = absurd (true≢false (sym put))
-put_form served.Unlock put = absurd (true≢false (sym put))
+put_form : (f : Form) → is_put f ≡ true → f ≡ form.Put
+put_form form.Put put = refl
+put_form form.Batch put = absurd (true≢false (sym put))
+put_form form.Get put = absurd (true≢false (sym put))
+put_form form.Verify put = absurd (true≢false (sym put))
+put_form form.Lock put = absurd (true≢false (sym put))
+put_form form.List put = absurd (true≢false (sym put))
+put_form form.VerifyLocks put = absurd (true≢false (sym put))
+put_form form.Unlock put = absurd (true≢false (sym put))
 
 put_early : (world : World) (setting : Setting) (h : RequestHead) (a : Asked) → Asks h a → is_put a.form ≡ true → early_verdict world setting h ≡ (plan_made world setting h a [] >>= λ granted. Ok tt)
 put_early world setting h a is put =
@@ -168,14 +168,15 @@ allowed_on world setting h a (Ok granted) is put same ok = ap denial_alone (put_
 allowed_on world setting h a (Err d) is put same ok = absurd (true≢false (sym ok))
 
 -- nothing denies a head that asks for no upload before its body
-pub passes_early : (f : ServedForm) (plan : Result Plan Denial) → is_put f ≡ false → early_check (form_of_served f) plan ≡ Ok tt
-passes_early served.Put plan none = absurd (true≢false none)
-passes_early served.Get plan none = refl
-passes_early served.Verify plan none = refl
-passes_early served.Lock plan none = refl
-passes_early served.List plan none = refl
-passes_early served.VerifyLocks plan none = refl
-passes_early served.Unlock plan none = refl
+pub passes_early : (f : Form) (plan : Result Plan Denial) → is_put f ≡ false → early_check f plan ≡ Ok tt
+passes_early form.Put plan none = absurd (true≢false none)
+passes_early form.Batch plan none = refl
+passes_early form.Get plan none = refl
+passes_early form.Verify plan none = refl
+passes_early form.Lock plan none = refl
+passes_early form.List plan none = refl
+passes_early form.VerifyLocks plan none = refl
+passes_early form.Unlock plan none = refl
 
 no_early_denial : (world : World) (setting : Setting) (h : RequestHead) (a : Asked) → Asks h a → is_put a.form ≡ false → ◌≡◌ {A = Option Answer} (denial_alone (early_verdict world setting h)) None
 no_early_denial world setting h a is none =

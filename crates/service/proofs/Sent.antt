@@ -1,6 +1,7 @@
 -- The text of a reply, written in two parts: its front, and the content of an object.
-use Rattle.std.proofs.Common.{◌≡◌, ◌⊎◌, inl, inr, ◌∙◌, ◌+◌, ◌<◌, ℕ, Bool, List, [], ◌++◌, length, take, Option, Result, Ok, Err, OnOk, IfErr, refl, sym, ap, subst, append-nil, arith}
+use Rattle.std.proofs.Common.{◌≡◌, ◌⊎◌, inl, inr, ◌∙◌, ◌+◌, ◌<◌, ◌≤◌, ℕ, Bool, List, [], ◌++◌, length, take, Option, Result, Ok, Err, OnOk, IfErr, refl, sym, ap, subst, append-nil, arith}
 use Rattle.std.specs.Io.KnownBytes.{Appends}
+use Rattle.std.proofs.Math.Numerals.{lt_of_le_of_ne}
 use Rattle.std.proofs.lemmas.List.{take_all}
 use Rattle.names.specs.Streams.{IsBeginning}
 use Rattle.model.specs.World.{Object}
@@ -11,6 +12,7 @@ use Rattle.wire.proofs.Wholes.{begins_front, begins_back}
 use Rattle.sqlite_trees.specs.declared.store.Store.{Ghosts}
 use Rattle.tables.specs.Staging.{upload_number}
 use Rattle.tables.specs.declared.Store.{Store}
+use Rattle.tables.specs.declared.fault.StoreFault.{StoreFault}
 use Rattle.tables.specs.declared.rows.ObjectRow.{ObjectRow}
 use Rattle.refinement.specs.Staging.{Stores}
 use Rattle.desk.specs.Replies.{ShowsBody, Lends}
@@ -83,15 +85,20 @@ object_sent g store body row given is shows lends =
     let lent : Lends g store (Content row) given = subst (λ (b : ReplyBody). Lends g store b given) is lends in
     (lent.0, shown.2 ∙ ap length (sym (ap content_of shown.1) ∙ ap content_of lent.1), ap content_of lent.1, lent.2)
 
--- the content was written up to a fault
-pub content_written : {T : Type 0} (cause : PourCause) (bytes : List ℕ) (written size : ℕ) (was is : Option (List ℕ)) (r : Result T SendFault) → size ≡ length bytes → TookFront cause was is bytes written
-    → EndsContent cause written size r → Writes bytes was is r
-content_written ByDevice bytes written size was is (Err Sink) same took ends = (written, record { less = took.within; taken = took.taken })
-content_written ByDevice bytes written size was is (Err OfStore) same took ends = absurd ends
-content_written ByDevice bytes written size was is (Ok x) same took ends = absurd ends
-content_written (ByStore fault) bytes written size was is (Err Sink) same took ends = absurd ends
-content_written (ByStore fault) bytes written size was is (Err OfStore) same took ends = (written, record { less = omega (arith, same, ends); taken = took.taken })
-content_written (ByStore fault) bytes written size was is (Ok x) same took ends = subst (Appends was is) (take_all written bytes (omega (arith, same, ends))) took.taken
+-- a write failed within a content
+pub content_cut : (cause : PourCause) (bytes : List ℕ) (written : ℕ) (was is : Option (List ℕ)) → cause ≡ ByDevice → TookFront cause was is bytes written → IsBeginning was is bytes written
+content_cut cause bytes written was is device took = let cut : TookFront ByDevice was is bytes written = subst (λ c. TookFront c was is bytes written) device took in record { less = cut.within; taken = cut.taken }
+
+-- the store failed after some of a content, or all of it
+pub content_within : (cause : PourCause) (fault : StoreFault) (bytes : List ℕ) (written : ℕ) (was is : Option (List ℕ)) → cause ≡ ByStore fault → TookFront cause was is bytes written → written ≤ length bytes
+content_within cause fault bytes written was is store took = let part : TookFront (ByStore fault) was is bytes written = subst (λ c. TookFront c was is bytes written) store took in part.within
+
+-- a content of which this number of bytes was written
+pub content_ended : {T : Type 0} (bytes : List ℕ) (written size : ℕ) (was is : Option (List ℕ)) (r : Result T SendFault) → size ≡ length bytes → written ≤ length bytes → Appends was is (take written bytes)
+    → EndsContent written size r → Writes bytes was is r
+content_ended bytes written size was is (Ok x) same within took ends = subst (Appends was is) (take_all written bytes (omega (arith, same, ends))) took
+content_ended bytes written size was is (Err OfStore) same within took ends = (written, record { less = lt_of_le_of_ne within (λ equal. ends (equal ∙ sym same)); taken = took })
+content_ended bytes written size was is (Err Sink) same within took ends = absurd ends
 
 -- ---- the whole reply
 

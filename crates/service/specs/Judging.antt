@@ -3,7 +3,7 @@ use Rattle.std.specs.Prelude.{◌≡◌, ◌≤◌, true, length, [], codes, Res
 use Rattle.httparse.specs.Grammar.{RequestHead}
 use Rattle.names.specs.declared.limits.TheConstants.{ALLOW_LIMIT}
 use Rattle.model.specs.Heads as model
-use Rattle.model.specs.Heads.{head_verdict, form_of_served, is_method, query_of, content_length}
+use Rattle.model.specs.Heads.{head_verdict, is_method, query_of, content_length}
 use Rattle.model.specs.Answers.{by_rule}
 use Rattle.model.specs.Steps.{message, allow}
 use Rattle.routes.specs.Routes.{route_seen}
@@ -16,7 +16,7 @@ abbrev pub target_seen : Target → model.Target
 target_seen t = record {
   repo = (route_seen t.route).repo;
   parameter = t.route.parameter.now;
-  form = form_of_served t.form;
+  form = t.form;
 }
 
 -- the head asks for this target, with this query and `size` bytes of body; only an upload has the method PUT

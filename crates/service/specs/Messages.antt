@@ -5,7 +5,7 @@ use Rattle.httparse.specs.Grammar.{RequestHead}
 use Rattle.names.specs.declared.limits.TheConstants.{ALLOW_LIMIT}
 use Rattle.model.specs.World.{World}
 use Rattle.model.specs.Heads as model_head
-use Rattle.model.specs.Heads.{head_verdict, form_of_served, is_method, query_of, values, asks_close}
+use Rattle.model.specs.Heads.{head_verdict, is_method, query_of, values, asks_close}
 use Rattle.model.specs.Cases.{Setting}
 use Rattle.model.specs.Answers.{by_rule}
 use Rattle.model.specs.Steps as model
@@ -42,7 +42,7 @@ abbrev pub target_asked : Asked → model_head.Target
 target_asked a = record {
   repo = string_bytes a.repo;
   parameter = string_bytes a.parameter;
-  form = form_of_served a.form;
+  form = a.form;
 }
 
 -- the head asks this; only an upload has the method PUT

@@ -1,12 +1,10 @@
 -- The text of a reply, all of it or a part, as it is written.
-use Rattle.std.specs.Prelude.{◌≡◌, ◌<◌, ◌≤◌, ℕ, Bool, List, [], ◌++◌, length, take, Option, Result, Ok, Err, ⊤}
+use Rattle.std.specs.Prelude.{◌≡◌, ◌≢◌, ◌<◌, ℕ, Bool, List, [], ◌++◌, length, take, Option, Result, Ok, Err}
 use Rattle.std.specs.Io.KnownBytes.{Appends}
 use Rattle.names.specs.Streams.{IsBeginning}
 use Rattle.model.specs.World.{Object}
 use Rattle.model.specs.Answers.{Answer, serves}
 use Rattle.model.specs.Replies.{reply_of, reply_text, head_text, body_text}
-use Rattle.chunks.specs.declared.pouring.PourCause.{PourCause}
-use Rattle.chunks.specs.declared.pouring.PourCause.TheVariants.{Store as ByStore, Device as ByDevice}
 use Rattle.service.specs.declared.sending.SendFault.{SendFault}
 use Rattle.service.specs.declared.sending.SendFault.TheVariants.{Sink, Store}
 
@@ -19,15 +17,11 @@ abbrev pub Writes : {T E : Type 0} → List ℕ → Option (List ℕ) → Option
 Writes text was is (Ok x) = Appends was is text
 Writes text was is (Err e) = (written : ℕ) × IsBeginning was is text written
 
--- the result for a content of which this number of bytes was written: the sink failed, or the store before the last byte;
--- it is no error if the store failed after the last byte
-abbrev pub EndsContent : {T : Type 0} → PourCause → (written size : ℕ) → Result T SendFault → Type 0
-EndsContent ByDevice written size (Err Sink) = ⊤
-EndsContent ByDevice written size (Err Store) = ⊥
-EndsContent ByDevice written size (Ok x) = ⊥
-EndsContent (ByStore fault) written size (Err Sink) = ⊥
-EndsContent (ByStore fault) written size (Err Store) = written < size
-EndsContent (ByStore fault) written size (Ok x) = size ≤ written
+-- the result after this number of bytes of a content was written, and no write failed: it is an error unless that is its size
+abbrev pub EndsContent : {T : Type 0} → (written size : ℕ) → Result T SendFault → Type 0
+EndsContent written size (Ok x) = written ≡ size
+EndsContent written size (Err Store) = written ≢ size
+EndsContent written size (Err Sink) = ⊥
 
 -- the answer serves an object; the head of the reply and a prefix of the object, not all of it, were written
 pub record BreaksOff (given : Answer) (allow : List ℕ) (close : Bool) (was is : Option (List ℕ)) : Type 0 where

@@ -9,7 +9,7 @@ ghost use Rattle.routes.specs.Table.{row_of};
 ghost use Rattle.wire.specs.Fields.{Shows};
 ghost use Rattle.service.specs.Judging.{IsJudged};
 
-use model::ServedForm;
+use model::Form;
 use names::{ALLOW_LIMIT, Rule};
 use routes::{Resource, Route, Routes, query_of};
 use wire::Head;
@@ -20,7 +20,7 @@ pub struct Target<'t> {
     /// The repository, the resource in it, and the route's parameter.
     pub route: Route<'t>,
     /// What the method asks of the resource.
-    pub form: ServedForm,
+    pub form: Form,
     /// The part of the target after its first question mark.
     pub query: &'t str,
     /// The size of the body that follows the head, in bytes.

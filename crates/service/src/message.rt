@@ -8,7 +8,7 @@ ghost use Rattle.service.specs.declared.message.HeadFault.TheVariants as fault;
 
 use crate::judging::{Denied, Target, judge};
 use desk::RepoRequest;
-use model::ServedForm;
+use model::Form;
 use routes::Routes;
 use std::alloc::{AllocError, Global};
 use wire::Head;
@@ -19,7 +19,7 @@ pub(crate) struct Asked {
     /// The repository, as `owner/name`. It may not be a valid name.
     pub repo: String,
     /// What the method asks of the resource.
-    pub form: ServedForm,
+    pub form: Form,
     /// The route's parameter; empty if the route has none.
     pub parameter: String,
     /// The part of the target after its first question mark.

@@ -22,7 +22,7 @@ use crate::judging::Denied;
 use crate::message::{Asked, HeadFault, read_head};
 use crate::turn::Setting;
 use desk::{AnswerFault, Answered, Reply, answer};
-use model::ServedForm;
+use model::Form;
 use names::{ALLOW_LIMIT, BodyFault, Source};
 use std::alloc::Global;
 use tables::{Alter, Store};
@@ -82,7 +82,7 @@ fn store_refused() -> Response
 /// The errors of [`Inflow::body_whole`].
 fn body_before<R: Source + Drop>(
     alloc: Global,
-    form: ServedForm,
+    form: Form,
     inflow: &mut Inflow<'_, R>,
 ) -> Result<Vec<u8>, WholeFault>
     ensures same_reference { inflow.new.conn.ghost_name ≡ inflow.old.conn.ghost_name }
@@ -102,7 +102,7 @@ fn body_before<R: Source + Drop>(
         (R.failed (source_of inflow.new.conn.now)) }
 {
     match form {
-        ServedForm::Put => Ok(Vec::new(alloc)),
+        Form::Put => Ok(Vec::new(alloc)),
         _ => inflow.body_whole(alloc),
     }
 }

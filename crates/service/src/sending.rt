@@ -10,7 +10,7 @@ ghost use Rattle.refinement.specs.Left.{Reads};
 ghost use Rattle.desk.specs.Replies.{ShowsBody, IsReplyOf, Lends};
 ghost use Rattle.service.specs.Sending.{front_text, Writes, EndsContent, Sends};
 
-use chunks::{PourCause, PourFault, pour};
+use chunks::{PourCause, pour};
 use desk::{Reply, ReplyBody};
 use names::{ALLOW_LIMIT, Sink, WriteFault};
 use tables::{Alter, Store};
@@ -100,15 +100,15 @@ pub(crate) fn send_front<K: Sink>(
     write_reply(sink, &head, bytes_of(&reply.body))
 }
 
-/// The result for a content of this size that was written up to the fault. A store that fails after the
-/// last byte leaves nothing unwritten.
-fn content_result(fault: PourFault, size: u64) -> Result<(), SendFault>
-    ensures { EndsContent fault.cause fault.written size result }
+/// The result after the store gave all that it has of a content of this size, or failed: it is no error if all of
+/// the bytes were written.
+fn expect_whole(written: u64, size: u64) -> Result<(), SendFault>
+    ensures { EndsContent written size result }
 {
-    match fault.cause {
-        PourCause::Device => Err(SendFault::Sink),
-        PourCause::Store(_) if fault.written < size => Err(SendFault::Store),
-        PourCause::Store(_) => Ok(()),
+    if written == size {
+        Ok(())
+    } else {
+        Err(SendFault::Store)
     }
 }
 
@@ -128,8 +128,11 @@ fn send_content<S: Alter, K: Sink>(
         return Ok(());
     };
     match pour(store, row.id, sink) {
-        Ok(_) => Ok(()),
-        Err(fault) => content_result(fault, row.size.get()),
+        Ok(written) => expect_whole(written, row.size.get()),
+        Err(fault) => match fault.cause {
+            PourCause::Device => Err(SendFault::Sink),
+            PourCause::Store(_) => expect_whole(fault.written, row.size.get()),
+        },
     }
 }
 

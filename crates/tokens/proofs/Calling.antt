@@ -74,17 +74,17 @@ lt_false : (a b : ℕ) → b ≤ a → nat_lt a b ≡ false
 lt_false a b h = grind (arith, nat_tests)
 
 calling : (world : World) (now : ℕ) (values : List (List ℕ)) (text : List ℕ) (i : Token) (found : TokenRow) (r : Result Caller Rule)
-    → bearer values ≡ Some text → find_token text world ≡ Some i → Keeps found i → IsGoodAt found now r → IsCalling world now values r
+    → bearer values ≡ Some text → find_token text world ≡ Some i → Keeps found i → IsGoodAt text found now r → IsCalling world now values r
 calling world now values text i found (Ok c) bears known k good =
     let before : now < i.expires = omega (arith, good.0, k.expires) in
-    (presented_by text i, accepted world now values text i bears known (lt_true now i.expires before), record { user = good.1 ∙ k.user; repo = good.2 ∙ k.repo; operation = good.3 ∙ k.operation })
+    (presented_by text i, accepted world now values text i bears known (lt_true now i.expires before), record { token = good.1.token; user = good.1.user ∙ k.user; repo = good.1.repo ∙ k.repo; operation = good.1.operation ∙ k.operation; expires = good.1.expires ∙ k.expires })
 calling world now values text i found (Err rule) bears known k late =
     let after : i.expires ≤ now = omega (arith, late.0, k.expires) in
     refused_expired world now values text i bears known (lt_false now i.expires after) ∙ ap Err (sym late.1)
 
 pub known_token : (t : Tables) (world : World) (now : ℕ) (values : List (List ℕ)) (text digest : List ℕ) (found : TokenRow) (r : Result Caller Rule) → Represents t world → IsWorld world
     → bearer values ≡ Some text → digest ≡ sha256 text → option_map read_token (Some found) ≡ option_map token_fields (find (has_digest digest) t.tokens)
-    → IsGoodAt found now r → IsCalling world now values r
+    → IsGoodAt text found now r → IsCalling world now values r
 known_token t world now values text digest found r s w bears is e good =
     let some = some_of_map read_token token_fields found (find (has_digest digest) t.tokens) e in
     let there : find (has_digest (sha256 text)) t.tokens ≡ Some some.0 = ap (λ d. find (has_digest d) t.tokens) (sym is) ∙ some.1 in

@@ -1,4 +1,5 @@
 pub mod Calling
+pub mod Visible
 pub mod Listed
 pub mod Kept
 pub mod Digits

@@ -1,6 +1,6 @@
 //! Finds the caller: the token in a request, and its row in the store (RFC 6750).
 
-ghost use Rattle.std.specs.Prelude.{◌≡◌, ◌≢◌, option_map, Some, IfOk};
+ghost use Rattle.std.specs.Prelude.{◌≡◌, ◌≢◌, option_map, Some, None, IfOk, if◌then◌else◌};
 ghost use Rattle.std.specs.List.{list_all};
 ghost use Rattle.sha2.specs.Sha256.{sha256};
 ghost use Rattle.model.specs.Callers.{bearer, is_visible};
@@ -25,23 +25,36 @@ fn are_visible(text: &[u8]) -> bool
     text.iter().copied().all(is_visible)
 }
 
+/// The bytes as a text, if each of them is visible.
+fn visible_text(bytes: &[u8]) -> Option<&str>
+    ensures { option_map (λ text. text.now) result ≡ (if list_all is_visible bytes.now then Some bytes.now else None) }
+{
+    if !are_visible(bytes) {
+        return None;
+    }
+    match str::from_utf8(bytes) {
+        Ok(text) => Some(text),
+        Err(_) => None,
+    }
+}
+
 /// The token's text in the value of an `Authorization` field: `Bearer` in any case, one space, and
 /// one or more visible characters.
-fn bearer_in(value: &[u8]) -> Option<&[u8]>
+fn bearer_in(value: &[u8]) -> Option<&str>
     ensures { option_map (λ text. text.now) result ≡ bearer (single_value (Some value.now)) }
 {
     let (scheme, text) = value.split_at(value.len().min(7));
-    if scheme.eq_ignore_ascii_case(b"bearer ") && !text.is_empty() && are_visible(text) {
-        Some(text)
+    if scheme.eq_ignore_ascii_case(b"bearer ") && !text.is_empty() {
+        visible_text(text)
     } else {
         None
     }
 }
 
-fn digest_of(text: &[u8]) -> [u8; 32]
+fn digest_of(text: &str) -> [u8; 32]
     ensures { result ≡ sha256 text.now }
 {
-    Sha256::digest(text)
+    Sha256::digest(text.as_bytes())
 }
 
 /// Returns the caller for the value of the `Authorization` field: A1 if it has no token, A2 if the store
@@ -50,11 +63,11 @@ fn digest_of(text: &[u8]) -> [u8; 32]
 /// # Errors
 ///
 /// `Refused` or `Memory`, which leave the store unchanged too.
-pub fn caller<S: Alter>(
+pub fn caller<'t, S: Alter>(
     store: &mut Store<S>,
-    authorization: Option<&[u8]>,
+    authorization: Option<&'t [u8]>,
     now: Moment,
-) -> Result<Result<Caller, Rule>, StoreFault>
+) -> Result<Result<Caller<'t>, Rule>, StoreFault>
     ensures known { result ≢ Err StoreFault.UnknownSchema }
     ensures world { Reads S.Store store.old store.new (λ world.
         IfOk result (IsCalling world now (single_value (option_map (λ v. v.now) authorization.entry)))) }
@@ -68,5 +81,5 @@ pub fn caller<S: Alter>(
     let Some(token) = store.token(&digest_of(text))? else {
         return Ok(Err(Rule::A2));
     };
-    Ok(good_at(token, now))
+    Ok(good_at(text, token, now))
 }

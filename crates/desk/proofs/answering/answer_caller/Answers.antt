@@ -40,7 +40,7 @@ returns-in-Ok-clause-answered g c =
           (λ world answered who holder size sized.
           let plan = taken_up world setting (request_seen asked size) who repo request (sym (admitted_alike policy caller who asked.repo.now (request_read asked) holder) ∙ c.in-Ok.ensures) in
           alike g.S.Store c.args.store.now c.answer_request.new.store world done.0 left c.answer_request.result _ _ repo.name asked.repo.now (plan_for (case_in world setting who repo) size request) _
-          same (own_name policy asked.repo.now repo it.0) (sym plan) (answered who holder.user size (λ put. sized (sym same ∙ put))))
+          same (own_name policy asked.repo.now repo it.0) (sym plan) (answered who (record { user = holder.user; token = holder.token; expires = holder.expires }) size (λ put. sized (sym same ∙ put))))
           done.2,
     )
 

@@ -25,7 +25,7 @@ returns-in-Put-clause-answered g c =
           let seen = case_seen world case who in
           let whole = sized (ap (λ q. uploads (request_asked q)) c.in-Put.is) in
           alike g.S.Store c.args.store.now c.put.new.store world done.0 left c.put.result _ _ repo repo (put_verdict seen (g.B.Body.size c.args.content.now) (put_asked c.in-Put.asked)) _
-          (ap (λ q. uploads (request_asked q)) asks) refl (ap (λ n. put_verdict seen n (put_asked c.in-Put.asked)) (sym whole) ∙ ap (λ q. plan_for seen size (request_asked q)) asks) (answered who user))
+          (ap (λ q. uploads (request_asked q)) asks) refl (ap (λ n. put_verdict seen n (put_asked c.in-Put.asked)) (sym whole) ∙ ap (λ q. plan_for seen size (request_asked q)) asks) (answered who user.user))
           done.2,
     )
 

@@ -1,6 +1,5 @@
 use Rattle.std.proofs.Common.{refl, sym}
 use Rattle.names.specs.declared.rules.Rule.TheVariants.{H6, H8}
-use Rattle.model.specs.Heads.{form_of_served}
 use Rattle.routes.specs.Routes.{route_seen}
 use Rattle.service.proofs.Judged.{not_framed, not_routed, not_served, not_accepted, asked, framing_rule, refused, unserved, puts}
 use Rattle.service.proofs.judging.judge.Goals as goal
@@ -27,13 +26,13 @@ returns-then-not-accepts c h shows =
     let refusal = c.refused_by-then-not-accepts in
     let served = rw (c.method.ensures h shows) at (sym c.in-Some-form_of.ensures) in
     refused h refusal.result H8 refusal.ensures.rule refusal.ensures.allow
-    (not_accepted h (route_seen c.in-Some.route) (form_of_served c.in-Some-form_of.form) (c.in-Ok.ensures h shows).0 (c.in-Some.ensures h shows).0 served (sym (c.if-not-accepts.ensures h shows))) refl
+    (not_accepted h (route_seen c.in-Some.route) c.in-Some-form_of.form (c.in-Ok.ensures h shows).0 (c.in-Some.ensures h shows).0 served (sym (c.if-not-accepts.ensures h shows))) refl
 
 pub returns : goal.returns
 returns c h shows =
     let served = rw (c.method.ensures h shows) at (sym c.in-Some-form_of.ensures) in
     record {
-      target = asked h (route_seen c.in-Some.route) (form_of_served c.in-Some-form_of.form) (c.in-Ok.ensures h shows).0 (c.in-Some.ensures h shows).0 served (sym (c.if-not-accepts.ensures h shows));
+      target = asked h (route_seen c.in-Some.route) c.in-Some-form_of.form (c.in-Ok.ensures h shows).0 (c.in-Some.ensures h shows).0 served (sym (c.if-not-accepts.ensures h shows));
       query = (c.in-Some.ensures h shows).1;
       size = (c.in-Ok.ensures h shows).1;
       put = puts h c.in-Some.route.resource c.in-Some-form_of.form served;

@@ -2,6 +2,10 @@ use Rattle.std.proofs.Common.{refl}
 use Rattle.matchit.proofs.OnLiterals.{matchit_on_literals}
 use Rattle.routes.proofs.table.Resource.pattern.Goals as goal
 
+pub returns-in-Batch : goal.returns-in-Batch
+unfolding matchit_on_literals
+returns-in-Batch c = rw c.in-Batch.is refl
+
 pub returns-in-Locks : goal.returns-in-Locks
 unfolding matchit_on_literals
 returns-in-Locks c = rw c.in-Locks.is refl

@@ -1,0 +1,221 @@
+-- A batch: from what the code judges of each object to the verdict of the definitions.
+use Rattle.std.proofs.Common.{◌≡◌, ◌∙◌, ℕ, ◌+◌, ◌-◌, ◌==◌, Bool, true, false, List, [], ◌∷◌, ◌++◌, map, Option, Some, None, Result, Ok, Err, IfOk, refl, sym, ap, ap₂}
+use Rattle.std.specs.Bool.{⊤}
+use Rattle.std.specs.Prelude.{IsErrAnd, nat_le, option_map}
+use Rattle.std.proofs.lemmas.List.{map-append}
+use Rattle.sqlite_trees.specs.declared.store.Store.{Ghosts}
+use Rattle.names.specs.declared.rules.Rule.{Rule}
+use Rattle.names.specs.declared.rules.Rule.TheVariants.{B1, B4, B5}
+use Rattle.names.specs.declared.operations.Operation.{Operation}
+use Rattle.names.specs.declared.operations.Operation.TheVariants as operation
+use Rattle.model.specs.Reading.{◌>>=◌, check, ok_or, or_default}
+use Rattle.model.specs.World.{World, IsWorld, total}
+use Rattle.model.specs.Policy.{Repo}
+use Rattle.model.specs.RepoState.{RepoState, repo_state, size_of, has_room}
+use Rattle.model.specs.Forms.{BatchObject, BatchForm}
+use Rattle.model.specs.Callers.{Caller}
+use Rattle.model.specs.Cases as model
+use Rattle.model.specs.Answers.{Answer, Denial, Offer, offers, downloads, may_pull, may_push}
+use Rattle.model.specs.Answers as answer
+use Rattle.model.specs.Locks.{ref_or_default}
+use Rattle.model.specs.Batch.{valid_size, check_hash, action_at, download_of, upload_of, upload_actions, unless_stored, offer, offers_for, may_batch, batch_verdict, content_href}
+use Rattle.forms.specs.declared.offers.Actions.{Actions}
+use Rattle.forms.specs.declared.offers.Actions.TheVariants.{Download, Upload, Stored}
+use Rattle.forms.specs.declared.offers.Links.{Links}
+use Rattle.forms.specs.declared.offers.Offer as shown
+use Rattle.forms.specs.declared.batch.BatchObject as given
+use Rattle.forms.specs.Requests.{object_asked}
+use Rattle.forms.specs.Offers.{offer_at, result_at, actions_at}
+use Rattle.tables.specs.declared.Store.{Store}
+use Rattle.tables.specs.declared.rows.ObjectRow.{ObjectRow}
+use Rattle.tables.specs.declared.fault.StoreFault.{StoreFault}
+use Rattle.refinement.specs.Left.{From, Reads}
+use Rattle.refinement.proofs.Leading.{reads_lead, reads_none}
+use Rattle.uploads.specs.Finding.{Finds}
+use Rattle.uploads.proofs.Sizes.{size_found}
+use Rattle.desk.specs.declared.cases.Case.{Case}
+use Rattle.desk.specs.declared.replies.Reply.{Reply}
+use Rattle.desk.specs.Replies.{IsReplyOf}
+use Rattle.desk.specs.Done.{Answers}
+use Rattle.desk.specs.declared.batching.NamedObject.{NamedObject}
+use Rattle.desk.specs.Batching.{IsSound, Judged, AreLinksOf, sound_size, actions_for, actions_on, judged_as, judged_on, judged_by, may_transfer}
+use Rattle.desk.specs.Rights.{IsCallerOf, case_policy, case_repo, case_user, case_seen}
+use Rattle.desk.proofs.Placing.{room_is}
+use Rattle.desk.proofs.Lent.{none_lent}
+use Rattle.desk.proofs.Unchanged.{IsQuiet, replied_with}
+use Rattle.desk.proofs.Verdicts.{refused_early}
+
+-- a batch that is granted changes no world
+pub offers_are_quiet : (some : List Offer) → IsQuiet (Ok (offers some))
+offers_are_quiet some = record { ending = λ world. refl; after = λ world. refl; plain = refl }
+
+-- ---- one object
+
+-- what can be done with an object whose name and size are valid, by the row that was found
+pub judged_found : {S : Type 0} (g : Ghosts S) (world : World) (s : Store S) (repo : Repo) (asked : BatchForm) (o : BatchObject) (named : NamedObject) (found : Option ObjectRow)
+    (used : ℕ) (fits : Bool) (actions : Result Actions Rule) → IsWorld world → used ≡ total repo.name world → fits ≡ nat_le (used + named.size) repo.quota
+    → IsSound asked.hash_algo o (Ok named) → Finds g world s repo.name named.name found
+    → ((state : RepoState) → fits ≡ has_room named.size state → actions ≡ actions_for state asked.operation (option_map (λ (row : ObjectRow). row.size) found) named.size)
+    → actions ≡ actions_on (repo_state repo world) asked o
+judged_found g world s repo asked o named found used fits actions laws is fitting sound finds by =
+    let state = repo_state repo world in
+    let stored = sym (size_found g world s repo named.name found laws finds) ∙ ap (λ name. size_of name state) sound.1 in
+    by state (sym (room_is world repo named.size named.name used fits is fitting))
+    ∙ ap (λ there. actions_for state asked.operation there named.size) stored
+    ∙ ap (λ (v : Result ℕ Rule). v >>= λ size. actions_for state asked.operation (size_of o.oid state) size) (sym sound.0)
+
+-- an object whose name or size is not valid
+pub judged_unsound : (state : RepoState) (asked : BatchForm) (o : BatchObject) (rule : Rule) → IsSound asked.hash_algo o (Err rule) → Err rule ≡ actions_on state asked o
+judged_unsound state asked o rule unsound = ap (λ (v : Result ℕ Rule). v >>= λ size. actions_for state asked.operation (size_of o.oid state) size) (sym unsound)
+
+-- ---- all objects, one after the other
+
+-- of this number of used bytes, these offers are the objects as they are judged
+pub record HasJudged (repo : Repo) (asked : BatchForm) (used : ℕ) (some : List shown.Offer) (objects : List given.BatchObject) (world : World) : Type 0 where
+  pub total : used ≡ total repo.name world
+  pub judged : map judged_by some ≡ map (judged_on (repo_state repo world) asked) (map object_asked objects)
+
+module _ (repo : Repo) (asked : BatchForm) (used : ℕ) (world : World) where
+  -- one object more
+  pub judged_more : (some more : List shown.Offer) (objects : List given.BatchObject) (o : given.BatchObject) (actions : Result Actions Rule) → HasJudged repo asked used some objects world
+      → actions ≡ actions_on (repo_state repo world) asked (object_asked o) → map judged_by more ≡ map judged_by some ++ judged_as (object_asked o) actions ∷ []
+      → HasJudged repo asked used more (objects ++ o ∷ []) world
+  judged_more some more objects o actions so_far is added =
+      let on = judged_on (repo_state repo world) asked in
+      let whole = ap (map on) (map-append object_asked objects (o ∷ [])) ∙ map-append on (map object_asked objects) (object_asked o ∷ []) in
+      record {
+        total = so_far.total;
+        judged = added ∙ ap₂ (λ (xs : List Judged) (x : Judged). xs ++ x ∷ []) so_far.judged (ap (judged_as (object_asked o)) is) ∙ sym whole;
+      }
+
+-- ---- its actions, as the definitions have them
+
+-- an object that was judged, with its actions at these links
+abbrev shown_at : Links → Judged → Offer
+shown_at links j = record { oid = j.oid; size = j.size; actions = result_at links j.oid j.actions }
+
+-- the steps to what can be done with an object, and then its actions, are the steps of the definitions
+module _ (links : Links) (oid : List ℕ) (state : RepoState) where
+  checked : (b : Bool) (rule : Rule) (actions : Actions) → result_at links oid (check b rule >>= λ same. Ok actions) ≡ (check b rule >>= λ same. Ok (actions_at links oid actions))
+  checked true rule actions = refl
+  checked false rule actions = refl
+
+  downloads_from : (v : Result ℕ Rule) (h : Result ⊤ Rule) (stored : Option ℕ)
+      → result_at links oid ((v >>= λ size. h >>= λ hash. Ok size) >>= λ size. actions_for state operation.Download stored size)
+      ≡ (v >>= λ size. h >>= λ hash. ok_or stored B1 >>= λ there. check (there == size) B4 >>= λ same. Ok (actions_at links oid Download))
+  downloads_from (Err rule) h stored = refl
+  downloads_from (Ok size) (Err rule) stored = refl
+  downloads_from (Ok size) (Ok hash) None = refl
+  downloads_from (Ok size) (Ok hash) (Some there) = checked (there == size) B4 Download
+
+  uploads_from : (v : Result ℕ Rule) (h : Result ⊤ Rule) (stored : Option ℕ)
+      → result_at links oid ((v >>= λ size. h >>= λ hash. Ok size) >>= λ size. actions_for state operation.Upload stored size)
+      ≡ (v >>= λ size. h >>= λ hash. unless_stored state (actions_at links oid Upload) stored size)
+  uploads_from (Err rule) h stored = refl
+  uploads_from (Ok size) (Err rule) stored = refl
+  uploads_from (Ok size) (Ok hash) None = checked (has_room size state) B5 Upload
+  uploads_from (Ok size) (Ok hash) (Some there) = checked (there == size) B4 Stored
+
+module _ (case : Case) (who : Caller) (world : World) (ref : List ℕ) (links : Links) (is_caller : IsCallerOf case who) (are : AreLinksOf case ref links) (asked : BatchForm) where
+  abbrev seen : model.Case
+  seen = case_seen world case who
+
+  abbrev left : links.expires_in ≡ who.expires - case.now
+  left = are.expires_in ∙ ap (λ (e : ℕ). e - case.now) is_caller.expires
+
+  download_at : (oid : List ℕ) → actions_at links oid Download ≡ downloads (action_at seen (content_href (case_policy case).base (case_repo case).name oid))
+  download_at oid = rw (are.base, are.repo, are.token ∙ is_caller.token, left) refl
+
+  upload_at : (oid : List ℕ) → actions_at links oid Upload ≡ upload_actions seen ref oid
+  upload_at oid = rw (are.base, are.repo, are.ref, are.token ∙ is_caller.token, left) refl
+
+  download_is : (o : BatchObject) → asked.operation ≡ operation.Download → shown_at links (judged_on seen.state asked o) ≡ offer (download_of seen asked.hash_algo) o
+  download_is o is =
+      let v = valid_size o in
+      let h = check_hash asked.hash_algo in
+      let stored = size_of o.oid seen.state in
+      let steps = ap (λ p. result_at links o.oid ((v >>= λ size. h >>= λ hash. Ok size) >>= λ size. actions_for seen.state p stored size)) is
+      ∙ downloads_from links o.oid seen.state v h stored
+      ∙ ap (λ (actions : answer.Actions). v >>= λ size. h >>= λ hash. ok_or stored B1 >>= λ there. check (there == size) B4 >>= λ same. Ok actions) (download_at o.oid) in
+      ap (λ (r : Result answer.Actions Rule). record { oid = o.oid; size = or_default o.size 0; actions = r }) steps
+
+  upload_is : (o : BatchObject) → asked.operation ≡ operation.Upload → shown_at links (judged_on seen.state asked o) ≡ offer (upload_of seen ref asked.hash_algo) o
+  upload_is o is =
+      let v = valid_size o in
+      let h = check_hash asked.hash_algo in
+      let stored = size_of o.oid seen.state in
+      let steps = ap (λ p. result_at links o.oid ((v >>= λ size. h >>= λ hash. Ok size) >>= λ size. actions_for seen.state p stored size)) is
+      ∙ uploads_from links o.oid seen.state v h stored
+      ∙ ap (λ (actions : answer.Actions). v >>= λ size. h >>= λ hash. unless_stored seen.state actions stored size) (upload_at o.oid) in
+      ap (λ (r : Result answer.Actions Rule). record { oid = o.oid; size = or_default o.size 0; actions = r }) steps
+
+  all_alike : {f g : BatchObject → Offer} → ((o : BatchObject) → f o ≡ g o) → (os : List BatchObject) → map f os ≡ map g os
+  all_alike same [] = refl
+  all_alike same (o ∷ os) = ap₂ (λ x xs. x ∷ xs) (same o) (all_alike same os)
+
+  -- all objects, judged and then shown
+  shown_all : (os : List BatchObject) → map (shown_at links) (map (judged_on seen.state asked) os) ≡ map (λ o. shown_at links (judged_on seen.state asked o)) os
+  shown_all [] = refl
+  shown_all (o ∷ os) = ap (λ xs. shown_at links (judged_on seen.state asked o) ∷ xs) (shown_all os)
+
+  objects_are : (operation : Operation) → asked.operation ≡ operation → ref_or_default asked.ref (case_repo case) ≡ ref
+      → map (λ o. shown_at links (judged_on seen.state asked o)) asked.objects ≡ offers_for seen asked operation
+  objects_are operation.Download is named = all_alike (λ o. download_is o is) asked.objects
+  objects_are operation.Upload is named =
+      all_alike (λ o. upload_is o is) asked.objects ∙ ap (λ r. map (offer (upload_of seen r asked.hash_algo)) asked.objects) (sym named)
+
+  may_alike : (operation : Operation) → ref_or_default asked.ref (case_repo case) ≡ ref → may_batch seen asked operation ≡ may_transfer case operation ref
+  may_alike operation.Download named = ap (λ (u : List ℕ). may_pull (case_policy case) u (case_repo case).name 404) (sym is_caller.user)
+  may_alike operation.Upload named =
+      ap₂ (λ (u r : List ℕ). may_push (case_policy case) u (case_repo case).name r) (sym is_caller.user) named
+
+  -- the verdict on a batch that the policy allows
+  pub batch_allowed : (some : List shown.Offer) → ref_or_default asked.ref (case_repo case) ≡ ref → may_transfer case asked.operation ref ≡ Ok tt
+      → map judged_by some ≡ map (judged_on seen.state asked) asked.objects → batch_verdict seen asked ≡ Ok (offers (map (offer_at links) some))
+  batch_allowed some named may judged =
+      let objects = shown_each some ∙ ap (map (shown_at links)) judged ∙ shown_all asked.objects ∙ objects_are asked.operation refl named in
+      rw (may_alike asked.operation named ∙ may) (ap (λ (os : List Offer). Ok (offers os)) (sym objects))
+    where
+      shown_each : (os : List shown.Offer) → map (offer_at links) os ≡ map (shown_at links) (map judged_by os)
+      shown_each [] = refl
+      shown_each (o ∷ os) = ap (λ xs. offer_at links o ∷ xs) (shown_each os)
+
+-- the verdict on a batch that the policy denies
+pub batch_denied : (case : Case) (who : Caller) (world : World) (ref : List ℕ) (asked : BatchForm) (denial : Denial) → case_user case ≡ who.user
+    → ref_or_default asked.ref (case_repo case) ≡ ref → may_transfer case asked.operation ref ≡ Err denial → batch_verdict (case_seen world case who) asked ≡ Err denial
+batch_denied case who world ref asked denial user named denied = at asked.operation refl denied
+  where
+    at : (operation : Operation) → asked.operation ≡ operation → may_transfer case operation ref ≡ Err denial → batch_verdict (case_seen world case who) asked ≡ Err denial
+    at operation.Download is e = rw (is, sym user, e) refl
+    at operation.Upload is e = rw (is, sym user, named, e) refl
+
+-- ---- its answer
+
+-- nothing was read
+pub reads_nothing : {S : Type 0} (g : Ghosts S) (s : Store S) → Reads g s s (λ world. ⊤)
+reads_nothing g s = reads_none g s (λ world. ⊤) (λ honest world h. tt)
+
+module _ {S : Type 0} (g : Ghosts S) (old new : Store S) (case : Case) (asked : BatchForm) (P : World → Type 0) (reads : Reads g old new P) where
+  abbrev verdict : World → Caller → Answer
+  verdict world who = batch_verdict (case_seen world case who) asked
+
+  -- whoever the caller is, the batch is answered
+  abbrev IsAnswered : Result Reply StoreFault → Type 0
+  IsAnswered r = From g old new (λ world. (who : Caller) → IsCallerOf case who → Answers g old new world (verdict world who) r)
+
+  -- the store refused, or memory ran out
+  pub batch_refused : (Q : StoreFault → Type 0) (r : Result Reply StoreFault) → IsErrAnd r Q → IsAnswered r
+  batch_refused Q r is = record {
+    honest = reads.same.was_honest;
+    each = λ honest world h who is_caller. refused_early g old new world (verdict world who) Q r is (reads_lead g old new P world reads h);
+  }
+
+  -- the verdict is replied
+  pub batch_replied : (given : Answer) (reply : Reply) → IsQuiet given → IsReplyOf reply given
+      → ((world : World) → IsWorld world → P world → (who : Caller) → IsCallerOf case who → verdict world who ≡ given) → IsAnswered (Ok reply)
+  batch_replied given reply quiet shows is = record {
+    honest = reads.same.was_honest;
+    each = λ honest world h who is_caller.
+        replied_with g old new case verdict P reads given reply quiet.ending quiet.after shows honest world h who (is world h.laws (reads.each honest world h) who is_caller)
+        (none_lent g new reply.body given quiet.plain shows.body);
+  }

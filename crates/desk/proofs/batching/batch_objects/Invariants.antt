@@ -1,0 +1,10 @@
+use Rattle.std.proofs.Common.{take}
+use Rattle.policy.specs.Values.{repo_view}
+use Rattle.forms.specs.Requests.{batch_asked}
+use Rattle.refinement.specs.Left.{Reads}
+use Rattle.desk.proofs.Offering.{HasJudged}
+use Rattle.desk.proofs.batching.batch_objects.Given as goal
+
+abbrev pub invariant-loop-object : goal.invariant-loop-object
+invariant-loop-object g l =
+    Reads g.S.Store l.fn.store l.store (HasJudged (repo_view l.repo) (batch_asked l.asked) l.used l.offers.items (take l.object-index l.object-items))

@@ -1,0 +1,204 @@
+//! A batch: what a client can do with each of its objects (Git LFS API, Batch).
+
+ghost use Rattle.std.specs.Prelude.{◌≡◌, ◌≢◌, ◌++◌, ◌∷◌, [], IfOk, OnOk, Err, Ok, map, option_map, string_bytes};
+ghost use Rattle.names.specs.Names.{ref_text};
+ghost use Rattle.model.specs.Callers as model;
+ghost use Rattle.model.specs.World.{total};
+ghost use Rattle.model.specs.RepoState.{has_room, repo_state};
+ghost use Rattle.model.specs.Answers.{offers};
+ghost use Rattle.model.specs.Batch.{batch_verdict};
+ghost use Rattle.policy.specs.Values.{repo_view};
+ghost use Rattle.forms.specs.Offers.{offer_at};
+ghost use Rattle.forms.specs.Requests.{batch_asked, object_asked};
+ghost use Rattle.refinement.specs.Left.{From, Reads};
+ghost use Rattle.desk.specs.Replies.{IsReplyOf};
+ghost use Rattle.desk.specs.Done.{Answers};
+ghost use Rattle.desk.specs.Batching.{AreLinksOf, IsSound, actions_for, actions_on, judged_as, judged_by, judged_on, may_transfer};
+ghost use Rattle.desk.specs.Rights.{IsCallerOf, Judges, case_seen};
+
+use crate::cases::{Case, Denial};
+use crate::replies::Reply;
+use crate::rights::{denial_reply, may_push, permit, pull_question, ref_or_default};
+use crate::uploading::fits;
+use forms::{Actions, Answer, BatchObject, BatchRequest, DenialStatus, Links, Offer, ShownBatch};
+use names::{Oid, Operation, RefName, Rule, Size};
+use policy::Repo;
+use std::alloc::{AllocError, Global};
+use tables::{Alter, ObjectRow, Store, StoreFault};
+
+/// An object of a batch whose name and size are valid.
+#[derive(Clone, Copy, Debug)]
+pub(crate) struct NamedObject {
+    /// Its name.
+    pub name: Oid,
+    /// Its size.
+    pub size: Size,
+}
+
+/// The name and the size of an object, if both are valid (B2), and objects are named by SHA-256 (B3).
+fn named_object(object: &BatchObject, hash_algo: Option<&String>) -> Result<NamedObject, Rule>
+    ensures { IsSound (option_map (λ text. string_bytes text.now) hash_algo.entry)
+        (object_asked object.now) result }
+{
+    let Some(size) = object.size.and_then(Size::read) else {
+        return Err(Rule::B2);
+    };
+    let Some(name) = Oid::read(object.oid.as_bytes()) else {
+        return Err(Rule::B2);
+    };
+    match hash_algo {
+        Some(hash) if hash.as_str() != "sha256" => Err(Rule::B3),
+        _ => Ok(NamedObject { name, size }),
+    }
+}
+
+/// What can be done with an object of this size, by what is stored under its name, and whether the quota has room
+/// for it.
+fn actions_for(
+    operation: Operation,
+    stored: Option<ObjectRow>,
+    size: Size,
+    fits: bool,
+) -> Result<Actions, Rule>
+    ensures { (state : _) → fits ≡ has_room size state
+        → result ≡ actions_for state operation (option_map (λ row. row.size) stored) size }
+{
+    match (operation, stored) {
+        (Operation::Download, None) => Err(Rule::B1),
+        (_, Some(row)) if row.size != size => Err(Rule::B4),
+        (Operation::Download, Some(_)) => Ok(Actions::Download),
+        (Operation::Upload, Some(_)) => Ok(Actions::Stored),
+        (Operation::Upload, None) if !fits => Err(Rule::B5),
+        (Operation::Upload, None) => Ok(Actions::Upload),
+    }
+}
+
+/// What can be done with the object, or the rule that refuses it. `used` is the number of bytes that the repository
+/// stores.
+///
+/// # Errors
+///
+/// A [`StoreFault`], which leaves the contents of the store unchanged.
+fn judge<S: Alter>(
+    store: &mut Store<S>,
+    repo: &Repo,
+    used: u64,
+    asked: &BatchRequest,
+    object: &BatchObject,
+) -> Result<Result<Actions, Rule>, StoreFault>
+    ensures known { result ≢ Err StoreFault.UnknownSchema }
+    ensures world { Reads S.Store store.old store.new (λ world. used ≡ total (repo_view repo.now).name world
+        → IfOk result (λ actions. actions ≡ actions_on (repo_state (repo_view repo.now) world)
+        (batch_asked asked.now) (object_asked object.now))) }
+{
+    match named_object(object, asked.hash_algo.as_ref()) {
+        Ok(named) => {
+            let found = uploads::find(store, repo.name(), &named.name)?;
+            let fits = fits(used, named.size.get(), repo.quota());
+            Ok(actions_for(asked.operation, found, named.size, fits))
+        }
+        Err(rule) => Ok(Err(rule)),
+    }
+}
+
+/// Adds the object as it was given, with what can be done with it.
+fn add_offer(
+    alloc: Global,
+    offers: &mut Vec<Offer>,
+    object: &BatchObject,
+    actions: Result<Actions, Rule>,
+) -> Result<(), AllocError>
+    ensures { OnOk result (map judged_by offers.new.items
+        ≡ map judged_by offers.old.items ++ judged_as (object_asked object.now) actions ∷ []) }
+{
+    let oid = object.oid.as_str().to_owned(alloc)?;
+    let size = object.size.unwrap_or(0);
+    offers.push(Offer { oid, size, actions })?;
+    Ok(())
+}
+
+/// Returns what a client can do with each object of the batch, in the order of the request: each object is judged by
+/// itself, by what the repository stores.
+///
+/// # Errors
+///
+/// A [`StoreFault`], which leaves the contents of the store unchanged.
+pub fn batch_objects<S: Alter>(
+    alloc: Global,
+    store: &mut Store<S>,
+    repo: &Repo,
+    asked: &BatchRequest,
+) -> Result<Vec<Offer>, StoreFault>
+    ensures known { result ≢ Err StoreFault.UnknownSchema }
+    ensures world { Reads S.Store store.old store.new (λ world. IfOk result (λ offers.
+        map judged_by offers.items ≡ map (judged_on (repo_state (repo_view repo.now) world)
+        (batch_asked asked.now)) (batch_asked asked.now).objects)) }
+{
+    let used = uploads::used(store, repo.name())?;
+    let mut offers = Vec::with_capacity(alloc, asked.objects.len())?;
+    for object in asked.objects.as_slice() {
+        let actions = judge(store, repo, used, asked, object)?;
+        add_offer(alloc, &mut offers, object, actions)?;
+    }
+    Ok(offers)
+}
+
+/// The caller may do this with objects of the ref, or is denied.
+fn may_batch(case: &Case<'_>, operation: Operation, ref_name: &RefName) -> Result<(), Denial>
+    ensures { Judges (λ _. tt) result (may_transfer case.entry.now operation (ref_text ref_name.now)) }
+{
+    match operation {
+        Operation::Download => permit(case.policy, &pull_question(case), DenialStatus::NotFound),
+        Operation::Upload => may_push(case, ref_name),
+    }
+}
+
+/// Where the actions on objects of the ref lead.
+fn links_of<'a>(case: &Case<'a>, ref_name: &'a RefName) -> Links<'a>
+    ensures { AreLinksOf case.entry.now (ref_text ref_name.entry.now) result }
+{
+    Links {
+        base: case.policy.base(),
+        repo: case.repo.name(),
+        ref_name,
+        token: case.token,
+        expires_in: case.expires.get().saturating_sub(case.now.get()),
+    }
+}
+
+/// The reply with the objects of a batch.
+fn batch_reply(alloc: Global, links: &Links<'_>, objects: &[Offer]) -> Result<Reply, AllocError>
+    ensures { IfOk result (λ reply. IsReplyOf reply (Ok (offers (map (offer_at links.now) objects.now)))) }
+{
+    let batch = ShownBatch {
+        links: *links,
+        offers: objects,
+    };
+    Reply::telling(alloc, &Answer::Offered(&batch))
+}
+
+/// Answers a batch: the policy's denial, or what the caller can do with each object.
+///
+/// # Errors
+///
+/// A [`StoreFault`], which leaves the contents of the store unchanged.
+pub(crate) fn batch<S: Alter>(
+    store: &mut Store<S>,
+    alloc: Global,
+    case: &Case<'_>,
+    asked: &BatchRequest,
+) -> Result<Reply, StoreFault>
+    ensures { From S.Store store.old store.new (λ world.
+        (who : model.Caller) → IsCallerOf case.entry.now who → Answers S.Store store.old store.new world
+        (batch_verdict (case_seen world case.entry.now who) (batch_asked asked.entry.now)) result) }
+{
+    let ref_name = ref_or_default(case, asked.ref_name.as_ref());
+    match may_batch(case, asked.operation, ref_name) {
+        Ok(()) => {
+            let objects = batch_objects(alloc, store, case.repo, asked)?;
+            let links = links_of(case, ref_name);
+            Ok(batch_reply(alloc, &links, objects.as_slice())?)
+        }
+        Err(denial) => Ok(denial_reply(alloc, denial)?),
+    }
+}

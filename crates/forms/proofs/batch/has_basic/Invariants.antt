@@ -1,0 +1,10 @@
+use Rattle.std.proofs.Common.{◌≡◌, drop}
+use Rattle.serde_json.specs.View.{items_view}
+use Rattle.forms.specs.Given.{has_basic_in}
+use Rattle.forms.proofs.Batches.{found_or}
+use Rattle.forms.proofs.batch.has_basic.Given as goal
+
+-- what was found so far, and the items still to come
+abbrev pub invariant-loop-item : goal.invariant-loop-item
+invariant-loop-item l =
+    has_basic_in (items_view l.items) ≡ found_or l.found (items_view (drop l.item-index l.items))

@@ -1,0 +1,7 @@
+use Rattle.std.proofs.Common.{◌∙◌, refl, append_assoc}
+use Rattle.std.proofs.lemmas.Result.{IfOk-weaker}
+use Rattle.forms.proofs.links.lfs_href.Goals as goal
+
+pub returns : goal.returns
+returns c =
+    IfOk-weaker c.format.result _ _ (λ href is. is ∙ rw c.as_str-name.ensures.value (simp append_assoc refl)) c.format.ensures.ok

@@ -1,0 +1,12 @@
+use Rattle.std.proofs.Common.{◌∙◌, ap}
+use Rattle.std.proofs.lemmas.Result.{IfOk-weaker}
+use Rattle.serde_json.specs.Written.{compact_text, has_float}
+use Rattle.forms.specs.Offers.{offers_shown}
+use Rattle.forms.proofs.ShownOffers.{batch_has_none}
+use Rattle.forms.proofs.offers.batch_body.Goals as goal
+
+pub returns : goal.returns
+returns c =
+    IfOk-weaker c.to_string.result _ _
+    (λ text is. is (ap has_float c.in_ok-batch_value.ensures ∙ batch_has_none (offers_shown c.args.batch.now)) ∙ ap compact_text c.in_ok-batch_value.ensures)
+    c.to_string.ensures.text
