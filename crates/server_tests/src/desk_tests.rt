@@ -3,7 +3,7 @@
 use crate::harness::{Tester, unwrap};
 use crate::server::{NOW, Server};
 use desk::{Reply, ReplyBody, RepoRequest, answer};
-use model::ServedForm;
+use model::Form;
 use names::{Moment, SliceSource};
 
 /// Ann's upload token, her download token, and her token for a repository that the policy does not have.
@@ -83,7 +83,7 @@ fn expect_answer(rt: &impl Tester, server: &mut Server, case: &Case) {
     let asked = RepoRequest {
         authorization: Some(bearer),
         repo,
-        form: ServedForm::Lock,
+        form: Form::Lock,
         parameter: "",
         query: "",
         body,

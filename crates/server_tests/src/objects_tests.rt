@@ -167,15 +167,45 @@ fn objects_are_stored_in_any_cutting(rt: HostRuntime) {
             expect_object(&rt, &mut store, name, *cut, object);
         }
     }
-    let all = unwrap(&rt, store.objects(rt.alloc(), None));
+    let all = unwrap(&rt, uploads::all(rt.alloc(), &mut store, None));
     assert_eq!(rt; all.len(), 24);
-    let film = repo(&rt, "studio/whole");
-    let own = unwrap(&rt, store.objects(rt.alloc(), Some(&film)));
+    let whole = repo(&rt, "studio/whole");
+    let own = unwrap(&rt, uploads::all(rt.alloc(), &mut store, Some(&whole)));
+    assert_eq!(rt; own.len(), 6);
     let mut sizes = own.iter().map(|row| row.size.get());
     assert_eq!(rt; sizes.next(), Some(65_535));
     assert_eq!(rt; sizes.next(), Some(65_537));
     assert_eq!(rt; sizes.next(), Some(65_536));
     assert_eq!(rt; sizes.next(), Some(1));
+}
+
+/// The lengths of three pieces, and that of the second chunk that they become; the first one is full.
+const PIECES: &[([usize; 3], usize)] = &[([1, 65_535, 65_536], 65_536), ([65_535, 2, 0], 1)];
+
+#[test]
+fn pieces_become_full_chunks(rt: HostRuntime) {
+    let mut store = in_memory(&rt);
+    for (pieces, last) in PIECES {
+        let size = last.saturating_add(65_536);
+        let bytes = unwrap(&rt, vec![in rt.alloc(); b'x'; size]);
+        let id = begin(&rt, &mut store, "studio/film", HELLO, size);
+        let mut intake = unwrap(&rt, Intake::begin(rt.alloc(), id, size_of(&rt, size)));
+        for piece in pieces.as_slice() {
+            let piece = unwrap(&rt, bytes.as_slice().get(..*piece).ok_or(()));
+            unwrap(&rt, intake.push(&mut store, piece));
+        }
+        unwrap(&rt, intake.end(&mut store));
+        expect_bytes(&rt, &mut store, id, bytes.as_slice(), 2, *last);
+    }
+}
+
+#[test]
+fn an_abandoned_upload_leaves_no_row(rt: HostRuntime) {
+    let mut store = in_memory(&rt);
+    let id = begin(&rt, &mut store, "studio/film", HELLO, 5);
+    assert!(rt; uploads::abandon(&mut store, id) == Ok(()));
+    assert!(rt; unwrap(&rt, store.staged_uploads(rt.alloc())).is_empty());
+    assert!(rt; unwrap(&rt, uploads::all(rt.alloc(), &mut store, None)).is_empty());
 }
 
 #[test]

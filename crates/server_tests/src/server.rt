@@ -14,9 +14,9 @@ pub(crate) const NOW: u64 = 1_463_500_146;
 /// The first moment at which the tokens are not valid.
 pub(crate) const EXPIRY: u64 = 1_463_503_600;
 
-/// The policy without its rows.
+/// The policy without its rows, and with `@` for the quota.
 const TOP: &str =
-    "base = \"https://lfs.example\"\ntoken_seconds = 3600\n\n[[repo]]\nname = \"studio/film\"\ndefault_ref = \"refs/heads/main\"\nquota = 1000000\n";
+    "base = \"https://lfs.example\"\ntoken_seconds = 3600\n\n[[repo]]\nname = \"studio/film\"\ndefault_ref = \"refs/heads/main\"\nquota = @\n";
 
 /// The only row of the policy, unless a test gives others.
 pub(crate) const ROW: &str =
@@ -98,6 +98,19 @@ const RULES: &[(&str, &str, &str)] = &[
     ),
     ("J2", "422 Unprocessable Content", "a field is out of range"),
     ("P0", "403 Forbidden", "no policy row allows lock"),
+    ("X1", "404 Not Found", "the object is not stored"),
+    (
+        "X2",
+        "422 Unprocessable Content",
+        "the bytes do not have this name",
+    ),
+    (
+        "X3",
+        "507 Insufficient Storage",
+        "the quota does not hold the object",
+    ),
+    ("V1", "404 Not Found", "the object is not stored"),
+    ("V2", "422 Unprocessable Content", "the stored size differs"),
 ];
 
 /// The text that a connection was sent, and how it ended.
@@ -133,7 +146,13 @@ pub(crate) fn keep_tokens<S: Alter>(rt: &impl Tester, store: &mut Store<S>) {
 
 /// The policy with these rows.
 pub(crate) fn policy_of(rt: &impl Tester, rows: &str) -> Policy {
-    let text = unwrap(rt, format!(in rt.alloc(); "{TOP}{rows}"));
+    policy_with(rt, "1000000", rows)
+}
+
+/// The policy with this quota, and with these rows.
+pub(crate) fn policy_with(rt: &impl Tester, quota: &str, rows: &str) -> Policy {
+    let top = filled(rt, TOP, quota);
+    let text = unwrap(rt, format!(in rt.alloc(); "{top}{rows}"));
     unwrap(rt, Policy::read(rt.alloc(), text.as_str()))
 }
 
@@ -225,6 +244,16 @@ impl Server {
         let path = lock_path(rt, path);
         let row = unwrap(rt, self.store.lock_at(&film, &name, &path));
         row.map_or(0, |lock| lock.id.get())
+    }
+
+    /// The number of bytes of the objects.
+    pub fn used(&mut self, rt: &impl Tester) -> u64 {
+        unwrap(rt, self.store.used(&repo(rt, "studio/film")))
+    }
+
+    /// The number of staged uploads.
+    pub fn staged(&mut self, rt: &impl Tester) -> usize {
+        unwrap(rt, self.store.staged_uploads(rt.alloc())).len()
     }
 
     /// The number of locks ever made.
