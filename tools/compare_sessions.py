@@ -3,8 +3,7 @@
 
 The reading is in protocol_reading.py. A database is used for several connections, so that later ones
 find what earlier ones left. It prints the first connection on which the two differ, and ends with
-status 1; else how many agreed. SERVED are the requests that the program serves; the others count as
-missing routes.
+status 1; else how many agreed.
 
     compare_sessions.py PROGRAM [SECONDS [SEED]]
 """
@@ -21,7 +20,6 @@ import time
 sys.dont_write_bytecode = True
 from protocol_reading import REQUESTS, Refused, Server, denial
 
-SERVED = {"Lock", "List", "VerifyLocks", "Unlock", "Get", "Put", "Verify"}
 POLICY = """base = "https://lfs.example"
 token_seconds = 3600
 
@@ -305,7 +303,7 @@ class Maker:
         }[form]()
 
     def message(self):
-        method, rest, body = self.request(self.one(self.random.choice(["Lock", *sorted(SERVED)]), *sorted(REQUESTS)))
+        method, rest, body = self.request(self.random.choice(["Lock", *sorted(REQUESTS)]))
         body = body if isinstance(body, bytes) else body.encode("utf-8", "surrogatepass")
         method = self.one(method, "GET", "PUT", "DELETE", "post", "HEAD", "P(ST", "PUT")
         target = self.one(
@@ -402,7 +400,7 @@ def new_database(program, room, number, rows):
 def new_server(rows):
     """The second reading, with the same policy and tokens."""
     tokens = {it * 64: (user, repo, operation, at + 3600) for it, (user, repo, operation, at) in TOKENS.items()}
-    return Server(BASE, REPOS, rows, tokens, NOW, SERVED)
+    return Server(BASE, REPOS, rows, tokens, NOW)
 
 
 def compare(program, room, make, until):

@@ -21,7 +21,7 @@ import time
 from functools import lru_cache
 
 sys.dont_write_bytecode = True
-from compare_sessions import BASE, NOW, REPOS, SERVED, TOKENS, new_database, policy_text, run
+from compare_sessions import BASE, NOW, REPOS, TOKENS, new_database, policy_text, run
 from protocol_reading import Server, lock_id
 
 LOCKS, MESSAGES, PAGES = 5000, 400, 120
@@ -38,7 +38,7 @@ class Reading(Server):
     """The second reading, with its answers of the policy kept: a page asks one for each lock."""
 
     def __init__(self, tokens, rows):
-        super().__init__(BASE, REPOS, rows, tokens, NOW, SERVED)
+        super().__init__(BASE, REPOS, rows, tokens, NOW)
         self.obey(rows)
 
     def obey(self, rows):

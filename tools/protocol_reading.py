@@ -339,8 +339,8 @@ class Head:
             raise Refused("H5")
         return length
 
-    def route(self, served):
-        """The repository's text, the parameter, the methods that are served, and whether it is a JSON route."""
+    def route(self):
+        """The repository's text, the parameter, the methods, and whether it is a JSON route."""
         parts = self.target.partition("?")[0].split("/")
         if len(parts) < 5 or parts[0] or "" in parts[1:]:
             raise Refused("H6")
@@ -348,17 +348,16 @@ class Head:
             raise Refused("H6")
         rest = parts[5:]
         for row, methods, is_json in ROUTES:
-            methods = {method: request for method, request in methods.items() if request in served}
             fits = len(row) == len(rest) and all(text in (None, part) for text, part in zip(row, rest))
             if fits and methods:
                 parameter = rest[row.index(None)] if None in row else ""
                 return f"{parts[1]}/{parts[2][:-4]}", parameter, methods, is_json
         raise Refused("H6")
 
-    def judge(self, served):
+    def judge(self):
         """The body's length, the repository's text, the parameter and the request, if no rule of the head refuses."""
         length = self.length()
-        repo, parameter, methods, is_json = self.route(served)
+        repo, parameter, methods, is_json = self.route()
         if self.method not in methods:
             raise Refused("H7", allow=", ".join(methods))
         accepts = self.all(b"accept")
@@ -425,11 +424,11 @@ class Server:
     """What the server keeps, and how it answers.
 
     `repos` has each repository's default ref and quota, `tokens` for each token's text its user, repository, operation
-    and expiry; `served` are the requests that the program serves.
+    and expiry.
     """
 
-    def __init__(self, base, repos, rows, tokens, now, served):
-        self.base, self.repos, self.rows, self.tokens, self.now, self.served = base, repos, rows, tokens, now, served
+    def __init__(self, base, repos, rows, tokens, now):
+        self.base, self.repos, self.rows, self.tokens, self.now = base, repos, rows, tokens, now
         self.objects, self.locks, self.made = {}, {}, {}
 
     def decide(self, user, repo, right, ref=None, path=None):
@@ -662,7 +661,7 @@ class Server:
             if head.count > FIELD_LIMIT:
                 return out + denial(Refused("H1"), True), False
             try:
-                length, repo, parameter, request = head.judge(self.served)
+                length, repo, parameter, request = head.judge()
             except Refused as refused:
                 return out + denial(refused, True), False
             body, rest = stream[head.size : head.size + length], stream[head.size + length :]

@@ -1,6 +1,6 @@
 #!/bin/sh
 # Tries the real Git LFS client against custody: two users lock, list, verify and release paths of a repository whose
-# remote is reached over SSH, and push to it. The place of sshd is taken by a script that runs examples/forced-command
+# remote is reached over SSH, and push to it; then tools/try_transfers.py transfers files. The place of sshd is taken by a script that runs examples/forced-command
 # for one of the two users, and the place of a server by tools/feed_sessions.py. It needs git, git-lfs and python3, and
 # a program that bin/custody has built. It prints each command and what the client printed.
 set -eu
@@ -171,3 +171,6 @@ tell lfs locks
 tell lfs locks --verify
 tell lfs unlock art/hero.psd
 tell lfs unlock --id=5
+
+# Files: pushed, cloned, pulled and fetched, against a server of its own.
+"$top/tools/try_transfers.py" "$program"

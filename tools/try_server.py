@@ -69,7 +69,7 @@ class Client:
     def __init__(self, port, timeout=60):
         self.socket = socket.create_connection(("127.0.0.1", port), timeout=timeout)
         self.socket.setsockopt(socket.IPPROTO_TCP, socket.TCP_NODELAY, 1)
-        self.rest = b""
+        self.rest = bytearray()
 
     def send(self, data):
         self.socket.sendall(data)
@@ -88,7 +88,7 @@ class Client:
         length = next(int(line.split(b":")[1]) for line in lines if line.startswith(b"Content-Length:"))
         while len(self.rest) < length:
             self.more()
-        body, self.rest = self.rest[:length], self.rest[length:]
+        body, self.rest = bytes(self.rest[:length]), self.rest[length:]
         return int(lines[0].split(b" ")[1]), body
 
     def ask(self, data):
@@ -113,9 +113,9 @@ class Client:
 class Server:
     """A server in a folder of its own."""
 
-    def __init__(self, program, room, idle=10):
+    def __init__(self, program, room, policy=POLICY, idle=10):
         self.program, self.room, self.idle = program, room, idle
-        Path(f"{room}/policy.toml").write_text(POLICY)
+        Path(f"{room}/policy.toml").write_text(policy)
         Path(f"{room}/random").write_bytes(b"\xaa" * 32)
         words = ["authenticate", *self.files(), "--user", "ann", "--random", f"{room}/random", "studio/film", "upload"]
         subprocess.run([program, *words], check=True, stdout=subprocess.DEVNULL)
@@ -409,18 +409,27 @@ CHECKS = {
 }
 
 
-def run(name, options):
+def run(name, check, options, policy):
     """Runs a check on a new database, and prints its line. Returns whether it passed."""
     with tempfile.TemporaryDirectory() as room:
         try:
-            with Server(options.program, room) as server:
-                result = CHECKS[name](server, options)
+            with Server(options.program, room, policy) as server:
+                result = check(server, options)
                 require(server.child.poll() is None, "the server has ended")
             print(f"ok   {name}: {result}", flush=True)
             return True
-        except (Failed, OSError, subprocess.TimeoutExpired) as fault:
+        except (Failed, OSError, subprocess.SubprocessError) as fault:
             print(f"FAIL {name}: {fault}", flush=True)
             return False
+
+
+def run_all(checks, options, policy=POLICY):
+    """Runs the checks that the options name, or all, and prints how many passed. Returns the status."""
+    options.program = os.path.abspath(options.program)
+    names = options.only or list(checks)
+    passed = sum([run(name, checks[name], options, policy) for name in names])
+    print(f"{passed} passed, {len(names) - passed} failed")
+    return 0 if passed == len(names) else 1
 
 
 def main():
@@ -430,12 +439,7 @@ def main():
     parser.add_argument("--rounds", type=int, default=10, help="how often a server is ended in mid-load")
     parser.add_argument("--connections", type=int, default=10_000)
     parser.add_argument("--requests", type=int, default=1_000_000)
-    options = parser.parse_args()
-    options.program = os.path.abspath(options.program)
-    names = options.only or list(CHECKS)
-    passed = sum([run(name, options) for name in names])
-    print(f"{passed} passed, {len(names) - passed} failed")
-    return 0 if passed == len(names) else 1
+    return run_all(CHECKS, parser.parse_args())
 
 
 if __name__ == "__main__":

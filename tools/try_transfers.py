@@ -1,0 +1,270 @@
+#!/usr/bin/env python3
+"""Pushes, clones, pulls and fetches with the real Git LFS client against `custody serve`.
+
+Two users have a repository whose remote is reached over SSH. A script is in the place of sshd: it runs Git's own
+commands on a repository of a temporary folder, and answers git-lfs-authenticate with the line that `custody
+authenticate` printed before the server was started. 200 files of 1 byte to 50 MB are pushed and cloned, with one
+transfer at a time and with eight. It prints what the client printed, and ends with `N passed, M failed`, and with
+status 1 if a check failed. It needs git, git-lfs and python3, and a program that bin/custody has built.
+
+    try_transfers.py PROGRAM
+"""
+import hashlib
+import os
+import random
+import shutil
+import socket
+import subprocess
+import sys
+import tempfile
+import time
+
+ROWS = """
+[[row]]
+effect = "deny"
+users = ["bob"]
+repos = ["*"]
+refs = ["refs/heads/release"]
+paths = ["*"]
+rights = ["push"]
+
+[[row]]
+effect = "allow"
+users = ["ann", "bob"]
+repos = ["studio/"]
+refs = ["*"]
+paths = ["*"]
+rights = ["pull", "push", "list", "lock"]
+"""
+QUOTAS = {"studio/film": 2_000_000_000, "studio/small": 100_000}
+USERS = ["ann", "bob"]
+SSH = """#!/bin/sh
+user=$1
+for words in "$@"; do :; done
+case $words in
+git-receive-pack* | git-upload-pack*) exec git shell -c "$words" ;;
+git-lfs-authenticate*)
+    set -- $words
+    exec cat "@room/tokens/$user-$(basename "$2" .git)-$3"
+    ;;
+esac
+exit 1
+"""
+
+
+class Trial:
+    """A server, its repositories, and the users' clones."""
+
+    def __init__(self, program, room):
+        self.program, self.room = program, room
+        self.passed = self.failed = 0
+        with socket.socket() as probe:
+            probe.bind(("127.0.0.1", 0))
+            self.address = f"127.0.0.1:{probe.getsockname()[1]}"
+        self.environment = dict(
+            os.environ,
+            GIT_CONFIG_GLOBAL=f"{room}/gitconfig",
+            GIT_CONFIG_NOSYSTEM="1",
+            GIT_TERMINAL_PROMPT="0",
+            HOME=room,
+        )
+
+    def check(self, holds, what):
+        """Counts a check, and prints it."""
+        self.passed, self.failed = self.passed + bool(holds), self.failed + (not holds)
+        print(f"    {'ok' if holds else 'FAILED'}: {what}")
+
+    def prepare(self):
+        """Writes the policy, the tokens, the script in the place of sshd, and the bare repositories."""
+        repos = "".join(
+            f'\n[[repo]]\nname = "{name}"\ndefault_ref = "refs/heads/main"\nquota = {quota}\n'
+            for name, quota in QUOTAS.items()
+        )
+        with open(f"{self.room}/policy.toml", "w", encoding="utf-8") as file:
+            file.write(f'base = "http://{self.address}"\ntoken_seconds = 86400\n{repos}{ROWS}')
+        os.mkdir(f"{self.room}/tokens")
+        for user in USERS:
+            for repo in QUOTAS:
+                for operation in ["download", "upload"]:
+                    self.issue(user, repo, operation)
+        for user in USERS:
+            path = f"{self.room}/ssh-{user}"
+            with open(path, "w", encoding="utf-8") as file:
+                file.write(SSH.replace("$1", user, 1).replace("@room", self.room))
+            os.chmod(path, 0o755)
+        self.git(self.room, "config", "--global", "init.defaultBranch", "main")
+        self.git(self.room, "lfs", "install", "--skip-repo")
+        for repo in QUOTAS:
+            self.git(self.room, "init", "-q", "--bare", f"{self.room}/{repo}.git")
+
+    def issue(self, user, repo, operation):
+        """Stores the line that `custody authenticate` prints."""
+        words = ["authenticate", "--db", f"{self.room}/db", "--policy", f"{self.room}/policy.toml", "--user", user]
+        line = subprocess.run([self.program, *words, repo, operation], stdout=subprocess.PIPE, check=True).stdout
+        with open(f"{self.room}/tokens/{user}-{repo.split('/')[1]}-{operation}", "wb") as file:
+            file.write(line)
+
+    def serve(self):
+        """Starts the server."""
+        words = ["serve", "--db", f"{self.room}/db", "--policy", f"{self.room}/policy.toml"]
+        server = subprocess.Popen(
+            [self.program, *words, "--listen", self.address, "--requests", "1000000"],
+            stdout=subprocess.PIPE,
+            stderr=open(f"{self.room}/server.log", "w", encoding="utf-8"),
+        )
+        server.stdout.readline()
+        return server
+
+    def git(self, folder, *words, shown=False, may_fail=False):
+        """Runs git in the folder; prints the command and what it printed if that is wanted."""
+        began = time.time()
+        ran = subprocess.run(
+            ["git", *words], cwd=folder, env=self.environment, stdout=subprocess.PIPE, stderr=subprocess.STDOUT, check=False
+        )
+        text = ran.stdout.decode(errors="replace")
+        if shown:
+            print(f"\n{os.path.basename(folder)}$ git {' '.join(words)}    ({time.time() - began:.1f} s, status {ran.returncode})")
+            lines = [line for line in text.replace("\r", "\n").splitlines() if line.strip()]
+            print("\n".join(f"    {line}" for line in lines[-12:]))
+        if ran.returncode and not may_fail:
+            print(text)
+            sys.exit(f"git {words} failed in {folder}")
+        return ran.returncode, text
+
+    def configure(self, folder, user, transfers):
+        """Sets the user, the script in the place of ssh, and the number of transfers."""
+        settings = {
+            "user.name": user,
+            "user.email": f"{user}@studio.example",
+            "core.sshCommand": f"{self.room}/ssh-{user}",
+            "ssh.variant": "simple",
+            "lfs.concurrenttransfers": str(transfers),
+        }
+        for key, value in settings.items():
+            self.git(folder, "config", key, value)
+        self.git(folder, "lfs", "install", "--local")
+
+    def clone(self, user, repo, transfers):
+        """A new clone of the repository, with its files, by `git clone`."""
+        folder = f"{self.room}/{user}-{repo.split('/')[1]}-{transfers}"
+        words = ["-c", f"core.sshCommand={self.room}/ssh-{user}", "-c", "ssh.variant=simple"]
+        words += ["-c", f"lfs.concurrenttransfers={transfers}"]
+        status, _ = self.git(self.room, *words, "clone", f"ssh://git@studio.example{self.room}/{repo}.git", folder, shown=True)
+        self.configure(folder, user, transfers)
+        return status, folder
+
+    def new(self, user, repo, transfers):
+        """A new repository of the user, with nothing in it."""
+        folder = f"{self.room}/{user}-new-{repo.split('/')[1]}-{transfers}"
+        self.git(self.room, "init", "-q", folder)
+        self.configure(folder, user, transfers)
+        self.git(folder, "remote", "add", "origin", f"ssh://git@studio.example{self.room}/{repo}.git")
+        self.git(folder, "lfs", "track", "*.bin")
+        self.git(folder, "add", ".gitattributes")
+        return folder
+
+
+def sizes():
+    """200 sizes of 1 byte to 50 MB: most are small, a few are large."""
+    few = [1, 2, 3, 65_535, 65_536, 65_537, 1_000_000, 5_000_000, 50_000_000]
+    return few + [1_000 + 997 * n for n in range(200 - len(few))]
+
+
+def write_files(folder, seed):
+    """Writes the files, whose bytes depend on the seed; returns the digest of each by its name."""
+    source, digests = random.Random(seed), {}
+    for number, size in enumerate(sizes()):
+        content = source.randbytes(size)
+        name = f"{number:03}.bin"
+        with open(f"{folder}/{name}", "wb") as file:
+            file.write(content)
+        digests[name] = hashlib.sha256(content).hexdigest()
+    return digests
+
+
+def digests_in(folder):
+    """The digest of each file of the folder."""
+    found = {}
+    for name in sorted(os.listdir(folder)):
+        if name.endswith(".bin"):
+            with open(f"{folder}/{name}", "rb") as file:
+                found[name] = hashlib.sha256(file.read()).hexdigest()
+    return found
+
+
+def transfer(trial, transfers):
+    """Pushes and clones all files with this number of transfers at a time."""
+    print(f"\n==== {transfers} transfers at a time")
+    ann = trial.new("ann", "studio/film", transfers)
+    digests = write_files(ann, transfers)
+    trial.git(ann, "add", ".")
+    trial.git(ann, "commit", "-q", "-m", "files")
+    branch = f"work-{transfers}"
+    status, _ = trial.git(ann, "push", "origin", f"HEAD:refs/heads/{branch}", shown=True, may_fail=True)
+    trial.check(status == 0, f"{len(digests)} files are pushed")
+    trial.git(f"{trial.room}/studio/film.git", "symbolic-ref", "HEAD", f"refs/heads/{branch}")
+    _, bob = trial.clone("bob", "studio/film", transfers)
+    trial.check(digests_in(bob) == digests, "a clone has the same bytes")
+    status, text = trial.git(bob, "lfs", "fsck", shown=True, may_fail=True)
+    trial.check(status == 0 and "OK" in text, "git lfs fsck finds nothing")
+    with open(f"{bob}/000.bin", "wb") as file:
+        file.write(b"changed by bob %d" % transfers)
+    trial.git(bob, "commit", "-q", "-a", "-m", "a change")
+    status, _ = trial.git(bob, "push", "origin", f"HEAD:refs/heads/{branch}", shown=True, may_fail=True)
+    trial.check(status == 0, "a change is pushed")
+    status, _ = trial.git(ann, "pull", "-q", "--ff-only", "origin", branch, shown=True, may_fail=True)
+    trial.check(status == 0 and digests_in(ann) == digests_in(bob), "and pulled")
+    shutil.rmtree(f"{ann}/.git/lfs/objects")
+    status, text = trial.git(ann, "lfs", "fetch", "--all", "origin", shown=True, may_fail=True)
+    trial.check(status == 0, "git lfs fetch fetches all objects again")
+    status, text = trial.git(ann, "lfs", "push", "--all", "origin", shown=True, may_fail=True)
+    trial.check(status == 0, "objects that are there are not pushed again")
+
+
+def refusals(trial):
+    """Pushes that are refused."""
+    print("\n==== refused")
+    bob = f"{trial.room}/bob-film-1"
+    trial.git(bob, "checkout", "-q", "-b", "release")
+    with open(f"{bob}/001.bin", "wb") as file:
+        file.write(b"a release")
+    trial.git(bob, "commit", "-q", "-a", "-m", "a release")
+    status, text = trial.git(bob, "push", "origin", "release", shown=True, may_fail=True)
+    trial.check(status != 0 and "P1: policy row 1 denies push" in text, "a push that the policy denies by its ref")
+    ann = trial.new("ann", "studio/small", 1)
+    with open(f"{ann}/large.bin", "wb") as file:
+        file.write(random.Random(1).randbytes(100_001))
+    trial.git(ann, "add", ".")
+    trial.git(ann, "commit", "-q", "-m", "too large")
+    status, text = trial.git(ann, "push", "origin", "HEAD:refs/heads/main", shown=True, may_fail=True)
+    trial.check(status != 0 and "B5: the quota does not hold the object" in text, "a push over the quota")
+    with open(f"{ann}/large.bin", "wb") as file:
+        file.write(random.Random(1).randbytes(100_000))
+    trial.git(ann, "commit", "-q", "-a", "--amend", "-m", "as large as the quota")
+    status, text = trial.git(ann, "push", "origin", "HEAD:refs/heads/main", shown=True, may_fail=True)
+    trial.check(status == 0, "a push that fills the quota")
+
+
+def main():
+    with tempfile.TemporaryDirectory() as room:
+        trial = Trial(os.path.abspath(sys.argv[1]), room)
+        trial.prepare()
+        server = trial.serve()
+        try:
+            for transfers in [1, 8]:
+                transfer(trial, transfers)
+            refusals(trial)
+            trial.check(server.poll() is None, "the server still runs")
+        finally:
+            server.terminate()
+            server.wait()
+        with open(f"{room}/server.log", encoding="utf-8") as file:
+            log = file.read()
+        if log:
+            print(f"\nthe server printed:\n{log}")
+    print(f"\n{trial.passed} passed, {trial.failed} failed")
+    return 1 if trial.failed else 0
+
+
+if __name__ == "__main__":
+    sys.exit(main())
