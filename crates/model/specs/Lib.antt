@@ -22,6 +22,8 @@ pub mod Sessions
 pub mod Progress
 pub mod Views
 pub mod Bounds
+pub mod PushChecks
 pub mod Laws
 pub mod Studio
 pub mod Examples
+pub mod PushExamples

@@ -8,6 +8,7 @@ ghost use Rattle.model.specs.Examples.{ContentHasItsName, ContentIsServed, Quota
 ghost use Rattle.model.specs.Examples.{UploadIsOffered, DownloadIsOffered, ObjectsAreInvalid, ObjectsAreRefused, HashIsRefused, BatchIsRefused};
 ghost use Rattle.model.specs.Examples.{HiddenIsLeftOut, PagesAreCut, PagesAreRefused, LocksAreSplit, LockIsReleased, LocksAreServed};
 ghost use Rattle.model.specs.Examples.{RefusalCloses, TokenIsIssued, TokenIsPruned, MomentsArePrinted};
+ghost use Rattle.model.specs.PushExamples.{LockBlocksOthers, DenialComesFirst};
 
 /// The first message of a stream makes the first lock. The same message again finds it (L1). The path is
 /// free on another ref, and if no id is left the answer is L5.
@@ -86,4 +87,11 @@ pub fn operator()
     ensures token_is_issued { TokenIsIssued }
     ensures token_is_pruned { TokenIsPruned }
     ensures moments_are_printed { MomentsArePrinted }
+{}
+
+/// Push checks: a lock is in the way of every user but its owner, and only on its ref. A denial by the policy
+/// comes before a lock.
+pub fn push_checks()
+    ensures lock_blocks_others { LockBlocksOthers }
+    ensures denial_comes_first { DenialComesFirst }
 {}
