@@ -3,5 +3,6 @@ pub mod Lists
 pub mod Slashes
 pub mod Documents
 pub mod Rights
+pub mod Covered
 pub mod Steps
 pub mod WholeText

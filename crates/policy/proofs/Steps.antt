@@ -1,5 +1,5 @@
 -- The repositories and rows of a file, one by one.
-use Rattle.std.proofs.Common.{◌≡◌, ◌∙◌, ℕ, ◌+◌, ◌<◌, List, [], ◌∷◌, ◌++◌, length, map, drop, get_or, true, false, not, ◌||◌, Option, None, is_some, refl, sym, ap, string_bytes, bytes_eq, Bor, append_assoc}
+use Rattle.std.proofs.Common.{◌≡◌, ◌∙◌, ℕ, ◌+◌, ◌<◌, List, [], ◌∷◌, ◌++◌, length, map, drop, get_or, true, false, not, ◌||◌, Option, None, is_some, refl, sym, ap, bytes_eq, Bor, append_assoc}
 use Rattle.std.specs.Bool.{IsTrue}
 use Rattle.std.proofs.lemmas.List.{drop_more, map-append}
 use Rattle.std.proofs.lemmas.List.Folds.{list_any-append}

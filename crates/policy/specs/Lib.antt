@@ -4,3 +4,4 @@ pub mod Values
 pub mod Language
 pub mod Reading
 pub mod Lines
+pub mod Covering

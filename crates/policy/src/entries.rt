@@ -143,7 +143,7 @@ pub fn effect_named(name: &str) -> Option<Effect>
     }
 }
 
-/// The right with that name: `pull`, `push`, `list`, `lock` or `force`.
+/// The right with that name: `pull`, `push`, `list`, `lock` or `force`; `None` for any other text.
 pub fn right_named(name: &str) -> Option<Right>
     ensures { result ≡ right_named name.now }
 {

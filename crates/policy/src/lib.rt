@@ -6,6 +6,7 @@
 //! matches it.
 #![tactic(auto)]
 
+mod covering;
 mod decisions;
 mod entries;
 mod faults;
@@ -17,12 +18,16 @@ mod repos;
 mod rows;
 mod sentences;
 mod tables;
+mod texts;
 
+pub use covering::covering_law;
 pub use decisions::decide;
+pub use entries::right_named;
 pub use faults::{Fault, FaultCode, Place, PolicyFault};
 pub use keys::Key;
 pub use policies::Policy;
 pub use questions::{Question, Verdict};
 pub use reading::LONGEST_FILE;
 pub use repos::Repo;
+pub use rows::Row;
 pub use sentences::Sentence;

@@ -32,9 +32,9 @@ pub(crate) fn named<'a>(repos: &'a [Repo], name: &str) -> Option<&'a Repo>
 }
 
 impl Policy {
-    ghost use Rattle.std.specs.Prelude.{option_map};
+    ghost use Rattle.std.specs.Prelude.{map, option_map};
     ghost use Rattle.model.specs.Policy.{IsPolicy, repo_named};
-    ghost use Rattle.policy.specs.Values.{policy_view, repo_view};
+    ghost use Rattle.policy.specs.Values.{policy_view, repo_view, row_view};
 
     /// The address under which the server's repositories are served, as `https://lfs.example`.
     pub fn base(&self) -> &str
@@ -59,5 +59,19 @@ impl Policy {
         ensures in_range { IsPolicy (policy_view self.now) }
     {
         named(&self.repos, name)
+    }
+
+    /// The repositories, in the order of the file.
+    pub fn repos(&self) -> &[Repo]
+        ensures { map repo_view result.now ≡ (policy_view self.now).repos }
+    {
+        self.repos.as_slice()
+    }
+
+    /// The rows, in the order of the file. The first one has the number 1.
+    pub fn rows(&self) -> &[Row]
+        ensures { map row_view result.now ≡ (policy_view self.now).rows }
+    {
+        self.rows.as_slice()
     }
 }

@@ -7,7 +7,7 @@
 
 ghost use Rattle.std.specs.Prelude.{◌≡◌, IsTrue, option_map, string_bytes};
 ghost use Rattle.std.specs.List.{list_any};
-ghost use Rattle.model.specs.Policy.{holds, held_if_named, matches, is_any, same_right};
+ghost use Rattle.model.specs.Policy.{holds, held_by, held_if_named, matches, is_any, same_right};
 ghost use Rattle.policy.specs.Ranges.{texts, are_entries, is_count, is_user_entry, is_repo_entry, is_ref_entry, is_path_entry};
 
 use crate::questions::Question;
@@ -52,6 +52,13 @@ fn has_holder(patterns: &[String], text: &str) -> bool
     patterns.iter().any(|pattern| holds(pattern.as_str(), text))
 }
 
+/// Whether one of the patterns holds the text.
+pub(crate) fn held_by(patterns: &[String], text: &str) -> bool
+    ensures { result ≡ held_by (texts patterns.now) text.now }
+{
+    has_holder(patterns, text)
+}
+
 fn has_any(patterns: &[String]) -> bool
     ensures { result ≡ list_any (λ pattern. is_any (string_bytes pattern)) patterns.now }
 {
@@ -63,12 +70,12 @@ fn held_if_named(patterns: &[String], text: Option<&str>) -> bool
     ensures { result ≡ held_if_named (texts patterns.now) (option_map (λ t. t.now) text.entry) }
 {
     match text {
-        Some(text) => has_holder(patterns, text),
+        Some(text) => held_by(patterns, text),
         None => has_any(patterns),
     }
 }
 
-fn has_right(rights: &[Right], asked: Right) -> bool
+pub(crate) fn has_right(rights: &[Right], asked: Right) -> bool
     ensures { result ≡ list_any (same_right asked) rights.now }
 {
     rights.iter().any(|right| *right == asked)

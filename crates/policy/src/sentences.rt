@@ -6,7 +6,8 @@ use std::fmt;
 
 /// Writes a fault as a sentence: its place, what is wrong and what is expected.
 ///
-/// The program prints only the code and the place, which [`Fault`] writes.
+/// The commands print the code and the place, which [`Fault`] writes; only the one that checks a policy file adds the
+/// sentence.
 #[derive(Clone, Copy, Debug, PartialEq, Eq)]
 pub struct Sentence(pub Fault);
 

@@ -1,11 +1,10 @@
 use Rattle.std.proofs.Common.{◌∙◌, sym, string_bytes}
-use Rattle.model.specs.Policy.{holds, is_any}
+use Rattle.model.specs.Policy.{is_any}
 use Rattle.policy.proofs.Lists.{list_any-map}
 use Rattle.policy.proofs.rows.held_if_named.Goals as goal
 
 pub returns-in-Some : goal.returns-in-Some
-returns-in-Some c =
-    rw c.in-Some.is (c.has_holder.ensures ∙ sym (list_any-map (holds c.in-Some.text.now) string_bytes c.args.patterns.now))
+returns-in-Some c = rw c.in-Some.is c.held_by.ensures
 
 pub returns-in-None : goal.returns-in-None
 returns-in-None c =

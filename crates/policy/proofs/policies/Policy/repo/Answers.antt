@@ -1,4 +1,4 @@
-use Rattle.std.proofs.Common.{◌∙◌, sym, ap, option_map, string_bytes, bytes_eq}
+use Rattle.std.proofs.Common.{◌∙◌, sym, ap, option_map, bytes_eq}
 use Rattle.std.specs.List.{find}
 use Rattle.names.specs.Names.{repo_text}
 use Rattle.policy.specs.Values.{repo_view}
