@@ -1,5 +1,5 @@
 -- The results of completing a staged upload, in the world that the tables represent.
-use Rattle.std.proofs.Common.{◌≡◌, ◌∙◌, ℕ, ◌≤◌, ℤ, pos, Bool, true, false, ◌&&◌, List, ◌∷◌, find, cond, length, Some, option_map, is_some, refl, sym, ap, subst, arith}
+use Rattle.std.proofs.Common.{◌≡◌, ◌∙◌, ℕ, ◌+◌, ◌≤◌, ℤ, pos, Bool, true, false, ◌&&◌, List, ◌∷◌, ◌++◌, find, cond, length, length-append, Some, option_map, is_some, refl, sym, ap, subst, arith}
 use Rattle.std.specs.List.{concat}
 use Rattle.std.specs.Ordering.{int_eq}
 use Rattle.std.proofs.lemmas.Bool.{true≢false, and_from}
@@ -11,15 +11,17 @@ use Rattle.model.proofs.Tests.{both_true}
 use Rattle.tables.specs.Rows as row
 use Rattle.tables.specs.Rows.{Tables}
 use Rattle.tables.specs.Statements.{same_bytes, is_upload, is_staged, is_staged_with, is_object}
-use Rattle.tables.specs.Staging.{staged_with, is_as_begun, settled_as, completion_by, completion_of, after_completion, after_found, after_complete}
+use Rattle.tables.specs.Staging.{staged_with, with_last, is_as_begun, settled_as, completion_by, completion_of, after_completion, after_found, after_complete}
+use Rattle.tables.specs.declared.new_rows.LastChunk.{LastChunk}
 use Rattle.tables.specs.declared.rows.Completion.{Completion}
 use Rattle.tables.specs.declared.rows.Completion.TheVariants.{New, Already, Differs}
 use Rattle.refinement.specs.Objects.{bytes_of, HasSize}
 use Rattle.refinement.specs.Representation.{Represents}
-use Rattle.refinement.specs.Staging.{staged_row, IsStaged}
+use Rattle.refinement.specs.Staging.{staged_row, IsStaged, pieces_with}
 use Rattle.refinement.proofs.Completed.{kept_represented}
 use Rattle.refinement.proofs.Counts.{named_itself, same_text}
 use Rattle.refinement.proofs.Kept.{object_known}
+use Rattle.refinement.proofs.LastChunk.{concat_with, last_staged, last_represented}
 use Rattle.refinement.proofs.Lookups.{find_alike}
 use Rattle.refinement.proofs.Begun.{both_meet}
 use Rattle.refinement.proofs.Pieces.{own_number, bytes_are}
@@ -41,21 +43,24 @@ staged_in_range t world id repo name size pieces r h =
     let has = each_in (λ (u : row.Upload). HasSize (length (bytes_of u.id t.chunks)) u) t.uploads (staged_row id repo name size) r.objects.sizes (in_found (is_upload id) t.uploads (staged_row id repo name size) h.upload) in
     subst (λ n. n ≤ largest_object) (same_pos has.size size (sym has.is)) has.in_range
 
-module _ (t : Tables) (world : World) (id : ℤ) (repo name : List ℕ) (staged : ℕ) (pieces : List (List ℕ)) (oid : List ℕ) (size : ℕ) (r : Represents t world) (w : IsWorld world)
-    (h : IsStaged id repo name staged pieces t) (arrived : length (concat pieces) ≡ size) where
+module _ (t : Tables) (world : World) (id : ℤ) (repo name : List ℕ) (staged : ℕ) (pieces : List (List ℕ)) (last : LastChunk) (oid : List ℕ) (size : ℕ) (r : Represents t world) (w : IsWorld world)
+    (h : IsStaged id repo name staged pieces t) (next : last.n ≡ length pieces) (arrived : length (concat pieces ++ last.bytes.items) ≡ size) where
   abbrev s : row.Upload
   s = staged_row id repo name staged
 
-  -- the object that the bytes are
+  -- the bytes that arrived, and the object that they are
+  abbrev all : List ℕ
+  all = concat pieces ++ last.bytes.items
+
   abbrev pub received : Object
-  received = record { repo = repo; name = oid; bytes = concat pieces }
+  received = record { repo = repo; name = oid; bytes = all }
 
   -- the tables after a result, and what it says of the name and the size
   abbrev pub Completed : Completion → Type 0
   Completed New =
-      (name ≡ oid) × (staged ≡ size) × (is_some (object_named repo oid world) ≡ false) × Represents (after_complete id oid (pos size) t) (with_object received world)
-  Completed Already = (name ≡ oid) × (staged ≡ size) × (is_some (object_named repo oid world) ≡ true) × Represents (after_complete id oid (pos size) t) world
-  Completed Differs = (name ≡ oid → staged ≡ size → ⊥) × Represents (after_complete id oid (pos size) t) world
+      (name ≡ oid) × (staged ≡ size) × (is_some (object_named repo oid world) ≡ false) × Represents (after_complete id last oid (pos size) t) (with_object received world)
+  Completed Already = (name ≡ oid) × (staged ≡ size) × (is_some (object_named repo oid world) ≡ true) × Represents (after_complete id last oid (pos size) t) world
+  Completed Differs = (name ≡ oid → staged ≡ size → ⊥) × Represents (after_complete id last oid (pos size) t) world
 
   found : staged_with id t ≡ Some s
   found = found_staged t.uploads id s h.upload refl
@@ -63,9 +68,9 @@ module _ (t : Tables) (world : World) (id : ℤ) (repo name : List ℕ) (staged 
   is_completion : completion_of id oid (pos size) t ≡ Some (completion_by oid (pos size) s t)
   is_completion = ap (option_map (λ u. completion_by oid (pos size) u t)) found
 
-  is_after : (c : Completion) → completion_by oid (pos size) s t ≡ c → after_complete id oid (pos size) t ≡ after_completion c s t
+  is_after : (c : Completion) → completion_by oid (pos size) s t ≡ c → after_complete id last oid (pos size) t ≡ after_completion c last s t
   unfolding after_complete
-  is_after c e = ap (λ o. after_found o oid (pos size) t) found ∙ ap (λ k. after_completion k s t) e
+  is_after c e = ap (λ o. after_found o last oid (pos size) t) found ∙ ap (λ k. after_completion k last s t) e
 
   by_test : (begun known : Bool) → is_as_begun oid (pos size) s ≡ begun → is_some (find (is_object repo name) t.uploads) ≡ known
       → completion_by oid (pos size) s t ≡ cond begun (cond known Already New) Differs
@@ -82,14 +87,20 @@ module _ (t : Tables) (world : World) (id : ℤ) (repo name : List ℕ) (staged 
   known_named : (known : Bool) → name ≡ oid → is_some (find (is_object repo name) t.uploads) ≡ known → is_some (object_named repo oid world) ≡ known
   known_named known same e = ap (λ n. is_some (object_named repo n world)) (sym same) ∙ sym (object_known t world repo name r w) ∙ e
 
-  new_world : name ≡ oid → is_some (object_named repo oid world) ≡ false → staged ≡ size → Represents (after_completion New s t) (with_object received world)
+  fits : staged ≡ size → length (concat pieces) + length last.bytes.items ≤ staged
+  fits equal = let e = length-append (concat pieces) last.bytes.items in omega (arith, e, arrived, equal)
+
+  new_world : name ≡ oid → is_some (object_named repo oid world) ≡ false → staged ≡ size → Represents (after_completion New last s t) (with_object received world)
   new_world same none equal =
-      let bytes = bytes_are id pieces t.chunks h.stored in
-      let whole : pos staged ≡ pos (length (bytes_of id t.chunks)) = ap pos (equal ∙ sym arrived ∙ ap length (sym bytes)) in
-      let is_received : record { repo = repo; name = name; bytes = bytes_of id t.chunks } ≡ received =
-      ap (λ (n : List ℕ). record { repo = repo; name = n; bytes = bytes_of id t.chunks }) same ∙ ap (λ (b : List ℕ). record { repo = repo; name = oid; bytes = b }) bytes in
-      subst (Represents (after_completion New s t)) (ap (λ b. cond b world (record world { objects = received ∷ world.objects })) (sym none))
-      (subst (λ (o : Object). Represents (after_completion New s t) (record world { objects = o ∷ world.objects })) is_received (kept_represented t world s r h.upload refl whole))
+      let more = with_last id last t in
+      let there = last_staged t world id repo name staged pieces h last next in
+      let bytes : bytes_of id more.chunks ≡ all = bytes_are id (pieces_with pieces last.bytes.items) more.chunks there.stored ∙ concat_with pieces last.bytes.items in
+      let whole : pos staged ≡ pos (length (bytes_of id more.chunks)) = ap pos (equal ∙ sym arrived ∙ ap length (sym bytes)) in
+      let is_received : record { repo = repo; name = name; bytes = bytes_of id more.chunks } ≡ received =
+      ap (λ (n : List ℕ). record { repo = repo; name = n; bytes = bytes_of id more.chunks }) same ∙ ap (λ (b : List ℕ). record { repo = repo; name = oid; bytes = b }) bytes in
+      subst (Represents (after_completion New last s t)) (ap (λ b. cond b world (record world { objects = received ∷ world.objects })) (sym none))
+      (subst (λ (o : Object). Represents (after_completion New last s t) (record world { objects = o ∷ world.objects })) is_received
+      (kept_represented more world s (last_represented t world id repo name staged pieces h last next r (fits equal)) there.upload refl whole))
 
   completed_as : (begun known : Bool) → is_as_begun oid (pos size) s ≡ begun → is_some (find (is_object repo name) t.uploads) ≡ known → Completed (cond begun (cond known Already New) Differs)
   completed_as true true e f =

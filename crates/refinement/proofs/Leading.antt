@@ -75,9 +75,9 @@ module _ {S : Type 0} (g : Ghosts S) where
   once : (s : Store S) (world : World) (bound : Bound) → IsBoundedBy g s (world ∷ world ∷ bound) → IsBoundedBy g s (world ∷ bound)
   once s world bound b = record { safe = b.safe; among = λ k t left. elim (b.among k t left) [ inl is ↦ inl is | inr rest ↦ rest ] }
 
-  -- behind another one
-  once_behind : (s : Store S) (made world : World) (bound : Bound) → IsBoundedBy g s (made ∷ world ∷ world ∷ bound) → IsBoundedBy g s (made ∷ world ∷ bound)
-  once_behind s made world bound b = record {
+  -- after another one
+  once_after : (s : Store S) (made world : World) (bound : Bound) → IsBoundedBy g s (made ∷ world ∷ world ∷ bound) → IsBoundedBy g s (made ∷ world ∷ bound)
+  once_after s made world bound b = record {
     safe = b.safe;
     among = λ k t left. elim (b.among k t left) [
       | inl is ↦ inl is
@@ -136,7 +136,7 @@ module _ {S : Type 0} (g : Ghosts S) where
   keeps_ends a b c changed world made kept p q = record { holds = q.holds; left = λ bound was. q.left (world ∷ bound) (p.left bound was) }
   keeps_ends a b c unchanged world made kept p q = record { holds = q.holds; left = λ bound was. once c world bound (q.left (world ∷ bound) (p.left bound was)) }
   keeps_ends a b c failed world made kept p q =
-      record { holds = q.holds; left = λ bound was. once_behind c made world bound (q.left (world ∷ bound) (p.left bound was)) }
+      record { holds = q.holds; left = λ bound was. once_after c made world bound (q.left (world ∷ bound) (p.left bound was)) }
 
   -- ---- how a call ends
 

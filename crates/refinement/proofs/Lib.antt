@@ -2,6 +2,7 @@ pub mod Found
 pub mod Pieces
 pub mod Uploads
 pub mod Staging
+pub mod LastChunk
 pub mod Withdrawn
 pub mod Begun
 pub mod Kept
@@ -15,6 +16,7 @@ pub mod Outcomes
 pub mod Holding
 pub mod Tokens
 pub mod Leading
+pub mod ReadOnly
 pub mod Staged
 pub mod Removing
 pub mod Rising

@@ -1,5 +1,5 @@
 -- Staged uploads.
-use Rattle.std.specs.Prelude.{◌≡◌, ℕ, ℤ, pos, List, find, Some, None}
+use Rattle.std.specs.Prelude.{◌≡◌, ℕ, ℤ, pos, List, [], ◌∷◌, ◌++◌, find, Some, None}
 use Rattle.sqlite_trees.specs.declared.store.Store.{Ghosts}
 use Rattle.tables.specs.Rows as row
 use Rattle.tables.specs.Rows.{Tables}
@@ -17,6 +17,11 @@ staged_row id repo name size = record { id = id; repo = repo; oid = name; size =
 pub record IsStaged (id : ℤ) (repo name : List ℕ) (size : ℕ) (pieces : List (List ℕ)) (t : Tables) : Type 0 where
   pub upload : find (is_upload id) t.uploads ≡ Some (staged_row id repo name size)
   pub stored : HasPieces id pieces t.chunks
+
+-- the pieces of an upload and these bytes as the last one, if there are any
+abbrev pub pieces_with : List (List ℕ) → List ℕ → List (List ℕ)
+pieces_with pieces [] = pieces
+pieces_with pieces (byte ∷ bytes) = pieces ++ (byte ∷ bytes) ∷ []
 
 module _ {S : Type 0} (g : Ghosts S) where
   -- while the disk is honest and the store open, it shows this staged upload

@@ -1,11 +1,12 @@
 -- The result of completing or removing an upload, from what its statements found and did.
-use Rattle.std.proofs.Common.{◌≡◌, ℕ, ℤ, pos, Bool, true, false, cond, List, find, option_map, is_some, Option, Some, None, refl, sym, ap, ◌∙◌}
+use Rattle.std.proofs.Common.{arith, ◌≡◌, ℕ, ℤ, pos, Bool, true, false, cond, List, find, option_map, is_some, Option, Some, None, refl, sym, ap, ◌∙◌, ◌<◌, [], ◌∷◌, length}
+use Rattle.tables.specs.declared.new_rows.LastChunk.{LastChunk}
 use Rattle.tables.specs.declared.rows.UploadRow.{UploadRow}
 use Rattle.tables.specs.declared.rows.Completion.{Completion}
 use Rattle.tables.specs.declared.rows.Completion.TheVariants as completion
 use Rattle.tables.specs.Rows.{Upload, Tables}
-use Rattle.tables.specs.Statements.{is_object}
-use Rattle.tables.specs.Staging.{UploadFields, upload_fields, read_upload, begun_as, IsUploadOf, staged_with, without_upload, without_found, without_staged, with_kept, is_as_begun, settled_as, completion_by, completion_of, after_completion, after_settling, after_found, after_complete}
+use Rattle.tables.specs.Statements.{is_object, with_chunk}
+use Rattle.tables.specs.Staging.{UploadFields, upload_fields, read_upload, begun_as, IsUploadOf, staged_with, without_upload, without_found, without_staged, asked_chunk, with_bytes, with_last, with_kept, is_as_begun, settled_as, completion_by, completion_of, after_completion, after_settling, after_found, after_complete}
 
 -- ---- the row that was found
 
@@ -14,11 +15,11 @@ abbrev from_fields : UploadFields → Upload
 from_fields f = record { id = f.id; repo = f.repo; oid = f.oid; size = f.size; done = pos 0 }
 
 -- `done` does not matter for what is made of a staged upload
-without_done : (c : Completion) (u : Upload) (t : Tables) → after_completion c u t ≡ after_completion c (from_fields (upload_fields u)) t
+without_done : (c : Completion) (last : LastChunk) (u : Upload) (t : Tables) → after_completion c last u t ≡ after_completion c last (from_fields (upload_fields u)) t
 unfolding with_kept
-without_done completion.New u t = refl
-without_done completion.Already u t = refl
-without_done completion.Differs u t = refl
+without_done completion.New last u t = refl
+without_done completion.Already last u t = refl
+without_done completion.Differs last u t = refl
 
 pub none_found : (o : Option Upload) → IsUploadOf None o → o ≡ None
 none_found None h = refl
@@ -45,22 +46,23 @@ module _ (row : UploadRow) (id : ℤ) (t : Tables) (is : IsUploadOf (Some row) (
         let it = one_found row (staged_with id t) is in
         ap (option_map (λ u. completion_by oid size u t)) it.1 ∙ ap (λ (f : UploadFields). Some (completion_by oid size (from_fields f) t)) it.2 ∙ ap Some same
 
-    after_by : (c : Completion) → completion_by oid size (begun_as row) t ≡ c → after_complete id oid size t ≡ after_completion c (begun_as row) t
+    after_by : (last : LastChunk) (c : Completion) → completion_by oid size (begun_as row) t ≡ c → after_complete id last oid size t ≡ after_completion c last (begun_as row) t
     unfolding after_complete
-    after_by c same =
+    after_by last c same =
         let it = one_found row (staged_with id t) is in
-        ap (λ o. after_found o oid size t) it.1 ∙ without_done (completion_by oid size it.0 t) it.0 t ∙ ap (λ (f : UploadFields). after_completion (completion_by oid size (from_fields f) t) (from_fields f) t) it.2
-        ∙ ap (λ k. after_completion k (begun_as row) t) same
+        ap (λ o. after_found o last oid size t) it.1 ∙ without_done (completion_by oid size it.0 t) last it.0 t ∙ ap (λ (f : UploadFields). after_completion (completion_by oid size (from_fields f) t) last (from_fields f) t) it.2
+        ∙ ap (λ k. after_completion k last (begun_as row) t) same
 
     by_test : (b : Bool) → is_as_begun oid size (begun_as row) ≡ b → completion_by oid size (begun_as row) t ≡ cond b (settled_as (begun_as row) t) completion.Differs
     by_test b same = ap (λ k. cond k (settled_as (begun_as row) t) completion.Differs) same
 
-    pub differs : is_as_begun oid size (begun_as row) ≡ false → (completion_of id oid size t ≡ Some completion.Differs) × (after_complete id oid size t ≡ t)
-    differs other = (completed_by completion.Differs (by_test false other), after_by completion.Differs (by_test false other))
+    pub differs : (last : LastChunk) → is_as_begun oid size (begun_as row) ≡ false → (completion_of id oid size t ≡ Some completion.Differs) × (after_complete id last oid size t ≡ t)
+    differs last other = (completed_by completion.Differs (by_test false other), after_by last completion.Differs (by_test false other))
 
-    pub settles : is_as_begun oid size (begun_as row) ≡ true → (completion_of id oid size t ≡ Some (settled_as (begun_as row) t)) × (after_complete id oid size t ≡ after_settling (begun_as row) t)
+    pub settles : (last : LastChunk) → is_as_begun oid size (begun_as row) ≡ true
+        → (completion_of id oid size t ≡ Some (settled_as (begun_as row) t)) × (after_complete id last oid size t ≡ after_settling last (begun_as row) t)
     unfolding after_settling
-    settles same = (completed_by (settled_as (begun_as row) t) (by_test true same), after_by (settled_as (begun_as row) t) (by_test true same))
+    settles last same = (completed_by (settled_as (begun_as row) t) (by_test true same), after_by last (settled_as (begun_as row) t) (by_test true same))
 
 module _ (id : ℤ) (t : Tables) (is : IsUploadOf None (staged_with id t)) where
   pub nothing_removed : without_staged id t ≡ t
@@ -70,12 +72,31 @@ module _ (id : ℤ) (t : Tables) (is : IsUploadOf None (staged_with id t)) where
   pub is_not_there : is_some (staged_with id t) ≡ false
   is_not_there = ap is_some (none_found (staged_with id t) is)
 
+-- ---- the last chunk
+
+module _ (id : ℤ) (last : LastChunk) where
+  pub no_last : length last.bytes.items ≡ 0 → (t : Tables) → with_last id last t ≡ t
+  unfolding with_last
+  no_last none t = at last.bytes.items none
+    where
+      at : (bytes : List ℕ) → length bytes ≡ 0 → with_bytes id last.n bytes t ≡ t
+      at [] none = refl
+      at (byte ∷ bytes) none = absurd (omega (arith, none))
+
+  pub some_last : 0 < length last.bytes.items → (t : Tables) → with_last id last t ≡ with_chunk (asked_chunk id last.n last.bytes.items) t
+  unfolding with_last
+  some_last some t = at last.bytes.items some
+    where
+      at : (bytes : List ℕ) → 0 < length bytes → with_bytes id last.n bytes t ≡ with_chunk (asked_chunk id last.n bytes) t
+      at [] some = absurd (omega (arith, some))
+      at (byte ∷ bytes) some = refl
+
 -- ---- whether the repository has an object of the name
 
 module _ (u : Upload) (t : Tables) (stored : Bool) (is : is_some (find (is_object u.repo u.oid) t.uploads) ≡ stored) where
   pub settled : settled_as u t ≡ cond stored completion.Already completion.New
   settled = ap (λ b. cond b completion.Already completion.New) is
 
-  pub after_settled : after_settling u t ≡ after_completion (cond stored completion.Already completion.New) u t
+  pub after_settled : (last : LastChunk) → after_settling last u t ≡ after_completion (cond stored completion.Already completion.New) last u t
   unfolding after_settling
-  after_settled = ap (λ c. after_completion c u t) settled
+  after_settled last = ap (λ c. after_completion c last u t) settled

@@ -1,13 +1,14 @@
 -- What a store remembers of staged uploads stays true.
-use Rattle.std.proofs.Common.{◌≡◌, ℕ, ℤ, pos, Bool, true, false, cond, not, List, Some, None, Option, refl, sym, subst}
+use Rattle.std.proofs.Common.{◌≡◌, ℕ, ℤ, pos, Bool, true, false, cond, not, List, [], ◌∷◌, Some, None, Option, refl, sym, subst}
 use Rattle.std.specs.Global.{Vec}
 use Rattle.sqlite_keyed.specs.Lists.{update_where, delete_where}
 use Rattle.sqlite_keyed.proofs.ListLemmas.{all-filter, all_map, all_weaker}
 use Rattle.tables.specs.declared.staged.Remembered.{Remembered}
+use Rattle.tables.specs.declared.new_rows.LastChunk.{LastChunk}
 use Rattle.tables.specs.Rows.{Token, Upload, Chunk, Lock, Tables}
 use Rattle.tables.specs.Statements.{is_upload, with_chunk, without_lock, without_expired, with_lock, with_token, without_row, without_chunks, with_done}
 use Rattle.tables.specs.Steps.{Outcome, held, used_up, created, outcome_of, after_outcome, after_create, with_made, with_new_lock, has_token, after_add}
-use Rattle.tables.specs.Staging.{without_upload, without_found, without_staged, staged_with, with_used, with_kept, completion_by, after_completion, after_found, after_complete}
+use Rattle.tables.specs.Staging.{without_upload, without_found, without_staged, staged_with, with_used, with_bytes, with_last, with_kept, completion_by, after_completion, after_found, after_complete}
 use Rattle.tables.specs.declared.rows.Completion.{Completion}
 use Rattle.tables.specs.declared.rows.Completion.TheVariants as completion
 use Rattle.tables.specs.Remembered.{IsRemembered, KnowsStaged}
@@ -85,19 +86,28 @@ pub abandon_keeps : (id : ℤ) → KeepsKnown (without_staged id)
 unfolding without_staged
 abandon_keeps id known t h = found_keeps (staged_with id t) known t h
 
+bytes_leave : (id : ℤ) (n : ℕ) (bytes : List ℕ) (t : Tables) → (with_bytes id n bytes t).uploads ≡ t.uploads
+unfolding with_chunk
+bytes_leave id n [] t = refl
+bytes_leave id n (byte ∷ bytes) t = refl
+
+last_keeps : (id : ℤ) (last : LastChunk) → KeepsKnown (with_last id last)
+unfolding with_last
+last_keeps id last = leaves_uploads (with_last id last) (λ t. bytes_leave id last.n last.bytes.items t)
+
 kept_keeps : (u : Upload) → KeepsKnown (with_kept u)
 unfolding with_kept with_used with_done
 kept_keeps u known t h = done_known known (is_upload u.id) t.uploads h
 
-completion_keeps : (c : Completion) (u : Upload) → KeepsKnown (after_completion c u)
-completion_keeps completion.Differs u known t h = h
-completion_keeps completion.Already u known t h = upload_keeps u.id known t h
-completion_keeps completion.New u known t h = kept_keeps u known t h
+completion_keeps : (c : Completion) (last : LastChunk) (u : Upload) → KeepsKnown (after_completion c last u)
+completion_keeps completion.Differs last u known t h = h
+completion_keeps completion.Already last u known t h = upload_keeps u.id known t h
+completion_keeps completion.New last u known t h = kept_keeps u known (with_last u.id last t) (last_keeps u.id last known t h)
 
-complete_found : (u : Option Upload) (oid : List ℕ) (size : ℤ) → KeepsKnown (after_found u oid size)
-complete_found None oid size known t h = h
-complete_found (Some u) oid size known t h = completion_keeps (completion_by oid size u t) u known t h
+complete_found : (u : Option Upload) (last : LastChunk) (oid : List ℕ) (size : ℤ) → KeepsKnown (after_found u last oid size)
+complete_found None last oid size known t h = h
+complete_found (Some u) last oid size known t h = completion_keeps (completion_by oid size u t) last u known t h
 
-pub complete_keeps : (id : ℤ) (oid : List ℕ) (size : ℤ) → KeepsKnown (after_complete id oid size)
+pub complete_keeps : (id : ℤ) (last : LastChunk) (oid : List ℕ) (size : ℤ) → KeepsKnown (after_complete id last oid size)
 unfolding after_complete
-complete_keeps id oid size known t h = complete_found (staged_with id t) oid size known t h
+complete_keeps id last oid size known t h = complete_found (staged_with id t) last oid size known t h

@@ -7,6 +7,7 @@ use Rattle.sqlite_value.specs.Order.{column}
 use Rattle.typed_rows.specs.Rows.{bytes_of}
 use Rattle.names.specs.Names.{repo_text}
 use Rattle.tables.specs.declared.new_rows.NewUpload.{NewUpload}
+use Rattle.tables.specs.declared.new_rows.LastChunk.{LastChunk}
 use Rattle.tables.specs.declared.chunks.ChunkRow.{ChunkRow}
 use Rattle.tables.specs.declared.rows.UploadId.{UploadId}
 use Rattle.tables.specs.declared.rows.ObjectRow.{ObjectRow}
@@ -15,7 +16,7 @@ use Rattle.tables.specs.declared.rows.Completion.TheVariants as completion
 use Rattle.tables.specs.declared.rows.UploadRow.{UploadRow}
 use Rattle.tables.specs.declared.uploads.Total.{Total}
 use Rattle.tables.specs.Rows.{Repo, Upload, Chunk, Tables}
-use Rattle.tables.specs.Statements.{same_bytes, is_complete, is_object_in, by_name, is_staged_with, is_staged_in, is_object, with_upload, with_done, without_row, without_chunks}
+use Rattle.tables.specs.Statements.{same_bytes, is_complete, is_object_in, by_name, is_staged_with, is_staged_in, is_object, with_upload, with_chunk, with_done, without_row, without_chunks}
 use Rattle.tables.specs.Steps.{used_of, set_first}
 
 -- ---- one upload
@@ -153,6 +154,15 @@ with_used name used t = record t { repos = set_used name used (next_key (λ x. x
 
 -- ---- completed
 
+-- the tables with these bytes as a chunk of an upload, if there are any
+abbrev pub with_bytes : ℤ → ℕ → List ℕ → Tables → Tables
+with_bytes id n [] t = t
+with_bytes id n (byte ∷ bytes) t = with_chunk (asked_chunk id n (byte ∷ bytes)) t
+
+-- the tables with the last chunk of an upload; if it has no bytes, there is none
+unfoldable pub with_last : ℤ → LastChunk → Tables → Tables
+with_last id last t = with_bytes id last.n last.bytes.items t
+
 -- the tables in which the upload is complete, and its size counted
 unfoldable pub with_kept : Upload → Tables → Tables
 with_kept u t = with_used u.repo (used_of u.repo t +ℤ u.size) (with_done u.id t)
@@ -173,21 +183,21 @@ completion_by oid size u t = if is_as_begun oid size u then settled_as u t else 
 abbrev pub completion_of : ℤ → List ℕ → ℤ → Tables → Option Completion
 completion_of id oid size t = option_map (λ u. completion_by oid size u t) (staged_with id t)
 
--- the tables after this result for the upload
-abbrev pub after_completion : Completion → Upload → Tables → Tables
-after_completion completion.Differs u t = t
-after_completion completion.Already u t = without_upload u.id t
-after_completion completion.New u t = with_kept u t
+-- the tables after this result for the upload, which has this last chunk
+abbrev pub after_completion : Completion → LastChunk → Upload → Tables → Tables
+after_completion completion.Differs last u t = t
+after_completion completion.Already last u t = without_upload u.id t
+after_completion completion.New last u t = with_kept u (with_last u.id last t)
 
 -- the tables after completing a staged upload whose bytes have its name and its size
-unfoldable pub after_settling : Upload → Tables → Tables
-after_settling u t = after_completion (settled_as u t) u t
+unfoldable pub after_settling : LastChunk → Upload → Tables → Tables
+after_settling last u t = after_completion (settled_as u t) last u t
 
 -- the tables after completing an upload that was found
-abbrev pub after_found : Option Upload → List ℕ → ℤ → Tables → Tables
-after_found None oid size t = t
-after_found (Some u) oid size t = after_completion (completion_by oid size u t) u t
+abbrev pub after_found : Option Upload → LastChunk → List ℕ → ℤ → Tables → Tables
+after_found None last oid size t = t
+after_found (Some u) last oid size t = after_completion (completion_by oid size u t) last u t
 
--- the tables after completing the upload with this id
-unfoldable pub after_complete : ℤ → List ℕ → ℤ → Tables → Tables
-after_complete id oid size t = after_found (staged_with id t) oid size t
+-- the tables after completing the upload with this id, which has this last chunk
+unfoldable pub after_complete : ℤ → LastChunk → List ℕ → ℤ → Tables → Tables
+after_complete id last oid size t = after_found (staged_with id t) last oid size t

@@ -14,7 +14,7 @@ use crate::write::{change, finish_with};
 use sqlite::{Alter, Connection, Error, Row, Transaction, params};
 use sqlite_value::value::ValueRef;
 
-fn chunk_into<S: Alter>(
+pub(crate) fn chunk_into<S: Alter>(
     tx: &mut Transaction<'_, S>,
     upload: UploadId,
     n: u32,

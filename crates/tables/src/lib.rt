@@ -26,7 +26,7 @@ mod write;
 
 pub use chunks::ChunkRow;
 pub use fault::StoreFault;
-pub use new_rows::{NewLock, NewToken, NewUpload};
+pub use new_rows::{LastChunk, NewLock, NewToken, NewUpload};
 pub use rows::{Completion, Creation, LockRow, ObjectRow, TokenRow, UploadId, UploadRow};
 pub use sqlite::{Alter, Start, Unknown};
 pub use storage::Storage;

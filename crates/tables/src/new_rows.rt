@@ -37,3 +37,12 @@ pub struct NewUpload<'a> {
     /// The number of its bytes.
     pub size: Size,
 }
+
+/// The last chunk of an upload, which is added when the upload is completed.
+#[derive(Debug, Drop)]
+pub struct LastChunk {
+    /// Its number: the number of chunks before it.
+    pub n: u32,
+    /// Its bytes. If there are none, the chunks before it have all bytes of the upload, and no chunk is added.
+    pub bytes: Vec<u8>,
+}

@@ -10,11 +10,13 @@ ghost use Rattle.tables.specs.Runs.{tables_in};
 ghost use Rattle.tables.specs.Statements.{same_bytes, is_named, is_object, show_upload, show_used, without_row, without_chunks, with_done};
 ghost use Rattle.tables.specs.Calls.{MakesStep, Says, Does, Looks, Transacts};
 ghost use Rattle.tables.specs.Steps.{used_in, used_of};
-ghost use Rattle.tables.specs.Staging.{upload_number, staged_with, upload_sized, read_object, IsObjectOf, IsUploadOf, AreUploadsOf, objects_of, repo_total, read_total, IsTotalOf, with_used, without_upload, without_staged, with_kept, is_as_begun, begun_as, settled_as, after_settling, completion_of, after_complete};
+ghost use Rattle.tables.specs.Staging.{upload_number, staged_with, upload_sized, read_object, IsObjectOf, IsUploadOf, AreUploadsOf, objects_of, repo_total, read_total, IsTotalOf, with_used, without_upload, without_staged, with_kept, is_as_begun, begun_as, settled_as, with_last, after_settling, completion_of, after_complete};
 ghost use Rattle.tables.specs.Shown.{Reads, Changes};
 
 use crate::Store;
+use crate::chunks::chunk_into;
 use crate::fault::StoreFault;
+use crate::new_rows::LastChunk;
 use crate::read::{read, select};
 use crate::rows::{Completion, ObjectRow, UploadId, UploadRow, all_uploads, first_upload};
 use crate::write::{change, finish_with};
@@ -262,23 +264,42 @@ fn keep_into<S: Alter>(tx: &mut Transaction<'_, S>, upload: &UploadRow) -> Resul
     Ok(())
 }
 
-/// Makes the upload an object, or removes it if its repository has one of its name.
+/// Adds the last chunk of the upload, if it has bytes, and then makes the upload complete.
+fn keep_all_into<S: Alter>(
+    tx: &mut Transaction<'_, S>,
+    upload: &UploadRow,
+    last: &LastChunk,
+) -> Result<(), StoreFault>
+    ensures same_reference { tx.new.conn.ghost_name ≡ tx.old.conn.ghost_name }
+    ensures does { Does S.Store tx.old.conn.now tx.new.conn.now result
+        (λ t. with_kept (begun_as upload.now) (with_last (upload_number upload.now.id) last.now t)) }
+    ensures known { result ≢ Err StoreFault.UnknownSchema }
+{
+    if last.bytes.is_empty() {
+        return keep_into(tx, upload);
+    }
+    chunk_into(tx, upload.id, last.n, last.bytes.as_slice())?;
+    keep_into(tx, upload)
+}
+
+/// Makes the upload an object with this last chunk, or removes it if its repository has an object of its name.
 fn settle_into<S: Alter>(
     tx: &mut Transaction<'_, S>,
     upload: &UploadRow,
+    last: &LastChunk,
 ) -> Result<Completion, StoreFault>
     ensures same_reference { tx.new.conn.ghost_name ≡ tx.old.conn.ghost_name }
     ensures value { Says S.Store tx.old.conn.now tx.new.conn.now result
         (λ t completion. completion ≡ settled_as (begun_as upload.now) t) }
     ensures does { Does S.Store tx.old.conn.now tx.new.conn.now result
-        (after_settling (begun_as upload.now)) }
+        (after_settling last.now (begun_as upload.now)) }
     ensures known { result ≢ Err StoreFault.UnknownSchema }
 {
     if is_stored(tx, &upload.repo, &upload.oid)? {
         upload_out(tx, upload.id)?;
         return Ok(Completion::Already);
     }
-    keep_into(tx, upload)?;
+    keep_all_into(tx, upload, last)?;
     Ok(Completion::New)
 }
 
@@ -299,6 +320,7 @@ fn is_same_name(a: &Oid, b: &Oid) -> bool
 fn complete_into<S: Alter>(
     tx: &mut Transaction<'_, S>,
     id: UploadId,
+    last: &LastChunk,
     oid: &Oid,
     size: Size,
 ) -> Result<Completion, StoreFault>
@@ -306,7 +328,7 @@ fn complete_into<S: Alter>(
     ensures value { Says S.Store tx.old.conn.now tx.new.conn.now result
         (λ t completion. completion_of (upload_number id) oid.now (pos size) t ≡ Some completion) }
     ensures does { Does S.Store tx.old.conn.now tx.new.conn.now result
-        (after_complete (upload_number id) oid.now (pos size)) }
+        (after_complete (upload_number id) last.now oid.now (pos size)) }
     ensures known { result ≢ Err StoreFault.UnknownSchema }
 {
     let Some(upload) = staged_in(tx, id)? else {
@@ -315,7 +337,7 @@ fn complete_into<S: Alter>(
     if !is_as_begun(&upload, oid, size) {
         return Ok(Completion::Differs);
     }
-    settle_into(tx, &upload)
+    settle_into(tx, &upload, last)
 }
 
 /// Removes the upload, if it is staged.
@@ -340,18 +362,19 @@ fn remove_into<S: Alter>(tx: &mut Transaction<'_, S>, id: UploadId) -> Result<bo
 fn complete<S: Alter>(
     conn: &mut Connection<S>,
     id: UploadId,
+    last: &LastChunk,
     oid: &Oid,
     size: Size,
 ) -> Result<Completion, StoreFault>
     ensures { Transacts S.Store conn.old conn.new result
-        (after_complete (upload_number id) oid.now (pos size))
+        (after_complete (upload_number id) last.now oid.now (pos size))
         (λ t completion. completion_of (upload_number id) oid.now (pos size) t ≡ Some completion) }
 {
     if !conn.is_autocommit() {
         return Err(StoreFault::Refused);
     }
     let mut tx = conn.transaction();
-    let completion = complete_into(&mut tx, id, oid, size)?;
+    let completion = complete_into(&mut tx, id, last, oid, size)?;
     finish_with(tx, completion)
 }
 
@@ -442,8 +465,9 @@ impl<S: Alter> Store<S> {
         unsigned(used_so_far(first_total(rows.as_slice())?))
     }
 
-    /// Makes a staged upload an object and counts its size, both or neither, if its bytes have the name and the size
-    /// with which it was begun. If the repository already has an object of that name, the upload is removed.
+    /// Adds the last chunk of a staged upload, makes the upload an object and counts its size, all or nothing, if its
+    /// bytes have the name and the size with which it was begun. If the repository already has an object of that name,
+    /// the upload is removed.
     ///
     /// # Errors
     ///
@@ -452,15 +476,16 @@ impl<S: Alter> Store<S> {
     pub fn complete_upload(
         &mut self,
         id: UploadId,
+        last: &LastChunk,
         oid: &Oid,
         size: Size,
     ) -> Result<Completion, StoreFault>
         ensures { Changes S.Store self.old self.new result
-            (after_complete (upload_number id) oid.now (pos size))
+            (after_complete (upload_number id) last.now oid.now (pos size))
             (λ t completion. completion_of (upload_number id) oid.now (pos size) t
             ≡ Some completion) }
     {
-        complete(&mut self.conn, id, oid, size)
+        complete(&mut self.conn, id, last, oid, size)
     }
 
     /// Removes the upload with its chunks, if it is staged, and returns whether it was.

@@ -13,17 +13,17 @@ returns-then-not-is_as_begun-clause-value g c clean inside ready =
     let t = tables_in (state g.S.Store c.args.tx.now.conn.now) in
     let found = c.in_ok-upload.ensures.value clean inside ready in
     let other : is_as_begun c.args.oid.now (pos c.args.size) (begun_as c.in-Some.upload) ≡ false = search rules in
-    (found.0, (differs c.in-Some.upload c.args.id.number t (ap (option_map read_upload) (sym c.in-Some.is) ∙ found.1) c.args.oid.now (pos c.args.size) other).0)
+    (found.0, (differs c.in-Some.upload c.args.id.number t (ap (option_map read_upload) (sym c.in-Some.is) ∙ found.1) c.args.oid.now (pos c.args.size) c.args.last.now other).0)
 
 pub returns-then-not-is_as_begun-clause-does : goal.returns-then-not-is_as_begun-clause-does
 returns-then-not-is_as_begun-clause-does g c =
     let begun = c.args.tx.now.conn.now in
     let last = c.staged_in.new.tx.conn.now in
-    does_as g.S.Store begun last _ (λ t. t) (after_complete c.args.id.number c.args.oid.now (pos c.args.size))
+    does_as g.S.Store begun last _ (λ t. t) (after_complete c.args.id.number c.args.last.now c.args.oid.now (pos c.args.size))
     (λ clean inside ready.
     let found = c.in_ok-upload.ensures.value clean inside ready in
     let other : is_as_begun c.args.oid.now (pos c.args.size) (begun_as c.in-Some.upload) ≡ false = search rules in
-    sym (differs c.in-Some.upload c.args.id.number (tables_in (state g.S.Store begun)) (ap (option_map read_upload) (sym c.in-Some.is) ∙ found.1) c.args.oid.now (pos c.args.size) other).1)
+    sym (differs c.in-Some.upload c.args.id.number (tables_in (state g.S.Store begun)) (ap (option_map read_upload) (sym c.in-Some.is) ∙ found.1) c.args.oid.now (pos c.args.size) c.args.last.now other).1)
     (does_on g.S.Store begun last _ (λ t. t) c.in_ok-upload.ensures.does)
 
 pub returns-clause-value : goal.returns-clause-value
@@ -36,7 +36,7 @@ returns-clause-value g c clean inside ready =
     let found = upload.value late inside ready in
     let step = upload.does.ok late inside ready in
     let same : is_as_begun c.args.oid.now (pos c.args.size) (begun_as c.in-Some.upload) ≡ true = search rules in
-    let is = (settles c.in-Some.upload c.args.id.number t (ap (option_map read_upload) (sym c.in-Some.is) ∙ found.1) c.args.oid.now (pos c.args.size) same).0 in
+    let is = (settles c.in-Some.upload c.args.id.number t (ap (option_map read_upload) (sym c.in-Some.is) ∙ found.1) c.args.oid.now (pos c.args.size) c.args.last.now same).0 in
     IfOk-weaker c.settle_into.result _ _ (λ _ it. (found.0, is ∙ ap Some (sym (it.1 ∙ ap (settled_as (begun_as c.in-Some.upload)) step.tables))))
     (c.settle_into.ensures.value clean (upload.does.within.inside late inside) (ready_after (λ t. t) (state g.S.Store begun) (state g.S.Store mid) step))
 
@@ -45,10 +45,10 @@ returns-clause-does g c =
     let begun = c.args.tx.now.conn.now in
     let mid = c.staged_in.new.tx.conn.now in
     let last = c.settle_into.new.tx.conn.now in
-    let settle = after_settling (begun_as c.in-Some.upload) in
-    does_as g.S.Store begun last _ settle (after_complete c.args.id.number c.args.oid.now (pos c.args.size))
+    let settle = after_settling c.args.last.now (begun_as c.in-Some.upload) in
+    does_as g.S.Store begun last _ settle (after_complete c.args.id.number c.args.last.now c.args.oid.now (pos c.args.size))
     (λ clean inside ready.
     let found = c.in_ok-upload.ensures.value (clean_before g.S.Store mid last _ c.settle_into.ensures.does.within clean) inside ready in
     let same : is_as_begun c.args.oid.now (pos c.args.size) (begun_as c.in-Some.upload) ≡ true = search rules in
-    sym (settles c.in-Some.upload c.args.id.number (tables_in (state g.S.Store begun)) (ap (option_map read_upload) (sym c.in-Some.is) ∙ found.1) c.args.oid.now (pos c.args.size) same).1)
+    sym (settles c.in-Some.upload c.args.id.number (tables_in (state g.S.Store begun)) (ap (option_map read_upload) (sym c.in-Some.is) ∙ found.1) c.args.oid.now (pos c.args.size) c.args.last.now same).1)
     (does_then g.S.Store begun mid last _ (λ t. t) settle c.in_ok-upload.ensures.does c.settle_into.ensures.does)

@@ -1,7 +1,8 @@
 use Rattle.std.proofs.Common.{true, false, sym, ◌∙◌}
 use Rattle.sqlite.specs.Held.{state}
+use Rattle.tables.specs.Rows.{Tables}
 use Rattle.tables.specs.Runs.{tables_in}
-use Rattle.tables.specs.Staging.{begun_as, without_upload, with_kept, after_settling}
+use Rattle.tables.specs.Staging.{begun_as, without_upload, with_last, with_kept, after_settling}
 use Rattle.typed_rows.proofs.Transactions.{clean_before}
 use Rattle.tables.proofs.Calls.{does_on, does_then, does_as}
 use Rattle.tables.proofs.Completing.{settled, after_settled}
@@ -19,19 +20,19 @@ returns-then-branch-clause-does g c =
     let u = begun_as c.args.upload.now in
     let begun = c.args.tx.now.conn.now in
     let mid = c.is_stored.new.tx.conn.now in
-    let last = c.upload_out.new.tx.conn.now in
+    let end = c.upload_out.new.tx.conn.now in
     let out = c.in_ok-upload_out.ensures.does in
-    does_as g.S.Store begun last _ (without_upload u.id) (after_settling u)
+    does_as g.S.Store begun end _ (without_upload u.id) (after_settling c.args.last.now u)
     (λ clean inside ready.
-    let found = c.in_ok-is_stored.ensures.value (clean_before g.S.Store mid last _ out.within clean) inside ready in
-    sym (after_settled u (tables_in (state g.S.Store begun)) true (found.1 ∙ c.if-branch.true)))
-    (does_then g.S.Store begun mid last _ (λ t. t) (without_upload u.id) c.in_ok-is_stored.ensures.does (does_on g.S.Store mid last _ (without_upload u.id) out))
+    let found = c.in_ok-is_stored.ensures.value (clean_before g.S.Store mid end _ out.within clean) inside ready in
+    sym (after_settled u (tables_in (state g.S.Store begun)) true (found.1 ∙ c.if-branch.true) c.args.last.now))
+    (does_then g.S.Store begun mid end _ (λ t. t) (without_upload u.id) c.in_ok-is_stored.ensures.does (does_on g.S.Store mid end _ (without_upload u.id) out))
 
 pub returns-clause-value : goal.returns-clause-value
 returns-clause-value g c clean inside ready =
     let u = begun_as c.args.upload.now in
     let t = tables_in (state g.S.Store c.args.tx.now.conn.now) in
-    let found = c.in_ok-is_stored.ensures.value (clean_before g.S.Store c.is_stored.new.tx.conn.now c.keep_into.new.tx.conn.now _ c.in_ok-keep_into.ensures.does.within clean) inside ready in
+    let found = c.in_ok-is_stored.ensures.value (clean_before g.S.Store c.is_stored.new.tx.conn.now c.keep_all_into.new.tx.conn.now _ c.in_ok-keep_all_into.ensures.does.within clean) inside ready in
     (found.0, sym (settled u t false (found.1 ∙ c.if-branch.false)))
 
 pub returns-clause-does : goal.returns-clause-does
@@ -39,10 +40,11 @@ returns-clause-does g c =
     let u = begun_as c.args.upload.now in
     let begun = c.args.tx.now.conn.now in
     let mid = c.is_stored.new.tx.conn.now in
-    let last = c.keep_into.new.tx.conn.now in
-    let keep = c.in_ok-keep_into.ensures.does in
-    does_as g.S.Store begun last _ (with_kept u) (after_settling u)
+    let end = c.keep_all_into.new.tx.conn.now in
+    let keep = c.in_ok-keep_all_into.ensures.does in
+    let kept : Tables → Tables = λ t. with_kept u (with_last u.id c.args.last.now t) in
+    does_as g.S.Store begun end _ kept (after_settling c.args.last.now u)
     (λ clean inside ready.
-    let found = c.in_ok-is_stored.ensures.value (clean_before g.S.Store mid last _ keep.within clean) inside ready in
-    sym (after_settled u (tables_in (state g.S.Store begun)) false (found.1 ∙ c.if-branch.false)))
-    (does_then g.S.Store begun mid last _ (λ t. t) (with_kept u) c.in_ok-is_stored.ensures.does (does_on g.S.Store mid last _ (with_kept u) keep))
+    let found = c.in_ok-is_stored.ensures.value (clean_before g.S.Store mid end _ keep.within clean) inside ready in
+    sym (after_settled u (tables_in (state g.S.Store begun)) false (found.1 ∙ c.if-branch.false) c.args.last.now))
+    (does_then g.S.Store begun mid end _ (λ t. t) kept c.in_ok-is_stored.ensures.does (does_on g.S.Store mid end _ kept keep))
