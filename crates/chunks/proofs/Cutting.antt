@@ -6,17 +6,18 @@ use Rattle.sqlite_trees.specs.declared.store.Store.{Ghosts}
 use Rattle.sqlite_trees.proofs.ListLemmas.{all-append}
 use Rattle.model.specs.World.{World}
 use Rattle.tables.specs.declared.Store.{Store}
+use Rattle.tables.specs.declared.new_rows.LastChunk.{LastChunk}
 use Rattle.tables.specs.Rows.{Tables}
 use Rattle.tables.specs.Statements.{with_chunk}
 use Rattle.tables.specs.Staging.{upload_number, asked_chunk}
 use Rattle.tables.specs.Shown.{IsHonest, HasTables, Makes, Fails}
 use Rattle.refinement.specs.Representation.{Holds}
 use Rattle.refinement.specs.Left.{Keeps, From}
-use Rattle.refinement.specs.Staging.{Stages}
+use Rattle.refinement.specs.Staging.{Stages, pieces_with}
 use Rattle.refinement.proofs.Leading.{leads_none, keeps_still, keeps_then, was_by}
 use Rattle.refinement.proofs.Staged.{stages_more, keeps_chunk}
 use Rattle.chunks.specs.declared.intake.Intake.{Intake}
-use Rattle.chunks.specs.Intakes.{chunk_size, AreChunks, IsCut, KeepsCount, Cuts, HasTaken, Advances, Finishes, KeepsWithin}
+use Rattle.chunks.specs.Intakes.{chunk_size, AreChunks, IsCut, KeepsCount, IsWhole, Cuts, HasTaken, Advances, KeepsWithin}
 
 pub at_most : (n : ℕ) (xs : List ℕ) → length (take n xs) ≤ length xs
 at_most n xs = let e = length-take n xs in omega (arith, e)
@@ -49,6 +50,14 @@ full_chunks (p ∷ q ∷ ps) full = (full.0, full_chunks (q ∷ ps) full.1)
 -- the bytes in memory are one piece more
 all_of : (last : List ℕ) (pieces : List (List ℕ)) (bytes : List ℕ) → concat pieces ++ last ≡ bytes → concat (pieces ++ last ∷ []) ≡ bytes
 all_of last pieces bytes all = concat_more pieces last ∙ all
+
+-- full chunks, and the bytes in memory, if there are any
+chunks_with : (pieces : List (List ℕ)) (last : List ℕ) → AllByRecursion (λ (p : List ℕ). length p ≡ chunk_size) pieces → length last ≤ chunk_size → AreChunks (pieces_with pieces last)
+chunks_with pieces [] full short = full_chunks pieces full
+chunks_with pieces (byte ∷ bytes) full short = chunks_then pieces (byte ∷ bytes) full (omega arith) short
+
+pub whole_with : (last : LastChunk) (pieces : List (List ℕ)) (bytes : List ℕ) → IsCut last.n last.bytes.items pieces bytes → IsWhole pieces last bytes
+whole_with last pieces bytes h = record { next = h.count; chunks = chunks_with pieces last.bytes.items h.full h.short; all = h.all }
 
 -- the bytes in memory are one full chunk more
 cut_chunk : (written : ℕ) (last : List ℕ) (pieces : List (List ℕ)) (bytes : List ℕ) → length last ≡ chunk_size → IsCut written last pieces bytes → IsCut (written + 1) [] (pieces ++ last ∷ []) (bytes ++ [])
@@ -113,23 +122,6 @@ module _ {S : Type 0} (g : Ghosts S) where
     pieces = cuts.pieces ++ i.last.items ∷ [];
     cut = rw (written, last) (cut_chunk i.written i.last.items cuts.pieces bytes full cuts.cut);
     staged = rw upload (chunk_staged s t i made ready repo name size bytes cuts);
-  }
-
-  pub chunk_finishes : (s t : Store S) (i : Intake) → Makes g (step i) s t → 0 < length i.last.items → Finishes g s i t
-  chunk_finishes s t i made some ready repo name size bytes cuts = record {
-    pieces = cuts.pieces ++ i.last.items ∷ [];
-    chunks = chunks_then cuts.pieces i.last.items cuts.cut.full some cuts.cut.short;
-    all = all_of i.last.items cuts.pieces bytes cuts.cut.all;
-    staged = chunk_staged s t i made ready repo name size bytes cuts;
-  }
-
-  -- with no bytes in memory, the chunks are all the bytes
-  pub none_finishes : (s : Store S) (i : Intake) → length i.last.items ≡ 0 → Finishes g s i s
-  none_finishes s i none ready repo name size bytes cuts = record {
-    pieces = cuts.pieces;
-    chunks = full_chunks cuts.pieces cuts.cut.full;
-    all = sym (append-nil (concat cuts.pieces)) ∙ ap (λ l. concat cuts.pieces ++ l) (sym (nil_from_length i.last.items none)) ∙ cuts.cut.all;
-    staged = cuts.staged;
   }
 
   -- ---- bytes in memory, and one chunk

@@ -6,11 +6,12 @@ use Rattle.sha2.specs.declared.Sha256.{Sha256}
 use Rattle.sqlite_trees.specs.declared.store.Store.{Ghosts}
 use Rattle.model.specs.World.{World}
 use Rattle.tables.specs.declared.Store.{Store}
+use Rattle.tables.specs.declared.new_rows.LastChunk.{LastChunk}
 use Rattle.tables.specs.Shown.{IsHonest, HasTables}
 use Rattle.tables.specs.Staging.{upload_number}
 use Rattle.refinement.specs.Representation.{Holds}
 use Rattle.refinement.specs.Left.{Keeps}
-use Rattle.refinement.specs.Staging.{Stages}
+use Rattle.refinement.specs.Staging.{Stages, pieces_with}
 use Rattle.chunks.specs.declared.intake.Intake.{Intake}
 
 -- the number of bytes of a chunk; the last one of an upload may be shorter
@@ -30,6 +31,12 @@ pub record IsCut (written : ℕ) (last : List ℕ) (pieces : List (List ℕ)) (b
   pub full : AllByRecursion (λ piece. length piece ≡ chunk_size) pieces
   pub short : length last ≤ chunk_size
   pub all : concat pieces ++ last ≡ bytes
+
+-- the pieces and the last chunk, if that has bytes, are the chunks of these bytes
+pub record IsWhole (pieces : List (List ℕ)) (last : LastChunk) (bytes : List ℕ) : Type 0 where
+  pub next : last.n ≡ length pieces
+  pub chunks : AreChunks (pieces_with pieces last.bytes.items)
+  pub all : concat pieces ++ last.bytes.items ≡ bytes
 
 -- the intake hashed and counted these bytes
 pub record HasCounted (hasher : Sha256) (taken : ℕ) (bytes : List ℕ) : Type 0 where
@@ -63,11 +70,10 @@ module _ {S : Type 0} (g : Ghosts S) where
     pub counted : HasCounted i.hasher i.taken bytes
     pub cuts : Cuts s i repo name size bytes
 
-  -- an upload is staged for this repository, name and size, and its chunks are these bytes
-  pub record HasStored (s : Store S) (id : ℤ) (repo name : List ℕ) (size : ℕ) (bytes : List ℕ) : Type 0 where
+  -- an upload is staged for this repository, name and size; its chunks and this last one are these bytes
+  pub record HasArrived (s : Store S) (id : ℤ) (last : LastChunk) (repo name : List ℕ) (size : ℕ) (bytes : List ℕ) : Type 0 where
     pub pieces : List (List ℕ)
-    pub chunks : AreChunks pieces
-    pub all : concat pieces ≡ bytes
+    pub whole : IsWhole pieces last bytes
     pub staged : Stages g s id repo name size pieces
 
   -- the intake went on by these bytes
@@ -75,12 +81,6 @@ module _ {S : Type 0} (g : Ghosts S) where
   Advances s i t j more =
       HasTables g s → (repo name : List ℕ) (size : ℕ) (bytes : List ℕ) → Cuts s i repo name size bytes
       → Cuts t j repo name size (bytes ++ more)
-
-  -- all bytes of the intake's upload are in its chunks
-  abbrev pub Finishes : Store S → Intake → Store S → Type 0
-  Finishes s i t =
-      HasTables g s → (repo name : List ℕ) (size : ℕ) (bytes : List ℕ) → Cuts s i repo name size bytes
-      → HasStored t (upload_number i.upload) repo name size bytes
 
   -- each world that the store held is kept, if the upload has room for this number of bytes more
   pub record KeepsWithin (s : Store S) (i : Intake) (t : Store S) (more : ℕ) : Type 0 where

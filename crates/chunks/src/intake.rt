@@ -6,17 +6,27 @@ ghost use Rattle.sha2.specs.Sha256.{sha256};
 ghost use Rattle.hex.specs.Hex.{encode_lower};
 ghost use Rattle.model.specs.World.{name_of};
 ghost use Rattle.tables.specs.Shown.{HasTables};
-ghost use Rattle.tables.specs.Staging.{upload_number};
 ghost use Rattle.refinement.specs.Left.{From, Keeps};
-ghost use Rattle.chunks.specs.Intakes.{IsCut, HasCounted, KeepsCount, HasTaken, HasStored, Advances, Finishes, KeepsWithin};
+ghost use Rattle.chunks.specs.Intakes.{IsCut, IsWhole, HasCounted, KeepsCount, HasTaken, Advances, KeepsWithin};
 
 use names::{Oid, Size};
 use sha2::{Digest, Sha256};
 use std::alloc::{AllocError, Global};
-use tables::{Alter, Store, StoreFault, UploadId};
+use tables::{Alter, LastChunk, Store, StoreFault, UploadId};
 
 /// The number of bytes of a chunk; the last one of an upload may be shorter.
 const CHUNK: usize = 65_536;
+
+/// The bytes of an upload, once all have arrived.
+#[derive(Debug, Drop)]
+pub struct Arrival {
+    /// Their name.
+    pub name: Oid,
+    /// Their number.
+    pub size: Size,
+    /// The last chunk. It is not written yet: it is added when the upload is completed.
+    pub last: LastChunk,
+}
 
 /// Takes the bytes of an upload, in pieces of any length.
 ///
@@ -59,14 +69,12 @@ impl Intake {
         })
     }
 
-    /// Writes the bytes in memory as the next chunk.
+    /// Writes the bytes in memory, which are a full chunk, as the next one.
     fn write_chunk<S: Alter>(&mut self, store: &mut Store<S>) -> Result<(), StoreFault>
         ensures same { KeepsCount self.old self.new }
         ensures empty { OnOk result (self.new.last.items ≡ []) }
         ensures advances { length self.old.last.items ≡ CHUNK
             → OnOk result (Advances S.Store store.old self.old store.new self.new []) }
-        ensures finishes { 0 < length self.old.last.items
-            → OnOk result (Finishes S.Store store.old self.old store.new) }
         ensures keeps { KeepsWithin S.Store store.old self.old store.new 0 }
         ensures known { result ≢ Err StoreFault.UnknownSchema }
     {
@@ -77,19 +85,6 @@ impl Intake {
         self.written = next;
         self.last.clear();
         Ok(())
-    }
-
-    /// Writes the bytes in memory as the last chunk, if there are any.
-    fn write_last<S: Alter>(&mut self, store: &mut Store<S>) -> Result<(), StoreFault>
-        ensures same { KeepsCount self.old self.new }
-        ensures finishes { OnOk result (Finishes S.Store store.old self.old store.new) }
-        ensures keeps { KeepsWithin S.Store store.old self.old store.new 0 }
-        ensures known { result ≢ Err StoreFault.UnknownSchema }
-    {
-        if self.last.is_empty() {
-            return Ok(());
-        }
-        self.write_chunk(store)
     }
 
     /// Takes bytes from the front until the chunk is full, which is then written, and returns how many it took.
@@ -171,32 +166,32 @@ impl Intake {
         }
     }
 
-    /// Writes the last chunk, and returns the name and the number of the bytes that were taken.
+    /// Returns the name and the number of the bytes that were taken, and the last chunk, which is not written.
     ///
     /// # Errors
     ///
-    /// A [`StoreFault`]; `Refused` also if the intake is spent. The contents of the store are unchanged.
-    pub fn end<S: Alter>(self, store: &mut Store<S>) -> Result<(Oid, Size), StoreFault>
-        ensures stored { HasTables S.Store store.old → IfOk result (λ found. (repo name : List ℕ)
-            (size : ℕ) (bytes : List ℕ) → HasTaken S.Store store.old self repo name size bytes
-            → (found.0 ≡ name_of bytes) × (found.1 ≡ length bytes)
-            × HasStored S.Store store.new (upload_number self.upload) repo name size bytes) }
-        ensures kept { From S.Store store.old store.new (λ world. (repo name : List ℕ) (size : ℕ)
-            (bytes : List ℕ) → HasTaken S.Store store.old self repo name size bytes
-            → Keeps S.Store store.old store.new world) }
-        ensures refused { self.is_spent ≡ true
-            → (result ≡ Err StoreFault.Refused) × (store.new ≡ store.old) }
+    /// `Refused` if the intake is spent, or `Memory`.
+    pub fn end(self) -> Result<Arrival, StoreFault>
+        ensures named { (bytes : List ℕ) → HasCounted self.hasher self.taken bytes → IfOk result
+            (λ arrival. (arrival.name ≡ name_of bytes) × (arrival.size ≡ length bytes)) }
+        ensures whole { (pieces : List (List ℕ)) (bytes : List ℕ)
+            → IsCut self.written self.last.items pieces bytes → IfOk result
+            (λ arrival. IsWhole pieces arrival.last bytes) }
+        ensures refused { self.is_spent ≡ true → result ≡ Err StoreFault.Refused }
         ensures known { result ≢ Err StoreFault.UnknownSchema }
     {
-        let mut intake = self;
-        if intake.is_spent {
+        if self.is_spent {
             return Err(StoreFault::Refused);
         }
-        intake.write_last(store)?;
-        let Some(size) = Size::read(intake.taken) else {
+        let Some(size) = Size::read(self.taken) else {
             return Err(StoreFault::Refused);
         };
-        Ok((name_of(intake.hasher)?, size))
+        let last = LastChunk {
+            n: self.written,
+            bytes: self.last,
+        };
+        let name = name_of(self.hasher)?;
+        Ok(Arrival { name, size, last })
     }
 }
 

@@ -7,5 +7,5 @@
 mod intake;
 mod pouring;
 
-pub use intake::Intake;
+pub use intake::{Arrival, Intake};
 pub use pouring::{PourCause, PourFault, pour};

@@ -21,8 +21,9 @@ use Rattle.tables.specs.declared.rows.UploadId.{UploadId}
 use Rattle.refinement.specs.Left.{From, Keeps, Ends, Gives}
 use Rattle.refinement.specs.Staging.{Stages}
 use Rattle.refinement.proofs.Leading.{leads_none, keeps_still, keeps_then, keeps_ends, ends_reported}
-use Rattle.chunks.specs.Intakes.{IsCut, HasCounted, HasTaken, HasStored}
+use Rattle.chunks.specs.Intakes.{IsCut, IsWhole, HasCounted, HasTaken}
 use Rattle.chunks.specs.declared.intake.Intake.{Intake}
+use Rattle.chunks.specs.declared.intake.Arrival.{Arrival}
 use Rattle.uploads.specs.Completing.{Staged, bytes_in, object_of, IsAsBegun, Arrives, Completes}
 use Rattle.uploads.specs.declared.completing.Kept.{Kept}
 use Rattle.uploads.specs.declared.completing.Kept.TheVariants.{New, Already}
@@ -33,7 +34,7 @@ use Rattle.desk.specs.declared.receiving.Receipt.TheVariants.{Stored, Differs}
 use Rattle.desk.specs.declared.outcomes.AnswerFault.{AnswerFault}
 use Rattle.desk.specs.declared.outcomes.AnswerFault.TheVariants as fault
 use Rattle.desk.specs.Contents.{HasRead}
-use Rattle.desk.specs.Receiving.{object_from, Takes, Fills, Carries, Settles, Receives}
+use Rattle.desk.specs.Receiving.{object_from, Takes, HasAll, Fills, Carries, Settles, Receives}
 
 -- ---- the content
 
@@ -153,20 +154,23 @@ module _ {S : Type 0} (g : Ghosts S) where
       completed (Err upload_fault.Differs) done = differs (bytes_eq upload.name (name_of (bytes_in upload))) refl done
       completed (Err (upload_fault.Store f)) done = refused (bytes_eq upload.name (name_of (bytes_in upload))) f refl done
 
-  pub settled : (old new : Store S) (id : UploadId) (found : List ℕ) (size : ℕ) (r : Result Kept UploadFault)
-      → From g old new (λ world. (upload : Staged) → Arrives g old id upload found size → Completes g world upload old new r)
-      → From g old new (Settles g old new id found size (receipt_of r))
-  settled old new id found size r done = record {
+  pub settled : (old new : Store S) (id : UploadId) (arrival : Arrival) (r : Result Kept UploadFault)
+      → From g old new (λ world. (upload : Staged) → Arrives g old id upload arrival.last arrival.name arrival.size → Completes g world upload old new r)
+      → From g old new (Settles g old new id arrival (receipt_of r))
+  settled old new id arrival r done = record {
     honest = done.honest;
-    each = λ honest world h repo name bytes is_repo stored named counted.
-        let upload : Staged = record { repo = repo; name = name; size = size; pieces = stored.pieces } in
-        let arrives : Arrives g old id upload found size = record {
+    each = λ honest world h repo name bytes is_repo all.
+        let it = all.arrived in
+        let upload : Staged = record { repo = repo; name = name; size = arrival.size; pieces = it.pieces; last = arrival.last.bytes.items } in
+        let arrives : Arrives g old id upload arrival.last arrival.name arrival.size = record {
           repo = is_repo;
-          stages = stored.staged;
-          name = named ∙ ap name_of (sym stored.all);
-          length = counted ∙ ap length (sym stored.all);
+          next = it.whole.next;
+          last = refl;
+          stages = it.staged;
+          name = all.named ∙ ap name_of (sym it.whole.all);
+          length = all.counted ∙ ap length (sym it.whole.all);
         } in
-        subst (λ (b : List ℕ). Carries g old new world (object_from repo name b) (receipt_of r)) stored.all
+        subst (λ (b : List ℕ). Carries g old new world (object_from repo name b) (receipt_of r)) it.whole.all
         (completed old new world upload arrives.length r (done.each honest world h upload arrives));
   }
 
@@ -239,29 +243,28 @@ module _ {S : Type 0} (g : Ghosts S) where
       each = λ clean world h repo name stages. ((so_far.each clean world h repo name size [] (taken_none repo name stages)).0, tt);
     }
 
-    module _ (b c : Store S) (j : Intake) (bytes : List ℕ) (so_far : From g a b (Takes g a i b j bytes taken))
-        (kept : From g b c (λ world. (repo name : List ℕ) (size : ℕ) (bytes : List ℕ) → HasTaken g b j repo name size bytes → Keeps g b c world)) where
-      pub fills_refused : (e : AnswerFault) → From g a c (Fills g a c id size bytes (Err e))
-      fills_refused e = record {
-        honest = λ clean. so_far.honest (kept.honest clean);
-        each = λ clean world h repo name stages.
-            let it = so_far.each (kept.honest clean) world h repo name size [] (taken_none repo name stages) in
-            (keeps_then g a b c world it.0 (kept.each clean world it.0.holds repo name size bytes it.1), tt);
-      }
-
-      pub fills_all : (found : List ℕ × ℕ) → j.upload ≡ i.upload
-          → (HasTables g b → (repo name : List ℕ) (size : ℕ) (bytes : List ℕ) → HasTaken g b j repo name size bytes
-          → (found.0 ≡ name_of bytes) × (found.1 ≡ length bytes) × HasStored g c (upload_number j.upload) repo name size bytes)
-          → From g a c (Fills g {E = AnswerFault} a c id size bytes (Ok found))
-      fills_all found upload stored = record {
-        honest = λ clean. so_far.honest (kept.honest clean);
-        each = λ clean world h repo name stages.
-            let it = so_far.each (kept.honest clean) world h repo name size [] (taken_none repo name stages) in
-            let is = stored it.0.holds.ready repo name size bytes it.1 in (
-              keeps_then g a b c world it.0 (kept.each clean world it.0.holds repo name size bytes it.1),
-              (is.0, is.1, subst (λ (u : UploadId). HasStored g c (upload_number u) repo name size bytes) (upload ∙ same) is.2),
-            );
-      }
+    pub fills_all : (b : Store S) (j : Intake) (bytes : List ℕ) (arrival : Arrival) → j.upload ≡ i.upload → From g a b (Takes g a i b j bytes taken)
+        → ((bytes : List ℕ) → HasCounted j.hasher j.taken bytes → (arrival.name ≡ name_of bytes) × (arrival.size ≡ length bytes))
+        → ((pieces : List (List ℕ)) (bytes : List ℕ) → IsCut j.written j.last.items pieces bytes → IsWhole pieces arrival.last bytes)
+        → From g a b (Fills g {E = AnswerFault} a b id size bytes (Ok arrival))
+    fills_all b j bytes arrival upload so_far named whole = record {
+      honest = so_far.honest;
+      each = λ clean world h repo name stages.
+          let it = so_far.each clean world h repo name size [] (taken_none repo name stages) in
+          let cuts = it.1.cuts in
+          let says = named bytes it.1.counted in (
+            it.0,
+            record {
+              arrived = record {
+                pieces = cuts.pieces;
+                whole = whole cuts.pieces bytes cuts.cut;
+                staged = subst (λ (u : UploadId). Stages g b (upload_number u) repo name size cuts.pieces) (upload ∙ same) cuts.staged;
+              };
+              named = says.0;
+              counted = says.1;
+            },
+          );
+    }
 
   -- ---- from the upload to the answer
 
@@ -280,7 +283,7 @@ module _ {S : Type 0} (g : Ghosts S) where
   )
 
   module _ (a b : Store S) (id : UploadId) (repo name : List ℕ) (size : ℕ) (begun : From g a b (λ world. Keeps g a b world × Stages g b (upload_number id) repo name size [])) where
-    pub received_part : (c : Store S) (bytes : List ℕ) (left : ℕ) (r : Result (List ℕ × ℕ) AnswerFault) (e : AnswerFault) → From g b c (Fills g b c id size bytes r) → From g a c (λ world. Receives g a c world repo name bytes left (Err e))
+    pub received_part : (c : Store S) (bytes : List ℕ) (left : ℕ) (r : Result Arrival AnswerFault) (e : AnswerFault) → From g b c (Fills g b c id size bytes r) → From g a c (λ world. Receives g a c world repo name bytes left (Err e))
     received_part c bytes left r e filled = record {
       honest = λ clean. begun.honest (filled.honest clean);
       each = λ clean world h.
@@ -289,16 +292,16 @@ module _ {S : Type 0} (g : Ghosts S) where
           received_none a c world repo name bytes left e (keeps_then g a b c world it.0 more.0);
     }
 
-    pub received : (c d : Store S) (bytes : List ℕ) (left : ℕ) (found : List ℕ × ℕ) (r : Result Receipt StoreFault) → IsTrue (is_repo repo) → length bytes ≡ size → left ≡ 0
-        → From g b c (Fills g {E = AnswerFault} b c id size bytes (Ok found)) → From g c d (Settles g c d id found.0 found.1 r)
+    pub received : (c d : Store S) (bytes : List ℕ) (left : ℕ) (arrival : Arrival) (r : Result Receipt StoreFault) → IsTrue (is_repo repo) → length bytes ≡ size → left ≡ 0
+        → From g b c (Fills g {E = AnswerFault} b c id size bytes (Ok arrival)) → From g c d (Settles g c d id arrival r)
         → From g a d (λ world. Receives g a d world repo name bytes left (answered_by r))
-    received c d bytes left found r is_repo whole none filled settled = record {
+    received c d bytes left arrival r is_repo whole none filled settled = record {
       honest = λ clean. begun.honest (filled.honest (settled.honest clean));
       each = λ clean world h.
           let it = begun.each (filled.honest (settled.honest clean)) world h in
           let more = filled.each (settled.honest clean) world it.0.holds repo name it.1 in
           let keeps = keeps_then g a b c world it.0 more.0 in
-          let stored = subst (λ (n : ℕ). HasStored g c (upload_number id) repo name n bytes) (sym whole ∙ sym more.1.1) more.1.2 in
+          let all = subst (λ (n : ℕ). HasAll g c id arrival repo name n bytes) (sym whole ∙ sym more.1.counted) more.1 in
           received_all a d world repo name bytes left r none
-          (carries_then a c d world (object_from repo name bytes) r keeps (settled.each clean world keeps.holds repo name bytes is_repo stored more.1.0 more.1.1));
+          (carries_then a c d world (object_from repo name bytes) r keeps (settled.each clean world keeps.holds repo name bytes is_repo all));
     }

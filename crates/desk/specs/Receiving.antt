@@ -13,8 +13,9 @@ use Rattle.tables.specs.declared.fault.StoreFault.{StoreFault}
 use Rattle.tables.specs.declared.rows.UploadId.{UploadId}
 use Rattle.refinement.specs.Left.{Keeps, Gives}
 use Rattle.refinement.specs.Staging.{Stages}
-use Rattle.chunks.specs.Intakes.{HasTaken, HasStored}
+use Rattle.chunks.specs.Intakes.{HasTaken, HasArrived}
 use Rattle.chunks.specs.declared.intake.Intake.{Intake}
+use Rattle.chunks.specs.declared.intake.Arrival.{Arrival}
 use Rattle.desk.specs.declared.replies.Reply.{Reply}
 use Rattle.desk.specs.declared.receiving.Receipt.{Receipt}
 use Rattle.desk.specs.declared.receiving.Receipt.TheVariants.{Stored, Differs}
@@ -38,12 +39,17 @@ module _ {S : Type 0} (g : Ghosts S) where
       (repo name : List ℕ) (size : ℕ) (bytes : List ℕ) → HasTaken g old i repo name size bytes
       → Keeps g old new world × OnOk r (HasTaken g new j repo name size (bytes ++ more))
 
-  -- the world is kept, and after an Ok the chunks of the upload are these bytes, of this name and number
-  abbrev pub Fills : {E : Type 0} → Store S → Store S → UploadId → ℕ → List ℕ → Result (List ℕ × ℕ) E → World → Type 0
+  -- these bytes arrived: the upload is staged, and its chunks and the last one are these bytes, of this name and number
+  pub record HasAll (s : Store S) (id : UploadId) (arrival : Arrival) (repo name : List ℕ) (size : ℕ) (bytes : List ℕ) : Type 0 where
+    pub arrived : HasArrived g s (upload_number id) arrival.last repo name size bytes
+    pub named : arrival.name ≡ name_of bytes
+    pub counted : arrival.size ≡ length bytes
+
+  -- the world is kept, and after an Ok these bytes arrived
+  abbrev pub Fills : {E : Type 0} → Store S → Store S → UploadId → ℕ → List ℕ → Result Arrival E → World → Type 0
   Fills old new id size bytes r world =
       (repo name : List ℕ) → Stages g old (upload_number id) repo name size []
-      → Keeps g old new world × IfOk r (λ found. (found.0 ≡ name_of bytes) × (found.1 ≡ length bytes)
-      × HasStored g new (upload_number id) repo name size bytes)
+      → Keeps g old new world × IfOk r (λ arrival. HasAll new id arrival repo name size bytes)
 
   -- the verdict on the object was given and carried out, as the receipt reports; or the store refused
   abbrev pub Carries : Store S → Store S → World → Object → Result Receipt StoreFault → Type 0
@@ -51,11 +57,11 @@ module _ {S : Type 0} (g : Ghosts S) where
       (content_verdict o ≡ answer_of o receipt) × Gives g old new world (content_verdict o) (content_verdict o)
   Carries old new world o (Err f) = Gives g old new world (content_verdict o) store_refusal
 
-  -- an upload whose bytes have this name, and are as many as it was begun with, was answered
-  abbrev pub Settles : Store S → Store S → UploadId → List ℕ → ℕ → Result Receipt StoreFault → World → Type 0
-  Settles old new id found size r world =
-      (repo name bytes : List ℕ) → IsTrue (is_repo repo) → HasStored g old (upload_number id) repo name size bytes
-      → found ≡ name_of bytes → size ≡ length bytes → Carries old new world (object_from repo name bytes) r
+  -- an upload whose bytes arrived, as many as it was begun with, was answered
+  abbrev pub Settles : Store S → Store S → UploadId → Arrival → Result Receipt StoreFault → World → Type 0
+  Settles old new id arrival r world =
+      (repo name bytes : List ℕ) → IsTrue (is_repo repo) → HasAll old id arrival repo name arrival.size bytes
+      → Carries old new world (object_from repo name bytes) r
 
   -- these bytes of an upload arrived, and `left` more did not. It was answered if none is left. If the store refused,
   -- it was answered whatever the rest is, and the world is kept unless all arrived; if the bytes ended, the world is kept

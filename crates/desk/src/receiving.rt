@@ -7,7 +7,7 @@ ghost use Rattle.desk.specs.Contents.{HasRead, IsReadOut, IsLeftBy};
 ghost use Rattle.desk.specs.Receiving.{Takes, Fills, Settles, Receives};
 
 use crate::outcomes::AnswerFault;
-use chunks::Intake;
+use chunks::{Arrival, Intake};
 use names::{Body, Oid, RepoName, Size};
 use std::alloc::Global;
 use tables::{Alter, Store, StoreFault, UploadId};
@@ -61,7 +61,8 @@ fn take_all<S: Alter, B: Body>(
     Ok(())
 }
 
-/// Reads the content to its end as the bytes of an upload that has none yet, and returns their name and their number.
+/// Reads the content to its end as the bytes of an upload that has none yet, and returns their name, their number and
+/// their last chunk.
 ///
 /// # Errors
 ///
@@ -73,7 +74,7 @@ fn fill<S: Alter, B: Body>(
     upload: UploadId,
     size: Size,
     content: &mut B,
-) -> Result<(Oid, Size), AnswerFault>
+) -> Result<Arrival, AnswerFault>
     ensures bytes { (bytes : List ℕ) × HasRead B.Body content.old content.new bytes
         × From S.Store store.old store.new (λ world.
         Fills S.Store store.old store.new upload size bytes result world) }
@@ -84,11 +85,10 @@ fn fill<S: Alter, B: Body>(
     let mut intake = Intake::begin(alloc, upload, size)?;
     let mut buffer = vec![in alloc; 0u8; PIECE]?;
     take_all(store, content, &mut intake, &mut buffer)?;
-    Ok(intake.end(store)?)
+    Ok(intake.end()?)
 }
 
-/// Makes the upload an object of its repository if its bytes have its name. `found` and `size` are the name and the
-/// number of its bytes.
+/// Makes the upload an object of its repository if the bytes that arrived have its name.
 ///
 /// # Errors
 ///
@@ -96,14 +96,13 @@ fn fill<S: Alter, B: Body>(
 fn settle<S: Alter>(
     store: &mut Store<S>,
     upload: UploadId,
-    found: &Oid,
-    size: Size,
+    arrival: &Arrival,
 ) -> Result<Receipt, StoreFault>
     ensures world { From S.Store store.old store.new (λ world.
-        Settles S.Store store.old store.new upload found.now size result world) }
+        Settles S.Store store.old store.new upload arrival.now result world) }
     ensures known { result ≢ Err StoreFault.UnknownSchema }
 {
-    match uploads::complete(store, upload, found, size) {
+    match uploads::complete(store, upload, &arrival.last, &arrival.name, arrival.size) {
         Ok(_) => Ok(Receipt::Stored),
         Err(UploadFault::Differs) => Ok(Receipt::Differs),
         Err(UploadFault::Store(fault)) => Err(fault),
@@ -137,6 +136,6 @@ pub(crate) fn receive<S: Alter, B: Body>(
         return Err(AnswerFault::Store(StoreFault::Refused));
     };
     let upload = uploads::begin(alloc, store, repo, name, size)?;
-    let (found, found_size) = fill(alloc, store, upload, size, content)?;
-    Ok(settle(store, upload, &found, found_size)?)
+    let arrival = fill(alloc, store, upload, size, content)?;
+    Ok(settle(store, upload, &arrival)?)
 }

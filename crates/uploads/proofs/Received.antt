@@ -1,5 +1,6 @@
 -- A staged upload whose bytes arrived is completed.
-use Rattle.std.proofs.Common.{◌≡◌, ◌∙◌, ◌⊎◌, inl, inr, ℕ, ◌≤◌, pos, List, Some, is_some, Ok, Err, refl, sym, ap, subst}
+use Rattle.std.proofs.Common.{◌≡◌, ◌∙◌, ◌⊎◌, inl, inr, ℕ, ◌≤◌, pos, List, ◌++◌, length, Some, is_some, Ok, Err, refl, sym, ap, subst}
+use Rattle.std.specs.List.{concat}
 use Rattle.sqlite_trees.specs.declared.store.Store.{Ghosts}
 use Rattle.names.specs.Texts.{largest_object}
 use Rattle.model.specs.World.{World, IsWorld, IsObject, object_named, with_object}
@@ -12,6 +13,7 @@ use Rattle.tables.specs.declared.Store.{Store}
 use Rattle.tables.specs.declared.fault.StoreFault.{StoreFault}
 use Rattle.tables.specs.declared.rows.Completion.{Completion}
 use Rattle.tables.specs.declared.rows.Completion.TheVariants as completion
+use Rattle.tables.specs.declared.new_rows.LastChunk.{LastChunk}
 use Rattle.tables.specs.declared.rows.UploadId.{UploadId}
 use Rattle.refinement.specs.Representation.{Represents, Holds}
 use Rattle.refinement.specs.Staging.{staged_row}
@@ -23,16 +25,28 @@ use Rattle.uploads.specs.declared.completing.Kept.TheVariants.{New, Already}
 use Rattle.uploads.specs.declared.completing.UploadFault.TheVariants.{Differs}
 use Rattle.uploads.specs.declared.completing.UploadFault.TheVariants as fault
 
-module _ {S : Type 0} (g : Ghosts S) (old new : Store S) (world : World) (upload : Staged) (id : UploadId) (oid : List ℕ) (size : ℕ) (h : Holds g old world) (a : Arrives g old id upload oid size) where
+module _ {S : Type 0} (g : Ghosts S) (old new : Store S) (world : World) (upload : Staged) (id : UploadId) (chunk : LastChunk) (oid : List ℕ) (size : ℕ) (h : Holds g old world) (a : Arrives g old id upload chunk oid size) where
   abbrev step : Tables → Tables
-  step = after_complete (upload_number id) oid (pos size)
+  step = after_complete (upload_number id) chunk oid (pos size)
 
   abbrev made : World
   made = with_object (object_of upload) world
 
+  -- the bytes that are stored, and those of the last chunk
+  abbrev all : List ℕ
+  all = concat upload.pieces ++ chunk.bytes.items
+
+  same_bytes : all ≡ bytes_in upload
+  same_bytes = ap (λ (b : List ℕ). concat upload.pieces ++ b) a.last
+
+  arrived : length all ≡ size
+  arrived = ap length same_bytes ∙ sym a.length
+
   -- the object with the name that was given is the one with the name of the bytes
-  same_object : with_object (record { repo = upload.repo; name = oid; bytes = bytes_in upload }) world ≡ made
-  same_object = ap (λ (n : List ℕ). with_object (record { repo = upload.repo; name = n; bytes = bytes_in upload }) world) a.name
+  same_object : with_object (record { repo = upload.repo; name = oid; bytes = all }) world ≡ made
+  same_object =
+      ap (λ (b : List ℕ). with_object (record { repo = upload.repo; name = oid; bytes = b }) world) same_bytes
+      ∙ ap (λ (n : List ℕ). with_object (record { repo = upload.repo; name = n; bytes = bytes_in upload }) world) a.name
 
   is_begun : upload.name ≡ oid → upload.size ≡ size → IsAsBegun upload
   is_begun same equal = (sym a.name ∙ sym same, sym a.length ∙ sym equal)
@@ -44,8 +58,8 @@ module _ {S : Type 0} (g : Ghosts S) (old new : Store S) (world : World) (upload
 
   -- what the tables represent after a result
   after : (k : IsHonest g old) (o : IsOpen g old) (c : Completion) → completion_of (upload_number id) oid (pos size) (shown g old) ≡ Some c
-      → Completed (shown g old) world (upload_number id) upload.repo upload.name upload.size upload.pieces oid size (h.shows k o) h.laws (a.stages k o) (sym a.length) c
-  after k o c said = completed (shown g old) world (upload_number id) upload.repo upload.name upload.size upload.pieces oid size (h.shows k o) h.laws (a.stages k o) (sym a.length) c said
+      → Completed (shown g old) world (upload_number id) upload.repo upload.name upload.size upload.pieces chunk oid size (h.shows k o) h.laws (a.stages k o) a.next arrived c
+  after k o c said = completed (shown g old) world (upload_number id) upload.repo upload.name upload.size upload.pieces chunk oid size (h.shows k o) h.laws (a.stages k o) a.next arrived c said
 
   holds_same : (k : IsHonest g old) (o : IsOpen g old) → Makes g step old new → Represents (step (shown g old)) world → Holds g new world
   holds_same k o makes r = holds_made g old new world step h.ready makes h.laws (λ _ _. r)
@@ -76,7 +90,7 @@ module _ {S : Type 0} (g : Ghosts S) (old new : Store S) (world : World) (upload
 
   -- what a stop may leave of a call that failed
   either : (k : IsHonest g old) (o : IsOpen g old) (c : Completion)
-      → Completed (shown g old) world (upload_number id) upload.repo upload.name upload.size upload.pieces oid size (h.shows k o) h.laws (a.stages k o) (sym a.length) c
+      → Completed (shown g old) world (upload_number id) upload.repo upload.name upload.size upload.pieces chunk oid size (h.shows k o) h.laws (a.stages k o) a.next arrived c
       → (IsWorld made × Represents (step (shown g old)) made) ⊎ Represents (step (shown g old)) world
   either k o completion.New it = inl (keeps_with_object world (object_of upload) (is_object k o it.1) h.laws, subst (Represents (step (shown g old))) same_object it.3)
   either k o completion.Already it = inr it.3
@@ -84,7 +98,7 @@ module _ {S : Type 0} (g : Ghosts S) (old new : Store S) (world : World) (upload
 
   -- it leaves the world if the bytes differ from what was begun
   unless_begun : (k : IsHonest g old) (o : IsOpen g old) (c : Completion)
-      → Completed (shown g old) world (upload_number id) upload.repo upload.name upload.size upload.pieces oid size (h.shows k o) h.laws (a.stages k o) (sym a.length) c
+      → Completed (shown g old) world (upload_number id) upload.repo upload.name upload.size upload.pieces chunk oid size (h.shows k o) h.laws (a.stages k o) a.next arrived c
       → (IsAsBegun upload → ⊥) → Represents (step (shown g old)) world
   unless_begun k o completion.New it differ = absurd (differ (is_begun it.0 it.1))
   unless_begun k o completion.Already it differ = it.3
@@ -95,8 +109,8 @@ module _ {S : Type 0} (g : Ghosts S) (old new : Store S) (world : World) (upload
   tried = completion_by oid (pos size) (staged_row (upload_number id) upload.repo upload.name upload.size) (shown g old)
 
   would : (k : IsHonest g old) (o : IsOpen g old)
-      → Completed (shown g old) world (upload_number id) upload.repo upload.name upload.size upload.pieces oid size (h.shows k o) h.laws (a.stages k o) (sym a.length) tried
-  would k o = completed_by (shown g old) world (upload_number id) upload.repo upload.name upload.size upload.pieces oid size (h.shows k o) h.laws (a.stages k o) (sym a.length)
+      → Completed (shown g old) world (upload_number id) upload.repo upload.name upload.size upload.pieces chunk oid size (h.shows k o) h.laws (a.stages k o) a.next arrived tried
+  would k o = completed_by (shown g old) world (upload_number id) upload.repo upload.name upload.size upload.pieces chunk oid size (h.shows k o) h.laws (a.stages k o) a.next arrived
 
   pub refused : (f : StoreFault) → Fails g step old new → Completes g world upload old new (Err (fault.Store f))
   refused f fails = (

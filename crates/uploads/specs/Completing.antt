@@ -1,5 +1,5 @@
 -- Uploads that are completed.
-use Rattle.std.specs.Prelude.{◌≡◌, ℕ, true, List, length, None, is_some, IsTrue, Result, Ok, Err}
+use Rattle.std.specs.Prelude.{◌≡◌, ℕ, true, List, ◌++◌, length, None, is_some, IsTrue, Result, Ok, Err}
 use Rattle.std.specs.List.{concat}
 use Rattle.sqlite_trees.specs.declared.store.Store.{Ghosts}
 use Rattle.names.specs.Texts.{is_repo}
@@ -7,6 +7,7 @@ use Rattle.model.specs.World.{World, Object, name_of, object_named, with_object}
 use Rattle.model.specs.Bounds.{Ending, changed, unchanged, failed}
 use Rattle.tables.specs.Staging.{upload_number}
 use Rattle.tables.specs.declared.Store.{Store}
+use Rattle.tables.specs.declared.new_rows.LastChunk.{LastChunk}
 use Rattle.tables.specs.declared.rows.UploadId.{UploadId}
 use Rattle.refinement.specs.Left.{Ends, Keeps}
 use Rattle.refinement.specs.Staging.{Stages}
@@ -16,16 +17,18 @@ use Rattle.uploads.specs.declared.completing.UploadFault.{UploadFault}
 use Rattle.uploads.specs.declared.completing.UploadFault.TheVariants.{Differs}
 use Rattle.uploads.specs.declared.completing.UploadFault.TheVariants as fault
 
--- a staged upload: its repository, the name and the size with which it was begun, and the pieces of its bytes
+-- a staged upload: its repository, the name and the size with which it was begun, the pieces of its bytes that are stored,
+-- and the bytes of its last chunk, which is not
 pub record Staged : Type 0 where
   pub repo : List ℕ
   pub name : List ℕ
   pub size : ℕ
   pub pieces : List (List ℕ)
+  pub last : List ℕ
 
 -- the bytes that arrived
 abbrev pub bytes_in : Staged → List ℕ
-bytes_in upload = concat upload.pieces
+bytes_in upload = concat upload.pieces ++ upload.last
 
 -- the object that they are
 abbrev pub object_of : Staged → Object
@@ -36,9 +39,11 @@ abbrev pub IsAsBegun : Staged → Type 0
 IsAsBegun upload = (name_of (bytes_in upload) ≡ upload.name) × (length (bytes_in upload) ≡ upload.size)
 
 module _ {S : Type 0} (g : Ghosts S) where
-  -- this upload is staged under the id, and its bytes have this name and this size
-  pub record Arrives (s : Store S) (id : UploadId) (upload : Staged) (oid : List ℕ) (size : ℕ) : Type 0 where
+  -- this upload is staged under the id, this is its last chunk, and all its bytes have this name and this size
+  pub record Arrives (s : Store S) (id : UploadId) (upload : Staged) (chunk : LastChunk) (oid : List ℕ) (size : ℕ) : Type 0 where
     pub repo : IsTrue (is_repo upload.repo)
+    pub next : chunk.n ≡ length upload.pieces
+    pub last : chunk.bytes.items ≡ upload.last
     pub stages : Stages g s (upload_number id) upload.repo upload.name upload.size upload.pieces
     pub name : oid ≡ name_of (bytes_in upload)
     pub length : size ≡ length (bytes_in upload)

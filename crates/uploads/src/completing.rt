@@ -6,7 +6,7 @@ ghost use Rattle.uploads.specs.Completing.{Staged, Arrives, Completes};
 ghost use Rattle.uploads.specs.declared.completing.UploadFault.TheVariants.{Store as by_store};
 
 use names::{Oid, Size};
-use tables::{Alter, Completion, Store, StoreFault, UploadId};
+use tables::{Alter, Completion, LastChunk, Store, StoreFault, UploadId};
 
 /// The result of completing an upload.
 #[derive(Clone, Copy, Debug, PartialEq, Eq)]
@@ -38,7 +38,8 @@ impl From<StoreFault> for UploadFault {
 }
 
 /// Makes a staged upload an object of its repository, if its bytes have the name and the size with which it was begun.
-/// `oid` and `size` are the name and the size of the bytes that arrived.
+/// Its last chunk is added in the same transaction. `oid` and `size` are the name and the size of all bytes that
+/// arrived: those of the chunks that it has, and of the last one.
 ///
 /// # Errors
 ///
@@ -47,15 +48,16 @@ impl From<StoreFault> for UploadFault {
 pub fn complete<S: Alter>(
     store: &mut Store<S>,
     id: UploadId,
+    last: &LastChunk,
     oid: &Oid,
     size: Size,
 ) -> Result<Kept, UploadFault>
     ensures known { result ≢ Err (UploadFault.Store StoreFault.UnknownSchema) }
     ensures world { From S.Store store.old store.new (λ world.
-        (upload : Staged) → Arrives S.Store store.old id upload oid.now size
+        (upload : Staged) → Arrives S.Store store.old id upload last.now oid.now size
         → Completes S.Store world upload store.old store.new result) }
 {
-    match store.complete_upload(id, oid, size)? {
+    match store.complete_upload(id, last, oid, size)? {
         Completion::New => Ok(Kept::New),
         Completion::Already => Ok(Kept::Already),
         Completion::Differs => Err(UploadFault::Differs),

@@ -1,6 +1,6 @@
-use Rattle.std.proofs.Common.{Err}
+use Rattle.std.proofs.Common.{Ok, Err}
 use Rattle.std.proofs.lemmas.Result.{err_from_is_err_and}
-use Rattle.desk.proofs.Arriving.{fills_failed, fills_refused, fills_all}
+use Rattle.desk.proofs.Arriving.{fills_failed, fills_all}
 use Rattle.desk.proofs.receiving.fill.Goals as goal
 
 pub returns-in_err-take_all-clause-bytes : goal.returns-in_err-take_all-clause-bytes
@@ -22,8 +22,7 @@ returns-in_err-end-clause-bytes g c =
     rw p.1 (
       took.0,
       took.1,
-      fills_refused g.S.Store c.args.store.now c.in_ok-intake.intake c.args.upload c.args.size begun.upload begun.size begun.empty c.take_all.new.store c.end.new.store c.take_all.new.intake took.0 took.2
-          c.in_err-end.ensures.kept p.0,
+      fills_failed g.S.Store c.args.store.now c.in_ok-intake.intake c.args.upload c.args.size begun.upload begun.size begun.empty c.take_all.new.store c.take_all.new.intake took.0 (Ok tt) p.0 took.2,
     )
 
 pub returns-clause-bytes : goal.returns-clause-bytes
@@ -33,6 +32,6 @@ returns-clause-bytes g c =
     let end = c.in_ok-end.ensures in (
       took.0,
       took.1,
-      fills_all g.S.Store c.args.store.now c.in_ok-intake.intake c.args.upload c.args.size begun.upload begun.size begun.empty c.take_all.new.store c.end.new.store c.take_all.new.intake took.0 took.2
-          end.kept c.in_ok-end.field-0 c.in_ok-take_all.ensures.upload end.stored,
+      fills_all g.S.Store c.args.store.now c.in_ok-intake.intake c.args.upload c.args.size begun.upload begun.size begun.empty c.take_all.new.store c.take_all.new.intake took.0 c.in_ok-end.field-0
+          c.in_ok-take_all.ensures.upload took.2 end.named end.whole,
     )

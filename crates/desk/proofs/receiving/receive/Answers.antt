@@ -33,21 +33,21 @@ returns-in_err-upload-clause-bytes g c =
       },
     )
 
-pub returns-in_err-found-clause-bytes : goal.returns-in_err-found-clause-bytes
-returns-in_err-found-clause-bytes g c =
-    let filled = c.in_err-found.ensures.bytes in
-    let p = err_from_is_err_and c.from_residual-in_err-found.result c.from_residual-in_err-found.ensures.1 in
+pub returns-in_err-arrival-clause-bytes : goal.returns-in_err-arrival-clause-bytes
+returns-in_err-arrival-clause-bytes g c =
+    let filled = c.in_err-arrival.ensures.bytes in
+    let p = err_from_is_err_and c.from_residual-in_err-arrival.result c.from_residual-in_err-arrival.ensures.1 in
     rw p.1 (
       filled.0,
       filled.1,
       received_part g.S.Store c.args.store.now c.begin.new.store c.in_ok-upload.upload (repo_text c.args.repo.now) c.args.name.now c.in-Some.size c.in_ok-upload.ensures.world c.fill.new.store filled.0
-          (g.B.Body.size c.fill.new.content) (Err c.in_err-found.field-0.0) p.0 filled.2,
+          (g.B.Body.size c.fill.new.content) (Err c.in_err-arrival.field-0.0) p.0 filled.2,
     )
 
 pub returns-in_err-settle-clause-bytes : goal.returns-in_err-settle-clause-bytes
 returns-in_err-settle-clause-bytes g c =
-    let filled = c.in_ok-found.ensures.bytes in
-    let out = c.in_ok-found.ensures.whole in
+    let filled = c.in_ok-arrival.ensures.bytes in
+    let out = c.in_ok-arrival.ensures.whole in
     let left = g.B.Body.size c.fill.new.content in
     let p = err_from_is_err_and c.from_residual-in_err-settle.result c.from_residual-in_err-settle.ensures.1 in
     let whole = all_read _ left _ filled.1.size out.whole ∙ sym c.left.ensures ∙ sym c.in-Some.ensures.value in
@@ -55,17 +55,17 @@ returns-in_err-settle-clause-bytes g c =
       filled.0,
       filled.1,
       received g.S.Store c.args.store.now c.begin.new.store c.in_ok-upload.upload (repo_text c.args.repo.now) c.args.name.now c.in-Some.size c.in_ok-upload.ensures.world c.fill.new.store c.settle.new.store filled.0 left
-          (c.in_ok-found.found, c.in_ok-found.found_size) (Err c.in_err-settle.field-0.0) c.args.repo.now.in_range whole out.whole filled.2 c.in_err-settle.ensures.world,
+          c.in_ok-arrival.arrival (Err c.in_err-settle.field-0.0) c.args.repo.now.in_range whole out.whole filled.2 c.in_err-settle.ensures.world,
     )
 
 pub returns-clause-bytes : goal.returns-clause-bytes
 returns-clause-bytes g c =
-    let filled = c.in_ok-found.ensures.bytes in
-    let out = c.in_ok-found.ensures.whole in
+    let filled = c.in_ok-arrival.ensures.bytes in
+    let out = c.in_ok-arrival.ensures.whole in
     let left = g.B.Body.size c.fill.new.content in
     let whole = all_read _ left _ filled.1.size out.whole ∙ sym c.left.ensures ∙ sym c.in-Some.ensures.value in (
       filled.0,
       filled.1,
       received g.S.Store c.args.store.now c.begin.new.store c.in_ok-upload.upload (repo_text c.args.repo.now) c.args.name.now c.in-Some.size c.in_ok-upload.ensures.world c.fill.new.store c.settle.new.store filled.0 left
-          (c.in_ok-found.found, c.in_ok-found.found_size) (Ok c.in_ok-settle.field-0) c.args.repo.now.in_range whole out.whole filled.2 c.in_ok-settle.ensures.world,
+          c.in_ok-arrival.arrival (Ok c.in_ok-settle.field-0) c.args.repo.now.in_range whole out.whole filled.2 c.in_ok-settle.ensures.world,
     )

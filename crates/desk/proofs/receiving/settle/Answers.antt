@@ -5,14 +5,14 @@ use Rattle.desk.proofs.receiving.settle.Goals as goal
 
 pub returns-in-Ok-clause-world : goal.returns-in-Ok-clause-world
 returns-in-Ok-clause-world g c =
-    settled g.S.Store c.args.store.now c.complete.new.store c.args.upload c.args.found.now c.args.size (Ok c.in-Ok.field-0) c.in-Ok.ensures.world
+    settled g.S.Store c.args.store.now c.complete.new.store c.args.upload c.args.arrival.now (Ok c.in-Ok.field-0) c.in-Ok.ensures.world
 
 pub returns-in-Err-Differs-clause-world : goal.returns-in-Err-Differs-clause-world
 returns-in-Err-Differs-clause-world g c =
-    settled g.S.Store c.args.store.now c.complete.new.store c.args.upload c.args.found.now c.args.size (Err upload_fault.Differs)
+    settled g.S.Store c.args.store.now c.complete.new.store c.args.upload c.args.arrival.now (Err upload_fault.Differs)
     (rw c.in-Err-Differs.field-0-is at c.in-Err-Differs.ensures.world)
 
 pub returns-in-Err-Store-clause-world : goal.returns-in-Err-Store-clause-world
 returns-in-Err-Store-clause-world g c =
-    settled g.S.Store c.args.store.now c.complete.new.store c.args.upload c.args.found.now c.args.size (Err (upload_fault.Store c.in-Err-Store.fault))
+    settled g.S.Store c.args.store.now c.complete.new.store c.args.upload c.args.arrival.now (Err (upload_fault.Store c.in-Err-Store.fault))
     (rw c.in-Err-Store.field-0-is at c.in-Err-Store.ensures.world)

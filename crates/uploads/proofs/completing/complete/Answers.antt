@@ -9,15 +9,15 @@ returns-in_err-complete_upload-clause-world g c = record {
   each = λ honest world h upload a.
       let p = err_from_is_err_and c.from_residual.result c.from_residual.ensures.1 in
       rw (p.1, p.2)
-      (refused g.S.Store c.args.store.now c.complete_upload.new.self world upload c.args.id c.args.oid.now c.args.size h a c.in_err-complete_upload.field-0.0 c.in_err-complete_upload.ensures.failed);
+      (refused g.S.Store c.args.store.now c.complete_upload.new.self world upload c.args.id c.args.last.now c.args.oid.now c.args.size h a c.in_err-complete_upload.field-0.0 c.in_err-complete_upload.ensures.failed);
 }
 
 pub returns-in-New-clause-world : goal.returns-in-New-clause-world
 returns-in-New-clause-world g c = record {
   honest = λ k. c.in_ok-complete_upload.ensures.made.moves.was_honest k;
   each = λ honest world h upload a.
-      subst (Reported g.S.Store c.args.store.now c.complete_upload.new.self world upload c.args.id c.args.oid.now c.args.size h a) c.in-New.is
-      (completes_by g.S.Store c.args.store.now c.complete_upload.new.self world upload c.args.id c.args.oid.now c.args.size h a c.in_ok-complete_upload.field-0 honest
+      subst (Reported g.S.Store c.args.store.now c.complete_upload.new.self world upload c.args.id c.args.last.now c.args.oid.now c.args.size h a) c.in-New.is
+      (completes_by g.S.Store c.args.store.now c.complete_upload.new.self world upload c.args.id c.args.last.now c.args.oid.now c.args.size h a c.in_ok-complete_upload.field-0 honest
       (c.in_ok-complete_upload.ensures.answers honest h.ready) c.in_ok-complete_upload.ensures.made);
 }
 
@@ -25,8 +25,8 @@ pub returns-in-Already-clause-world : goal.returns-in-Already-clause-world
 returns-in-Already-clause-world g c = record {
   honest = λ k. c.in_ok-complete_upload.ensures.made.moves.was_honest k;
   each = λ honest world h upload a.
-      subst (Reported g.S.Store c.args.store.now c.complete_upload.new.self world upload c.args.id c.args.oid.now c.args.size h a) c.in-Already.is
-      (completes_by g.S.Store c.args.store.now c.complete_upload.new.self world upload c.args.id c.args.oid.now c.args.size h a c.in_ok-complete_upload.field-0 honest
+      subst (Reported g.S.Store c.args.store.now c.complete_upload.new.self world upload c.args.id c.args.last.now c.args.oid.now c.args.size h a) c.in-Already.is
+      (completes_by g.S.Store c.args.store.now c.complete_upload.new.self world upload c.args.id c.args.last.now c.args.oid.now c.args.size h a c.in_ok-complete_upload.field-0 honest
       (c.in_ok-complete_upload.ensures.answers honest h.ready) c.in_ok-complete_upload.ensures.made);
 }
 
@@ -34,7 +34,7 @@ pub returns-in-Differs-clause-world : goal.returns-in-Differs-clause-world
 returns-in-Differs-clause-world g c = record {
   honest = λ k. c.in_ok-complete_upload.ensures.made.moves.was_honest k;
   each = λ honest world h upload a.
-      subst (Reported g.S.Store c.args.store.now c.complete_upload.new.self world upload c.args.id c.args.oid.now c.args.size h a) c.in-Differs.is
-      (completes_by g.S.Store c.args.store.now c.complete_upload.new.self world upload c.args.id c.args.oid.now c.args.size h a c.in_ok-complete_upload.field-0 honest
+      subst (Reported g.S.Store c.args.store.now c.complete_upload.new.self world upload c.args.id c.args.last.now c.args.oid.now c.args.size h a) c.in-Differs.is
+      (completes_by g.S.Store c.args.store.now c.complete_upload.new.self world upload c.args.id c.args.last.now c.args.oid.now c.args.size h a c.in_ok-complete_upload.field-0 honest
       (c.in_ok-complete_upload.ensures.answers honest h.ready) c.in_ok-complete_upload.ensures.made);
 }

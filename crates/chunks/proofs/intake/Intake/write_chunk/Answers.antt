@@ -1,5 +1,5 @@
 use Rattle.std.proofs.Common.{◌≡◌, ◌+◌, refl, rules}
-use Rattle.chunks.proofs.Cutting.{keeps_nothing, chunk_kept, chunk_advances, chunk_finishes}
+use Rattle.chunks.proofs.Cutting.{keeps_nothing, chunk_kept, chunk_advances}
 use Rattle.chunks.proofs.intake.Intake.write_chunk.Goals as goal
 
 pub returns-in_default-clause-keeps : goal.returns-in_default-clause-keeps
@@ -18,7 +18,3 @@ returns-clause-advances g c full =
 pub returns-clause-keeps : goal.returns-clause-keeps
 returns-clause-keeps g c =
     chunk_kept g.S.Store c.args.store.now c.add_chunk.new.self c.args.self.now c.add_chunk.result (rw c.as_slice.ensures.value at c.add_chunk.ensures.made) (rw c.as_slice.ensures.value at c.add_chunk.ensures.failed)
-
-pub returns-clause-finishes : goal.returns-clause-finishes
-returns-clause-finishes g c some =
-    chunk_finishes g.S.Store c.args.store.now c.add_chunk.new.self c.args.self.now (rw c.as_slice.ensures.value at c.in_ok-add_chunk.ensures.made) some
