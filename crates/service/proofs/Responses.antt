@@ -260,13 +260,13 @@ module _ {S : Type 0} (g : Ghosts S) (setting : Setting) (in_range : IsPolicy se
   made : (bytes rest next : List ℕ) (asked : Message) (given : Answer) (kept : World) (r : Response) → BeginsWith bytes asked rest → (r.close ≡ false → IsFirst bytes (exchange setting asked (Some given)) next)
       → Carries world (exchange setting asked (Some given)) kept → Leads g old new kept (bound_after world (exchanged (exchange setting asked (Some given))))
       → IsReplyOf r.reply given → Lends g new r.reply.body given → r.allow.now ≡ allow asked given → closes_after asked given ≡ r.close → IsResponse g setting bytes next world old new r
-  made bytes rest next asked given kept r begins first carries leads tells lends methods shut = record {
+  made bytes rest next asked given kept r begins first carries leads is_reply lends methods shut = record {
     e = exchange setting asked (Some given);
     kept = kept;
     turn = turn_by bytes rest asked (Some given) kept begins carries leads;
     given = given;
     is = refl;
-    tells = tells;
+    is_reply = is_reply;
     lends = lends;
     methods = methods;
     closes = shut;
@@ -276,19 +276,19 @@ module _ {S : Type 0} (g : Ghosts S) (setting : Setting) (in_range : IsPolicy se
   -- the response to a refused head
   pub refused_response : (bytes next : List ℕ) (asked : Message) (d : refusing.Denied) (r : Response) → IsRefused bytes asked d → Leads g old new world (λ bound. bound)
       → IsReplyOf r.reply (Err (by_rule d.rule)) → r.allow.now ≡ d.allow.now → r.close ≡ true → IsResponse g setting bytes next world old new r
-  refused_response bytes next asked d r is p tells methods shut =
+  refused_response bytes next asked d r is p is_reply methods shut =
       let given : Answer = Err (by_rule d.rule) in
       made bytes is.next next asked given world r is.begins (never_open r.close shut) (by_verdict (sym (is.verdict world setting)) (sym (ap (after world) (is.verdict world setting))))
       (ends_still g old new (answer_ending world (Some given)) world (after world (verdict_on world setting asked)) (denial_changes_none g world (by_rule d.rule)) p)
-      tells (none_lent g new r.reply.body given refl tells.body) (methods ∙ is.methods) (is.closes ∙ sym shut)
+      is_reply (none_lent g new r.reply.body given refl is_reply.body) (methods ∙ is.methods) (is.closes ∙ sym shut)
 
   -- the response if the store refused or memory ran out
   store_response : (bytes rest next : List ℕ) (h : RequestHead) (body : List ℕ) (all : Bool) (r : Response) → is_sure (verdict_on world setting (message h body all)) ≡ false
       → BeginsWith bytes (message h body all) rest → Leads g old new world (left_by failed world (after world (verdict_on world setting (message h body all))))
       → IsReplyOf r.reply store_refusal → r.allow.now ≡ [] → r.close ≡ true → IsResponse g setting bytes next world old new r
-  store_response bytes rest next h body all r not_sure begins p tells methods shut =
-      made bytes rest next (message h body all) store_refusal world r begins (never_open r.close shut) (by_refusal refl not_sure refl) p tells
-      (none_lent g new r.reply.body store_refusal refl tells.body) methods
+  store_response bytes rest next h body all r not_sure begins p is_reply methods shut =
+      made bytes rest next (message h body all) store_refusal world r begins (never_open r.close shut) (by_refusal refl not_sure refl) p is_reply
+      (none_lent g new r.reply.body store_refusal refl is_reply.body) methods
       (store_closes (asks_close h) (is_rule is_of_head store_refusal) (denies_put h store_refusal) ∙ sym shut)
 
   -- the same before anything was tried
@@ -314,10 +314,10 @@ module _ {S : Type 0} (g : Ghosts S) (setting : Setting) (in_range : IsPolicy se
     answered_response answered r done put same methods shut =
         let given = verdict world setting h body in
         let late = late_verdict world setting h a body is in
-        let tells : IsReplyOf r.reply given = subst (λ x. IsReplyOf x given) (sym same) done.shows in
+        let is_reply : IsReplyOf r.reply given = subst (λ x. IsReplyOf x given) (sym same) done.shows in
         let lends : Lends g new r.reply.body given = subst (λ (x : Reply). Lends g new x.body given) (sym same) done.lends in
         made bytes (next ++ []) next (whole_message h body) given (after world (Some given)) r begins_whole (λ stays. first_of (Some given)) (by_verdict refl refl) done.gives
-        tells lends (methods ∙ no_methods h body true given late.method) (answer_closes h a body given answered.reply.is_store_refusal is done.shows.refusal late.of_head put ∙ sym shut)
+        is_reply lends (methods ∙ no_methods h body true given late.method) (answer_closes h a body given answered.reply.is_store_refusal is done.shows.refusal late.of_head put ∙ sym shut)
 
     failed_response : (r : Response) → Leads g old new world (left_by failed world (after world (Some (verdict world setting h body)))) → IsReplyOf r.reply store_refusal → r.allow.now ≡ [] → r.close ≡ true
         → IsResponse g setting bytes next world old new r
@@ -406,7 +406,7 @@ module _ {S : Type 0} (g : Ghosts S) (setting : Setting) (in_range : IsPolicy se
 
   failed_put : (f : StoreFault) (r : Response) → IsAnsweredAs g true old new world repo plan part left (Err (fault.Store f)) → IsReplyOf r.reply store_refusal → r.allow.now ≡ [] → r.close ≡ true
       → IsResponse g setting (bytes ++ read) waits world old new r
-  failed_put f r answers tells methods shut = at_size (nat_le (body_length h) (length (part ++ waits))) refl
+  failed_put f r answers is_reply methods shut = at_size (nat_le (body_length h) (length (part ++ waits))) refl
     where
       rest : List ℕ
       rest = drop (body_length h) (after_head ++ read)
@@ -414,7 +414,7 @@ module _ {S : Type 0} (g : Ghosts S) (setting : Setting) (in_range : IsPolicy se
       respond : (body : List ℕ) (all : Bool) → BeginsWith (bytes ++ read) (message h body all) rest → Leads g old new world (left_by failed world (after world (verdict_on world setting (message h body all))))
           → IsResponse g setting (bytes ++ read) waits world old new r
       respond body all begins_so p =
-          store_response g setting in_range at world old new (bytes ++ read) rest waits h body all r (unsure world setting h (target_asked a) body all is.target) begins_so p tells methods shut
+          store_response g setting in_range at world old new (bytes ++ read) rest waits h body all r (unsure world setting h (target_asked a) body all is.target) begins_so p is_reply methods shut
 
       at_size : (v : Bool) → nat_le (body_length h) (length (part ++ waits)) ≡ v → IsResponse g setting (bytes ++ read) waits world old new r
       at_size true fits =

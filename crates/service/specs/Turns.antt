@@ -44,7 +44,7 @@ pub record IsResponse
   pub turn : IsTurn g setting world old new e kept
   pub given : Answer
   pub is : e.given ≡ Some given
-  pub tells : IsReplyOf r.reply given
+  pub is_reply : IsReplyOf r.reply given
   pub lends : Lends g new r.reply.body given
   pub methods : r.allow.now ≡ allow e.asked given
   pub closes : closes e ≡ r.close

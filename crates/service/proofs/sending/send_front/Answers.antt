@@ -10,13 +10,13 @@ use Rattle.service.proofs.sending.send_front.Given.{Over}
 use Rattle.service.proofs.sending.send_front.Goals as goal
 
 said : (g : Over) (c : goal.After-write_reply g) (given : Answer) → IsReplyOf c.args.reply.now given → (head_of c.head_for-head.result ++ c.bytes_of.result.now) ≡ front_text given c.args.allow.now c.args.close
-said g c given tells = ap₂ (λ (a b : List ℕ). a ++ b) (c.head_for-head.ensures.text given tells) (c.bytes_of.ensures given tells.body)
+said g c given is_reply = ap₂ (λ (a b : List ℕ). a ++ b) (c.head_for-head.ensures.text given is_reply) (c.bytes_of.ensures given is_reply.body)
 
 pub returns-clause-ok : goal.returns-clause-ok
 returns-clause-ok g c =
-    on_ok _ _ c.write_reply.result (λ wrote given tells. subst (λ (t : List ℕ). Appends (g.K.Sink.taken c.args.sink.now) (g.K.Sink.taken c.write_reply.new.sink) t) (said g c given tells) wrote) c.write_reply.ensures.ok
+    on_ok _ _ c.write_reply.result (λ wrote given is_reply. subst (λ (t : List ℕ). Appends (g.K.Sink.taken c.args.sink.now) (g.K.Sink.taken c.write_reply.new.sink) t) (said g c given is_reply) wrote) c.write_reply.ensures.ok
 
 pub returns-clause-part : goal.returns-clause-part
 returns-clause-part g c =
-    if_err _ _ c.write_reply.result (λ e part given tells. subst (λ (t : List ℕ). IsBeginning (g.K.Sink.taken c.args.sink.now) (g.K.Sink.taken c.write_reply.new.sink) t e.written) (said g c given tells) part)
+    if_err _ _ c.write_reply.result (λ e part given is_reply. subst (λ (t : List ℕ). IsBeginning (g.K.Sink.taken c.args.sink.now) (g.K.Sink.taken c.write_reply.new.sink) t e.written) (said g c given is_reply) part)
     c.write_reply.ensures.part
