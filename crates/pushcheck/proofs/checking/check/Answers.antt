@@ -1,0 +1,36 @@
+use Rattle.std.proofs.Common.{map, ap, ◌∙◌, rules}
+use Rattle.std.proofs.lemmas.List.{take_all}
+use Rattle.names.specs.Names.{path_text}
+use Rattle.model.specs.PushChecks.{path_verdict, push_verdicts}
+use Rattle.policy.specs.Values.{policy_view}
+use Rattle.refinement.proofs.ReadOnly.{reads_then, reads_weaker}
+use Rattle.pushcheck.specs.Verdicts.{push_by, verdict_view}
+use Rattle.pushcheck.proofs.Growing.{one_more}
+use Rattle.pushcheck.proofs.checking.check.Goals as goal
+
+pub loop-path-preserved : goal.loop-path-preserved
+loop-path-preserved g c =
+    reads_then g.S.Store c.args.store.now c.loop-path.store c.verdict_on.new.store _ _ _
+    (λ world laws before one.
+    one_more path_text verdict_view (path_verdict (policy_view c.args.policy.now) world (push_by c.args.user.now c.args.repo.now c.args.ref_name.now)) c.args.paths.now
+    c.loop-path.path-index c.path-item.result c.in_ok-verdict.verdict c.loop-path.verdicts.items c.push.new.self.items c.loop-path-test.true c.path-item.is one before (search rules))
+    c.loop-path.invariant c.in_ok-verdict.ensures.world
+
+pub returns-clause-world : goal.returns-clause-world
+returns-clause-world g c =
+    reads_weaker g.S.Store c.args.store.now c.loop-path.store _ _
+    (λ world laws all.
+    all
+    ∙ ap (λ paths. push_verdicts (policy_view c.args.policy.now) world (push_by c.args.user.now c.args.repo.now c.args.ref_name.now) (map path_text paths))
+    (take_all c.loop-path.path-index c.args.paths.now c.loop-path-test.false))
+    c.loop-path.invariant
+
+pub returns-in_err-verdict-clause-world : goal.returns-in_err-verdict-clause-world
+returns-in_err-verdict-clause-world g c =
+    reads_then g.S.Store c.args.store.now c.loop-path.store c.verdict_on.new.store _ _ _
+    (λ world laws before one. search rules) c.loop-path.invariant c.verdict_on.ensures.world
+
+pub returns-in_err-map_err-clause-world : goal.returns-in_err-map_err-clause-world
+returns-in_err-map_err-clause-world g c =
+    reads_then g.S.Store c.args.store.now c.loop-path.store c.verdict_on.new.store _ _ _
+    (λ world laws before one. search rules) c.loop-path.invariant c.verdict_on.ensures.world
