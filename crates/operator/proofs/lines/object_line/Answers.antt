@@ -1,0 +1,6 @@
+use Rattle.std.proofs.Common.{◌∙◌, append_assoc, refl}
+use Rattle.std.proofs.lemmas.Result.{IfOk-weaker}
+use Rattle.operator.proofs.lines.object_line.Goals as goal
+
+pub returns : goal.returns
+returns c = IfOk-weaker c.format.result _ _ (λ text is. is ∙ rw (c.text-name.ensures.value, c.get-size.ensures.value) (simp (append_assoc) refl)) c.format.ensures.ok

@@ -1,0 +1,31 @@
+-- What the commands print.
+use Rattle.std.specs.Prelude.{ℕ, ◌++◌, List, codes, decimal}
+use Rattle.model.specs.Policy as model
+use Rattle.model.specs.Answers.{Action}
+use Rattle.model.specs.Batch.{lfs_href}
+use Rattle.model.specs.World.{Lock}
+use Rattle.model.specs.PushChecks.{PushVerdict, free, denied_by, locked_by}
+
+-- the line of a new token: the server's address for the repository, the token, and how many seconds it is valid
+abbrev pub token_action : model.Policy → List ℕ → List ℕ → Action
+token_action policy repo token =
+    record { href = lfs_href policy.base repo; token = token; expires_in = policy.token_seconds }
+
+-- the line with the verdict on a path
+abbrev pub verdict_line : List ℕ → PushVerdict → List ℕ
+verdict_line path free = codes "ok: " ++ path
+verdict_line path (denied_by row) = codes "denied by row " ++ decimal row ++ codes ": " ++ path
+verdict_line path (locked_by owner id) = codes "locked by " ++ owner ++ codes ", id " ++ decimal id ++ codes ": " ++ path
+
+-- the line of a lock, with the text of its moment
+abbrev pub lock_line : Lock → List ℕ → List ℕ
+lock_line l moment =
+    decimal l.id ++ codes " " ++ l.ref ++ codes " " ++ l.owner ++ codes " " ++ moment ++ codes " " ++ l.path
+
+-- the line of an object
+abbrev pub object_line : List ℕ → ℕ → List ℕ
+object_line name size = name ++ codes " " ++ decimal size
+
+-- the line of a damaged object
+abbrev pub damage_line : List ℕ → List ℕ → List ℕ
+damage_line repo name = codes "damaged " ++ repo ++ codes " " ++ name

@@ -1,0 +1,149 @@
+//! Hashes every stored object again.
+
+ghost use Rattle.std.specs.Prelude.{⊤};
+ghost use Rattle.refinement.specs.Left.{Reads};
+
+use crate::faults::TaskFault;
+use crate::lines::damage_line;
+use chunks::{PourCause, PourFault, pour};
+use names::{DeviceFault, Oid, Sink};
+use sha2::{Digest, Sha256};
+use std::alloc::Global;
+use std::io::{self, Stderr, Write};
+use tables::{Alter, Store, StoreFault, UploadRow};
+
+/// Hashes the bytes that it takes. It never fails.
+#[derive(Drop)]
+struct Hashing {
+    hasher: Sha256,
+}
+
+impl Sink for Hashing {
+    ghost use Rattle.std.specs.Prelude.{None};
+
+    ghost taken = { λ _. None };
+
+    ghost failed = { λ _. 0 };
+
+    fn write(&mut self, piece: &[u8]) -> Result<usize, DeviceFault> {
+        self.hasher.update(piece);
+        Ok(piece.len())
+    }
+
+    fn failures(&self) -> u64 {
+        0
+    }
+}
+
+/// Whether the name is that of the bytes that were hashed.
+fn has_name(hasher: Sha256, oid: &Oid) -> bool {
+    let mut digits = [0u8; 64];
+    let digest = hasher.finalize();
+    hex::encode_to_slice(digest.as_slice(), &mut digits).is_ok()
+        && digits.as_slice() == oid.text().as_bytes()
+}
+
+/// Whether the stored bytes of the object are not as many as its size says, or do not have its name.
+fn is_damaged<S: Alter>(store: &mut Store<S>, row: &UploadRow) -> Result<bool, StoreFault>
+    ensures { Reads S.Store store.old store.new (λ _. ⊤) }
+{
+    let mut sink = Hashing {
+        hasher: Sha256::new(),
+    };
+    match pour(store, row.id, &mut sink) {
+        Ok(count) => Ok(count != row.size.get() || !has_name(sink.hasher, &row.oid)),
+        Err(PourFault { cause, .. }) => match cause {
+            PourCause::Store(fault) => Err(fault),
+            PourCause::Device => Err(StoreFault::Refused),
+        },
+    }
+}
+
+/// How far a check is, on the error stream if that is a terminal.
+#[derive(Drop)]
+struct Progress<'a> {
+    terminal: Option<&'a Stderr>,
+    all: usize,
+}
+
+impl Progress<'_> {
+    /// Shows that this number of objects was read.
+    fn show(&self, count: usize) {
+        let all = self.all;
+        if let Some(mut terminal) = self.terminal {
+            // Nothing depends on what is shown.
+            let _ = write!(terminal, "\rchecked {count} of {all} objects");
+        }
+    }
+
+    /// Removes what is shown.
+    fn clear(&self) {
+        if let Some(mut terminal) = self.terminal {
+            let _ = write!(terminal, "\r\x1b[K");
+        }
+    }
+}
+
+/// Writes a line at once.
+fn write_line<W: Write>(output: &mut W, line: &str) -> io::Result<()> {
+    writeln!(output, "{line}")?;
+    output.flush()
+}
+
+/// Reads the objects, one after the other, and writes a line for each one that is damaged. Returns their number.
+fn check_all<S: Alter, W: Write>(
+    alloc: Global,
+    store: &mut Store<S>,
+    rows: &[UploadRow],
+    progress: &Progress<'_>,
+    output: &mut W,
+) -> Result<usize, TaskFault>
+    ensures { Reads S.Store store.old store.new (λ _. ⊤) }
+{
+    let mut damaged = 0usize;
+    for (index, row) in rows.iter().enumerate() {
+        progress.show(index);
+        if is_damaged(store, row)? {
+            progress.clear();
+            let line = damage_line(alloc, row)?;
+            write_line(output, line.as_str()).map_err(|_| TaskFault::Output)?;
+            damaged += 1;
+        }
+    }
+    progress.clear();
+    Ok(damaged)
+}
+
+/// Writes the number of checked objects.
+fn write_count<W: Write>(output: &mut W, count: usize) -> io::Result<()> {
+    writeln!(output, "checked {count} objects")?;
+    output.flush()
+}
+
+/// Hashes each object again, in the order of repositories and names, and prints a line for each one that is damaged, and
+/// then their number. One chunk at a time is in memory. Shows how far it is on the terminal, if there is one.
+///
+/// # Errors
+///
+/// `Store` and `Memory`, `Output` if a line could not be written, and `Reported` if an object is damaged.
+pub(crate) fn check_objects<S: Alter, W: Write>(
+    alloc: Global,
+    store: &mut Store<S>,
+    terminal: Option<&Stderr>,
+    output: &mut W,
+) -> Result<(), TaskFault>
+    ensures { Reads S.Store store.old store.new (λ _. ⊤) }
+{
+    let rows = uploads::all(alloc, store, None)?;
+    let progress = Progress {
+        terminal,
+        all: rows.len(),
+    };
+    let damaged = check_all(alloc, store, rows.as_slice(), &progress, output)?;
+    write_count(output, rows.len()).map_err(|_| TaskFault::Output)?;
+    if damaged == 0 {
+        Ok(())
+    } else {
+        Err(TaskFault::Reported)
+    }
+}

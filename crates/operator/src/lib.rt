@@ -1,0 +1,26 @@
+//! The commands of an operator, over an open database: tokens are issued and removed, locks and objects are listed, the
+//! paths of a push are checked, objects are hashed again, and uploads that were not completed are removed.
+//!
+//! A [`Task`] is a command whose words, files and input were read. [`Task::run`] writes what the command prints. It is
+//! the same over a database that was opened for the command, and over one that a running server has open.
+#![tactic(auto)]
+
+mod checking;
+mod faults;
+mod issuing;
+mod lines;
+mod listing_locks;
+mod listing_objects;
+mod output;
+mod paths;
+mod pruning;
+mod pushing;
+mod sweeping;
+mod tasks;
+
+pub use faults::TaskFault;
+pub use issuing::repo_at;
+pub use output::Lines;
+pub use paths::{LONGEST_PATHS, PathsFault, paths_in};
+pub use pushing::Push;
+pub use tasks::Task;

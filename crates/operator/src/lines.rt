@@ -1,0 +1,61 @@
+//! The lines that list locks, objects and verdicts.
+
+ghost use Rattle.std.specs.Prelude.{◌≡◌, ℕ, List, IfOk, string_bytes};
+ghost use Rattle.names.specs.Names.{path_text, repo_text};
+ghost use Rattle.names.specs.Moments.{IsMomentText};
+ghost use Rattle.pushcheck.specs.Verdicts.{verdict_view};
+ghost use Rattle.locks.specs.Finding.{lock_seen};
+ghost use Rattle.operator.specs.Lines.{damage_line, lock_line, object_line, verdict_line};
+
+use names::{LockPath, moment_text};
+use pushcheck::PushVerdict;
+use std::alloc::{AllocError, Global};
+use tables::{LockRow, UploadRow};
+
+/// The line with the verdict on a path of a push.
+pub(crate) fn verdict_line(
+    alloc: Global,
+    path: &LockPath,
+    verdict: &PushVerdict,
+) -> Result<String, AllocError>
+    ensures { IfOk result (λ text. string_bytes text
+        ≡ verdict_line (path_text path.now) (verdict_view verdict.now)) }
+{
+    let path = path.as_str();
+    match verdict {
+        PushVerdict::Ok => format!(in alloc; "ok: {path}"),
+        PushVerdict::Denied(row) => format!(in alloc; "denied by row {row}: {path}"),
+        PushVerdict::Locked(owner, id) => {
+            let (owner, id) = (owner.as_str(), id.get());
+            format!(in alloc; "locked by {owner}, id {id}: {path}")
+        }
+    }
+}
+
+/// The line of a lock.
+pub(crate) fn lock_line(alloc: Global, row: &LockRow) -> Result<String, AllocError>
+    ensures { IfOk result (λ text. (moment : List ℕ) × IsMomentText row.now.moment moment
+        × ((repo : List ℕ) → string_bytes text ≡ lock_line (lock_seen repo row.now) moment)) }
+{
+    let moment = moment_text(alloc, row.moment)?;
+    let (id, name, owner) = (row.id.get(), row.ref_name.as_str(), row.owner.as_str());
+    let path = row.path.as_str();
+    format!(in alloc; "{id} {name} {owner} {moment} {path}")
+}
+
+/// The line of an object.
+pub(crate) fn object_line(alloc: Global, row: &UploadRow) -> Result<String, AllocError>
+    ensures { IfOk result (λ text. string_bytes text ≡ object_line row.now.oid row.now.size) }
+{
+    let (name, size) = (row.oid.text(), row.size.get());
+    format!(in alloc; "{name} {size}")
+}
+
+/// The line of a damaged object.
+pub(crate) fn damage_line(alloc: Global, row: &UploadRow) -> Result<String, AllocError>
+    ensures { IfOk result (λ text. string_bytes text
+        ≡ damage_line (repo_text row.now.repo) row.now.oid) }
+{
+    let (repo, name) = (row.repo.as_str(), row.oid.text());
+    format!(in alloc; "damaged {repo} {name}")
+}

@@ -1,0 +1,72 @@
+//! What an operator asks for.
+
+ghost use Rattle.std.specs.Prelude.{MatchResult};
+ghost use Rattle.refinement.specs.Left.{From};
+ghost use Rattle.operator.specs.Works.{Works};
+ghost use Rattle.operator.specs.Tasks.{Does};
+
+use crate::checking::check_objects;
+use crate::faults::TaskFault;
+use crate::issuing::grant;
+use crate::listing_locks::list_locks;
+use crate::listing_objects::list_objects;
+use crate::pruning::prune;
+use crate::pushing::{Push, check_push};
+use crate::sweeping::sweep;
+use names::{Moment, RepoName};
+use policy::Policy;
+use std::alloc::Global;
+use std::io::{Stderr, Write};
+use tables::{Alter, Store};
+use tokens::TokenRequest;
+
+/// A command of an operator, ready to run over an open database.
+#[derive(Drop)]
+pub enum Task<'a> {
+    /// Issue a token, for a repository that this policy has.
+    Issue(&'a Policy, TokenRequest<'a>),
+    /// Remove the tokens that are not valid at the moment.
+    Prune(Moment),
+    /// Check the paths of a push.
+    CheckPush(Push<'a>),
+    /// List the locks of the repository.
+    ListLocks(&'a RepoName),
+    /// List the objects of the repository.
+    ListObjects(&'a RepoName),
+    /// Hash the objects of all repositories again. Shows how far it is on the terminal, if there is one.
+    CheckObjects(Option<&'a Stderr>),
+    /// Remove the uploads that were not completed.
+    Sweep,
+}
+
+impl Task<'_> {
+    /// Does what the operator asks for, and writes what the command prints. `docs/COMMANDS.md` has the lines.
+    ///
+    /// The store is led by the steps of a run of the definitions: at most one token is issued, or the expired ones are
+    /// removed. After an error the world is the same, but for an `Output` after tokens were removed.
+    ///
+    /// # Errors
+    ///
+    /// `Store`, `Token` and `Memory`; `Output` if a line could not be written; and `Reported` if a path may not be
+    /// pushed, or an object is damaged.
+    pub fn run<S: Alter, W: Write>(
+        &self,
+        alloc: Global,
+        store: &mut Store<S>,
+        output: &mut W,
+    ) -> Result<(), TaskFault>
+        ensures world { From S.Store store.old store.new (λ world. MatchResult result
+            (λ _. Does S.Store store.old store.new world self.now)
+            (λ _. Works S.Store store.old store.new world)) }
+    {
+        match self {
+            Task::Issue(policy, asked) => grant(alloc, store, policy, asked, output),
+            Task::Prune(now) => prune(store, *now, output),
+            Task::CheckPush(push) => check_push(alloc, store, push, output),
+            Task::ListLocks(repo) => list_locks(alloc, store, repo, output),
+            Task::ListObjects(repo) => list_objects(alloc, store, repo, output),
+            Task::CheckObjects(terminal) => check_objects(alloc, store, *terminal, output),
+            Task::Sweep => sweep(alloc, store, output),
+        }
+    }
+}
