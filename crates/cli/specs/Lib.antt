@@ -1,4 +1,4 @@
 pub mod Numbers
 pub mod Statuses
-pub mod Lines
+pub mod Asking
 pub mod Waiting

@@ -1,31 +1,47 @@
 -- The program's exit status, and the fault that it reports.
-use Rattle.std.specs.Prelude.{ℕ, Bool}
+use Rattle.std.specs.Prelude.{Bool, Result, Ok, Err}
 use Rattle.service.specs.declared.ends.End.{End}
 use Rattle.service.specs.declared.ends.End.TheVariants.{InputEnded, Closed, ReadFailed, WriteFailed, StoreFailed}
 use Rattle.tables.specs.declared.fault.StoreFault.{StoreFault}
 use Rattle.tables.specs.declared.fault.StoreFault.TheVariants as tables
 use Rattle.policy.specs.declared.faults.PolicyFault.{PolicyFault}
 use Rattle.policy.specs.declared.faults.PolicyFault.TheVariants as policy
-use Rattle.tokens.specs.declared.issuing.TokenFault.{TokenFault}
-use Rattle.tokens.specs.declared.issuing.TokenFault.TheVariants as tokens
+use Rattle.operator.specs.declared.faults.TaskFault.{TaskFault}
+use Rattle.operator.specs.declared.faults.TaskFault.TheVariants as task
+use Rattle.operator.specs.declared.paths.PathsFault.{PathsFault}
+use Rattle.operator.specs.declared.paths.PathsFault.TheVariants as paths
+use Rattle.control.specs.declared.status.Status.{Status}
+use Rattle.control.specs.declared.status.Status.TheVariants.{Good, Refused, Invalid}
 use Rattle.cli.specs.declared.faults.Fault.{Fault}
-use Rattle.cli.specs.declared.faults.Fault.TheVariants.{Arguments, Value, Clock, PolicyFile, Policy, Repository, Random, Network, Store, Token, Memory, Output, Session}
+use Rattle.cli.specs.declared.faults.Fault.TheVariants.{Arguments, Value, BadPath, TooManyPaths, Clock, PolicyFile, Policy, PolicyDescribed, Repository, Random, Network, Store, Token, Memory, Output, Session, Control, Operator, Request, Reported}
 
--- 2 for a fault of the arguments, else 1
-abbrev pub status_of : Fault → ℕ
-status_of (Arguments _) = 2
-status_of (Value _) = 2
-status_of Clock = 1
-status_of PolicyFile = 1
-status_of (Policy _) = 1
-status_of Repository = 1
-status_of Random = 1
-status_of Network = 1
-status_of (Store _) = 1
-status_of (Token _) = 1
-status_of Memory = 1
-status_of Output = 1
-status_of (Session _) = 1
+-- invalid for a fault of the arguments, of the paths or of a request, the status that was reported, else refused
+abbrev pub status_of : Fault → Status
+status_of (Arguments _) = Invalid
+status_of (Value _) = Invalid
+status_of (BadPath _) = Invalid
+status_of TooManyPaths = Invalid
+status_of Request = Invalid
+status_of Clock = Refused
+status_of PolicyFile = Refused
+status_of (Policy _) = Refused
+status_of (PolicyDescribed _) = Refused
+status_of Repository = Refused
+status_of Random = Refused
+status_of Network = Refused
+status_of (Store _) = Refused
+status_of (Token _) = Refused
+status_of Memory = Refused
+status_of Output = Refused
+status_of (Session _) = Refused
+status_of Control = Refused
+status_of Operator = Refused
+status_of (Reported status) = status
+
+-- good if the command ended without a fault
+abbrev pub status_of_end : {A : Type 0} → Result A Fault → Status
+status_of_end (Ok x) = Good
+status_of_end (Err fault) = status_of fault
 
 -- a refusal by the database, or memory ran out
 abbrev pub of_store : StoreFault → Fault
@@ -38,11 +54,19 @@ abbrev pub of_policy : PolicyFault → Fault
 of_policy (policy.Refused fault) = Policy fault
 of_policy policy.Memory = Memory
 
--- a token that was not issued, or a refusal by the database, or memory ran out
-abbrev pub of_token : TokenFault → Fault
-of_token tokens.AlreadyIssued = Token tokens.AlreadyIssued
-of_token tokens.ExpiresTooLate = Token tokens.ExpiresTooLate
-of_token (tokens.Store refused) = of_store refused
+-- a task that was not done, or whose output reports what is wrong
+abbrev pub of_task : TaskFault → Fault
+of_task (task.Store fault) = Store fault
+of_task (task.Token fault) = Token fault
+of_task task.Memory = Memory
+of_task task.Output = Output
+of_task task.Reported = Reported Refused
+
+-- lines that are not the paths of a push, or memory ran out
+abbrev pub of_paths : PathsFault → Fault
+of_paths (paths.BadPath line) = BadPath line
+of_paths paths.TooMany = TooManyPaths
+of_paths paths.Memory = Memory
 
 -- a session ends well if the input ended or the server closed the connection
 abbrev pub is_good : End → Bool

@@ -5,11 +5,13 @@ ghost use Rattle.std.specs.Char.{is_ascii_digit};
 ghost use Rattle.std.specs.List.{list_all};
 ghost use Rattle.cli.specs.Numbers.{number_in, number_within, moment_in};
 
-use crate::commands::{UPLOAD, program};
+use crate::commands::{program, served_program};
 use crate::faults::Fault;
+use crate::operator_commands::UPLOAD;
+use crate::policy_args::{PolicyArgs, policy_args};
 use clap::ArgMatches;
 use clap::error::ErrorKind;
-use names::{Moment, Operation, UserName};
+use names::{Moment, Operation, RefName, RepoName, UserName};
 use std::alloc::Global;
 
 /// The largest number of connections that an argument can give.
@@ -21,7 +23,7 @@ const LONGEST_IDLE: u64 = 86_400;
 /// How long a client may idle if no argument says so, in seconds.
 const IDLE: u64 = 10;
 
-/// The command that the arguments name.
+/// What the arguments ask for.
 #[derive(Debug, Drop)]
 pub(crate) enum Command<'a> {
     /// Print the help or the version on standard output.
@@ -30,10 +32,42 @@ pub(crate) enum Command<'a> {
     Session(SessionArgs<'a>),
     /// The command `serve`.
     Serve(ServeArgs<'a>),
+    /// The command `policy`.
+    Policy(PolicyArgs<'a>),
+    /// A command of an operator, over these files.
+    Local(Files<'a>, OperatorCommand<'a>),
+    /// A command of an operator, which the server at this socket runs.
+    Remote(&'a str, OperatorCommand<'a>),
+}
+
+/// A command of an operator.
+#[derive(Debug, Drop)]
+pub(crate) enum OperatorCommand<'a> {
     /// The command `authenticate`.
-    Authenticate(AuthenticateArgs<'a>),
-    /// The command `prune`.
-    Prune(PruneArgs<'a>),
+    Authenticate(TokenArgs<'a>),
+    /// The command `prune`, with the moment that was given.
+    Prune(Option<Moment>),
+    /// The command `pushcheck`.
+    PushCheck(PushArgs),
+    /// The command `locks`, with its repository.
+    Locks(RepoName),
+    /// The command `objects`, with its repository.
+    Objects(RepoName),
+    /// The command `check`.
+    Check,
+    /// The command `sweep`.
+    Sweep,
+}
+
+/// The files of a command. A file that the command does not read has an empty name.
+#[derive(Clone, Copy, Debug)]
+pub(crate) struct Files<'a> {
+    /// The database file.
+    pub db: &'a str,
+    /// The policy file.
+    pub policy: &'a str,
+    /// The file whose first 32 bytes a token is made of.
+    pub random: &'a str,
 }
 
 /// The arguments of `session`.
@@ -60,34 +94,32 @@ pub struct ServeArgs<'a> {
     pub requests: Option<u64>,
     /// How long a client may idle between two messages, in seconds.
     pub idle: u64,
+    /// The path of the control socket; `None` for a server without one.
+    pub control: Option<&'a str>,
 }
 
 /// The arguments of `authenticate`.
 #[derive(Debug, Drop)]
-pub(crate) struct AuthenticateArgs<'a> {
-    /// The database file.
-    pub db: &'a str,
-    /// The policy file.
-    pub policy: &'a str,
-    /// The user who gets the token.
+pub(crate) struct TokenArgs<'a> {
+    /// Who gets the token.
     pub user: UserName,
-    /// The moment at which the token is issued; `None` for the clock's.
+    /// The moment; `None` for the clock's.
     pub now: Option<Moment>,
-    /// The file of random bytes.
-    pub random: &'a str,
-    /// The repository that the token is for, as the client wrote it.
+    /// The path of the Git remote, which names a repository.
     pub path: &'a str,
-    /// The operation that the token is for.
+    /// What the token is for.
     pub operation: Operation,
 }
 
-/// The arguments of `prune`.
-#[derive(Clone, Copy, Debug)]
-pub(crate) struct PruneArgs<'a> {
-    /// The database file.
-    pub db: &'a str,
-    /// Tokens that are not valid at this moment are removed; `None` for the clock's.
-    pub now: Option<Moment>,
+/// The arguments of `pushcheck`.
+#[derive(Debug, Drop)]
+pub(crate) struct PushArgs {
+    /// The user who pushes.
+    pub user: UserName,
+    /// The repository that is pushed to.
+    pub repo: RepoName,
+    /// The ref that is pushed to.
+    pub ref_name: RefName,
 }
 
 /// Whether each byte is a digit.
@@ -127,8 +159,26 @@ fn moment_in(text: &str) -> Option<Moment>
 }
 
 /// The value of an option that `clap` has required.
-fn value_of<'a>(matches: &ArgMatches<'a>, name: &str) -> &'a str {
+pub(crate) fn value_of<'a>(matches: &ArgMatches<'a>, name: &str) -> &'a str {
     matches.get_str(name).unwrap_or("")
+}
+
+/// The user given with `--user`.
+pub(crate) fn user_of(alloc: Global, matches: &ArgMatches<'_>) -> Result<UserName, Fault> {
+    let text = value_of(matches, "user").to_owned(alloc)?;
+    UserName::read(text).ok_or(Fault::Value("--user"))
+}
+
+/// The repository given with `--repo`.
+pub(crate) fn repo_of(alloc: Global, matches: &ArgMatches<'_>) -> Result<RepoName, Fault> {
+    let text = value_of(matches, "repo").to_owned(alloc)?;
+    RepoName::read(text).ok_or(Fault::Value("--repo"))
+}
+
+/// The ref given with `--ref`.
+pub(crate) fn ref_of(alloc: Global, matches: &ArgMatches<'_>) -> Result<RefName, Fault> {
+    let text = value_of(matches, "ref").to_owned(alloc)?;
+    RefName::read(text).ok_or(Fault::Value("--ref"))
 }
 
 /// The moment given with `--now`; `None` if the option is absent.
@@ -170,6 +220,7 @@ fn serve_args<'a>(matches: &ArgMatches<'a>) -> Result<ServeArgs<'a>, Fault> {
         listen: value_of(matches, "listen"),
         requests: count_of(matches, "requests", "--requests", MOST_REQUESTS)?,
         idle: count_of(matches, "idle", "--idle", LONGEST_IDLE)?.unwrap_or(IDLE),
+        control: matches.get_str("control"),
     })
 }
 
@@ -182,27 +233,48 @@ fn operation_of(matches: &ArgMatches<'_>) -> Operation {
     }
 }
 
-fn authenticate_args<'a>(
-    alloc: Global,
-    matches: &ArgMatches<'a>,
-) -> Result<AuthenticateArgs<'a>, Fault> {
-    let user = value_of(matches, "user").to_owned(alloc)?;
-    Ok(AuthenticateArgs {
-        db: value_of(matches, "db"),
-        policy: value_of(matches, "policy"),
-        user: UserName::read(user).ok_or(Fault::Value("--user"))?,
+fn token_args<'a>(alloc: Global, matches: &ArgMatches<'a>) -> Result<TokenArgs<'a>, Fault> {
+    Ok(TokenArgs {
+        user: user_of(alloc, matches)?,
         now: now_of(matches)?,
-        random: value_of(matches, "random"),
         path: value_of(matches, "path"),
         operation: operation_of(matches),
     })
 }
 
-fn prune_args<'a>(matches: &ArgMatches<'a>) -> Result<PruneArgs<'a>, Fault> {
-    Ok(PruneArgs {
-        db: value_of(matches, "db"),
-        now: now_of(matches)?,
+fn push_args(alloc: Global, matches: &ArgMatches<'_>) -> Result<PushArgs, Fault> {
+    Ok(PushArgs {
+        user: user_of(alloc, matches)?,
+        repo: repo_of(alloc, matches)?,
+        ref_name: ref_of(alloc, matches)?,
     })
+}
+
+/// Parses the arguments of a command of an operator; `None` if the name is of another command.
+fn operator_command_of<'a>(
+    alloc: Global,
+    name: &str,
+    matches: &ArgMatches<'a>,
+) -> Result<Option<OperatorCommand<'a>>, Fault> {
+    Ok(match name {
+        "authenticate" => Some(OperatorCommand::Authenticate(token_args(alloc, matches)?)),
+        "prune" => Some(OperatorCommand::Prune(now_of(matches)?)),
+        "pushcheck" => Some(OperatorCommand::PushCheck(push_args(alloc, matches)?)),
+        "locks" => Some(OperatorCommand::Locks(repo_of(alloc, matches)?)),
+        "objects" => Some(OperatorCommand::Objects(repo_of(alloc, matches)?)),
+        "check" => Some(OperatorCommand::Check),
+        "sweep" => Some(OperatorCommand::Sweep),
+        _ => None,
+    })
+}
+
+/// The files of a command.
+fn files_of<'a>(matches: &ArgMatches<'a>) -> Files<'a> {
+    Files {
+        db: value_of(matches, "db"),
+        policy: value_of(matches, "policy"),
+        random: value_of(matches, "random"),
+    }
 }
 
 /// Parses the arguments of a command; `None` if `clap` knows a command that this function does not.
@@ -211,13 +283,19 @@ fn command_of<'a>(
     name: &str,
     matches: &ArgMatches<'a>,
 ) -> Result<Option<Command<'a>>, Fault> {
-    Ok(match name {
-        "session" => Some(Command::Session(session_args(matches)?)),
-        "serve" => Some(Command::Serve(serve_args(matches)?)),
-        "authenticate" => Some(Command::Authenticate(authenticate_args(alloc, matches)?)),
-        "prune" => Some(Command::Prune(prune_args(matches)?)),
-        _ => None,
-    })
+    match name {
+        "session" => return Ok(Some(Command::Session(session_args(matches)?))),
+        "serve" => return Ok(Some(Command::Serve(serve_args(matches)?))),
+        "policy" => return Ok(Some(Command::Policy(policy_args(alloc, matches)?))),
+        _ => {}
+    }
+    let Some(command) = operator_command_of(alloc, name, matches)? else {
+        return Ok(None);
+    };
+    Ok(Some(match matches.get_str("via") {
+        None => Command::Local(files_of(matches), command),
+        Some(socket) => Command::Remote(socket, command),
+    }))
 }
 
 /// Whether `clap` reports a request for `--help` or `--version` with this kind of error.
@@ -248,4 +326,33 @@ pub(crate) fn read_args<'a>(alloc: Global, args: &'a [String]) -> Result<Command
             "a command is needed",
         )?)),
     }
+}
+
+/// What the words of a request ask a server for.
+#[derive(Debug, Drop)]
+pub(crate) enum Asked<'a> {
+    /// Print the help on the output.
+    Text(clap::Error),
+    /// A command of an operator.
+    Command(OperatorCommand<'a>),
+}
+
+/// Parses the words of a request. The first is the command.
+///
+/// # Errors
+///
+/// `Arguments` if `clap` rejects them, which it does if they name files, a socket, or a command that is not an
+/// operator's; `Value` if a value is out of range; `Request` if there is no command, and `Memory`.
+pub(crate) fn read_words<'a>(alloc: Global, words: &'a [String]) -> Result<Asked<'a>, Fault> {
+    let mut program = served_program(alloc)?;
+    let matches = match program.try_get_matches_from_mut(words) {
+        Ok(matches) => matches,
+        Err(error) if is_text_asked_for(error.kind()) => return Ok(Asked::Text(error)),
+        Err(error) => return Err(Fault::from(error)),
+    };
+    let command = match matches.subcommand() {
+        Some((name, matches)) => operator_command_of(alloc, name, matches)?,
+        None => None,
+    };
+    Ok(Asked::Command(command.ok_or(Fault::Request)?))
 }

@@ -1,6 +1,7 @@
 //! The commands, as `clap` parses and documents them.
 
-use clap::{Arg, Command};
+use crate::operator_commands::{Place, REPO_HELP, with_operator_commands};
+use clap::{Arg, ArgAction, Command};
 use std::alloc::{AllocError, Global};
 
 const ABOUT: &str =
@@ -10,10 +11,10 @@ const ABOUT: &str =
 const VERSION: &str = "0.1.0";
 
 /// What `--version` prints after the program's name: the version, and the line of `rt version` for the toolchain that
-/// the program is proved with. `tools/check_pages` compares it with `rt version`.
+/// the program is proved with. `tools/check_pages` compares its logic with that of `rt version`.
 const LONG_VERSION: &str = "\
 0.1.0
-rattle-kit-13f logic dac8208d650f15bf";
+rattle-kit-13b logic dac8208d650f15bf";
 
 const SESSION_ABOUT: &str =
     "Answers the requests on standard input, and writes the replies to standard output";
@@ -44,29 +45,26 @@ served.
 The status is 0 after the last connection, 1 if the policy, the address or the database was \
 refused, and 2 if the arguments are wrong.";
 
-const AUTHENTICATE_ABOUT: &str =
-    "Issues a token to a user, and prints what a Git LFS client needs to use it";
+const POLICY_COMMAND_ABOUT: &str = "Checks a policy file, and says which row decides a question";
 
-const AUTHENTICATE_LONG_ABOUT: &str = "\
-Issues a token to a user, and prints what a Git LFS client needs to use it.
+const POLICY_COMMAND_LONG_ABOUT: &str = "\
+Checks a policy file, and says which row decides a question.
 
-This is what a client runs over SSH as git-lfs-authenticate: a forced command of sshd says who the \
-user is, and hands on the path and the operation that the client gave.
+With --policy alone it prints how many repositories and rows the file has. If the file has a fault, the \
+error stream says where, and what to mend.
 
-A token to download lets its user pull and list; one to upload covers all that the policy allows \
-the user. It is good for the policy's token_seconds. The database keeps its SHA-256 alone, so the \
-line that is printed is the only one that tells it.
+With --user, --repo and --right, which go together, it prints which row decides the question, and the text of \
+that row. Row 0 means that no row matches, which is a denial. The question concerns no ref without --ref, and \
+no path without --path: then only * among the refs or the paths of a row matches it.
 
-The status is 0 where the token was issued, 1 where something was refused, and 2 if the arguments \
-are wrong. No token is left where the status is not 0, but perhaps where the database failed (G2).";
+With --rows it prints each row after a line with its number, which names the first earlier row that covers \
+it: a row that one earlier row covers is never reached.
 
-const PRUNE_ABOUT: &str = "Removes the tokens that have expired, and says how many there were";
+No database is opened. The status is 0 if the file has no fault and the question is allowed, 1 if the file was \
+refused or the question is denied, and 2 if the arguments are wrong.";
 
-const PRUNE_LONG_ABOUT: &str = "\
-Removes the tokens that have expired, and says how many there were.
-
-An expired token is refused whether it is removed or not: this keeps the database small. It may \
-run at any time at which no other command has the database open.";
+const CONTROL_HELP: &str =
+    "The path of a socket on which operators' commands are taken, with --via; only this user may use it";
 
 const DB_HELP: &str =
     "The database file; it is made where there is none, in a folder that is there";
@@ -84,37 +82,38 @@ const REQUESTS_HELP: &str =
 const IDLE_HELP: &str =
     "How many seconds a client may idle between two requests: 1 to 86400 [default: 10]";
 
-const USER_HELP: &str = "Who gets the token: 1 to 40 of a-z, 0-9, _ and -";
+const ASKER_HELP: &str = "Who asks: 1 to 40 of a-z, 0-9, _ and -";
 
-const RANDOM_HELP: &str = "The file whose first 32 bytes the token is made of";
+const RIGHT_HELP: &str = "What the user asks to do: pull, push, list, lock or force";
 
-const PATH_HELP: &str =
-    "The repository, as in the address of the Git remote: studio/film or /studio/film.git";
+const ASKED_REF_HELP: &str = "The ref that the question concerns, as refs/heads/main";
 
-const OPERATION_HELP: &str = "What the token is for";
+const ASKED_PATH_HELP: &str = "The path that the question concerns, as art/hero.psd";
 
-/// The arguments that name the operation of a token.
-pub(crate) const DOWNLOAD: &str = "download";
-
-pub(crate) const UPLOAD: &str = "upload";
+const ROWS_HELP: &str = "Prints each row, and which ones are never reached";
 
 /// An option with a value.
-fn option<'a>(alloc: Global, name: &'a str, value_name: &'a str, help: &'a str) -> Arg<'a> {
+pub(crate) fn option<'a>(
+    alloc: Global,
+    name: &'a str,
+    value_name: &'a str,
+    help: &'a str,
+) -> Arg<'a> {
     Arg::new(alloc, name)
         .long(name)
         .value_name(value_name)
         .help(help)
 }
 
-fn db_option<'a>(alloc: Global) -> Arg<'a> {
-    option(alloc, "db", "FILE", DB_HELP).required(true)
+pub(crate) fn db_option<'a>(alloc: Global) -> Arg<'a> {
+    option(alloc, "db", "FILE", DB_HELP)
 }
 
-fn policy_option<'a>(alloc: Global) -> Arg<'a> {
-    option(alloc, "policy", "FILE", POLICY_HELP).required(true)
+pub(crate) fn policy_option<'a>(alloc: Global) -> Arg<'a> {
+    option(alloc, "policy", "FILE", POLICY_HELP)
 }
 
-fn now_option<'a>(alloc: Global) -> Arg<'a> {
+pub(crate) fn now_option<'a>(alloc: Global) -> Arg<'a> {
     option(alloc, "now", "N", NOW_HELP)
 }
 
@@ -122,8 +121,8 @@ fn session_command<'a>(alloc: Global) -> Result<Command<'a>, AllocError> {
     Command::new(alloc, "session")
         .about(SESSION_ABOUT)
         .long_about(SESSION_LONG_ABOUT)
-        .arg(db_option(alloc))?
-        .arg(policy_option(alloc))?
+        .arg(db_option(alloc).required(true))?
+        .arg(policy_option(alloc).required(true))?
         .arg(now_option(alloc))
 }
 
@@ -131,56 +130,55 @@ fn serve_command<'a>(alloc: Global) -> Result<Command<'a>, AllocError> {
     Command::new(alloc, "serve")
         .about(SERVE_ABOUT)
         .long_about(SERVE_LONG_ABOUT)
-        .arg(db_option(alloc))?
-        .arg(policy_option(alloc))?
+        .arg(db_option(alloc).required(true))?
+        .arg(policy_option(alloc).required(true))?
         .arg(option(alloc, "listen", "ADDR", LISTEN_HELP).required(true))?
         .arg(option(alloc, "requests", "N", REQUESTS_HELP))?
-        .arg(option(alloc, "idle", "SECONDS", IDLE_HELP))
+        .arg(option(alloc, "idle", "SECONDS", IDLE_HELP))?
+        .arg(option(alloc, "control", "SOCKET", CONTROL_HELP))
 }
 
-fn random_option<'a>(alloc: Global) -> Arg<'a> {
-    option(alloc, "random", "FILE", RANDOM_HELP).default_value("/dev/urandom")
+/// An option of a question. Each of them requires the user, the repository and the right.
+fn question_option<'a>(
+    alloc: Global,
+    name: &'a str,
+    value_name: &'a str,
+    help: &'a str,
+) -> Result<Arg<'a>, AllocError> {
+    option(alloc, name, value_name, help)
+        .requires_arg("user")?
+        .requires_arg("repo")?
+        .requires_arg("right")
 }
 
-fn path_word<'a>(alloc: Global) -> Arg<'a> {
-    Arg::new(alloc, "path")
-        .value_name("PATH")
-        .required(true)
-        .help(PATH_HELP)
+fn rows_flag<'a>(alloc: Global) -> Result<Arg<'a>, AllocError> {
+    Arg::new(alloc, "rows")
+        .long("rows")
+        .action(ArgAction::SetTrue)
+        .help(ROWS_HELP)
+        .conflicts_with("user")?
+        .conflicts_with("repo")?
+        .conflicts_with("right")?
+        .conflicts_with("ref")?
+        .conflicts_with("path")
 }
 
-fn operation_word<'a>(alloc: Global) -> Arg<'a> {
-    Arg::new(alloc, "operation")
-        .value_name("OPERATION")
-        .required(true)
-        .value_parser([DOWNLOAD, UPLOAD].as_slice())
-        .help(OPERATION_HELP)
-}
-
-fn authenticate_command<'a>(alloc: Global) -> Result<Command<'a>, AllocError> {
-    Command::new(alloc, "authenticate")
-        .about(AUTHENTICATE_ABOUT)
-        .long_about(AUTHENTICATE_LONG_ABOUT)
-        .arg(db_option(alloc))?
-        .arg(policy_option(alloc))?
-        .arg(option(alloc, "user", "U", USER_HELP).required(true))?
-        .arg(now_option(alloc))?
-        .arg(random_option(alloc))?
-        .arg(path_word(alloc))?
-        .arg(operation_word(alloc))
-}
-
-fn prune_command<'a>(alloc: Global) -> Result<Command<'a>, AllocError> {
-    Command::new(alloc, "prune")
-        .about(PRUNE_ABOUT)
-        .long_about(PRUNE_LONG_ABOUT)
-        .arg(db_option(alloc))?
-        .arg(now_option(alloc))
+fn policy_command<'a>(alloc: Global) -> Result<Command<'a>, AllocError> {
+    Command::new(alloc, "policy")
+        .about(POLICY_COMMAND_ABOUT)
+        .long_about(POLICY_COMMAND_LONG_ABOUT)
+        .arg(policy_option(alloc).required(true))?
+        .arg(question_option(alloc, "user", "U", ASKER_HELP)?)?
+        .arg(question_option(alloc, "repo", "R", REPO_HELP)?)?
+        .arg(question_option(alloc, "right", "RIGHT", RIGHT_HELP)?)?
+        .arg(question_option(alloc, "ref", "REF", ASKED_REF_HELP)?)?
+        .arg(question_option(alloc, "path", "PATH", ASKED_PATH_HELP)?)?
+        .arg(rows_flag(alloc)?)
 }
 
 /// The program, with its commands.
 pub(crate) fn program<'a>(alloc: Global) -> Result<Command<'a>, AllocError> {
-    Command::new(alloc, "custody")
+    let program = Command::new(alloc, "custody")
         .about(ABOUT)
         .version(VERSION)
         .long_version(LONG_VERSION)
@@ -188,6 +186,14 @@ pub(crate) fn program<'a>(alloc: Global) -> Result<Command<'a>, AllocError> {
         .arg_required_else_help(true)
         .subcommand(session_command(alloc)?)?
         .subcommand(serve_command(alloc)?)?
-        .subcommand(authenticate_command(alloc)?)?
-        .subcommand(prune_command(alloc)?)
+        .subcommand(policy_command(alloc)?)?;
+    with_operator_commands(alloc, program, Place::Here)
+}
+
+/// The commands that a server takes from operators. The first word is the command.
+pub(crate) fn served_program<'a>(alloc: Global) -> Result<Command<'a>, AllocError> {
+    let program = Command::new(alloc, "custody")
+        .no_binary_name(true)
+        .subcommand_required(true);
+    with_operator_commands(alloc, program, Place::Server)
 }

@@ -1,7 +1,9 @@
-//! Reads files other than the database: the policy, and random bytes.
+//! Reads what is not the database: the policy, random bytes, and the lines of paths on the input.
 
 use crate::faults::Fault;
+use operator::LONGEST_PATHS;
 use policy::{LONGEST_FILE, Policy};
+use std::alloc::Global;
 use std::fs::File;
 use std::io::{self, ErrorKind, Read};
 use std::rt::HostRuntime;
@@ -42,5 +44,19 @@ pub(crate) fn read_random(rt: &HostRuntime, path: &str) -> Result<[u8; 32], Faul
     match file.read_exact(&mut bytes) {
         Ok(()) => Ok(bytes),
         Err(_) => Err(Fault::Random),
+    }
+}
+
+/// Reads the lines of paths of a push, and at most one byte more than the longest have: longer ones are noticed.
+///
+/// # Errors
+///
+/// `Output` if the input could not be read, and `Memory`.
+pub(crate) fn read_paths<R: Read>(alloc: Global, input: &mut R) -> Result<Vec<u8>, Fault> {
+    let mut bytes = Vec::new(alloc);
+    match input.take(LONGEST_PATHS).read_to_end(&mut bytes) {
+        Ok(_) => Ok(bytes),
+        Err(error) if error.kind() == ErrorKind::OutOfMemory => Err(Fault::Memory),
+        Err(_) => Err(Fault::Output),
     }
 }

@@ -5,19 +5,25 @@
 #![tactic(auto)]
 
 mod args;
-mod authenticate;
 mod commands;
+mod control_socket;
 mod faults;
 mod files;
 mod lingering;
 mod moments;
+mod operating;
+mod operator_commands;
+mod operators;
 mod patience;
+mod policy_args;
+mod policy_command;
+mod policy_lines;
 mod program;
-mod prune;
 mod queue;
 mod serve;
 mod session;
+mod via;
 
 pub use args::ServeArgs;
 pub use program::{refuse_args, run};
-pub use serve::serve_listener;
+pub use serve::{Doors, serve_doors};

@@ -2,20 +2,22 @@
 
 ghost use Rattle.std.specs.Prelude.{◌≡◌, ◌≢◌, ◌≤◌};
 ghost use Rattle.std.specs.IoError.{error_kind};
-ghost use Rattle.cli.specs.Statuses.{status_of};
+ghost use Rattle.cli.specs.Statuses.{status_of, status_of_end};
 
 use crate::args::{Command, read_args};
-use crate::authenticate::authenticate;
 use crate::faults::Fault;
-use crate::prune::prune;
+use crate::operating::operate;
+use crate::policy_command::policy_command;
 use crate::serve::serve;
 use crate::session::session;
+use crate::via::ask;
+use control::Status;
 use std::io::{self, ErrorKind, Read, Write};
 use std::rt::HostRuntime;
 use tables::Start;
 
 /// Writes the help or the version.
-fn write_text<W: Write>(text: &clap::Error, output: &mut W) -> io::Result<()> {
+pub(crate) fn write_text<W: Write>(text: &clap::Error, output: &mut W) -> io::Result<()> {
     write!(output, "{text}")?;
     output.flush()
 }
@@ -33,22 +35,24 @@ fn dispatch<S: Start, R: Read, W: Write, E: Write>(
         Command::Text(text) => write_text(&text, output).map_err(|_| Fault::Output),
         Command::Session(asked) => session(rt, &asked, input, output, start),
         Command::Serve(asked) => serve(rt, &asked, output, errors, start),
-        Command::Authenticate(asked) => authenticate(rt, &asked, output, start),
-        Command::Prune(asked) => prune(rt, &asked, output, start),
+        Command::Policy(asked) => policy_command(rt, &asked, output),
+        Command::Local(files, command) => operate(rt, &files, &command, input, output, start),
+        Command::Remote(socket, command) => ask(rt, socket, &command, args, input, output, errors),
     }
 }
 
-/// Prints why the program ends.
-fn print_fault<E: Write>(fault: &Fault, errors: &mut E) -> io::Result<()> {
+/// Prints why the program ends, unless that was reported already.
+pub(crate) fn print_fault<E: Write>(fault: &Fault, errors: &mut E) -> io::Result<()> {
     match fault {
         Fault::Arguments(text) => write!(errors, "{text}")?,
+        Fault::Reported(_) => {}
         _ => writeln!(errors, "{fault}")?,
     }
     errors.flush()
 }
 
 /// Prints the fault and returns its exit status; a failed print does not change the status.
-fn refuse<E: Write>(fault: &Fault, errors: &mut E) -> u8
+fn refuse<E: Write>(fault: &Fault, errors: &mut E) -> Status
     ensures { result ≡ status_of fault.now }
 {
     let _ = print_fault(fault, errors);
@@ -56,11 +60,11 @@ fn refuse<E: Write>(fault: &Fault, errors: &mut E) -> u8
 }
 
 /// The exit status of a command that ended; prints its fault, if there is one.
-pub(crate) fn status_after<E: Write>(ended: Result<(), Fault>, errors: &mut E) -> u8
-    ensures { result ≤ 2 }
+pub(crate) fn status_after<E: Write>(ended: Result<(), Fault>, errors: &mut E) -> Status
+    ensures { result ≡ status_of_end ended }
 {
     match ended {
-        Ok(()) => 0,
+        Ok(()) => Status::Good,
         Err(fault) => refuse(&fault, errors),
     }
 }
@@ -85,7 +89,7 @@ pub fn run<S: Start, R: Read, W: Write, E: Write>(
     ensures { result ≤ 2 }
 {
     let ended = dispatch(rt, args, input, output, errors, start);
-    status_after(ended, errors)
+    status_after(ended, errors).code()
 }
 
 /// Prints that an argument is not valid UTF-8.
@@ -104,7 +108,7 @@ pub fn refuse_args<E: Write>(error: &io::Error, errors: &mut E) -> u8
     ensures other { error_kind error.now ≢ ErrorKind.OutOfMemory → result ≡ 2 }
 {
     match error.kind() {
-        ErrorKind::OutOfMemory => refuse(&Fault::Memory, errors),
+        ErrorKind::OutOfMemory => refuse(&Fault::Memory, errors).code(),
         _ => {
             let _ = print_not_utf8(errors);
             2

@@ -1,22 +1,42 @@
-//! The clients that wait to be served.
+//! The clients and operators that wait to be answered.
 
+use crate::faults::Fault;
+use mio::event::Events;
+use mio::unix::SourceFd;
+use mio::{Interest, Poll, Token};
+use std::alloc::Global;
 use std::io::{self, ErrorKind};
 use std::net::{TcpListener, TcpStream};
+use std::os::fd::AsRawFd;
+use std::os::unix::net::{UnixListener, UnixStream};
+use std::rt::HostRuntime;
 use std::time::{Duration, Instant};
+
+/// Who is answered next.
+#[derive(Drop)]
+pub(crate) enum Caller {
+    /// A client, who sends the messages of a connection.
+    Client(TcpStream),
+    /// An operator, who sends a command.
+    Operator(UnixStream),
+}
 
 /// A connection that was accepted while another one was served.
 #[derive(Drop)]
 struct Waiting {
-    stream: TcpStream,
+    caller: Caller,
     /// Since when somebody waits, without a break.
     since: Instant,
 }
 
-/// The clients that wait to be served: at most one accepted connection, and those of the listener.
+/// Those who wait to be answered: at most one accepted connection, and those of the listeners.
 #[derive(Drop)]
 pub(crate) struct Queue<'a> {
     listener: &'a TcpListener,
+    control: Option<&'a UnixListener>,
     next: Option<Waiting>,
+    poll: Poll,
+    events: Events,
 }
 
 /// Whether an accept that failed is tried again.
@@ -27,44 +47,63 @@ fn is_passing(kind: ErrorKind) -> bool {
     )
 }
 
-/// Waits for a connection.
-fn accept(listener: &TcpListener) -> io::Result<TcpStream> {
-    'accepts: for _ in 0..u64::MAX {
-        match listener.accept() {
-            Ok((stream, _)) => return Ok(stream),
-            Err(error) if is_passing(error.kind()) => {}
-            Err(error) => return Err(error),
-        }
+/// What was accepted; `None` if nobody waits.
+fn if_waiting<T: Drop>(accepted: io::Result<T>) -> io::Result<Option<T>> {
+    match accepted {
+        Ok(accepted) => Ok(Some(accepted)),
+        Err(error) if is_passing(error.kind()) => Ok(None),
+        Err(error) => Err(error),
     }
-    Err(ErrorKind::TimedOut.into())
-}
-
-/// Accepts a connection, if one waits.
-///
-/// # Errors
-///
-/// Fails if none waits, too.
-fn accept_waiting(listener: &TcpListener) -> io::Result<TcpStream> {
-    listener.set_nonblocking(true)?;
-    let accepted = listener.accept();
-    listener.set_nonblocking(false)?;
-    Ok(accepted?.0)
 }
 
 impl<'a> Queue<'a> {
-    pub fn new(listener: &'a TcpListener) -> Queue<'a> {
-        Queue {
-            listener,
-            next: None,
+    /// Those who wait at these listeners.
+    ///
+    /// # Errors
+    ///
+    /// Fails if the system refuses to watch the listeners.
+    pub fn new(
+        rt: &HostRuntime,
+        listener: &'a TcpListener,
+        control: Option<&'a UnixListener>,
+    ) -> io::Result<Queue<'a>> {
+        let poll = Poll::new(rt)?;
+        listener.set_nonblocking(true)?;
+        let clients = listener.as_raw_fd();
+        poll.registry()
+            .register(&mut SourceFd(&clients), Token(0), Interest::READABLE)?;
+        if let Some(control) = control {
+            control.set_nonblocking(true)?;
+            let operators = control.as_raw_fd();
+            poll.registry()
+                .register(&mut SourceFd(&operators), Token(1), Interest::READABLE)?;
         }
+        let events = Events::with_capacity(rt.alloc(), 2)?;
+        Ok(Queue {
+            listener,
+            control,
+            next: None,
+            poll,
+            events,
+        })
+    }
+
+    /// Accepts a connection, if one waits: an operator's before a client's.
+    fn accept(&self) -> io::Result<Option<Caller>> {
+        if let Some(control) = self.control
+            && let Some((stream, _)) = if_waiting(control.accept())?
+        {
+            return Ok(Some(Caller::Operator(stream)));
+        }
+        Ok(if_waiting(self.listener.accept())?.map(|(stream, _)| Caller::Client(stream)))
     }
 
     /// Keeps a connection if one waits: `since` is since when somebody waits, if so.
     fn keep(&mut self, since: Instant) {
-        self.next = match accept_waiting(self.listener) {
-            Ok(stream) => Some(Waiting { stream, since }),
+        self.next = match self.accept() {
+            Ok(Some(caller)) => Some(Waiting { caller, since }),
             // An error is met again by the next accept that waits.
-            Err(_) => None,
+            Ok(None) | Err(_) => None,
         };
     }
 
@@ -77,18 +116,30 @@ impl<'a> Queue<'a> {
         Some(now.duration_since(next.since))
     }
 
+    /// Waits for a connection.
+    fn wait(&mut self) -> io::Result<Caller> {
+        'waits: for _ in 0..u64::MAX {
+            // The system reports a connection once, so it waits only after nobody was there.
+            if let Some(caller) = self.accept()? {
+                return Ok(caller);
+            }
+            self.poll.poll(&mut self.events, None)?;
+        }
+        Err(ErrorKind::TimedOut.into())
+    }
+
     /// The next connection. Waits if there is none.
     ///
     /// # Errors
     ///
-    /// Fails if the listener failed.
-    pub fn take(&mut self) -> io::Result<TcpStream> {
+    /// Fails if a listener failed.
+    pub fn take(&mut self) -> io::Result<Caller> {
         match self.next.take() {
-            Some(Waiting { stream, since }) => {
+            Some(Waiting { caller, since }) => {
                 self.keep(since);
-                Ok(stream)
+                Ok(caller)
             }
-            None => accept(self.listener),
+            None => self.wait(),
         }
     }
 }

@@ -1,24 +1,28 @@
 //! The command `serve`: connections of a TCP socket, one after the other.
 
 ghost use Rattle.std.specs.Prelude.{◌≡◌, ◌≤◌, IfOk};
+ghost use Rattle.refinement.specs.Left.{From};
+ghost use Rattle.operator.specs.Works.{Works};
 
 use crate::args::ServeArgs;
+use crate::control_socket::ControlSocket;
 use crate::faults::Fault;
 use crate::files::read_policy;
 use crate::lingering::linger;
 use crate::moments::moment;
+use crate::operators::OperatorContext;
 use crate::patience::{Announced, Course, PatientReader, PatientWriter, SLICE};
-use crate::program::status_after;
-use crate::queue::Queue;
+use crate::program::{print_fault, status_after};
+use crate::queue::{Caller, Queue};
 use crate::session::is_good;
 use names::{Counted, Moment};
 use policy::Policy;
 use refinement::open_from;
 use service::{End, Routes};
-use std::alloc::Global;
 use std::cell::Cell;
 use std::io::{self, Write};
 use std::net::{TcpListener, TcpStream};
+use std::os::unix::net::{UnixListener, UnixStream};
 use std::rt::HostRuntime;
 use std::time::{Clock, Duration};
 use tables::{Start, Storage, Store, StoreFault};
@@ -26,7 +30,7 @@ use tables::{Start, Storage, Store, StoreFault};
 /// What the connections are served with.
 #[derive(Drop)]
 struct ServeContext<'a, C> {
-    alloc: Global,
+    rt: &'a HostRuntime,
     policy: &'a Policy,
     routes: &'a Routes,
     clock: &'a C,
@@ -50,7 +54,9 @@ impl<C: Clock> ServeContext<'_, C> {
         now: Moment,
         queue: &mut Queue<'_>,
         stream: &TcpStream,
-    ) -> End {
+    ) -> End
+        ensures { From S.Store store.old store.new (λ world. Works S.Store store.old store.new world) }
+    {
         if prepare(stream).is_err() {
             return End::ReadFailed;
         }
@@ -72,7 +78,7 @@ impl<C: Clock> ServeContext<'_, C> {
         });
         let (policy, routes) = (self.policy, self.routes);
         service::serve(
-            self.alloc,
+            self.rt.alloc(),
             store,
             policy,
             routes,
@@ -83,17 +89,63 @@ impl<C: Clock> ServeContext<'_, C> {
         .end
     }
 
-    /// Waits for a connection, serves it at the clock's moment, and closes it.
+    /// Answers an operator, and reports on the error stream if that failed.
+    fn answer_operator<S: Storage, E: Write>(
+        &self,
+        store: &mut Store<S>,
+        stream: &UnixStream,
+        errors: &mut E,
+    )
+        ensures { From S.Store store.old store.new (λ world. Works S.Store store.old store.new world) }
+    {
+        let context = OperatorContext {
+            rt: self.rt,
+            policy: self.policy,
+            clock: self.clock,
+        };
+        if let Err(fault) = context.serve(store, stream) {
+            let _ = print_fault(&fault, errors);
+        }
+    }
+
+    /// Waits for a client, and answers the operators who come before it.
+    ///
+    /// # Errors
+    ///
+    /// `Network` if no connection could be accepted.
+    fn next_client<S: Storage, E: Write>(
+        &self,
+        store: &mut Store<S>,
+        queue: &mut Queue<'_>,
+        errors: &mut E,
+    ) -> Result<TcpStream, Fault>
+        ensures { From S.Store store.old store.new (λ world. Works S.Store store.old store.new world) }
+    {
+        'callers: for _ in 0..u64::MAX {
+            match queue.take() {
+                Ok(Caller::Client(stream)) => return Ok(stream),
+                Ok(Caller::Operator(stream)) => self.answer_operator(store, &stream, errors),
+                Err(_) => break,
+            }
+        }
+        Err(Fault::Network)
+    }
+
+    /// Waits for a client, serves its connection at the clock's moment, and closes it. Operators who come before are
+    /// answered.
     ///
     /// # Errors
     ///
     /// `Network` if no connection could be accepted, and `Clock`.
-    fn serve_next<S: Storage>(
+    fn serve_next<S: Storage, E: Write>(
         &self,
         store: &mut Store<S>,
         queue: &mut Queue<'_>,
-    ) -> Result<End, Fault> {
-        let stream = queue.take().map_err(|_| Fault::Network)?;
+        errors: &mut E,
+    ) -> Result<End, Fault>
+        ensures { From S.Store store.old store.new (λ world. Works S.Store store.old store.new world) }
+    {
+        let stream = self.next_client(store, queue, errors)?;
         let now = moment(self.clock, None)?;
         let end = self.converse(store, now, queue, &stream);
         if end == End::Closed {
@@ -103,7 +155,8 @@ impl<C: Clock> ServeContext<'_, C> {
         Ok(end)
     }
 
-    /// Serves this many connections, and reports those that failed. Returns how many were served.
+    /// Serves this many connections, and reports those that failed. Operators are answered between them. Returns how many
+    /// connections were served.
     ///
     /// # Errors
     ///
@@ -111,16 +164,16 @@ impl<C: Clock> ServeContext<'_, C> {
     fn serve_all<S: Storage, E: Write>(
         &self,
         store: &mut Store<S>,
-        listener: &TcpListener,
+        queue: &mut Queue<'_>,
         most: u64,
         errors: &mut E,
     ) -> Result<u64, Fault>
-        ensures { IfOk result (λ served. served ≡ most) }
+        ensures count { IfOk result (λ served. served ≡ most) }
+        ensures world { From S.Store store.old store.new (λ world. Works S.Store store.old store.new world) }
     {
-        let mut queue = Queue::new(listener);
         let mut served = 0;
         'connections: while served < most {
-            let end = self.serve_next(store, &mut queue)?;
+            let end = self.serve_next(store, queue, errors)?;
             served += 1;
             if !is_good(end) {
                 let _ = write_end(errors, served, end);
@@ -148,53 +201,113 @@ fn write_count<W: Write>(output: &mut W, served: u64) -> io::Result<()> {
     output.flush()
 }
 
+/// Where the callers of a server connect.
+#[derive(Clone, Copy)]
+pub struct Doors<'a> {
+    /// Clients.
+    pub clients: &'a TcpListener,
+    /// Operators; `None` for a server without a control socket.
+    pub operators: Option<&'a UnixListener>,
+}
+
+/// Serves the connections over the store.
+fn serve_store<S: Storage, C: Clock, W: Write, E: Write>(
+    context: &ServeContext<'_, C>,
+    store: &mut Store<S>,
+    args: &ServeArgs<'_>,
+    doors: Doors<'_>,
+    output: &mut W,
+    errors: &mut E,
+) -> Result<(), Fault> {
+    let Ok(mut queue) = Queue::new(context.rt, doors.clients, doors.operators) else {
+        return Err(Fault::Network);
+    };
+    write_start(output, args.listen).map_err(|_| Fault::Output)?;
+    let most = args.requests.unwrap_or(u64::MAX);
+    let served = context.serve_all(store, &mut queue, most, errors)?;
+    write_count(output, served).map_err(|_| Fault::Output)
+}
+
+/// The doors of a server with a control socket.
+fn doors_of<'x>(clients: &'x TcpListener, operators: &'x UnixListener) -> Doors<'x> {
+    Doors {
+        clients,
+        operators: Some(operators),
+    }
+}
+
+/// Makes the control socket, and serves the connections over the store. The socket is removed in the end.
+fn serve_controlled<S: Storage, C: Clock, W: Write, E: Write>(
+    context: &ServeContext<'_, C>,
+    store: &mut Store<S>,
+    args: &ServeArgs<'_>,
+    clients: &TcpListener,
+    path: &str,
+    output: &mut W,
+    errors: &mut E,
+) -> Result<(), Fault> {
+    let control = ControlSocket::bind(context.rt, path)?;
+    let doors = doors_of(clients, control.listener());
+    let served = serve_store(context, store, args, doors, output, errors);
+    control.remove(context.rt);
+    served
+}
+
 /// Serves the connections over the store, if it was opened.
 fn serve_opened<S: Storage + Drop, C: Clock, W: Write, E: Write>(
     context: &ServeContext<'_, C>,
     opened: Result<Store<S>, StoreFault>,
     args: &ServeArgs<'_>,
-    listener: &TcpListener,
+    doors: Doors<'_>,
     output: &mut W,
     errors: &mut E,
 ) -> Result<(), Fault> {
     let mut store = opened?;
-    write_start(output, args.listen).map_err(|_| Fault::Output)?;
-    let most = args.requests.unwrap_or(u64::MAX);
-    let served = context.serve_all(&mut store, listener, most, errors)?;
-    write_count(output, served).map_err(|_| Fault::Output)
+    match args.control {
+        None => serve_store(context, &mut store, args, doors, output, errors),
+        Some(path) => {
+            serve_controlled(
+                context,
+                &mut store,
+                args,
+                doors.clients,
+                path,
+                output,
+                errors,
+            )
+        }
+    }
 }
 
-/// Serves the connections of a listener, as [`serve`] does after it has read the policy and bound the
-/// address.
+/// Serves those who connect at the doors, as [`serve`] does after it has read the policy and bound the address.
 fn serve_bound<C: Clock, S: Start, W: Write, E: Write>(
     rt: &HostRuntime,
     clock: &C,
     args: &ServeArgs<'_>,
     policy: &Policy,
-    listener: &TcpListener,
+    doors: Doors<'_>,
     output: &mut W,
     errors: &mut E,
     start: S,
 ) -> Result<(), Fault> {
-    let alloc = rt.alloc();
-    let routes = Routes::new(alloc)?;
+    let routes = Routes::new(rt.alloc())?;
     let context = ServeContext {
-        alloc,
+        rt,
         policy,
         routes: &routes,
         clock,
         idle: Duration::from_secs(args.idle),
     };
     let opened = open_from(rt, args.db, start);
-    serve_opened(&context, opened, args, listener, output, errors)
+    serve_opened(&context, opened, args, doors, output, errors)
 }
 
 /// Serves connections to the address, one after the other.
 ///
 /// # Errors
 ///
-/// `PolicyFile` and `Policy`, `Network` if the address could not be bound, `Store` and `Memory`; then,
-/// after some connections, `Network` if no connection could be accepted, and `Clock`; and `Output` if a
+/// `PolicyFile` and `Policy`, `Network` if the address could not be bound, `Store` and `Memory`, `Control` if the control
+/// socket could not be made; then, after some connections, `Network` if no connection could be accepted, and `Clock`; and `Output` if a
 /// line could not be written. What was answered before remains valid.
 pub(crate) fn serve<S: Start, W: Write, E: Write>(
     rt: &HostRuntime,
@@ -207,18 +320,22 @@ pub(crate) fn serve<S: Start, W: Write, E: Write>(
     let Ok(listener) = TcpListener::bind(rt, args.listen) else {
         return Err(Fault::Network);
     };
-    serve_bound(rt, rt, args, &policy, &listener, output, errors, start)
+    let doors = Doors {
+        clients: &listener,
+        operators: None,
+    };
+    serve_bound(rt, rt, args, &policy, doors, output, errors, start)
 }
 
-/// Runs the command `serve` over a listener that is bound already, at the moments of a clock, and
-/// returns the exit status. `args.listen` is only printed.
+/// Runs the command `serve` over doors that are bound already, at the moments of a clock, and returns the exit status.
+/// `args.listen` is only printed, and `args.control` names a socket in place of that of the doors.
 ///
 /// The lines are those of [`run`](crate::run).
-pub fn serve_listener<C: Clock, S: Start, W: Write, E: Write>(
+pub fn serve_doors<C: Clock, S: Start, W: Write, E: Write>(
     rt: &HostRuntime,
     clock: &C,
     args: &ServeArgs<'_>,
-    listener: &TcpListener,
+    doors: Doors<'_>,
     output: &mut W,
     errors: &mut E,
     start: S,
@@ -226,8 +343,8 @@ pub fn serve_listener<C: Clock, S: Start, W: Write, E: Write>(
     ensures { result ≤ 2 }
 {
     let served = match read_policy(rt, args.policy) {
-        Ok(policy) => serve_bound(rt, clock, args, &policy, listener, output, errors, start),
+        Ok(policy) => serve_bound(rt, clock, args, &policy, doors, output, errors, start),
         Err(fault) => Err(fault),
     };
-    status_after(served, errors)
+    status_after(served, errors).code()
 }

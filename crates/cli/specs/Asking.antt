@@ -1,0 +1,60 @@
+-- What the command `policy` asks of a policy, and the lines that it prints.
+use Rattle.std.specs.Prelude.{ℕ, ◌+◌, ◌-◌, ◌==◌, Bool, true, false, List, [], ◌∷◌, Option, Some, None, option_map, codes, decimal, length, ◌++◌, slice_get, if◌then◌else◌}
+use Rattle.names.specs.Names.{user_text, repo_text, ref_text, path_text}
+use Rattle.model.specs.Policy.{Policy, Question, Row, Decision, allowed, denied}
+use Rattle.policy.specs.Covering.{covers}
+use Rattle.cli.specs.declared.policy_args.AskedQuestion.{AskedQuestion}
+
+-- the question of the arguments, as the definitions have it
+abbrev pub asked_view : AskedQuestion → Question
+asked_view q = record {
+  user = user_text q.user;
+  repo = repo_text q.repo;
+  right = q.right;
+  ref = option_map ref_text q.ref_name;
+  path = option_map path_text q.path;
+}
+
+-- the question is allowed
+abbrev pub is_allowed : Decision → Bool
+is_allowed (allowed _) = true
+is_allowed (denied _) = false
+
+-- the number of the row that decides
+abbrev pub number_of : Decision → ℕ
+number_of (allowed n) = n
+number_of (denied n) = n
+
+-- the row of that number, counted from 1
+abbrev pub row_numbered : ℕ → List Row → Option Row
+row_numbered n rows = if n == 0 then None else slice_get rows (n - 1)
+
+-- the number of the first of the earlier rows that covers the row; they are numbered from n on
+abbrev pub covering_from : ℕ → List Row → Row → Option ℕ
+covering_from n [] row = None
+covering_from n (other ∷ earlier) row =
+    if covers other row then Some n else covering_from (n + 1) earlier row
+
+-- the number of the first of the earlier rows that covers the row, counted from 1
+abbrev pub covering_in : List Row → Row → Option ℕ
+covering_in earlier row = covering_from 1 earlier row
+
+-- the line with the numbers of repositories and rows
+abbrev pub counts_line : ℕ → ℕ → List ℕ
+counts_line repos rows =
+    codes "policy ok: " ++ decimal repos ++ codes " repositories, " ++ decimal rows ++ codes " rows"
+
+-- the line of a policy without a fault
+abbrev pub policy_line : Policy → List ℕ
+policy_line policy = counts_line (length policy.repos) (length policy.rows)
+
+-- the line with the row that decides a question
+abbrev pub decision_line : Decision → List ℕ
+decision_line (allowed row) = codes "allowed by row " ++ decimal row
+decision_line (denied row) = codes "denied by row " ++ decimal row
+
+-- the line before a row: its number, and the number of an earlier row that covers it
+abbrev pub row_line : ℕ → Option ℕ → List ℕ
+row_line row None = codes "row " ++ decimal row
+row_line row (Some earlier) =
+    codes "row " ++ decimal row ++ codes ": never reached, row " ++ decimal earlier ++ codes " covers it"

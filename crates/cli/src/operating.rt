@@ -1,0 +1,149 @@
+//! The commands of an operator, over files that are opened for them.
+
+use crate::args::{Files, OperatorCommand, PushArgs, TokenArgs};
+use crate::faults::Fault;
+use crate::files::{read_paths, read_policy, read_random};
+use crate::moments::moment;
+use names::{Moment, RepoName};
+use operator::{Push, Task, paths_in, repo_at};
+use policy::Policy;
+use refinement::open_from;
+use std::alloc::Global;
+use std::io::{IsTerminal, Read, Write};
+use std::rt::HostRuntime;
+use tables::{Alter, Start, Store, StoreFault};
+use tokens::TokenRequest;
+
+/// The token that the arguments ask for.
+pub(crate) fn token_request<'a>(
+    asked: &'a TokenArgs<'_>,
+    repo: &'a RepoName,
+    now: Moment,
+    seconds: u64,
+    random: &'a [u8; 32],
+) -> TokenRequest<'a> {
+    TokenRequest {
+        user: &asked.user,
+        repo,
+        operation: asked.operation,
+        now,
+        seconds,
+        random,
+    }
+}
+
+/// Runs the task over the store, if it was opened.
+fn run_opened<S: Alter + Drop, W: Write>(
+    alloc: Global,
+    opened: Result<Store<S>, StoreFault>,
+    task: &Task<'_>,
+    output: &mut W,
+) -> Result<(), Fault> {
+    let mut store = opened?;
+    task.run(alloc, &mut store, output)?;
+    Ok(())
+}
+
+/// Opens the database, and runs the task over it.
+fn run_task<S: Start, W: Write>(
+    rt: &HostRuntime,
+    db: &str,
+    task: &Task<'_>,
+    output: &mut W,
+    start: S,
+) -> Result<(), Fault> {
+    let opened = open_from(rt, db, start);
+    run_opened(rt.alloc(), opened, task, output)
+}
+
+/// Issues a token to the user, and prints the line that the client needs.
+fn authenticate<S: Start, W: Write>(
+    rt: &HostRuntime,
+    files: &Files<'_>,
+    asked: &TokenArgs<'_>,
+    output: &mut W,
+    start: S,
+) -> Result<(), Fault> {
+    let now = moment(rt, asked.now)?;
+    let policy = read_policy(rt, files.policy)?;
+    let repo = repo_at(&policy, asked.path).ok_or(Fault::Repository)?;
+    let random = read_random(rt, files.random)?;
+    let request = token_request(asked, repo, now, policy.token_seconds(), &random);
+    let task = Task::Issue(&policy, request);
+    run_task(rt, files.db, &task, output, start)
+}
+
+/// The push that the arguments and the lines of paths describe.
+pub(crate) fn push_of<'a>(
+    alloc: Global,
+    policy: &'a Policy,
+    asked: &'a PushArgs,
+    lines: &[u8],
+) -> Result<Push<'a>, Fault> {
+    Ok(Push {
+        policy,
+        user: &asked.user,
+        repo: &asked.repo,
+        ref_name: &asked.ref_name,
+        paths: paths_in(alloc, lines)?,
+    })
+}
+
+/// Checks the paths of the input, and prints a verdict for each.
+fn push_check<S: Start, R: Read, W: Write>(
+    rt: &HostRuntime,
+    files: &Files<'_>,
+    asked: &PushArgs,
+    input: &mut R,
+    output: &mut W,
+    start: S,
+) -> Result<(), Fault> {
+    let alloc = rt.alloc();
+    let policy = read_policy(rt, files.policy)?;
+    let lines = read_paths(alloc, input)?;
+    let push = push_of(alloc, &policy, asked, lines.as_slice())?;
+    run_task(rt, files.db, &Task::CheckPush(push), output, start)
+}
+
+/// Hashes the objects again. Shows how far it is on the error stream, if that is a terminal.
+fn check<S: Start, W: Write>(
+    rt: &HostRuntime,
+    db: &str,
+    output: &mut W,
+    start: S,
+) -> Result<(), Fault> {
+    let errors = rt.stderr();
+    let terminal = errors.is_terminal().then_some(&errors);
+    run_task(rt, db, &Task::CheckObjects(terminal), output, start)
+}
+
+/// Runs a command of an operator over the files, and writes what it prints.
+///
+/// # Errors
+///
+/// `Clock`, `PolicyFile`, `Policy`, `Repository`, `Random`, `BadPath` and `TooManyPaths`, which leave the database
+/// unopened; `Store`, `Token` (K1, K2) and `Memory`; `Output` if the input could not be read, or a line not be written;
+/// and `Reported` if a path may not be pushed, or an object is damaged. After any of them no token is stored, except
+/// perhaps if the database failed while storing it, and no object or lock is changed.
+pub(crate) fn operate<S: Start, R: Read, W: Write>(
+    rt: &HostRuntime,
+    files: &Files<'_>,
+    command: &OperatorCommand<'_>,
+    input: &mut R,
+    output: &mut W,
+    start: S,
+) -> Result<(), Fault> {
+    let db = files.db;
+    match command {
+        OperatorCommand::Authenticate(asked) => authenticate(rt, files, asked, output, start),
+        OperatorCommand::Prune(now) => {
+            let now = moment(rt, *now)?;
+            run_task(rt, db, &Task::Prune(now), output, start)
+        }
+        OperatorCommand::PushCheck(asked) => push_check(rt, files, asked, input, output, start),
+        OperatorCommand::Locks(repo) => run_task(rt, db, &Task::ListLocks(repo), output, start),
+        OperatorCommand::Objects(repo) => run_task(rt, db, &Task::ListObjects(repo), output, start),
+        OperatorCommand::Check => check(rt, db, output, start),
+        OperatorCommand::Sweep => run_task(rt, db, &Task::Sweep, output, start),
+    }
+}

@@ -1,0 +1,90 @@
+//! Asks a running server to run a command.
+
+use crate::args::OperatorCommand;
+use crate::faults::Fault;
+use crate::files::read_paths;
+use control::{Reply, Status, read_reply, request_bytes};
+use std::alloc::{AllocError, Global};
+use std::io::{self, Read, Write};
+use std::net::Shutdown;
+use std::os::unix::net::UnixStream;
+use std::rt::HostRuntime;
+
+/// The words of the command without the socket: `--via SOCKET` and `--via=SOCKET` are left out, and the program's name.
+fn words_of(alloc: Global, args: &[String]) -> Result<Vec<String>, AllocError> {
+    let mut words = Vec::new(alloc);
+    let mut is_socket = false;
+    let mut are_options = true;
+    for word in args.iter().skip(1) {
+        let text = word.as_str();
+        are_options = are_options && text != "--";
+        if is_socket {
+            is_socket = false;
+        } else if are_options && text == "--via" {
+            is_socket = true;
+        } else if !(are_options && text.starts_with("--via=")) {
+            words.push(text.to_owned(alloc)?).map_err(AllocError::from)?;
+        }
+    }
+    Ok(words)
+}
+
+/// The input of the command, if it reads any.
+fn input_of<R: Read>(
+    alloc: Global,
+    command: &OperatorCommand<'_>,
+    input: &mut R,
+) -> Result<Vec<u8>, Fault> {
+    match command {
+        OperatorCommand::PushCheck(_) => read_paths(alloc, input),
+        _ => Ok(Vec::new(alloc)),
+    }
+}
+
+/// Sends the request, and returns the bytes of the reply.
+fn exchange(rt: &HostRuntime, socket: &str, request: &[u8]) -> io::Result<Vec<u8>> {
+    let mut stream = UnixStream::connect(rt, socket)?;
+    stream.write_all(request)?;
+    stream.shutdown(Shutdown::Write)?;
+    let mut reply = Vec::new(rt.alloc());
+    stream.read_to_end(&mut reply)?;
+    Ok(reply)
+}
+
+/// Writes what the command has printed.
+fn write_printed<W: Write>(output: &mut W, printed: &[u8]) -> io::Result<()> {
+    output.write_all(printed)?;
+    output.flush()
+}
+
+/// Asks the server at the socket to run the command, and writes what the server has printed.
+///
+/// # Errors
+///
+/// `Control` if the server could not be reached, or did not reply; the command may have been run all the same. `Reported`
+/// with the status that the server has reported, `Output` if the input could not be read or the output not be written,
+/// and `Memory`.
+pub(crate) fn ask<R: Read, W: Write, E: Write>(
+    rt: &HostRuntime,
+    socket: &str,
+    command: &OperatorCommand<'_>,
+    args: &[String],
+    input: &mut R,
+    output: &mut W,
+    errors: &mut E,
+) -> Result<(), Fault> {
+    let alloc = rt.alloc();
+    let words = words_of(alloc, args)?;
+    let input = input_of(alloc, command, input)?;
+    let request = request_bytes(alloc, input.as_slice(), words.as_slice())?;
+    let bytes = exchange(rt, socket, request.as_slice()).map_err(|_| Fault::Control)?;
+    let Some(reply) = read_reply(bytes.as_slice()) else {
+        return Err(Fault::Control);
+    };
+    write_printed(output, reply.output).map_err(|_| Fault::Output)?;
+    write_printed(errors, reply.errors).map_err(|_| Fault::Output)?;
+    match reply.status {
+        Status::Good => Ok(()),
+        status => Err(Fault::Reported(status)),
+    }
+}
