@@ -1,6 +1,6 @@
-//! Tests of the crates that need no database: `names`, `policy`, `forms`, `wire` and `routes`, through
-//! their public items. In a crate of their own the tests are proved without the code of those crates,
-//! which is proved already.
+//! Tests of the crates that need no database: `names`, `policy`, `forms`, `wire`, `routes` and `control`,
+//! through their public items. In a crate of their own the tests are proved without the code of those
+//! crates, which is proved already.
 #![tactic(auto)]
 
 #[cfg(test)]
@@ -13,6 +13,8 @@ mod connections;
 mod harness;
 #[cfg(test)]
 mod heads;
+#[cfg(test)]
+mod messages;
 #[cfg(test)]
 mod policies;
 #[cfg(test)]

@@ -5,6 +5,7 @@ use policy::*;
 use std::alloc::{Alloc, Global};
 use std::process::Abort;
 
+mod covering;
 mod decisions;
 mod faults;
 mod limits;

@@ -1,4 +1,4 @@
-//! Tests of the crates that need a database, and of the whole program, through their public items.
+//! Tests of the crates that need a database, through their public items.
 //!
 //! | Of | Module |
 //! |---|---|
@@ -8,12 +8,12 @@
 //! | `locks` | `locks_tests` |
 //! | `chunks`, `uploads` | `objects_tests` |
 //! | `cursor` | `cursor_tests` |
+//! | `pushcheck` | `pushcheck_tests` |
 //! | `desk` | `desk_tests` |
 //! | `service` | `service_tests` |
-//! | `cli` | `program_tests` |
 //!
-//! `harness` and `server` have the helpers. A program over a database takes minutes to prove and to
-//! compile before its first test: hence one crate for all of these tests.
+//! `harness` and `server` have the helpers. A program over a database takes minutes to prove and to compile before its
+//! first test: hence one crate for all of these. The tests of the whole program are in the crate `program_tests`.
 #![tactic(auto)]
 
 #[cfg(test)]
@@ -27,7 +27,7 @@ mod locks_tests;
 #[cfg(test)]
 mod objects_tests;
 #[cfg(test)]
-mod program_tests;
+mod pushcheck_tests;
 #[cfg(test)]
 mod schema_compare_tests;
 #[cfg(test)]

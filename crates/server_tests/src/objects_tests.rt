@@ -104,8 +104,8 @@ fn upload(
     let id = begin(rt, store, name, text, bytes.len());
     let mut intake = unwrap(rt, Intake::begin(rt.alloc(), id, size_of(rt, bytes.len())));
     unwrap(rt, push(&mut intake, store, bytes, cut));
-    let (found, size) = unwrap(rt, intake.end(store));
-    uploads::complete(store, id, &found, size)
+    let arrival = unwrap(rt, intake.end());
+    uploads::complete(store, id, &arrival.last, &arrival.name, arrival.size)
 }
 
 /// The size of the object, if the repository has it.
@@ -179,22 +179,41 @@ fn objects_are_stored_in_any_cutting(rt: HostRuntime) {
     assert_eq!(rt; sizes.next(), Some(1));
 }
 
-/// The lengths of three pieces, and that of the second chunk that they become; the first one is full.
-const PIECES: &[([usize; 3], usize)] = &[([1, 65_535, 65_536], 65_536), ([65_535, 2, 0], 1)];
+/// The lengths of three pieces, the SHA-256 of the bytes `x` that they have (by `sha256sum`), and the length of the second
+/// chunk that they become; the first one is full.
+const PIECES: &[([usize; 3], &str, usize)] = &[
+    (
+        [1, 65_535, 65_536],
+        "15601535eca4a38b7e31ad6494861121cb9f84ccf55d4beb6a707d4f7a87813d",
+        65_536,
+    ),
+    (
+        [65_535, 2, 0],
+        "1abe08ebecf1c18cab71f6fe28aaddf20268f85bad78bb9a72f88ca47c874662",
+        1,
+    ),
+];
+
+/// Asserts that the upload becomes an object by the bytes that the intake took.
+fn expect_kept(rt: &impl Tester, store: &mut Store<MemStore>, id: UploadId, intake: Intake) {
+    let arrival = unwrap(rt, intake.end());
+    let kept = uploads::complete(store, id, &arrival.last, &arrival.name, arrival.size);
+    assert!(rt; kept == Ok(Kept::New));
+}
 
 #[test]
 fn pieces_become_full_chunks(rt: HostRuntime) {
     let mut store = in_memory(&rt);
-    for (pieces, last) in PIECES {
+    for (pieces, text, last) in PIECES {
         let size = last.saturating_add(65_536);
         let bytes = unwrap(&rt, vec![in rt.alloc(); b'x'; size]);
-        let id = begin(&rt, &mut store, "studio/film", HELLO, size);
+        let id = begin(&rt, &mut store, "studio/film", text, size);
         let mut intake = unwrap(&rt, Intake::begin(rt.alloc(), id, size_of(&rt, size)));
         for piece in pieces.as_slice() {
             let piece = unwrap(&rt, bytes.as_slice().get(..*piece).ok_or(()));
             unwrap(&rt, intake.push(&mut store, piece));
         }
-        unwrap(&rt, intake.end(&mut store));
+        expect_kept(&rt, &mut store, id, intake);
         expect_bytes(&rt, &mut store, id, bytes.as_slice(), 2, *last);
     }
 }

@@ -5,7 +5,6 @@ mod refused;
 
 use crate::harness::*;
 use crate::server::*;
-use chunks::Intake;
 use names::{Oid, Size};
 use std::process::Abort;
 
@@ -413,10 +412,9 @@ fn stage(rt: &impl Tester, server: &mut Server, bytes: &[u8]) {
     let oid = unwrap(rt, Oid::read(HELLO.as_bytes()).ok_or(()));
     let size = unwrap(rt, Size::read(5).ok_or(()));
     let begun = uploads::begin(rt.alloc(), &mut server.store, &film, &oid, size);
-    let mut intake = unwrap(rt, Intake::begin(rt.alloc(), unwrap(rt, begun), size));
-    unwrap(rt, intake.push(&mut server.store, bytes));
-    if bytes.len() == 5 {
-        unwrap(rt, intake.end(&mut server.store));
+    let id = unwrap(rt, begun);
+    if !bytes.is_empty() {
+        unwrap(rt, server.store.add_chunk(id, 0, bytes));
     }
 }
 

@@ -2,6 +2,7 @@
 // The helpers have no clause, so a test's proof does not include those of each call.
 
 use crate::harness::{Tester, unwrap};
+use cli::ServeArgs;
 use sqlite::{Connection, Error, File, FileStore};
 use std::io::{Read, Write};
 use std::rt::{Files, HostRuntime};
@@ -42,7 +43,7 @@ pub(crate) fn text_of(rt: &impl Tester, status: u8, output: &str, errors: &str) 
 
 /// The arguments in a line, after the program's own name, as the machine would pass them. `@` is the
 /// folder, `~` a space, and `''` the empty argument.
-fn words(rt: &impl Tester, folder: &str, line: &str) -> Vec<String> {
+pub(crate) fn words(rt: &impl Tester, folder: &str, line: &str) -> Vec<String> {
     let mut all = Vec::new(rt.alloc());
     let name = unwrap(rt, String::from_str(rt.alloc(), "custody"));
     unwrap(rt, all.push(name));
@@ -85,6 +86,23 @@ pub(crate) fn run(
         status,
         output,
         errors,
+    }
+}
+
+/// The arguments of a server over a database and a policy, without a control socket of its own.
+pub(crate) fn serve_args<'a>(
+    db: &'a str,
+    policy: &'a str,
+    requests: u64,
+    idle: u64,
+) -> ServeArgs<'a> {
+    ServeArgs {
+        db,
+        policy,
+        listen: "here",
+        requests: Some(requests),
+        idle,
+        control: None,
     }
 }
 

@@ -6,9 +6,11 @@
 //! |---|---|
 //! | `#` | a comment for the reader: what is tried |
 //! | `$` | a command: its arguments, as [`run`] reads them |
+//! | `via` | a command that a running server runs: its words |
 //! | `token` | the command that issues an upload token, and its line: the token's letter, the user, the repository |
 //! | `status` | the exit status of the command; 0 if none is given |
 //! | `>`, `>>` | a line of its input, which ends in CR LF; input without a line end |
+//! | `line` | a line of its input, which ends in LF |
 //! | `<`, `<<` | the same of its output |
 //! | `\|` | a line of its output, which ends in LF |
 //! | `error` | a line on the error stream |
@@ -23,8 +25,9 @@
 //! | `append` | text added to the policy, after the number of copies: `\n` is a line end, `@` the number of a copy |
 //! | `pad` | the size of the policy in bytes, which a comment fills up |
 
-use super::program::{Ran, path_of, prepare, remove, run, run_sql, text_of, write};
+use crate::channel::run_via;
 use crate::harness::{Tester, unwrap};
+use crate::program::{Ran, path_of, prepare, remove, run, run_sql, text_of, write};
 use std::alloc::Global;
 use std::fs;
 use std::rt::HostRuntime;
@@ -54,6 +57,8 @@ struct Step {
     /// The line that it begins on, counted after the one of the opening quote.
     line: usize,
     command: String,
+    /// Whether a running server runs the command.
+    is_remote: bool,
     input: String,
     status: u8,
     output: String,
@@ -167,6 +172,7 @@ impl Step {
         Step {
             line,
             command: String::new(alloc),
+            is_remote: false,
             input: String::new(alloc),
             status: 0,
             output: String::new(alloc),
@@ -223,11 +229,15 @@ impl Step {
 
     fn add(&mut self, rt: &impl Tester, mark: &str, text: &str) {
         match mark {
-            "$" => push(rt, &mut self.command, text, ""),
+            "$" | "via" => {
+                push(rt, &mut self.command, text, "");
+                self.is_remote = mark == "via";
+            }
             "token" => self.issue(rt, text),
             "status" => self.status = unwrap(rt, text.parse::<u8>()),
             ">" => push(rt, &mut self.input, text, "\r\n"),
             ">>" => push(rt, &mut self.input, text, ""),
+            "line" => push(rt, &mut self.input, text, "\n"),
             "<" => push(rt, &mut self.output, text, "\r\n"),
             "<<" => push(rt, &mut self.output, text, ""),
             "|" => push(rt, &mut self.output, text, "\n"),
@@ -257,7 +267,12 @@ impl Step {
         if !self.policy.is_empty() {
             write(rt, host, folder, "policy", self.policy.as_bytes());
         }
-        let ran = run(rt, host, folder, self.command.as_str(), self.input.as_str());
+        let (command, input) = (self.command.as_str(), self.input.as_str());
+        let ran = if self.is_remote {
+            run_via(rt, host, folder, command, input)
+        } else {
+            run(rt, host, folder, command, input)
+        };
         let is_wanted = ran.is(self.status, self.output.as_str(), self.errors.as_str());
         if !is_wanted || self.leaves_file(rt, host, folder) {
             self.fail(rt, folder, &ran);
@@ -289,7 +304,7 @@ pub(crate) fn play(rt: &impl Tester, host: &HostRuntime, folder: &str, transcrip
     let mut step = Step::new(rt.alloc(), 0);
     for (at, line) in transcript.lines().enumerate() {
         let (mark, text) = line.split_once(' ').unwrap_or((line, ""));
-        if matches!(mark, "$" | "token" | "file" | "sql") {
+        if matches!(mark, "$" | "via" | "token" | "file" | "sql") {
             step.run(rt, host, folder);
             step = Step::new(rt.alloc(), at);
         }

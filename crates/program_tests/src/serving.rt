@@ -1,11 +1,11 @@
 //! The command `serve`: clients over sockets of this machine, which connect and send before the server
 //! begins, and read after it has ended.
 
-use super::program::{Ran, path_of, prepare, remove, run};
-use super::transcript::{POLICY, perform, play};
 use crate::harness::{Tester, unwrap};
-use crate::server::{BAD_HEAD, CREATED, HELD, MESSAGE};
-use cli::{ServeArgs, serve_listener};
+use crate::messages::{BAD_HEAD, CREATED, HELD, MESSAGE};
+use crate::program::{Ran, path_of, prepare, remove, run, serve_args};
+use crate::transcript::{POLICY, perform, play};
+use cli::{Doors, serve_doors};
 use std::cell::Cell;
 use std::io::{self, Read, Write};
 use std::net::{Shutdown, TcpListener, TcpStream};
@@ -192,25 +192,15 @@ fn serve(
     count: usize,
 ) -> Ran {
     let (db, policy) = (path_of(rt, folder, "db"), path_of(rt, folder, "policy"));
-    let args = ServeArgs {
-        db: db.as_str(),
-        policy: policy.as_str(),
-        listen: "here",
-        requests: Some(count as u64),
-        idle,
-    };
+    let args = serve_args(db.as_str(), policy.as_str(), count as u64, idle);
     let mut output = Vec::new(rt.alloc());
     let mut errors = Vec::new(rt.alloc());
     let host = clock.host;
-    let status = serve_listener(
-        host,
-        clock,
-        &args,
-        listener,
-        &mut output,
-        &mut errors,
-        Unknown,
-    );
+    let doors = Doors {
+        clients: listener,
+        operators: None,
+    };
+    let status = serve_doors(host, clock, &args, doors, &mut output, &mut errors, Unknown);
     Ran {
         status,
         output,

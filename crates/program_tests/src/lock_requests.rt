@@ -1,6 +1,6 @@
 //! Lists of locks, the locks that a push is checked against, and releases.
 
-use super::transcript::{POLICY, perform};
+use crate::transcript::{POLICY, perform};
 
 /// Two locks on the default branch and one on another, in pages and by filters.
 const LISTED: &str = r#"

@@ -1,6 +1,6 @@
 //! Policy files: their verdicts, and their faults.
 
-use super::transcript::{POLICY, perform};
+use crate::transcript::{POLICY, perform};
 
 /// "A vendor who reads" of docs/POLICY.md.
 const VENDOR: &str = r#"
@@ -42,7 +42,7 @@ reply 201 {"lock":{"id":"1","locked_at":"2016-05-17T15:49:06Z","owner":{"name":"
 "#;
 
 /// "Artists who lock their own folder" of docs/POLICY.md.
-const FOLDERS: &str = r#"
+pub(crate) const FOLDERS: &str = r#"
 base = "https://lfs.example"
 token_seconds = 3600
 
@@ -139,7 +139,7 @@ reply 201 {"lock":{"id":"1","locked_at":"2016-05-17T15:49:06Z","owner":{"name":"
 "#;
 
 /// "A frozen release" of docs/POLICY.md.
-const RELEASE: &str = r#"
+pub(crate) const RELEASE: &str = r#"
 base = "https://lfs.example"
 token_seconds = 3600
 
@@ -189,7 +189,7 @@ reply 201 {"lock":{"id":"2","locked_at":"2016-05-17T15:49:06Z","owner":{"name":"
 "#;
 
 /// "Several repositories" of docs/POLICY.md.
-const STUDIO: &str = r#"
+pub(crate) const STUDIO: &str = r#"
 base = "https://lfs.example"
 token_seconds = 3600
 

@@ -1,8 +1,8 @@
 //! Tokens: issued, used, expired and removed.
 
-use super::program::{prepare, read, remove, run};
-use super::transcript::{POLICY, perform, play};
 use crate::harness::unwrap;
+use crate::program::{prepare, read, remove, run};
+use crate::transcript::{POLICY, perform, play};
 
 /// What `authenticate` prints, and what it refuses.
 const ISSUED: &str = r#"

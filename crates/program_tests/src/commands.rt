@@ -1,19 +1,19 @@
 //! Arguments, values and databases that the program refuses, in their order, and its help.
 
-use super::program::{prepare, read, remove, run, write};
-use super::transcript::{POLICY, perform, play};
 use crate::harness::{Tester, unwrap};
+use crate::program::{prepare, read, remove, run, write};
+use crate::transcript::{POLICY, perform, play};
 
 /// The version; arguments that are not a command, and values out of range. They create no database.
 const WORDS: &str = r#"
 # the second line is that of `rt version`
 $ --version
 | custody 0.1.0
-| rattle-kit-13f logic dac8208d650f15bf
+| rattle-kit-13b logic dac8208d650f15bf
 $ -V
 | custody 0.1.0
-$ lock
-error error: unrecognized subcommand 'lock'
+$ paint
+error error: unrecognized subcommand 'paint'
 error
 error Usage: custody <COMMAND>
 error
@@ -226,7 +226,21 @@ fn another_database_is_left(rt: HostRuntime) {
 /// Arguments that ask for help, and what the help names: each command, or each argument and value that
 /// the command takes, as docs/COMMANDS.md has them.
 const HELPS: &[(&str, &[&str])] = &[
-    ("--help", &["session", "serve", "authenticate", "prune"]),
+    (
+        "--help",
+        &[
+            "session",
+            "serve",
+            "authenticate",
+            "prune",
+            "pushcheck",
+            "policy",
+            "locks",
+            "objects",
+            "check",
+            "sweep",
+        ],
+    ),
     (
         "session --help",
         &["--db <FILE>", "--policy <FILE>", "--now <N>"],
@@ -256,6 +270,32 @@ const HELPS: &[(&str, &[&str])] = &[
         ],
     ),
     ("prune --help", &["--db <FILE>", "--now <N>"]),
+    (
+        "pushcheck --help",
+        &[
+            "--db <FILE>",
+            "--policy <FILE>",
+            "--user <U>",
+            "--repo <R>",
+            "--ref <REF>",
+        ],
+    ),
+    (
+        "policy --help",
+        &[
+            "--policy <FILE>",
+            "--user <U>",
+            "--repo <R>",
+            "--right <RIGHT>",
+            "--ref <REF>",
+            "--path <PATH>",
+            "--rows",
+        ],
+    ),
+    ("locks --help", &["--db <FILE>", "--repo <R>"]),
+    ("objects --help", &["--db <FILE>", "--repo <R>"]),
+    ("check --help", &["--db <FILE>"]),
+    ("sweep --help", &["--db <FILE>"]),
 ];
 
 /// Asserts that the text has each of the parts.

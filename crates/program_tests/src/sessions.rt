@@ -1,6 +1,6 @@
 //! Sessions: the client's bytes, and the replies.
 
-use super::transcript::{POLICY, perform};
+use crate::transcript::{POLICY, perform};
 
 /// The worked example of docs/PROTOCOL.md, byte for byte, and what comes after it.
 const LOCKS: &str = r#"
