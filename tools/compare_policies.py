@@ -1,5 +1,5 @@
 #!/usr/bin/env python3
-"""Compares the fault that `custody session` tells of random policy files with a second reading of docs/POLICY.md.
+"""Compares the fault that `custody session` reports of random policy files with a second reading of docs/POLICY.md.
 
 The reading below is written from that document alone, over Python's own reader of TOML. It prints the
 first file on which the two differ, and ends with status 1; else how many agreed.
@@ -28,7 +28,7 @@ rights = ["pull"]
 
 
 class Faulty(Exception):
-    """A file has a fault: its code, and where it stands."""
+    """A file has a fault: its code, and its place."""
 
 
 def check(holds, fault):
@@ -239,20 +239,20 @@ class Maker:
         return self.random.choice([source[:at] + byte + source[at + 1 :], source[:at] + byte + source[at:]])
 
 
-def told_by(program, room, source):
-    """The fault that the program tells of the file; nothing where it tells none."""
+def reported_by(program, room, source):
+    """The fault that the program reports of the file; nothing if it reports none."""
     with open(f"{room}/policy", "wb") as file:
         file.write(source)
     words = [program, "session", "--db", f"{room}/db", "--policy", f"{room}/policy", "--now", "1463500146"]
     ran = subprocess.run(words, stdin=subprocess.DEVNULL, stdout=subprocess.PIPE, stderr=subprocess.PIPE, check=False)
-    told = ran.stderr.decode()
-    if ran.stdout or ran.returncode != (1 if told else 0):
-        return f"status {ran.returncode}, {ran.stdout!r}, {told!r}"
-    return told.removeprefix("custody: policy ").removesuffix("\n")
+    reported = ran.stderr.decode()
+    if ran.stdout or ran.returncode != (1 if reported else 0):
+        return f"status {ran.returncode}, {ran.stdout!r}, {reported!r}"
+    return reported.removeprefix("custody: policy ").removesuffix("\n")
 
 
 def wanted_of(source):
-    """The fault that the document tells of the file."""
+    """The fault that the file has by the document."""
     try:
         read(source)
     except Faulty as fault:
@@ -268,9 +268,9 @@ def main():
     with tempfile.TemporaryDirectory() as room:
         while time.time() < until:
             source = make.file()
-            told, wanted = told_by(program, room, source), wanted_of(source)
-            if told != wanted:
-                print(f"seed {seed}, file {agreed}: {source!r}\nthe program: {told!r}\nthe document: {wanted!r}")
+            reported, wanted = reported_by(program, room, source), wanted_of(source)
+            if reported != wanted:
+                print(f"seed {seed}, file {agreed}: {source!r}\nthe program: {reported!r}\nthe document: {wanted!r}")
                 return 1
             kind = re.sub(r" \d+$", "", wanted) or "none"
             seen[kind] = seen.get(kind, 0) + 1

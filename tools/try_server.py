@@ -114,7 +114,7 @@ class Server:
     """A server in a folder of its own."""
 
     def __init__(self, program, room, policy=POLICY, idle=10):
-        self.program, self.room, self.idle = program, room, idle
+        self.program, self.room, self.idle, self.more = program, room, idle, []
         Path(f"{room}/policy.toml").write_text(policy)
         Path(f"{room}/random").write_bytes(b"\xaa" * 32)
         words = ["authenticate", *self.files(), "--user", "ann", "--random", f"{room}/random", "studio/film", "upload"]
@@ -128,7 +128,7 @@ class Server:
 
     def start(self):
         address = f"127.0.0.1:{self.port}"
-        words = [self.program, "serve", *self.files(), "--listen", address, "--idle", str(self.idle)]
+        words = [self.program, "serve", *self.files(), "--listen", address, "--idle", str(self.idle), *self.more]
         errors = open(f"{self.room}/errors", "ab")
         self.child = subprocess.Popen(words, stdout=subprocess.PIPE, stderr=errors)
         line = self.child.stdout.readline()

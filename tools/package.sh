@@ -1,0 +1,69 @@
+#!/bin/sh
+# Makes a Debian package of the program, its manual page, the unit for systemd, the forced command and the documents. It
+# needs dpkg-deb, pandoc and gzip, and a program that bin/custody has built.
+# usage: tools/package.sh [FOLDER]      the package is written to the folder, or to this one
+set -eu
+unset CDPATH
+folder=$(cd -- "${1:-.}" && pwd)
+top=$(cd -- "$(dirname -- "$0")/.." && pwd)
+program=$top/crates/custody/out/custody
+version=$("$program" -V | cut -d ' ' -f 2)
+architecture=$(dpkg --print-architecture)
+root=$(mktemp -d)
+chmod 755 "$root"
+trap 'rm -rf "$root"' EXIT
+
+documents=$root/usr/share/doc/custody
+mkdir -p "$documents/examples" "$root/usr/share/man/man1"
+install -D -m 755 "$program" "$root/usr/bin/custody"
+install -D -m 755 "$top/examples/forced-command" "$root/usr/lib/custody/forced-command"
+install -D -m 644 "$top/examples/custody.service" "$root/lib/systemd/system/custody.service"
+install -D -m 644 "$top/examples/policy.toml" "$root/etc/custody/policy.toml"
+install -m 644 "$top/examples/nginx-site" "$top/examples/policy.toml" "$documents/examples"
+install -m 644 "$top/docs/OPERATING.md" "$top/docs/COMMANDS.md" "$top/docs/POLICY.md" "$top/docs/PROTOCOL.md" "$documents"
+
+# The manual page has the text of docs/COMMANDS.md.
+{
+    printf '# NAME\n\ncustody - a Git LFS object and lock server\n\n# DESCRIPTION\n\n'
+    sed -e 1d -e '/^`bin\/custody` runs/d' -e 's/^## /# /' "$top/docs/COMMANDS.md"
+} | pandoc -s -f gfm -t man -V title=custody -V section=1 -V footer="custody $version" \
+    | gzip -9 -n > "$root/usr/share/man/man1/custody.1.gz"
+
+mkdir "$root/DEBIAN"
+cat > "$root/DEBIAN/control" << END
+Package: custody
+Version: $version
+Architecture: $architecture
+Maintainer: $(git -C "$top" log -1 --format='%an <%ae>')
+Installed-Size: $(du -sk "$root" | cut -f 1)
+Depends: libc6, passwd
+Recommends: nginx, openssh-server
+Section: vcs
+Priority: optional
+Description: Git LFS object and lock server
+ It keeps each file under its SHA-256 name in its repository, and lets one user
+ at a time lock a path. Every reply and every stored change is proved to be what
+ a short, readable definition allows.
+END
+echo /etc/custody/policy.toml > "$root/DEBIAN/conffiles"
+cat > "$root/DEBIAN/postinst" << 'END'
+#!/bin/sh
+# Makes the user that the server and the forced command run as.
+set -e
+if [ "$1" = configure ] && ! getent passwd custody > /dev/null; then
+    useradd --system --user-group --home-dir /var/lib/custody --create-home --shell /bin/sh custody
+    chmod 700 /var/lib/custody
+fi
+if [ -d /run/systemd/system ]; then
+    systemctl daemon-reload
+fi
+END
+cat > "$root/DEBIAN/prerm" << 'END'
+#!/bin/sh
+set -e
+if [ "$1" = remove ] && [ -d /run/systemd/system ]; then
+    systemctl stop custody.service || true
+fi
+END
+chmod 755 "$root/DEBIAN/postinst" "$root/DEBIAN/prerm"
+dpkg-deb --build --root-owner-group "$root" "$folder/custody_${version}_$architecture.deb"

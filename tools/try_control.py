@@ -1,0 +1,306 @@
+#!/usr/bin/env python3
+"""Tries the control socket of `custody serve`, with the program's own `--via`.
+
+    tools/try_control.py [--program FILE] [--only NAME]... [--tokens N] [--rounds N]
+
+Each check starts a server on a new database and a free port of this machine, prints one line with what was measured and
+its bound, and fails if the bound is not kept. The last line counts the checks; the status is 1 if one failed. It needs
+Linux and python3, and takes some minutes. Without --program it is bin/custody.
+"""
+import argparse
+import hashlib
+import json
+import os
+import random
+import signal
+import socket
+import stat
+import subprocess
+import sys
+import threading
+import time
+from pathlib import Path
+
+from try_server import POLICY, TARGET, TOP, Client, Failed, message, require, run_all
+
+LARGE_QUOTA = POLICY.replace("quota = 1000000", "quota = 4000000000")
+
+
+def socket_of(server):
+    return f"{server.room}/control"
+
+
+def restart(server):
+    """Starts the server again, with a control socket."""
+    server.end(signal.SIGKILL)
+    server.more = ["--control", socket_of(server)]
+    server.start()
+
+
+def via(server, *words, given=b""):
+    """Runs a command by the socket. Returns its status, its output and its error stream."""
+    name, *rest = words
+    ran = subprocess.run([server.program, name, "--via", socket_of(server), *rest], input=given, capture_output=True)
+    return ran.returncode, ran.stdout.decode(), ran.stderr.decode()
+
+
+def over_files(server, *words, given=b"", with_policy=False):
+    """Runs a command over the files of a server that has ended."""
+    name, *rest = words
+    files = server.files() if with_policy else server.files()[:2]
+    ran = subprocess.run([server.program, name, *files, *rest], input=given, capture_output=True)
+    return ran.returncode, ran.stdout.decode(), ran.stderr.decode()
+
+
+def issue(server, user="ann", operation="upload"):
+    """A token that the server issues."""
+    status, output, errors = via(server, "authenticate", "--user", user, "studio/film", operation)
+    require(status == 0, f"no token was issued: {errors}")
+    return json.loads(output)["header"]["Authorization"].split()[1]
+
+
+def with_token(token, method, target, body=None, data=None):
+    """A request with this token."""
+    if data is None:
+        data = b"" if body is None else json.dumps(body).encode()
+    head = f"{method} {target} HTTP/1.1\r\nHost: studio.example\r\nAuthorization: Bearer {token}\r\n"
+    length = f"Content-Length: {len(data)}\r\n" if method != "GET" else ""
+    return (head + length + "\r\n").encode() + data
+
+
+def content(oid):
+    return f"/studio/film.git/info/lfs/content/{oid}"
+
+
+def check_same_words(server, _):
+    """Each command prints the same by the socket and over the files, and ends with the same status."""
+    with server.client() as client:
+        for path in ("art/hero.psd", "art/tree.psd"):
+            require(client.ask(message("POST", TARGET, {"path": path}))[0] == 201, "no lock")
+        data = b"hello"
+        put = message("PUT", content(hashlib.sha256(data).hexdigest()), more=f"Content-Length: {len(data)}\r\n") + data
+        require(client.ask(put)[0] == 200, "no object")
+    paths = b"a.txt\nart/hero.psd\n"
+    asked = [
+        (("locks", "--repo", "studio/film"), b"", False),
+        (("locks", "--repo", "studio/game"), b"", False),
+        (("objects", "--repo", "studio/film"), b"", False),
+        (("check",), b"", False),
+        (("sweep",), b"", False),
+        (("pushcheck", "--user", "bob", "--repo", "studio/film", "--ref", "refs/heads/main"), paths, True),
+        (("pushcheck", "--user", "ann", "--repo", "studio/film", "--ref", "refs/heads/main"), paths, True),
+        (("pushcheck", "--user", "ann", "--repo", "studio/film", "--ref", "refs/heads/main"), b"a//b\n", True),
+        (("pushcheck", "--user", "Ann", "--repo", "studio/film", "--ref", "refs/heads/main"), paths, True),
+        (("authenticate", "--user", "ann", "studio/game", "upload"), b"", True),
+        (("authenticate", "--user", "ann", "--now", "253402300799", "studio/film", "upload"), b"", True),
+        (("prune", "--now", "0"), b"", False),
+    ]
+    by_socket = [via(server, *words, given=given) for words, given, _ in asked]
+    server.end(signal.SIGTERM)
+    by_files = [over_files(server, *words, given=given, with_policy=policy) for words, given, policy in asked]
+    server.start()
+    for (words, _, _), one, other in zip(asked, by_socket, by_files):
+        require(one == other, f"{' '.join(words)}: {one} by the socket, {other} over the files")
+    require(any(status == 0 for status, _, _ in by_socket) and any(status == 2 for status, _, _ in by_socket), "no cases")
+    return f"{len(asked)} commands print the same"
+
+
+def check_only_the_user(server, _):
+    """The socket has the mode 0600, and is removed by a server that ends by itself."""
+    found = os.stat(socket_of(server))
+    require(stat.S_ISSOCK(found.st_mode) and stat.S_IMODE(found.st_mode) == 0o600, f"the mode is {found.st_mode:o}")
+    return "mode 0600"
+
+
+def check_stale(server, _):
+    """A socket that a killed server left is replaced; a file of another kind is left, and the server does not start."""
+    server.end(signal.SIGKILL)
+    require(os.path.exists(socket_of(server)), "a killed server removed its socket")
+    server.start()
+    issue(server)
+    server.end(signal.SIGKILL)
+    os.unlink(socket_of(server))
+    Path(socket_of(server)).write_text("kept")
+    words = [server.program, "serve", *server.files(), "--listen", "127.0.0.1:0", "--control", socket_of(server)]
+    ran = subprocess.run(words, capture_output=True, timeout=10)
+    require((ran.returncode, ran.stderr) == (1, b"custody: control socket\n"), f"{ran}")
+    require(Path(socket_of(server)).read_text() == "kept", "the file was not left")
+    os.unlink(socket_of(server))
+    server.start()
+    return "a stale socket is replaced, a file is left"
+
+
+def check_no_server(server, _):
+    """Without a server the command ends with one line."""
+    server.end(signal.SIGKILL)
+    require(via(server, "check") == (1, "", "custody: control socket\n"), "another line")
+    server.start()
+    return "custody: control socket"
+
+
+def check_silent(server, _):
+    """An operator who sends nothing holds up nobody for longer than 2 seconds."""
+    with socket.socket(socket.AF_UNIX) as silent:
+        silent.connect(socket_of(server))
+        time.sleep(0.1)
+        taken = server.time_of_lock("art/after-silence")
+        require(taken <= 3, f"a client waited for {taken:.2f} s")
+    require("custody: operator not answered" in server.errors(), "the server did not report it")
+    return f"a client waited for {taken:.2f} s (at most 3 s)"
+
+
+def check_idle_client(server, _):
+    """A client that idles gives way to an operator."""
+    with server.client() as client:
+        require(client.ask(message("POST", TARGET, {"path": "art/idle"}))[0] == 201, "no lock")
+        begun = time.monotonic()
+        issue(server)
+        taken = time.monotonic() - begun
+    require(taken <= 1, f"a token took {taken:.2f} s beside an idle client")
+    return f"a token took {taken:.2f} s (at most 1 s)"
+
+
+def work(server, number, ends, faults, counts):
+    """A client that locks, uploads and downloads, until it has to end."""
+    random_bytes = random.Random(number)
+    while not ends.is_set():
+        try:
+            data = random_bytes.randbytes(random_bytes.choice([10, 5_000, 300_000]))
+            oid = hashlib.sha256(data).hexdigest()
+            put = message("PUT", content(oid), more=f"Content-Length: {len(data)}\r\n") + data
+            with server.client() as client:
+                require(client.ask(put)[0] == 200, "an upload was refused")
+                status, body = client.ask(message("GET", content(oid)))
+                require(status == 200 and body == data, "a download differs")
+            counts[number] += 1
+        except (Failed, OSError) as fault:
+            faults.append(str(fault))
+            return
+
+
+def check_under_load(server, options):
+    """Tokens are issued while 8 clients push and pull."""
+    ends, faults, counts, times = threading.Event(), [], [0] * 8, []
+    threads = [threading.Thread(target=work, args=(server, number, ends, faults, counts)) for number in range(8)]
+    for thread in threads:
+        thread.start()
+    tokens = set()
+    try:
+        for _ in range(options.tokens):
+            begun = time.monotonic()
+            tokens.add(issue(server))
+            times.append(time.monotonic() - begun)
+    finally:
+        ends.set()
+        for thread in threads:
+            thread.join()
+    require(not faults, "; ".join(faults[:3]))
+    require(len(tokens) == options.tokens, "a token was issued twice")
+    require(max(times) <= 2, f"a token took {max(times):.2f} s")
+    with server.client() as client:
+        for token in tokens:
+            status, _ = client.ask(with_token(token, "GET", TARGET))
+            require(status == 200, f"a token that was issued got {status}")
+    times.sort()
+    return (f"{options.tokens} tokens beside {sum(counts)} uploads and downloads of 8 clients: "
+            f"median {times[len(times) // 2]:.3f} s, slowest {times[-1]:.3f} s (at most 2 s)")
+
+
+def kill_in_mid_work(server, number, kept):
+    """Locks, uploads and issues for a random time, and kills the server. Adds what was acknowledged to `kept`."""
+    tokens, locks, objects = kept
+    ends = threading.Event()
+
+    def operate():
+        while not ends.is_set():
+            status, output, _ = via(server, "authenticate", "--user", "ann", "studio/film", "upload")
+            if status == 0:
+                tokens.append(json.loads(output)["header"]["Authorization"].split()[1])
+
+    def lock_and_upload():
+        count = 0
+        while not ends.is_set():
+            count += 1
+            path, data = f"r{number}/{count}", f"{number} {count}".encode() * 9000
+            oid = hashlib.sha256(data).hexdigest()
+            put = message("PUT", content(oid), more=f"Content-Length: {len(data)}\r\n") + data
+            try:
+                with Client(server.port, 5) as client:
+                    if client.ask(message("POST", TARGET, {"path": path}))[0] == 201:
+                        locks.append(path)
+                    if client.ask(put)[0] == 200:
+                        objects.append(oid)
+            except (Failed, OSError):
+                pass
+
+    threads = [threading.Thread(target=act) for act in (operate, lock_and_upload)]
+    for thread in threads:
+        thread.start()
+    time.sleep(random.uniform(0.02, 0.4))
+    server.end(signal.SIGKILL)
+    ends.set()
+    for thread in threads:
+        thread.join()
+    server.start()
+
+
+def locked_paths(server):
+    """The paths that are locked."""
+    status, output, _ = via(server, "locks", "--repo", "studio/film")
+    require(status == 0, "no list of locks")
+    return {line.split(" ", 4)[4] for line in output.splitlines()}
+
+
+def check_killed(server, options):
+    """The server is killed at random moments: no token, lock or object that was acknowledged is missing."""
+    kept = tokens, locks, objects = [], [], []
+    for number in range(options.rounds):
+        kill_in_mid_work(server, number, kept)
+    with server.client() as client:
+        for token in tokens:
+            require(client.ask(with_token(token, "GET", TARGET))[0] == 200, "a token that was issued is missing")
+    missing = set(locks) - locked_paths(server)
+    require(not missing, f"locks are missing: {missing}")
+    status, output, _ = via(server, "objects", "--repo", "studio/film")
+    require(status == 0, "no list of objects")
+    missing = set(objects) - {line.split()[0] for line in output.splitlines()}
+    require(not missing, f"objects are missing: {missing}")
+    status, output, _ = via(server, "check")
+    require(status == 0, f"check: {output}")
+    return (f"killed {options.rounds} times; {len(tokens)} tokens, {len(locks)} locks and {len(objects)} objects are "
+            f"there; {output.strip()}")
+
+
+def controlled(check):
+    """The check, on a server with a control socket."""
+
+    def run(server, options):
+        restart(server)
+        return check(server, options)
+
+    return run
+
+
+CHECKS = {
+    "same-words": controlled(check_same_words),
+    "only-the-user": controlled(check_only_the_user),
+    "stale": controlled(check_stale),
+    "no-server": controlled(check_no_server),
+    "silent": controlled(check_silent),
+    "idle-client": controlled(check_idle_client),
+    "under-load": controlled(check_under_load),
+    "killed": controlled(check_killed),
+}
+
+
+def main():
+    parser = argparse.ArgumentParser(description=__doc__.splitlines()[0])
+    parser.add_argument("--program", default=str(TOP / "bin/custody"), help="the program [default: bin/custody]")
+    parser.add_argument("--only", action="append", choices=CHECKS, help="only this check")
+    parser.add_argument("--tokens", type=int, default=200, help="how many tokens are issued beside 8 clients")
+    parser.add_argument("--rounds", type=int, default=200, help="how often a server is killed")
+    return run_all(CHECKS, parser.parse_args(), LARGE_QUOTA)
+
+
+if __name__ == "__main__":
+    sys.exit(main())

@@ -1,0 +1,374 @@
+#!/usr/bin/env python3
+"""Sets up a site on this machine, and uses it with the real clients: tools/try_site.sh runs it.
+
+    try_site.py PROGRAM
+
+In a temporary folder: nginx with examples/nginx-site and a certificate, sshd with examples/forced-command, `custody serve`
+with a control socket, a repository of Git, and two users with keys of their own. It prints a line for each check, and ends
+with `N passed, M failed`, and with status 1 if a check failed.
+"""
+import getpass
+import os
+import random
+import shutil
+import signal
+import socket
+import subprocess
+import sys
+import tempfile
+import threading
+import time
+from pathlib import Path
+
+TOP = Path(__file__).resolve().parent.parent
+ROWS = """
+[[row]]
+effect = "allow"
+users = ["ann"]
+repos = ["studio/film"]
+refs = ["*"]
+paths = ["*"]
+rights = ["force"]
+
+[[row]]
+effect = "allow"
+users = ["ann", "bob"]
+repos = ["studio/film"]
+refs = ["*"]
+paths = ["*"]
+rights = ["pull", "push", "list", "lock"]
+"""
+NGINX = """
+daemon off;
+pid @room/nginx.pid;
+error_log @room/nginx.log;
+@user
+events {}
+http {
+    client_body_temp_path @room/body;
+    proxy_temp_path @room/proxy;
+    fastcgi_temp_path @room/fastcgi;
+    uwsgi_temp_path @room/uwsgi;
+    scgi_temp_path @room/scgi;
+    include @room/site;
+}
+"""
+SSHD = """
+Port @port
+ListenAddress 127.0.0.1
+HostKey @room/host_key
+AuthorizedKeysFile @room/authorized_keys
+PidFile @room/sshd.pid
+StrictModes no
+UsePAM no
+PasswordAuthentication no
+PermitRootLogin forced-commands-only
+"""
+
+
+def free_port():
+    with socket.create_server(("127.0.0.1", 0)) as probe:
+        return probe.getsockname()[1]
+
+
+def wait_for(port):
+    """Waits until somebody listens on the port."""
+    for _ in range(100):
+        with socket.socket() as probe:
+            if probe.connect_ex(("127.0.0.1", port)) == 0:
+                return
+        time.sleep(0.1)
+    sys.exit(f"nobody listens on port {port}")
+
+
+class Site:
+    """The servers, and the users' clones."""
+
+    def __init__(self, program, room):
+        self.program, self.room = os.path.abspath(program), room
+        self.passed = self.failed = 0
+        self.https, self.ssh, self.http = free_port(), free_port(), free_port()
+        self.base = f"https://localhost:{self.https}"
+        self.children = []
+        self.server = None
+        self.environment = dict(
+            os.environ,
+            PATH=f"{room}/bin:{os.environ['PATH']}",
+            HOME=room,
+            GIT_CONFIG_GLOBAL=f"{room}/gitconfig",
+            GIT_CONFIG_NOSYSTEM="1",
+            GIT_TERMINAL_PROMPT="0",
+            # Git LFS 3.3 does not read http.sslCAInfo.
+            GIT_SSL_CAINFO=f"{room}/tls.pem",
+        )
+
+    def check(self, holds, what, text=""):
+        """Counts a check, and prints it."""
+        self.passed, self.failed = self.passed + bool(holds), self.failed + (not holds)
+        print(f"{'ok  ' if holds else 'FAIL'} {what}", flush=True)
+        if not holds and text:
+            print("     " + text.strip().replace("\n", "\n     "), flush=True)
+
+    def write(self, name, text, mode=0o644):
+        path = Path(self.room, name)
+        path.parent.mkdir(parents=True, exist_ok=True)
+        path.write_text(text)
+        path.chmod(mode)
+        return path
+
+    def run(self, *words, folder=None, may_fail=False, given=None):
+        """Runs a command. Returns its status and what it printed."""
+        ran = subprocess.run(words, cwd=folder or self.room, env=self.environment, input=given, stdout=subprocess.PIPE,
+                             stderr=subprocess.STDOUT, text=True, errors="replace", check=False)
+        if ran.returncode and not may_fail:
+            sys.exit(f"{' '.join(words)} ended with {ran.returncode}\n{ran.stdout}")
+        return ran.returncode, ran.stdout
+
+    def git(self, user, *words, may_fail=False):
+        return self.run("git", *words, folder=f"{self.room}/{user}", may_fail=may_fail)
+
+    def write_policy(self, seconds):
+        repo = '[[repo]]\nname = "studio/film"\ndefault_ref = "refs/heads/main"\nquota = 4000000000\n'
+        self.write("policy.toml", f'base = "{self.base}"\ntoken_seconds = {seconds}\n\n{repo}{ROWS}')
+
+    def start_server(self):
+        words = ["serve", "--db", f"{self.room}/db", "--policy", f"{self.room}/policy.toml"]
+        more = ["--listen", f"127.0.0.1:{self.http}", "--control", f"{self.room}/control"]
+        self.server = subprocess.Popen([self.program, *words, *more], stdout=subprocess.PIPE,
+                                       stderr=open(f"{self.room}/custody.log", "a", encoding="utf-8"))
+        line = self.server.stdout.readline()
+        if not line.startswith(b"listening"):
+            sys.exit(f"custody printed {line!r}; {Path(self.room, 'custody.log').read_text()}")
+
+    def end_server(self, kind=signal.SIGTERM):
+        self.server.send_signal(kind)
+        self.server.wait()
+        self.server.stdout.close()
+
+    def start_nginx(self):
+        key, certificate = f"{self.room}/tls.key", f"{self.room}/tls.pem"
+        self.run("openssl", "req", "-x509", "-newkey", "rsa:2048", "-nodes", "-days", "2", "-subj", "/CN=localhost",
+                 "-addext", "subjectAltName=DNS:localhost", "-keyout", key, "-out", certificate)
+        site = (TOP / "examples/nginx-site").read_text()
+        for old, new in [("127.0.0.1:8080", f"127.0.0.1:{self.http}"), ("listen 443", f"listen 127.0.0.1:{self.https}"),
+                         ("lfs.example;", "localhost;"), ("/etc/ssl/certs/lfs.example.pem", certificate),
+                         ("/etc/ssl/private/lfs.example.key", key), ("/var/log/nginx", self.room)]:
+            if old not in site:
+                sys.exit(f"examples/nginx-site has no {old}")
+            site = site.replace(old, new)
+        self.write("site", site)
+        user = "user root;" if os.getuid() == 0 else ""
+        config = self.write("nginx.conf", NGINX.replace("@room", self.room).replace("@user", user))
+        self.children.append(subprocess.Popen(["nginx", "-c", config, "-e", f"{self.room}/nginx.log"]))
+        wait_for(self.https)
+
+    def start_sshd(self):
+        self.run("ssh-keygen", "-q", "-t", "ed25519", "-N", "", "-f", f"{self.room}/host_key")
+        command = (TOP / "examples/forced-command").read_text()
+        for old, new in [("/run/custody/control", f"{self.room}/control"), ("/srv/git", f"{self.room}/git"),
+                         ("exec custody", f"exec {self.program}")]:
+            if old not in command:
+                sys.exit(f"examples/forced-command has no {old}")
+            command = command.replace(old, new)
+        self.write("forced-command", command, 0o755)
+        lines = ""
+        for user in ("ann", "bob"):
+            self.run("ssh-keygen", "-q", "-t", "ed25519", "-N", "", "-f", f"{self.room}/key-{user}")
+            public = Path(self.room, f"key-{user}.pub").read_text().strip()
+            lines += f'restrict,command="{self.room}/forced-command {user}" {public}\n'
+        self.write("authorized_keys", lines, 0o600)
+        config = self.write("sshd_config", SSHD.replace("@room", self.room).replace("@port", str(self.ssh)))
+        Path("/run/sshd").mkdir(exist_ok=True) if os.getuid() == 0 else None
+        self.children.append(subprocess.Popen([shutil.which("sshd"), "-D", "-e", "-f", config],
+                                              stderr=open(f"{self.room}/sshd.log", "w", encoding="utf-8")))
+        wait_for(self.ssh)
+
+    def set_up(self):
+        self.write_policy(3600)
+        self.start_server()
+        self.start_nginx()
+        self.start_sshd()
+        self.run("git", "config", "--global", "init.defaultBranch", "main")
+        self.run("git", "lfs", "install", "--skip-repo")
+        self.run("git", "init", "-q", "--bare", f"{self.room}/git/studio/film.git")
+
+    def remote(self):
+        return f"ssh://{getpass.getuser()}@localhost:{self.ssh}/studio/film.git"
+
+    def ssh_command(self, user):
+        hosts = f"-o UserKnownHostsFile={self.room}/known_hosts -o StrictHostKeyChecking=accept-new"
+        return f"ssh -i {self.room}/key-{user} -o IdentitiesOnly=yes {hosts}"
+
+    def configure(self, user):
+        for name, value in [("user.name", user), ("user.email", f"{user}@studio.example"),
+                            ("core.sshCommand", self.ssh_command(user)), ("lfs.concurrenttransfers", "8"),
+                            ("lfs.activitytimeout", "300"), ("lfs.locksverify", "true")]:
+            self.git(user, "config", name, value)
+
+    def clone(self, user, folder):
+        """A new clone of the user."""
+        command = f"core.sshCommand={self.ssh_command(user)}"
+        ran = self.run("git", "-c", command, "clone", "-q", self.remote(), folder, may_fail=True)
+        if ran[0] == 0:
+            self.configure(folder)
+            self.git(folder, "config", "core.sshCommand", self.ssh_command(user))
+        return ran
+
+    def add_files(self, folder, name, count, size):
+        """Commits new files of about this size."""
+        random_bytes = random.Random(name)
+        Path(self.room, folder, name).mkdir(parents=True)
+        for number in range(count):
+            Path(self.room, folder, name, f"{number}.psd").write_bytes(random_bytes.randbytes(size + number))
+        self.git(folder, "add", name)
+        self.git(folder, "commit", "-q", "-m", f"Adds {name}")
+
+    def via(self, *words):
+        name, *rest = words
+        return self.run(self.program, name, "--via", f"{self.room}/control", *rest, may_fail=True)
+
+    def objects(self):
+        """How many objects the server has."""
+        return len(self.via("objects", "--repo", "studio/film")[1].splitlines())
+
+    def end(self):
+        for child in self.children:
+            child.terminate()
+            child.wait()
+        if self.server.poll() is None:
+            self.end_server()
+
+
+def same_files(site, one, other, name):
+    """Whether two clones have the same files in a folder."""
+    return subprocess.run(["diff", "-r", f"{site.room}/{one}/{name}", f"{site.room}/{other}/{name}"], check=False).returncode == 0
+
+
+def try_push_and_clone(site):
+    site.run("git", "init", "-q", f"{site.room}/ann")
+    site.configure("ann")
+    site.git("ann", "remote", "add", "origin", site.remote())
+    site.git("ann", "lfs", "track", "*.psd", "--lockable")
+    site.git("ann", "add", ".gitattributes")
+    site.add_files("ann", "art", 20, 100_000)
+    status, text = site.git("ann", "push", "-q", "-u", "origin", "main", may_fail=True)
+    site.check(status == 0 and site.objects() == 20, "ann pushes 20 files", text)
+    status, text = site.clone("bob", "bob")
+    site.check(status == 0 and same_files(site, "ann", "bob", "art"), "bob clones them", text)
+    status, text = site.git("bob", "lfs", "fsck", may_fail=True)
+    site.check(status == 0, "git lfs fsck finds them whole", text)
+
+
+def try_locks(site):
+    status, text = site.git("ann", "lfs", "lock", "art/1.psd", may_fail=True)
+    site.check("Locked art/1.psd" in text, "ann locks a path", text)
+    status, text = site.git("bob", "lfs", "lock", "art/1.psd", may_fail=True)
+    site.check(status != 0 and "L1" in text, "bob is refused the same path", text)
+    status, text = site.git("bob", "lfs", "lock", "art/2.psd", may_fail=True)
+    site.check("Locked art/2.psd" in text, "bob locks another", text)
+    status, text = site.git("ann", "lfs", "locks", may_fail=True)
+    site.check("art/1.psd" in text and "art/2.psd" in text, "ann lists both locks", text)
+    status, text = site.git("bob", "lfs", "unlock", "--force", "art/1.psd", may_fail=True)
+    site.check(status != 0 and "P0" in text, "bob may not break ann's lock", text)
+    status, text = site.git("ann", "lfs", "unlock", "--force", "art/2.psd", may_fail=True)
+    site.check("Unlocked art/2.psd" in text, "ann breaks bob's lock", text)
+    Path(site.room, "bob/art/1.psd").chmod(0o644)
+    Path(site.room, "bob/art/1.psd").write_bytes(b"bob's hero")
+    site.git("bob", "commit", "-q", "-a", "-m", "A hero")
+    status, text = site.git("bob", "push", "-q", "origin", "main", may_fail=True)
+    site.check(status != 0 and "art/1.psd" in text, "bob's push of the locked path is stopped", text)
+    status, text = site.git("ann", "lfs", "unlock", "art/1.psd", may_fail=True)
+    site.check("Unlocked art/1.psd" in text, "ann releases the lock", text)
+    status, text = site.git("bob", "push", "-q", "origin", "main", may_fail=True)
+    site.check(status == 0, "bob's push passes", text)
+    status, text = site.git("ann", "pull", "-q", may_fail=True)
+    site.check(same_files(site, "ann", "bob", "art"), "ann pulls it", text)
+
+
+def try_transfers(site):
+    site.add_files("ann", "many", 200, 20_000)
+    site.add_files("ann", "large", 3, 40_000_000)
+    began = time.monotonic()
+    status, text = site.git("ann", "push", "-q", "origin", "main", may_fail=True)
+    site.check(status == 0, f"203 files are pushed with 8 transfers at a time, in {time.monotonic() - began:.1f} s", text)
+    began = time.monotonic()
+    status, text = site.git("bob", "pull", "-q", may_fail=True)
+    site.check(same_files(site, "ann", "bob", "many") and same_files(site, "ann", "bob", "large"),
+               f"and pulled, in {time.monotonic() - began:.1f} s", text)
+
+
+def try_tokens(site):
+    status, text = site.via("prune", "--now", "0")
+    site.check((status, text) == (0, "pruned 0 tokens\n"), "no token is removed before it expires", text)
+    status, text = site.via("prune", "--now", "253402300799")
+    site.check(status == 0 and text != "pruned 0 tokens\n", "all are removed after that, beside the running server", text)
+    # The client does not use what expires within 5 seconds.
+    site.write_policy(7)
+    site.end_server()
+    site.start_server()
+    site.add_files("ann", "expiring", 2000, 1_000)
+    site.git("ann", "config", "lfs.concurrenttransfers", "1")
+    began = time.monotonic()
+    status, text = site.git("ann", "push", "-q", "origin", "main", may_fail=True)
+    taken = time.monotonic() - began
+    site.check(status == 0 and taken > 7, f"a push of 2000 files with tokens of 7 seconds passes, in {taken:.1f} s", text)
+    site.git("ann", "config", "lfs.concurrenttransfers", "8")
+    site.write_policy(3600)
+    site.end_server()
+    site.start_server()
+
+
+def try_restart(site):
+    site.add_files("ann", "restarted", 150, 200_000)
+    before = site.objects()
+
+    def restart():
+        while site.objects() < before + 20:
+            time.sleep(0.02)
+        site.end_server(signal.SIGKILL)
+        site.start_server()
+
+    thread = threading.Thread(target=restart)
+    thread.start()
+    status, text = site.git("ann", "push", "-q", "origin", "main", may_fail=True)
+    thread.join()
+    print(f"     a push during which the server was killed ended with {status}")
+    if status != 0:
+        status, text = site.git("ann", "push", "-q", "origin", "main", may_fail=True)
+    site.check(status == 0, "the push, or the one after it, passes", text)
+    site.check(site.objects() == before + 150, "each object is there once")
+    status, text = site.via("check")
+    site.check(status == 0, f"every object is whole: {text.strip()}", text)
+    status, text = site.clone("bob", "again")
+    site.check(status == 0 and same_files(site, "ann", "again", "restarted"), "a new clone has all files", text)
+
+
+def try_other_requests(site):
+    command = ["ssh", "-p", str(site.ssh), *site.ssh_command("bob").split()[1:], f"{getpass.getuser()}@localhost"]
+    status, text = site.run(*command, "cat /etc/passwd", may_fail=True)
+    site.check(status != 0 and "only git-lfs-authenticate" in text, "sshd runs no other command", text)
+    status, text = site.run(*command, "git-upload-pack '../../etc'", may_fail=True)
+    site.check(status != 0 and "only git-lfs-authenticate" in text, "and serves no other folder", text)
+    large = f"{site.room}/large"
+    with open(large, "wb") as file:
+        file.truncate((256 << 20) + 1)
+    status, text = site.run("curl", "-sS", "--cacert", f"{site.room}/tls.pem", "-T", large, "-w", "\n%{http_code}",
+                            f"{site.base}/studio/film.git/info/lfs/content/{'0' * 64}", may_fail=True)
+    site.check("413" in text and '"message"' in text, "nginx refuses an object of more than 256 MiB", text)
+
+
+def main():
+    with tempfile.TemporaryDirectory() as room:
+        site = Site(sys.argv[1], room)
+        try:
+            site.set_up()
+            for part in (try_push_and_clone, try_locks, try_transfers, try_tokens, try_restart, try_other_requests):
+                part(site)
+        finally:
+            site.end()
+    print(f"{site.passed} passed, {site.failed} failed")
+    return 1 if site.failed else 0
+
+
+if __name__ == "__main__":
+    sys.exit(main())
