@@ -9,9 +9,9 @@ top=$(cd "$here/../.." && pwd)
 work=$(mktemp -d)
 trap 'rm -rf "$work"' EXIT
 mkdir -p "$work/repo/crates/bench/src" "$work/repo/crates/bench/specs" "$work/repo/crates/bench/proofs"
-for crate in schemas tables; do cp -r "$top/crates/$crate" "$work/repo/crates/"; done
-grep -E '^(schemas|tables):' "$top/crates.txt" > "$work/repo/crates.txt"
-echo 'bench: tables sqlite anyhow' >> "$work/repo/crates.txt"
+for crate in names schema_compare typed_rows tables; do cp -r "$top/crates/$crate" "$work/repo/crates/"; done
+grep -E '^(names|schema_compare|typed_rows|tables):' "$top/crates.txt" > "$work/repo/crates.txt"
+echo 'bench: names tables sqlite anyhow' >> "$work/repo/crates.txt"
 cp "$here/main.rt.txt" "$work/repo/crates/bench/src/main.rt"
 touch "$work/repo/crates/bench/specs/Lib.antt" "$work/repo/crates/bench/proofs/Lib.antt"
 cd "$work/repo"
