@@ -1,4 +1,5 @@
 pub mod Faults
 pub mod Lines
 pub mod Works
+pub mod Reached
 pub mod Tasks

@@ -15,6 +15,7 @@ mod output;
 mod paths;
 mod pruning;
 mod pushing;
+mod reopening;
 mod sweeping;
 mod tasks;
 
@@ -23,4 +24,5 @@ pub use issuing::repo_at;
 pub use output::Lines;
 pub use paths::{LONGEST_PATHS, PathsFault, paths_in};
 pub use pushing::Push;
+pub use reopening::reopening_law;
 pub use tasks::Task;
