@@ -11,7 +11,7 @@ use refinement::open_from;
 use std::alloc::Global;
 use std::io::{IsTerminal, Read, Write};
 use std::rt::HostRuntime;
-use tables::{Alter, Start, Store, StoreFault};
+use tables::Start;
 use tokens::TokenRequest;
 
 /// The token that the arguments ask for.
@@ -32,18 +32,6 @@ pub(crate) fn token_request<'a>(
     }
 }
 
-/// Runs the task over the store, if it was opened.
-fn run_opened<S: Alter + Drop, W: Write>(
-    alloc: Global,
-    opened: Result<Store<S>, StoreFault>,
-    task: &Task<'_>,
-    output: &mut W,
-) -> Result<(), Fault> {
-    let mut store = opened?;
-    task.run(alloc, &mut store, output)?;
-    Ok(())
-}
-
 /// Opens the database, and runs the task over it.
 fn run_task<S: Start, W: Write>(
     rt: &HostRuntime,
@@ -52,8 +40,9 @@ fn run_task<S: Start, W: Write>(
     output: &mut W,
     start: S,
 ) -> Result<(), Fault> {
-    let opened = open_from(rt, db, start);
-    run_opened(rt.alloc(), opened, task, output)
+    let mut store = open_from(rt, db, start)?;
+    task.run(rt.alloc(), &mut store, output)?;
+    Ok(())
 }
 
 /// Issues a token to the user, and prints the line that the client needs.

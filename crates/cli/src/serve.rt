@@ -25,7 +25,7 @@ use std::net::{TcpListener, TcpStream};
 use std::os::unix::net::{UnixListener, UnixStream};
 use std::rt::HostRuntime;
 use std::time::{Clock, Duration};
-use tables::{Start, Storage, Store, StoreFault};
+use tables::{Start, Storage, Store};
 
 /// What the connections are served with.
 #[derive(Drop)]
@@ -218,7 +218,9 @@ fn serve_store<S: Storage, C: Clock, W: Write, E: Write>(
     doors: Doors<'_>,
     output: &mut W,
     errors: &mut E,
-) -> Result<(), Fault> {
+) -> Result<(), Fault>
+    ensures { From S.Store store.old store.new (λ world. Works S.Store store.old store.new world) }
+{
     let Ok(mut queue) = Queue::new(context.rt, doors.clients, doors.operators) else {
         return Err(Fault::Network);
     };
@@ -245,7 +247,9 @@ fn serve_controlled<S: Storage, C: Clock, W: Write, E: Write>(
     path: &str,
     output: &mut W,
     errors: &mut E,
-) -> Result<(), Fault> {
+) -> Result<(), Fault>
+    ensures { From S.Store store.old store.new (λ world. Works S.Store store.old store.new world) }
+{
     let control = ControlSocket::bind(context.rt, path)?;
     let doors = doors_of(clients, control.listener());
     let served = serve_store(context, store, args, doors, output, errors);
@@ -253,29 +257,20 @@ fn serve_controlled<S: Storage, C: Clock, W: Write, E: Write>(
     served
 }
 
-/// Serves the connections over the store, if it was opened.
-fn serve_opened<S: Storage + Drop, C: Clock, W: Write, E: Write>(
+/// Serves the connections over the store, with a control socket if the arguments name one.
+fn serve_opened<S: Storage, C: Clock, W: Write, E: Write>(
     context: &ServeContext<'_, C>,
-    opened: Result<Store<S>, StoreFault>,
+    store: &mut Store<S>,
     args: &ServeArgs<'_>,
     doors: Doors<'_>,
     output: &mut W,
     errors: &mut E,
-) -> Result<(), Fault> {
-    let mut store = opened?;
+) -> Result<(), Fault>
+    ensures { From S.Store store.old store.new (λ world. Works S.Store store.old store.new world) }
+{
     match args.control {
-        None => serve_store(context, &mut store, args, doors, output, errors),
-        Some(path) => {
-            serve_controlled(
-                context,
-                &mut store,
-                args,
-                doors.clients,
-                path,
-                output,
-                errors,
-            )
-        }
+        None => serve_store(context, store, args, doors, output, errors),
+        Some(path) => serve_controlled(context, store, args, doors.clients, path, output, errors),
     }
 }
 
@@ -298,8 +293,8 @@ fn serve_bound<C: Clock, S: Start, W: Write, E: Write>(
         clock,
         idle: Duration::from_secs(args.idle),
     };
-    let opened = open_from(rt, args.db, start);
-    serve_opened(&context, opened, args, doors, output, errors)
+    let mut store = open_from(rt, args.db, start)?;
+    serve_opened(&context, &mut store, args, doors, output, errors)
 }
 
 /// Serves connections to the address, one after the other.

@@ -1,6 +1,8 @@
 //! The command `session`: one connection over the program's own input and output.
 
 ghost use Rattle.std.specs.Prelude.{◌≡◌};
+ghost use Rattle.refinement.specs.Left.{From};
+ghost use Rattle.operator.specs.Works.{Works};
 ghost use Rattle.cli.specs.Statuses.{is_good};
 
 use crate::args::SessionArgs;
@@ -14,7 +16,7 @@ use service::{End, Routes, serve};
 use std::alloc::Global;
 use std::io::{self, Read, Write};
 use std::rt::HostRuntime;
-use tables::{Start, Storage, Store, StoreFault};
+use tables::{Start, Storage, Store};
 
 /// What a session is served with.
 #[derive(Clone, Copy)]
@@ -49,7 +51,9 @@ fn serve_streams<S: Storage, R: Read, W: Write>(
     context: &SessionContext<'_>,
     input: &mut R,
     output: &mut W,
-) -> End {
+) -> End
+    ensures { From S.Store store.old store.new (λ world. Works S.Store store.old store.new world) }
+{
     let mut source = Counted::new(input);
     let mut sink = Counted::new(Flushed { output });
     serve(
@@ -74,16 +78,17 @@ pub(crate) fn is_good(end: End) -> bool
     }
 }
 
-/// Answers the requests of the input over the store, if it was opened.
-fn serve_opened<S: Storage + Drop, R: Read, W: Write>(
+/// Answers the requests of the input over the store.
+fn serve_opened<S: Storage, R: Read, W: Write>(
     alloc: Global,
-    opened: Result<Store<S>, StoreFault>,
+    store: &mut Store<S>,
     context: &SessionContext<'_>,
     input: &mut R,
     output: &mut W,
-) -> Result<(), Fault> {
-    let mut store = opened?;
-    let end = serve_streams(alloc, &mut store, context, input, output);
+) -> Result<(), Fault>
+    ensures { From S.Store store.old store.new (λ world. Works S.Store store.old store.new world) }
+{
+    let end = serve_streams(alloc, store, context, input, output);
     if is_good(end) {
         Ok(())
     } else {
@@ -114,6 +119,6 @@ pub(crate) fn session<S: Start, R: Read, W: Write>(
         routes: &routes,
         now,
     };
-    let opened = open_from(rt, args.db, start);
-    serve_opened(alloc, opened, &context, input, output)
+    let mut store = open_from(rt, args.db, start)?;
+    serve_opened(alloc, &mut store, &context, input, output)
 }
