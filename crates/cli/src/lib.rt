@@ -6,20 +6,16 @@
 
 mod args;
 mod commands;
-mod control_socket;
 mod faults;
 mod files;
-mod lingering;
 mod moments;
 mod operating;
 mod operator_commands;
 mod operators;
-mod patience;
 mod policy_args;
 mod policy_command;
 mod policy_lines;
 mod program;
-mod queue;
 mod serve;
 mod session;
 mod via;

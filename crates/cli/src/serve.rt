@@ -5,20 +5,19 @@ ghost use Rattle.refinement.specs.Left.{From};
 ghost use Rattle.operator.specs.Works.{Works};
 
 use crate::args::ServeArgs;
-use crate::control_socket::ControlSocket;
 use crate::faults::Fault;
 use crate::files::read_policy;
-use crate::lingering::linger;
 use crate::moments::moment;
 use crate::operators::OperatorContext;
-use crate::patience::{Announced, Course, PatientReader, PatientWriter, SLICE};
 use crate::program::{print_fault, status_after};
-use crate::queue::{Caller, Queue};
 use crate::session::is_good;
 use names::{Counted, Moment};
 use policy::Policy;
 use refinement::open_from;
 use service::{End, Routes};
+use sockets::{
+    Announced, Caller, ControlSocket, Course, PatientReader, PatientWriter, Queue, linger, prepare,
+};
 use std::cell::Cell;
 use std::io::{self, Write};
 use std::net::{TcpListener, TcpStream};
@@ -36,14 +35,6 @@ struct ServeContext<'a, C> {
     clock: &'a C,
     /// How long a client may idle between messages.
     idle: Duration,
-}
-
-/// Sets how the socket of a connection reads and writes.
-fn prepare(stream: &TcpStream) -> io::Result<()> {
-    stream.set_nodelay(true)?;
-    let slice = Duration::from_millis(SLICE);
-    stream.set_read_timeout(Some(slice))?;
-    stream.set_write_timeout(Some(slice))
 }
 
 impl<C: Clock> ServeContext<'_, C> {
@@ -250,7 +241,9 @@ fn serve_controlled<S: Storage, C: Clock, W: Write, E: Write>(
 ) -> Result<(), Fault>
     ensures { From S.Store store.old store.new (λ world. Works S.Store store.old store.new world) }
 {
-    let control = ControlSocket::bind(context.rt, path)?;
+    let Ok(control) = ControlSocket::bind(context.rt, path) else {
+        return Err(Fault::Control);
+    };
     let doors = doors_of(clients, control.listener());
     let served = serve_store(context, store, args, doors, output, errors);
     control.remove(context.rt);

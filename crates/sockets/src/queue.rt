@@ -1,6 +1,5 @@
 //! The clients and operators that wait to be answered.
 
-use crate::faults::Fault;
 use mio::event::Events;
 use mio::unix::SourceFd;
 use mio::{Interest, Poll, Token};
@@ -14,7 +13,7 @@ use std::time::{Duration, Instant};
 
 /// Who is answered next.
 #[derive(Drop)]
-pub(crate) enum Caller {
+pub enum Caller {
     /// A client, who sends the messages of a connection.
     Client(TcpStream),
     /// An operator, who sends a command.
@@ -31,7 +30,7 @@ struct Waiting {
 
 /// Those who wait to be answered: at most one accepted connection, and those of the listeners.
 #[derive(Drop)]
-pub(crate) struct Queue<'a> {
+pub struct Queue<'a> {
     listener: &'a TcpListener,
     control: Option<&'a UnixListener>,
     next: Option<Waiting>,

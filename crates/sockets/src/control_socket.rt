@@ -1,6 +1,5 @@
 //! The socket on which a server is called by operators.
 
-use crate::faults::Fault;
 use std::fs::{self, Permissions};
 use std::io;
 use std::os::unix::fs::{FileTypeExt, PermissionsExt};
@@ -12,7 +11,7 @@ const MODE: u32 = 0o600;
 
 /// A socket that operators connect to, at a path.
 #[derive(Drop)]
-pub(crate) struct ControlSocket<'a> {
+pub struct ControlSocket<'a> {
     path: &'a str,
     listener: UnixListener,
 }
@@ -38,12 +37,10 @@ impl<'a> ControlSocket<'a> {
     ///
     /// # Errors
     ///
-    /// `Control` if it could not be made, for example since there is a file of another kind at the path, which is left.
-    pub fn bind(rt: &HostRuntime, path: &'a str) -> Result<ControlSocket<'a>, Fault> {
-        match bind(rt, path) {
-            Ok(listener) => Ok(ControlSocket { path, listener }),
-            Err(_) => Err(Fault::Control),
-        }
+    /// Fails if it could not be made, for example since there is a file of another kind at the path, which is left.
+    pub fn bind(rt: &HostRuntime, path: &'a str) -> io::Result<ControlSocket<'a>> {
+        let listener = bind(rt, path)?;
+        Ok(ControlSocket { path, listener })
     }
 
     /// The listener.

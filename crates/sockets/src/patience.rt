@@ -2,7 +2,7 @@
 
 ghost use Rattle.std.specs.Prelude.{◌≡◌, Option, option_map, nat_lt};
 ghost use Rattle.std.specs.Duration.{as_nanos};
-ghost use Rattle.cli.specs.Waiting.{allowance, may_idle};
+ghost use Rattle.sockets.specs.Waiting.{allowance, may_idle};
 
 use crate::queue::Queue;
 use names::{DeviceFault, Source};
@@ -13,7 +13,7 @@ use std::time::{Clock, Duration, Instant};
 
 /// How long one call of the socket waits, in milliseconds. After it the rules of this module are
 /// applied.
-pub(crate) const SLICE: u64 = 25;
+const SLICE: u64 = 25;
 
 /// The longest pause within a message or a reply, and the time that it may take however few bytes it
 /// has, in seconds.
@@ -28,6 +28,18 @@ const LEAST_IDLE: u64 = 50;
 /// How long another client waits while a connection idles, in milliseconds.
 const LONGEST_WAIT: u64 = 200;
 
+/// Sets how the socket of a connection reads and writes: at once, and for a short time in one call.
+///
+/// # Errors
+///
+/// Fails if the system refuses to set an option of the socket.
+pub fn prepare(stream: &TcpStream) -> io::Result<()> {
+    stream.set_nodelay(true)?;
+    let slice = Duration::from_millis(SLICE);
+    stream.set_read_timeout(Some(slice))?;
+    stream.set_write_timeout(Some(slice))
+}
+
 /// What a connection is occupied with.
 #[derive(Clone, Copy, Debug, PartialEq, Eq)]
 enum Activity {
@@ -41,7 +53,7 @@ enum Activity {
 
 /// What a connection is occupied with, since when, and how many bytes it read or wrote for it.
 #[derive(Clone, Copy)]
-pub(crate) struct Course {
+pub struct Course {
     activity: Activity,
     /// `None` before the first read or write.
     since: Option<Instant>,
@@ -134,10 +146,14 @@ impl Course {
 /// Reads from a client for as long as it may take. Then, as at the end of the client's bytes, a read
 /// returns 0.
 #[derive(Drop)]
-pub(crate) struct PatientReader<'a, 'q, C: Clock> {
+pub struct PatientReader<'a, 'q, C: Clock> {
+    /// The clock of the limits.
     pub clock: &'a C,
+    /// The client's connection, which [`prepare`] has set.
     pub stream: &'a TcpStream,
+    /// What the connection is occupied with.
     pub course: &'a Cell<Course>,
+    /// Who waits meanwhile.
     pub queue: &'a mut Queue<'q>,
     /// How long the client may idle between messages.
     pub idle: Duration,
@@ -198,9 +214,12 @@ impl<C: Clock> Read for PatientReader<'_, '_, C> {
 
 /// Writes to a client for as long as it may take. Then a write fails.
 #[derive(Drop)]
-pub(crate) struct PatientWriter<'a, C: Clock> {
+pub struct PatientWriter<'a, C: Clock> {
+    /// The clock of the limits.
     pub clock: &'a C,
+    /// The client's connection, which [`prepare`] has set.
     pub stream: &'a TcpStream,
+    /// What the connection is occupied with.
     pub course: &'a Cell<Course>,
 }
 
@@ -243,8 +262,10 @@ impl<C: Clock> Write for PatientWriter<'_, C> {
 
 /// A source that passes on where a message begins.
 #[derive(Drop)]
-pub(crate) struct Announced<'a, S: Source> {
+pub struct Announced<'a, S: Source> {
+    /// The source.
     pub source: S,
+    /// What the connection is occupied with.
     pub course: &'a Cell<Course>,
 }
 

@@ -11,7 +11,7 @@ const LONGEST: u64 = 2;
 /// Closes the sending side, and then reads and drops what the client still sends, until it has closed
 /// its side, for at most two seconds. A close with unread bytes would reset the connection, and the
 /// client could lose the reply.
-pub(crate) fn linger(clock: &impl Clock, stream: &TcpStream) -> io::Result<()> {
+pub fn linger(clock: &impl Clock, stream: &TcpStream) -> io::Result<()> {
     stream.shutdown(Shutdown::Write)?;
     let start = Instant::now(clock)?;
     let longest = Duration::from_secs(LONGEST);
