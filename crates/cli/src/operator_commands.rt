@@ -76,8 +76,7 @@ shows how many objects were read so far.
 The status is 0 if no object is damaged, 1 if one is or something was refused, and 2 if the arguments \
 are wrong.";
 
-const SWEEP_ABOUT: &str =
-    "Removes the uploads that were not completed, and prints their number";
+const SWEEP_ABOUT: &str = "Removes the uploads that were not completed, and prints their number";
 
 const SWEEP_LONG_ABOUT: &str = "\
 Removes the uploads that were not completed, and prints their number.

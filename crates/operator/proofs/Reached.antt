@@ -1,13 +1,12 @@
 -- The worlds that a stop may leave after steps from the world of a run are worlds of runs.
 use Rattle.std.specs.Prelude.{⊤}
-use Rattle.std.proofs.Common.{◌≡◌, ◌⊎◌, inl, inr, List, [], ◌∷◌, ◌++◌, Option, Some, refl, subst}
+use Rattle.std.proofs.Common.{inl, inr, List, [], ◌∷◌, ◌++◌, Some, refl, subst}
 use Rattle.std.proofs.Math.Logic.{∥∥₁_elim}
-use Rattle.sqlite_trees.specs.Tree.{Trees}
 use Rattle.sqlite_wal.specs.Recovery.{Image}
 use Rattle.model.specs.World.{World, IsWorld, nothing}
 use Rattle.model.specs.Operator.{issue_outcome, prune_outcome, by_success}
 use Rattle.model.specs.Steps.{Event, exchanged, issues, prunes, IsStep, Run, judgement, by_verdict}
-use Rattle.model.specs.Bounds.{Bound, Ending, changed, unchanged, failed, left_by, ending_of, intended_world, next_world, bound_after}
+use Rattle.model.specs.Bounds.{Bound, Ending, changed, unchanged, failed, left_by, ending_of, intended_world, bound_after}
 use Rattle.model.proofs.Left.{reports_are_true}
 use Rattle.model.proofs.Progress.{run_append}
 use Rattle.tables.specs.Rows.{Tables}

@@ -1,5 +1,5 @@
 -- Worlds of runs from the empty world, and files that hold them.
-use Rattle.std.specs.Prelude.{◌≡◌, List, [], ◌∷◌, ⊤}
+use Rattle.std.specs.Prelude.{List, [], ◌∷◌}
 use Rattle.sqlite_wal.specs.Recovery.{Image}
 use Rattle.model.specs.World.{World, nothing}
 use Rattle.model.specs.Steps.{Event, Run}

@@ -1,4 +1,4 @@
-use Rattle.std.proofs.Common.{◌≡◌, [], ◌∷◌}
+use Rattle.std.proofs.Common.{[], ◌∷◌}
 use Rattle.operator.specs.Works.{bound_of_works}
 use Rattle.operator.proofs.Reached.{reached_then, works_reached, reached_held}
 use Rattle.operator.specs.Works.{Works, steps_of}
