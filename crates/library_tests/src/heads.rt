@@ -5,11 +5,11 @@ use httparse::spans::EMPTY_HEADER_SPAN;
 use names::Rule;
 use std::alloc::{Alloc, Global};
 use std::process::Abort;
-use wire::{Cut, FIELD_ROOM, Head, first_head, front_of};
+use wire::{Cut, FIELD_LIMIT, Head, first_head, front_of};
 
 /// The length of the head at the front of the text, or what the text begins with instead.
 fn length_of(text: &[u8]) -> Result<usize, &'static str> {
-    let mut fields = [EMPTY_HEADER_SPAN; FIELD_ROOM];
+    let mut fields = [EMPTY_HEADER_SPAN; FIELD_LIMIT];
     match first_head(text, &mut fields) {
         Cut::Head(spans) => Ok(spans.len),
         Cut::Bad => Err("bad"),
@@ -27,7 +27,7 @@ struct Said {
 
 /// What the head at the front of the text states; `None` if there is no head.
 fn said_by(text: &[u8]) -> Option<Said> {
-    let mut fields = [EMPTY_HEADER_SPAN; FIELD_ROOM];
+    let mut fields = [EMPTY_HEADER_SPAN; FIELD_LIMIT];
     let Cut::Head(spans) = first_head(text, &mut fields) else {
         return None;
     };
@@ -109,23 +109,28 @@ fn heads_of_over_16384_bytes_are_bad(rt: HostRuntime) {
     }
 }
 
-/// The number of fields of a head, and its length.
-const COUNTS: &[(usize, Result<usize, &str>)] = &[
-    (0, Ok(18)),
-    (64, Ok(402)),
-    (65, Err("bad")),
-    (2_000, Err("bad")),
+/// The number of fields of a head, what follows them, and the length of the head.
+const COUNTS: &[(usize, &str, Result<usize, &str>)] = &[
+    (0, "\r\n", Ok(18)),
+    (64, "\r\n", Ok(402)),
+    (64, "", Err("unfinished")),
+    (65, "\r\n", Err("bad")),
+    // A head is refused for its fields only once it is whole.
+    (65, "", Err("unfinished")),
+    (65, "A: \0", Err("bad")),
+    (2_000, "\r\n", Err("bad")),
+    (2_000, "", Err("unfinished")),
 ];
 
 #[test]
 fn heads_of_over_64_fields_are_bad(rt: HostRuntime) {
-    for &(count, want) in COUNTS {
+    for &(count, end, want) in COUNTS {
         let fields = unwrap(&rt, "A: b\r\n".repeat(rt.alloc(), count));
         let text = unwrap(
             &rt,
-            format!(in rt.alloc(); "GET / HTTP/1.1\r\n{fields}\r\n"),
+            format!(in rt.alloc(); "GET / HTTP/1.1\r\n{fields}{end}"),
         );
-        expect(&rt, &count, length_of(text.as_bytes()), want);
+        expect(&rt, &(count, end), length_of(text.as_bytes()), want);
     }
 }
 
@@ -144,7 +149,7 @@ const FIELDS: &[(&str, usize, &[u8])] = &[
 
 #[test]
 fn heads_have_their_parts(rt: HostRuntime) {
-    let mut fields = [EMPTY_HEADER_SPAN; FIELD_ROOM];
+    let mut fields = [EMPTY_HEADER_SPAN; FIELD_LIMIT];
     let Cut::Head(spans) = first_head(HEAD, &mut fields) else {
         panic!(rt; "no head");
     };

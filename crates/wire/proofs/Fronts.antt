@@ -9,7 +9,7 @@ use Rattle.httparse.specs.declared.Error.{Error}
 use Rattle.httparse.specs.declared.Error.TheVariants as error
 use Rattle.std.proofs.Math.Seq.{take-append-add}
 use Rattle.httparse.specs.Grammar.{RequestHead, IsRequestHead, print_request, ReadsRequest, HasNoRequest, NeverHasRequest, Field, IsField, print_field, print_end, LineEnd, crlf, lf}
-use Rattle.httparse.specs.Spans.{RequestExceeds, AreFieldsAt, header_bytes, name_and_value, IsRequestOf, IsRequestWithin}
+use Rattle.httparse.specs.Spans.{RequestExceeds, RequestOverflows, AreFieldsAt, header_bytes, name_and_value, IsRequestOf, IsRequestWithin}
 use Rattle.httparse.specs.declared.spans.RequestSpans.{RequestSpans}
 use Rattle.wire.specs.Cut.{Covers}
 use Rattle.httparse.specs.declared.spans.HeaderSpan.{HeaderSpan}
@@ -67,6 +67,21 @@ never_exceeds bytes room enough short x =
 pub bad_for_fields : (bytes : List ℕ) (h : RequestHead) (rest : List ℕ) → ReadsRequest (take head_limit bytes) h rest
     → field_limit < length h.fields → BeginsBadly bytes
 bad_for_fields bytes h rest r many = too_many_fields h (rest ++ drop head_limit bytes) (head_of_front bytes h rest r) many
+
+-- the same if every head at the front of the first bytes has too many fields
+pub bad_of_many : (bytes front : List ℕ) (h : RequestHead) (rest : List ℕ) → front ≡ take head_limit bytes
+    → ((head : RequestHead) (rest : List ℕ) → ReadsRequest (take head_limit bytes) head rest → field_limit < length head.fields)
+    → ReadsRequest front h rest → BeginsBadly bytes
+bad_of_many bytes front h rest e many r =
+    let is : ReadsRequest (take head_limit bytes) h rest = subst (λ (b : List ℕ). ReadsRequest b h rest) e r in
+    bad_for_fields bytes h rest is (many h rest is)
+
+-- a parser that overflowed its room would have found each head with fewer fields
+pub many_of_overflow : (bytes front : List ℕ) (room : ℕ) → front ≡ take head_limit bytes → field_limit ≤ room → RequestOverflows room front
+    → (head : RequestHead) (rest : List ℕ) → ReadsRequest (take head_limit bytes) head rest → field_limit < length head.fields
+many_of_overflow bytes front room e enough over head rest r =
+    let is : ReadsRequest (front ++ []) head rest = subst (λ (b : List ℕ). ReadsRequest b head rest) (sym (append-nil front ∙ e)) r in
+    omega (arith, over [] head rest is)
 
 pub bad_for_size : (bytes : List ℕ) → HasNoRequest (take head_limit bytes) → head_limit ≤ length bytes → BeginsBadly bytes
 bad_for_size bytes none long = too_long (no_head bytes none) long

@@ -26,7 +26,7 @@ mod reply;
 mod write;
 
 pub use connection::{Conn, Stop};
-pub use cut::{Cut, FIELD_LIMIT, FIELD_ROOM, HEAD_LIMIT, first_head, front_of};
+pub use cut::{Cut, FIELD_LIMIT, HEAD_LIMIT, first_head, front_of};
 pub use framing::LARGEST_FORM;
 pub use head::Head;
 pub use inflow::{Inflow, WholeFault};

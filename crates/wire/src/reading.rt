@@ -1,14 +1,14 @@
 //! Reads a head.
 
-ghost use Rattle.std.specs.Prelude.{◌≡◌, ◌≢◌, ℕ, List, ◌+◌, ◌<◌, ◌≤◌, ◌++◌, length, take, IfOk, IfErr, Err};
+ghost use Rattle.std.specs.Prelude.{◌≡◌, ◌≢◌, ℕ, List, ◌+◌, ◌<◌, ◌≤◌, ◌++◌, length, IfOk, IfErr, Err};
 ghost use Rattle.std.specs.Io.KnownBytes.{Consumes};
 ghost use Rattle.names.specs.Streams.{HasGrown};
 ghost use Rattle.wire.specs.Buffers.{front};
 ghost use Rattle.wire.specs.Halts.{HasHalted, IsCutOf, IsHeadOf};
 
 use crate::buffer::Buffer;
-use crate::cut::{Cut, FIELD_LIMIT, FIELD_ROOM, first_head};
-use httparse::spans::{EMPTY_HEADER_SPAN, HeaderSpan, RequestSpans};
+use crate::cut::{Cut, FIELD_LIMIT, first_head};
+use httparse::spans::{HeaderSpan, RequestSpans};
 use names::Source;
 
 /// Why there is no head.
@@ -64,37 +64,10 @@ pub(crate) fn read_head<S: Source>(
 
 /// Finds the head at the front of the buffer, and writes the spans of its fields to the front of
 /// `fields`.
-///
-/// Most heads need room for few fields, and only a bad one for more than [`FIELD_LIMIT`]: so the room
-/// for all is on the stack, and a connection keeps that many spans.
 fn cut_front(buffer: &Buffer, fields: &mut [HeaderSpan]) -> Cut
     requires room { FIELD_LIMIT ≤ length fields.old }
     ensures room { length fields.new ≡ length fields.old }
     ensures cut { IsCutOf (front buffer.now) fields.new result }
 {
-    let mut room = [EMPTY_HEADER_SPAN; FIELD_ROOM];
-    let cut = cut_into(buffer, &mut room);
-    if let Cut::Head(spans) = cut {
-        keep_spans(&room, fields, spans.headers);
-    }
-    cut
-}
-
-/// Finds the head at the front of the buffer, with room for the fields of any.
-fn cut_into(buffer: &Buffer, room: &mut [HeaderSpan]) -> Cut
-    requires room { FIELD_ROOM ≤ length room.old }
-    ensures room { length room.new ≡ length room.old }
-    ensures cut { IsCutOf (front buffer.now) room.new result }
-{
-    first_head(buffer.front(), room)
-}
-
-/// Copies the first `count` spans.
-fn keep_spans(from: &[HeaderSpan], to: &mut [HeaderSpan], count: usize)
-    requires from { count ≤ length from.now }
-    requires to { count ≤ length to.old }
-    ensures len { length to.new ≡ length to.old }
-    ensures same { take count to.new ≡ take count from.now }
-{
-    to[..count].copy_from_slice(&from[..count]);
+    first_head(buffer.front(), fields)
 }

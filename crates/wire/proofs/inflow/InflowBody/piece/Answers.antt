@@ -1,4 +1,3 @@
-use Rattle.std.proofs.Common.{refl}
 use Rattle.std.proofs.lemmas.Result.{IfOk-weaker, on_err_weaker}
 use Rattle.wire.proofs.Handed.{handed_piece, handed_none}
 use Rattle.wire.proofs.inflow.InflowBody.piece.Goals as goal

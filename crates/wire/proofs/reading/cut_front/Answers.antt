@@ -1,10 +1,10 @@
 use Rattle.std.proofs.Common.{arith, length-take}
 use Rattle.wire.specs.Buffers.{front}
 use Rattle.wire.proofs.Found.{cut_found}
-use Rattle.wire.proofs.reading.cut_into.Goals as goal
+use Rattle.wire.proofs.reading.cut_front.Goals as goal
 
 pub returns-clause-cut : goal.returns-clause-cut
 returns-clause-cut c =
     let b = c.args.buffer.now in
     cut_found c.front.result.now (front b) c.first_head.new.fields c.first_head.result c.front.ensures
-    (omega (arith, length-take b.end b.bytes.items, b.fits)) c.first_head.ensures
+    (omega (arith, length-take b.end b.bytes.items, b.fits)) c.first_head.ensures.cut
