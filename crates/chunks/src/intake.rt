@@ -55,7 +55,8 @@ impl Intake {
     pub fn begin(alloc: Global, upload: UploadId, size: Size) -> Result<Intake, AllocError>
         ensures upload { IfOk result (λ intake. intake.upload ≡ upload) }
         ensures size { IfOk result (λ intake. intake.size ≡ size) }
-        ensures empty { IfOk result (λ intake. IsCut intake.written intake.last.items [] [] × HasCounted intake.hasher intake.taken []) }
+        ensures empty { IfOk result (λ intake. IsCut intake.written intake.last.items [] []
+            × HasCounted intake.hasher intake.taken []) }
         ensures ready { IfOk result (λ intake. intake.is_spent ≡ false) }
     {
         Ok(Intake {
@@ -109,7 +110,8 @@ impl Intake {
     /// Takes all of the bytes.
     fn fill_all<S: Alter>(&mut self, store: &mut Store<S>, piece: &[u8]) -> Result<(), StoreFault>
         ensures same { KeepsCount self.old self.new }
-        ensures advances { OnOk result (Advances S.Store store.old self.old store.new self.new piece.now) }
+        ensures advances { OnOk result
+            (Advances S.Store store.old self.old store.new self.new piece.now) }
         ensures keeps { KeepsWithin S.Store store.old self.old store.new (length piece.now) }
         ensures known { result ≢ Err StoreFault.UnknownSchema }
     {

@@ -102,7 +102,8 @@ impl<C: Clock> OperatorContext<'_, C> {
         input: &[u8],
         output: &mut Vec<u8>,
     ) -> Result<(), Fault>
-        ensures { From S.Store store.old store.new (λ world. Works S.Store store.old store.new world) }
+        ensures { From S.Store store.old store.new (λ world.
+            Works S.Store store.old store.new world) }
     {
         let alloc = self.rt.alloc();
         let task = match command {
@@ -127,7 +128,8 @@ impl<C: Clock> OperatorContext<'_, C> {
         bytes: &[u8],
         output: &mut Vec<u8>,
     ) -> Result<(), Fault>
-        ensures { From S.Store store.old store.new (λ world. Works S.Store store.old store.new world) }
+        ensures { From S.Store store.old store.new (λ world.
+            Works S.Store store.old store.new world) }
     {
         let alloc = self.rt.alloc();
         let Some(Request { input, words }) = read_request(alloc, bytes)? else {
@@ -141,7 +143,8 @@ impl<C: Clock> OperatorContext<'_, C> {
 
     /// The reply to a request, after its command was run.
     fn reply<S: Alter>(&self, store: &mut Store<S>, bytes: &[u8]) -> Result<Vec<u8>, Fault>
-        ensures { From S.Store store.old store.new (λ world. Works S.Store store.old store.new world) }
+        ensures { From S.Store store.old store.new (λ world.
+            Works S.Store store.old store.new world) }
     {
         let alloc = self.rt.alloc();
         let mut output = Vec::new(alloc);
@@ -159,7 +162,8 @@ impl<C: Clock> OperatorContext<'_, C> {
     /// `Operator` if the request did not arrive in time or is too long, which leaves the store; or if the reply could not
     /// be written, after the command was run. `Memory`, in either case.
     pub fn serve<S: Alter>(&self, store: &mut Store<S>, stream: &UnixStream) -> Result<(), Fault>
-        ensures { From S.Store store.old store.new (λ world. Works S.Store store.old store.new world) }
+        ensures { From S.Store store.old store.new (λ world.
+            Works S.Store store.old store.new world) }
     {
         let bytes = read_bytes(self.rt.alloc(), self.clock, stream).map_err(|_| Fault::Operator)?;
         let reply = self.reply(store, bytes.as_slice())?;

@@ -46,7 +46,8 @@ impl<C: Clock> ServeContext<'_, C> {
         queue: &mut Queue<'_>,
         stream: &TcpStream,
     ) -> End
-        ensures { From S.Store store.old store.new (λ world. Works S.Store store.old store.new world) }
+        ensures { From S.Store store.old store.new (λ world.
+            Works S.Store store.old store.new world) }
     {
         if prepare(stream).is_err() {
             return End::ReadFailed;
@@ -87,7 +88,8 @@ impl<C: Clock> ServeContext<'_, C> {
         stream: &UnixStream,
         errors: &mut E,
     )
-        ensures { From S.Store store.old store.new (λ world. Works S.Store store.old store.new world) }
+        ensures { From S.Store store.old store.new (λ world.
+            Works S.Store store.old store.new world) }
     {
         let context = OperatorContext {
             rt: self.rt,
@@ -110,7 +112,8 @@ impl<C: Clock> ServeContext<'_, C> {
         queue: &mut Queue<'_>,
         errors: &mut E,
     ) -> Result<TcpStream, Fault>
-        ensures { From S.Store store.old store.new (λ world. Works S.Store store.old store.new world) }
+        ensures { From S.Store store.old store.new (λ world.
+            Works S.Store store.old store.new world) }
     {
         'callers: for _ in 0..u64::MAX {
             match queue.take() {
@@ -134,7 +137,8 @@ impl<C: Clock> ServeContext<'_, C> {
         queue: &mut Queue<'_>,
         errors: &mut E,
     ) -> Result<End, Fault>
-        ensures { From S.Store store.old store.new (λ world. Works S.Store store.old store.new world) }
+        ensures { From S.Store store.old store.new (λ world.
+            Works S.Store store.old store.new world) }
     {
         let stream = self.next_client(store, queue, errors)?;
         let now = moment(self.clock, None)?;
@@ -160,7 +164,8 @@ impl<C: Clock> ServeContext<'_, C> {
         errors: &mut E,
     ) -> Result<u64, Fault>
         ensures count { IfOk result (λ served. served ≡ most) }
-        ensures world { From S.Store store.old store.new (λ world. Works S.Store store.old store.new world) }
+        ensures world { From S.Store store.old store.new (λ world.
+            Works S.Store store.old store.new world) }
     {
         let mut served = 0;
         'connections: while served < most {

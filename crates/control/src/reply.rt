@@ -54,7 +54,8 @@ pub fn reply_bytes(
     output: &[u8],
     errors: &[u8],
 ) -> Result<Vec<u8>, ReplyFault>
-    ensures ok { IfOk result (λ bytes. IsReadAs bytes.items (reply_of status output.now errors.now)) }
+    ensures ok { IfOk result (λ bytes.
+        IsReadAs bytes.items (reply_of status output.now errors.now)) }
     ensures err { IfErr result (λ fault. IsFaultOf fault (reply_of status output.now errors.now)) }
 {
     if output.len() > LONGEST_FIELD || errors.len() > LONGEST_FIELD {

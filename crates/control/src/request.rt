@@ -63,7 +63,8 @@ fn size_with(size: usize, content: &[u8]) -> Option<usize>
 
 /// The number of bytes of a request, without the four in front; `None` if that is over the longest request.
 fn body_size(input: &[u8], words: &[String]) -> Option<usize>
-    ensures some { IfSome result (λ size. size ≡ length (request_body (request_of input.now words.now))) }
+    ensures some { IfSome result (λ size.
+        size ≡ length (request_body (request_of input.now words.now))) }
     ensures within { IfSome result (λ size. size ≤ longest_request) }
     ensures none { IfNone result
         (longest_request < length (request_body (request_of input.now words.now))) }
@@ -113,7 +114,8 @@ fn write_request(
 /// `TooManyWords` exactly if there are more than [`MOST_WORDS`], else `TooLong` exactly if more than
 /// [`LONGEST_REQUEST`] bytes follow, and else `Memory`.
 pub fn request_bytes(alloc: Global, input: &[u8], words: &[String]) -> Result<Vec<u8>, RequestFault>
-    ensures ok { IfOk result (λ bytes. bytes.items ≡ request_bytes (request_of input.now words.now)) }
+    ensures ok { IfOk result (λ bytes.
+        bytes.items ≡ request_bytes (request_of input.now words.now)) }
     ensures range { OnOk result (IsRequest (request_of input.now words.now)) }
     ensures err { IfErr result (λ fault. IsFaultOf fault (request_of input.now words.now)) }
 {
@@ -131,7 +133,8 @@ pub fn request_bytes(alloc: Global, input: &[u8], words: &[String]) -> Result<Ve
 pub fn request_size(prefix: [u8; 4]) -> Option<usize>
     ensures some { IfSome result (λ size. number_bytes size ≡ prefix) }
     ensures within { IfSome result (λ size. size ≤ longest_request) }
-    ensures none { IfNone result ((size : ℕ) → size ≤ longest_request → number_bytes size ≢ prefix) }
+    ensures none { IfNone result
+        ((size : ℕ) → size ≤ longest_request → number_bytes size ≢ prefix) }
 {
     let size = number_in(&prefix);
     if size > LONGEST_REQUEST {
@@ -155,8 +158,10 @@ fn front_word(bytes: &[u8]) -> Option<(&str, &[u8])>
 /// The words of which these are the fields; `None` if they are no fields of at most [`MOST_WORDS`] words.
 fn read_words(alloc: Global, bytes: &[u8]) -> Result<Option<Vec<String>>, AllocError>
     requires { length bytes.now ≤ longest_request }
-    ensures some { IfOk result (λ read. IfSome read (λ words. AreWords bytes.now (map string_bytes words.items))) }
-    ensures none { IfOk result (λ read. IfNone read ((words : List (List ℕ)) → AreWords bytes.now words → ⊥)) }
+    ensures some { IfOk result (λ read. IfSome read (λ words.
+        AreWords bytes.now (map string_bytes words.items))) }
+    ensures none { IfOk result (λ read. IfNone read
+        ((words : List (List ℕ)) → AreWords bytes.now words → ⊥)) }
 {
     let mut words = Vec::new(alloc);
     let mut rest = bytes;
@@ -180,7 +185,8 @@ fn read_words(alloc: Global, bytes: &[u8]) -> Result<Option<Vec<String>>, AllocE
 ///
 /// Memory ran out.
 pub fn read_request(alloc: Global, bytes: &[u8]) -> Result<Option<Request<'_>>, AllocError>
-    ensures some { IfOk result (λ read. IfSome read (λ request. IsReadAs bytes.now (request_seen request))) }
+    ensures some { IfOk result (λ read. IfSome read (λ request.
+        IsReadAs bytes.now (request_seen request))) }
     ensures none { IfOk result (λ read. IfNone read (IsNoRequest bytes.now)) }
 {
     if bytes.len() > LONGEST_REQUEST {

@@ -52,7 +52,7 @@ module _ {S : Type 0} (g : Ghosts S) (old new : Store S) (case : code.Case) (nam
   got None reply reads shows = record {
     honest = reads.same.was_honest;
     each = λ honest world h who user content.
-        (replied_after g old new case (verdict content) (λ w. Finds g w new (case_repo case).name name None) reads (Err (by_rule X1)) reply (denial_is_quiet g (by_rule X1)) shows
+        (replied_after g old new (IsUserOf case) (verdict content) (λ w. Finds g w new (case_repo case).name name None) reads (Err (by_rule X1)) reply (denial_is_quiet g (by_rule X1)) shows
         (λ w laws none k is_user. get_none w (case_repo case).name (case_seen w case k) name content (pulls case k is_user may)
         (size_found g w new (case_repo case) name None laws none))).each honest world h who user;
   }
@@ -61,6 +61,6 @@ module _ {S : Type 0} (g : Ghosts S) (old new : Store S) (case : code.Case) (nam
     each = λ honest world h who user content.
         let found = reads.each honest world h in
         let is = get_some world (case_repo case).name (case_seen world case who) name content (pulls case who user may) row.size found.0 (size_found g world new (case_repo case) name (Some row) h.laws found) found.1 in
-        replied_with g old new case (verdict content) (λ w. Finds g w new (case_repo case).name name (Some row)) reads (Ok (serves found.0)) reply (λ w. refl) (λ w. refl) (shows.0 found.0 found.2) honest world h who is
+        replied_with g old new (IsUserOf case) (verdict content) (λ w. Finds g w new (case_repo case).name name (Some row)) reads (Ok (serves found.0)) reply (λ w. refl) (λ w. refl) (shows.0 found.0 found.2) honest world h who is
         (subst (λ (b : ReplyBody). Lends g new b (Ok (serves found.0))) (sym shows.1) (found.0, refl, found.3));
   }

@@ -194,28 +194,3 @@ batch_denied case who world ref asked denial user named denied = at asked.operat
 -- nothing was read
 pub reads_nothing : {S : Type 0} (g : Ghosts S) (s : Store S) → Reads g s s (λ world. ⊤)
 reads_nothing g s = reads_none g s (λ world. ⊤) (λ honest world h. tt)
-
-module _ {S : Type 0} (g : Ghosts S) (old new : Store S) (case : Case) (asked : BatchForm) (P : World → Type 0) (reads : Reads g old new P) where
-  abbrev verdict : World → Caller → Answer
-  verdict world who = batch_verdict (case_seen world case who) asked
-
-  -- whoever the caller is, the batch is answered
-  abbrev IsAnswered : Result Reply StoreFault → Type 0
-  IsAnswered r = From g old new (λ world. (who : Caller) → IsCallerOf case who → Answers g old new world (verdict world who) r)
-
-  -- the store refused, or memory ran out
-  pub batch_refused : (Q : StoreFault → Type 0) (r : Result Reply StoreFault) → IsErrAnd r Q → IsAnswered r
-  batch_refused Q r is = record {
-    honest = reads.same.was_honest;
-    each = λ honest world h who is_caller. refused_early g old new world (verdict world who) Q r is (reads_lead g old new P world reads h);
-  }
-
-  -- the verdict is replied
-  pub batch_replied : (given : Answer) (reply : Reply) → IsQuiet given → IsReplyOf reply given
-      → ((world : World) → IsWorld world → P world → (who : Caller) → IsCallerOf case who → verdict world who ≡ given) → IsAnswered (Ok reply)
-  batch_replied given reply quiet shows is = record {
-    honest = reads.same.was_honest;
-    each = λ honest world h who is_caller.
-        replied_with g old new case verdict P reads given reply quiet.ending quiet.after shows honest world h who (is world h.laws (reads.each honest world h) who is_caller)
-        (none_lent g new reply.body given quiet.plain shows.body);
-  }

@@ -11,13 +11,11 @@ use Rattle.tables.specs.Shown.{IsHonest}
 use Rattle.tables.specs.declared.Store.{Store}
 use Rattle.refinement.specs.Representation.{Holds}
 use Rattle.tables.specs.declared.fault.StoreFault.{StoreFault}
-use Rattle.refinement.specs.Left.{Reads, From, Ends}
+use Rattle.refinement.specs.Left.{Reads, Ends}
 use Rattle.refinement.proofs.Leading.{reads_lead, ends_still, denial_changes_none}
 use Rattle.desk.specs.declared.replies.Reply.{Reply}
-use Rattle.desk.specs.declared.cases.Case.{Case}
 use Rattle.desk.specs.Replies.{IsReplyOf, Lends}
-use Rattle.desk.specs.Rights.{IsUserOf}
-use Rattle.desk.specs.Done.{Answers}
+use Rattle.desk.specs.Done.{Answers, AnswersEach}
 use Rattle.desk.proofs.Verdicts.{refused_early}
 use Rattle.desk.proofs.Lent.{serves_object, none_lent}
 
@@ -30,16 +28,12 @@ pub record IsQuiet (given : Answer) : Type 0 where
 pub denial_is_quiet : {S : Type 0} (g : Ghosts S) (denial : Denial) → IsQuiet (Err denial)
 denial_is_quiet g denial = record { ending = λ world. denial_changes_none g world denial; after = λ world. refl; plain = refl }
 
-module _ {S : Type 0} (g : Ghosts S) (old new : Store S) (case : Case) (verdict : World → Caller → Answer) (P : World → Type 0) (reads : Reads g old new P) where
-  -- whoever the user is, the verdict is answered
-  abbrev pub IsAnswered : Result Reply StoreFault → Type 0
-  IsAnswered r = From g old new (λ world. (who : Caller) → IsUserOf case who → Answers g old new world (verdict world who) r)
-
+module _ {S : Type 0} (g : Ghosts S) (old new : Store S) (IsAsking : Caller → Type 0) (verdict : World → Caller → Answer) (P : World → Type 0) (reads : Reads g old new P) where
   -- the store refused, or memory ran out
-  pub refused_after : (Q : StoreFault → Type 0) (r : Result Reply StoreFault) → IsErrAnd r Q → IsAnswered r
+  pub refused_after : (Q : StoreFault → Type 0) (r : Result Reply StoreFault) → IsErrAnd r Q → AnswersEach g IsAsking old new verdict r
   refused_after Q r is = record {
     honest = reads.same.was_honest;
-    each = λ honest world h who user. refused_early g old new world (verdict world who) Q r is (reads_lead g old new P world reads h);
+    each = λ honest world h who asks. refused_early g old new world (verdict world who) Q r is (reads_lead g old new P world reads h);
   }
 
   -- the verdict changes nothing, and its reply is given
@@ -57,10 +51,10 @@ module _ {S : Type 0} (g : Ghosts S) (old new : Store S) (case : Case) (verdict 
 
   -- the same for a verdict that is not the content of an object
   pub replied_after : (given : Answer) (reply : Reply) → IsQuiet given → IsReplyOf reply given
-      → ((world : World) → IsWorld world → P world → (who : Caller) → IsUserOf case who → verdict world who ≡ given) → IsAnswered (Ok reply)
+      → ((world : World) → IsWorld world → P world → (who : Caller) → IsAsking who → verdict world who ≡ given) → AnswersEach g IsAsking old new verdict (Ok reply)
   replied_after given reply quiet shows is = record {
     honest = reads.same.was_honest;
-    each = λ honest world h who user.
-        replied_with given reply quiet.ending quiet.after shows honest world h who (is world h.laws (reads.each honest world h) who user)
+    each = λ honest world h who asks.
+        replied_with given reply quiet.ending quiet.after shows honest world h who (is world h.laws (reads.each honest world h) who asks)
         (none_lent g new reply.body given quiet.plain shows.body);
   }

@@ -3,6 +3,8 @@ use Rattle.std.specs.Prelude.{◌≡◌, ◌≢◌, ◌<◌, ◌≤◌, ◌+◌,
 use Rattle.sqlite_trees.specs.declared.store.Store.{Ghosts}
 use Rattle.names.specs.Texts.{largest_object}
 use Rattle.model.specs.Reading.{◌>>=◌}
+use Rattle.model.specs.Callers.{Caller}
+use Rattle.model.specs.Cases as model
 use Rattle.model.specs.Policy.{Policy}
 use Rattle.model.specs.World.{World, total}
 use Rattle.model.specs.Answers.{Answer, Denial, Plan, receives, store_refusal}
@@ -11,13 +13,15 @@ use Rattle.model.specs.Views.{SameViews}
 use Rattle.model.specs.Laws.{quota_of}
 use Rattle.tables.specs.declared.Store.{Store}
 use Rattle.tables.specs.declared.fault.StoreFault.{StoreFault}
-use Rattle.refinement.specs.Left.{Gives, Keeps}
+use Rattle.refinement.specs.Left.{From, Gives, Keeps}
 use Rattle.uploads.specs.Bounds.{StoresWithin}
 use Rattle.desk.specs.declared.replies.Reply.{Reply}
 use Rattle.desk.specs.declared.outcomes.Answered.{Answered}
 use Rattle.desk.specs.declared.outcomes.AnswerFault.{AnswerFault}
 use Rattle.desk.specs.declared.outcomes.AnswerFault.TheVariants.{Store as by_store, Body as by_body}
+use Rattle.desk.specs.declared.cases.Case.{Case}
 use Rattle.desk.specs.Replies.{IsReplyOf, Lends}
+use Rattle.desk.specs.Rights.{IsUserOf, IsCallerOf, case_seen}
 
 -- the answer that is given: the verdict, or a store refusal if the store refused or memory ran out
 abbrev pub given_by : Answer → Result Reply StoreFault → Answer
@@ -34,6 +38,21 @@ module _ {S : Type 0} (g : Ghosts S) where
     pub shows : IfOk r (λ reply. IsReplyOf reply verdict)
     pub lends : IfOk r (λ reply. Lends g new reply.body verdict)
     pub gives : Gives g old new world verdict (given_by verdict r)
+
+  -- each such caller is answered: the verdict is that on the world that the store held
+  abbrev pub AnswersEach : (Caller → Type 0) → Store S → Store S → (World → Caller → Answer) → Result Reply StoreFault → Type 0
+  AnswersEach IsAsking old new verdict r =
+      From g old new (λ world. (who : Caller) → IsAsking who → Answers g old new world (verdict world who) r)
+
+  -- the user of the case is answered, by the verdict on the case
+  abbrev pub AnswersUser : Case → Store S → Store S → (model.Case → Answer) → Result Reply StoreFault → Type 0
+  AnswersUser case old new verdict r =
+      AnswersEach (IsUserOf case) old new (λ world who. verdict (case_seen world case who)) r
+
+  -- the same, if the verdict also depends on the token that the caller presented
+  abbrev pub AnswersCaller : Case → Store S → Store S → (model.Case → Answer) → Result Reply StoreFault → Type 0
+  AnswersCaller case old new verdict r =
+      AnswersEach (IsCallerOf case) old new (λ world who. verdict (case_seen world case who)) r
 
 -- ---- requests with a content
 

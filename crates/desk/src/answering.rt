@@ -65,14 +65,16 @@ pub fn answer<S: Alter, B: Body>(
         → IsAnsweredAs S.Store (is_put asked.entry.now.form) store.old store.new world
         asked.entry.now.repo.now (plan_seen world policy.entry.now now asked.entry.now size)
         bytes (B.size content.new) result) }
-    ensures settled { is_put asked.entry.now.form ≡ false → IsSettled result × (content.new ≡ content.old) }
+    ensures settled { is_put asked.entry.now.form ≡ false
+        → IsSettled result × (content.new ≡ content.old) }
     ensures leaves { IfOk result (λ a. a.leaves_body ≡ true → content.new ≡ content.old) }
     ensures whole { IfOk result (λ a. a.leaves_body ≡ false → is_put asked.entry.now.form ≡ true
         → B.size content.new ≡ 0) }
     ensures good { OnOk result (B.failed content.new ≡ B.failed content.old) }
     ensures fault { IfErr result (IsLeftBy B.Body content.old content.new) }
-    ensures apart { (world : World) (size : ℕ) (bytes : List ℕ) → LeavesOthers asked.entry.now.repo.now world
-        (after world (given_with (verdict_by world asked.entry.now.repo.now
+    ensures apart { (world : World) (size : ℕ) (bytes : List ℕ)
+        → LeavesOthers asked.entry.now.repo.now world (after world (given_with
+        (verdict_by world asked.entry.now.repo.now
         (plan_seen world policy.entry.now now asked.entry.now size) bytes) result)) }
     ensures bounded { From S.Store store.old store.new
         (StaysWithin S.Store store.new (policy_view policy.entry.now)) }
@@ -110,13 +112,15 @@ fn answer_caller<S: Alter, B: Body>(
     content: &mut B,
 ) -> Result<Answered, AnswerFault>
     ensures answered { (bytes : List ℕ) × HasRead B.Body content.old content.new bytes
-        × From S.Store store.old store.new (λ world. (who : model.Caller) → IsHolder caller.entry.now who
-        → (size : ℕ) → (is_put asked.entry.now.form ≡ true → size ≡ B.size content.old)
+        × From S.Store store.old store.new (λ world. (who : model.Caller)
+        → IsHolder caller.entry.now who → (size : ℕ)
+        → (is_put asked.entry.now.form ≡ true → size ≡ B.size content.old)
         → IsAnsweredAs S.Store (is_put asked.entry.now.form) store.old store.new world
-        asked.entry.now.repo.now
-        (caller_plan world (setting_of policy.entry.now now) who (request_seen asked.entry.now size))
+        asked.entry.now.repo.now (caller_plan world (setting_of policy.entry.now now) who
+        (request_seen asked.entry.now size))
         bytes (B.size content.new) result) }
-    ensures settled { is_put asked.entry.now.form ≡ false → IsSettled result × (content.new ≡ content.old) }
+    ensures settled { is_put asked.entry.now.form ≡ false
+        → IsSettled result × (content.new ≡ content.old) }
     ensures leaves { IfOk result (λ a. a.leaves_body ≡ true → content.new ≡ content.old) }
     ensures whole { IfOk result (λ a. a.leaves_body ≡ false → is_put asked.entry.now.form ≡ true
         → B.size content.new ≡ 0) }
@@ -153,8 +157,9 @@ fn answer_request<S: Alter, B: Body>(
     content: &mut B,
 ) -> Result<Answered, AnswerFault>
     ensures answered { (bytes : List ℕ) × HasRead B.Body content.old content.new bytes
-        × From S.Store store.old store.new (λ world. (who : model.Caller) → IsCallerOf case.entry.now who
-        → (size : ℕ) → (uploads (request_asked request.entry.now) ≡ true → size ≡ B.size content.old)
+        × From S.Store store.old store.new (λ world. (who : model.Caller)
+        → IsCallerOf case.entry.now who → (size : ℕ)
+        → (uploads (request_asked request.entry.now) ≡ true → size ≡ B.size content.old)
         → IsAnsweredAs S.Store (uploads (request_asked request.entry.now)) store.old store.new world
         (case_repo case.entry.now).name
         (plan_for (case_seen world case.entry.now who) size (request_asked request.entry.now))
@@ -184,10 +189,11 @@ fn answer_whole<S: Alter>(
     case: &Case<'_>,
     request: &Request,
 ) -> Result<Reply, StoreFault>
-    ensures { From S.Store store.old store.new (λ world. (who : model.Caller) → IsCallerOf case.entry.now who
-        → (size : ℕ) (content : List ℕ) → Answers S.Store store.old store.new world
-        (verdict_by world (case_repo case.entry.now).name
-        (plan_for (case_seen world case.entry.now who) size (request_asked request.entry.now)) content)
+    ensures { From S.Store store.old store.new (λ world. (who : model.Caller)
+        → IsCallerOf case.entry.now who → (size : ℕ) (content : List ℕ)
+        → Answers S.Store store.old store.new world
+        (verdict_by world (case_repo case.entry.now).name (plan_for
+        (case_seen world case.entry.now who) size (request_asked request.entry.now)) content)
         result) }
 {
     match request {

@@ -2,7 +2,6 @@
 
 ghost use Rattle.std.specs.Prelude.{◌≡◌, ◌≢◌, ◌++◌, ◌∷◌, [], IfOk, OnOk, Err, Ok, map, option_map, string_bytes};
 ghost use Rattle.names.specs.Names.{ref_text};
-ghost use Rattle.model.specs.Callers as model;
 ghost use Rattle.model.specs.World.{total};
 ghost use Rattle.model.specs.RepoState.{has_room, repo_state};
 ghost use Rattle.model.specs.Answers.{offers};
@@ -10,11 +9,11 @@ ghost use Rattle.model.specs.Batch.{batch_verdict};
 ghost use Rattle.policy.specs.Values.{repo_view};
 ghost use Rattle.forms.specs.Offers.{offer_at};
 ghost use Rattle.forms.specs.Requests.{batch_asked, object_asked};
-ghost use Rattle.refinement.specs.Left.{From, Reads};
+ghost use Rattle.refinement.specs.Left.{Reads};
 ghost use Rattle.desk.specs.Replies.{IsReplyOf};
-ghost use Rattle.desk.specs.Done.{Answers};
+ghost use Rattle.desk.specs.Done.{Answers, AnswersCaller};
 ghost use Rattle.desk.specs.Batching.{AreLinksOf, IsSound, actions_for, actions_on, judged_as, judged_by, judged_on, may_transfer};
-ghost use Rattle.desk.specs.Rights.{IsCallerOf, Judges, case_seen};
+ghost use Rattle.desk.specs.Rights.{Judges};
 
 use crate::cases::{Case, Denial};
 use crate::replies::Reply;
@@ -87,7 +86,8 @@ fn judge<S: Alter>(
     object: &BatchObject,
 ) -> Result<Result<Actions, Rule>, StoreFault>
     ensures known { result ≢ Err StoreFault.UnknownSchema }
-    ensures world { Reads S.Store store.old store.new (λ world. used ≡ total (repo_view repo.now).name world
+    ensures world { Reads S.Store store.old store.new (λ world.
+        used ≡ total (repo_view repo.now).name world
         → IfOk result (λ actions. actions ≡ actions_on (repo_state (repo_view repo.now) world)
         (batch_asked asked.now) (object_asked object.now))) }
 {
@@ -145,7 +145,8 @@ pub fn batch_objects<S: Alter>(
 
 /// The caller may do this with objects of the ref, or is denied.
 fn may_batch(case: &Case<'_>, operation: Operation, ref_name: &RefName) -> Result<(), Denial>
-    ensures { Judges (λ _. tt) result (may_transfer case.entry.now operation (ref_text ref_name.now)) }
+    ensures { Judges (λ _. tt) result
+        (may_transfer case.entry.now operation (ref_text ref_name.now)) }
 {
     match operation {
         Operation::Download => permit(case.policy, &pull_question(case), DenialStatus::NotFound),
@@ -168,7 +169,8 @@ fn links_of<'a>(case: &Case<'a>, ref_name: &'a RefName) -> Links<'a>
 
 /// The reply with the objects of a batch.
 fn batch_reply(alloc: Global, links: &Links<'_>, objects: &[Offer]) -> Result<Reply, AllocError>
-    ensures { IfOk result (λ reply. IsReplyOf reply (Ok (offers (map (offer_at links.now) objects.now)))) }
+    ensures { IfOk result (λ reply.
+        IsReplyOf reply (Ok (offers (map (offer_at links.now) objects.now)))) }
 {
     let batch = ShownBatch {
         links: *links,
@@ -188,9 +190,8 @@ pub(crate) fn batch<S: Alter>(
     case: &Case<'_>,
     asked: &BatchRequest,
 ) -> Result<Reply, StoreFault>
-    ensures { From S.Store store.old store.new (λ world.
-        (who : model.Caller) → IsCallerOf case.entry.now who → Answers S.Store store.old store.new world
-        (batch_verdict (case_seen world case.entry.now who) (batch_asked asked.entry.now)) result) }
+    ensures { AnswersCaller S.Store case.entry.now store.old store.new
+        (λ seen. batch_verdict seen (batch_asked asked.entry.now)) result }
 {
     let ref_name = ref_or_default(case, asked.ref_name.as_ref());
     match may_batch(case, asked.operation, ref_name) {

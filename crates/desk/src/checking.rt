@@ -1,13 +1,11 @@
 //! The request to verify an object that was uploaded (Git LFS API, Basic Transfers, "Verification").
 
 ghost use Rattle.std.specs.Prelude.{option_map};
-ghost use Rattle.model.specs.Callers as model;
 ghost use Rattle.model.specs.Objects.{verify_verdict};
 ghost use Rattle.forms.specs.Requests.{verify_asked};
-ghost use Rattle.refinement.specs.Left.{From};
-ghost use Rattle.desk.specs.Done.{Answers};
+ghost use Rattle.desk.specs.Done.{Answers, AnswersUser};
 ghost use Rattle.desk.specs.Objects.{RepliesChecked, size_check};
-ghost use Rattle.desk.specs.Rights.{IsUserOf, Judges, case_seen};
+ghost use Rattle.desk.specs.Rights.{Judges};
 
 use crate::cases::{Case, Denial};
 use crate::replies::Reply;
@@ -49,9 +47,8 @@ pub(crate) fn verify<S: Alter>(
     case: &Case<'_>,
     asked: &VerifyRequest,
 ) -> Result<Reply, StoreFault>
-    ensures { From S.Store store.old store.new (λ world.
-        (who : model.Caller) → IsUserOf case.entry.now who → Answers S.Store store.old store.new world
-        (verify_verdict (case_seen world case.entry.now who) (verify_asked asked.entry.now)) result) }
+    ensures { AnswersUser S.Store case.entry.now store.old store.new
+        (λ seen. verify_verdict seen (verify_asked asked.entry.now)) result }
 {
     match may_push(case, ref_or_default(case, asked.ref_name.as_ref())) {
         Ok(()) => {

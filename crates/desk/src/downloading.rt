@@ -42,7 +42,8 @@ pub(crate) fn get<S: Alter>(
         (who : model.Caller) → IsUserOf case.entry.now who → (content : List ℕ)
         → Answers S.Store store.old store.new world
         (verdict_by world (case_repo case.entry.now).name
-        (get_verdict (case_seen world case.entry.now who) (get_asked asked.entry.now)) content) result) }
+        (get_verdict (case_seen world case.entry.now who) (get_asked asked.entry.now)) content)
+        result) }
 {
     match permit(case.policy, &pull_question(case), DenialStatus::NotFound) {
         Ok(()) => {

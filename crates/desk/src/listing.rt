@@ -1,17 +1,15 @@
 //! The request for a list of locks (Git LFS API, File Locking, "List Locks").
 
 ghost use Rattle.std.specs.Prelude.{◌≡◌, ℕ, List, IfOk, Ok};
-ghost use Rattle.model.specs.Callers as model;
 ghost use Rattle.model.specs.Answers.{lists};
 ghost use Rattle.model.specs.Pages.{page_limit, page_of};
 ghost use Rattle.model.specs.Locks.{list_verdict, listed_locks};
 ghost use Rattle.forms.specs.Requests.{list_asked};
-ghost use Rattle.refinement.specs.Left.{From};
 ghost use Rattle.cursor.specs.Paging.{cursor_or_first, page_seen};
 ghost use Rattle.cursor.specs.Wanted.{form_of_filter};
 ghost use Rattle.desk.specs.Replies.{IsReplyOf};
-ghost use Rattle.desk.specs.Done.{Answers};
-ghost use Rattle.desk.specs.Rights.{IsUserOf, Judges, case_seen};
+ghost use Rattle.desk.specs.Done.{Answers, AnswersUser};
+ghost use Rattle.desk.specs.Rights.{Judges};
 ghost use Rattle.desk.specs.Paging.{filters_of, list_start};
 
 use crate::cases::{Case, Denial};
@@ -68,10 +66,9 @@ fn list_from<S: Alter>(
     asked: &ListRequest,
     cursor: Option<LockId>,
 ) -> Result<Reply, StoreFault>
-    ensures { From S.Store store.old store.new (λ world.
-        (who : model.Caller) → IsUserOf case.entry.now who → Answers S.Store store.old store.new world
-        (Ok (lists (page_of (cursor_or_first cursor) (page_limit asked.entry.now.limit)
-        (listed_locks (case_seen world case.entry.now who) (list_asked asked.entry.now))))) result) }
+    ensures { AnswersUser S.Store case.entry.now store.old store.new
+        (λ seen. Ok (lists (page_of (cursor_or_first cursor) (page_limit asked.entry.now.limit)
+        (listed_locks seen (list_asked asked.entry.now))))) result }
 {
     let found = page(
         alloc,
@@ -96,9 +93,8 @@ pub(crate) fn list<S: Alter>(
     case: &Case<'_>,
     asked: &ListRequest,
 ) -> Result<Reply, StoreFault>
-    ensures { From S.Store store.old store.new (λ world.
-        (who : model.Caller) → IsUserOf case.entry.now who → Answers S.Store store.old store.new world
-        (list_verdict (case_seen world case.entry.now who) (list_asked asked.entry.now)) result) }
+    ensures { AnswersUser S.Store case.entry.now store.old store.new
+        (λ seen. list_verdict seen (list_asked asked.entry.now)) result }
 {
     match list_start(case, asked) {
         Ok(cursor) => list_from(store, alloc, case, asked, cursor),

@@ -2,7 +2,6 @@
 
 ghost use Rattle.std.specs.Prelude.{◌≡◌, ◌+◌, ◌<◌, IfOk, OnErr, MatchOption};
 ghost use Rattle.names.specs.Texts.{last_lock_id};
-ghost use Rattle.model.specs.Callers as model;
 ghost use Rattle.model.specs.Locks.{lock_verdict};
 ghost use Rattle.policy.specs.Values.{question_view};
 ghost use Rattle.forms.specs.Requests.{lock_asked};
@@ -10,8 +9,7 @@ ghost use Rattle.forms.specs.ShownLocks.{lock_shown};
 ghost use Rattle.refinement.specs.Left.{From};
 ghost use Rattle.locks.specs.Creating.{placed_verdict};
 ghost use Rattle.desk.specs.Locking.{ShowsRow, lock_part, IsReadyAfter, ReportsHeld, ReportsCreation, MadeNothing, IsWantedBy, question_on};
-ghost use Rattle.desk.specs.Rights.{IsUserOf, case_seen};
-ghost use Rattle.desk.specs.Done.{Answers};
+ghost use Rattle.desk.specs.Done.{Answers, AnswersUser};
 
 use crate::cases::Case;
 use crate::replies::Reply;
@@ -137,9 +135,8 @@ pub(crate) fn lock<S: Alter>(
     case: &Case<'_>,
     asked: &LockRequest,
 ) -> Result<Reply, StoreFault>
-    ensures { From S.Store store.old store.new (λ world.
-        (who : model.Caller) → IsUserOf case.entry.now who → Answers S.Store store.old store.new world
-        (lock_verdict (case_seen world case.entry.now who) (lock_asked asked.entry.now)) result) }
+    ensures { AnswersUser S.Store case.entry.now store.old store.new
+        (λ seen. lock_verdict seen (lock_asked asked.entry.now)) result }
 {
     let wanted = wanted_by(case, asked);
     match permit(case.policy, &question_on(&wanted), DenialStatus::Forbidden) {

@@ -13,7 +13,7 @@ use std::alloc::Global;
 use tables::{Alter, Store, StoreFault, UploadId};
 use uploads::UploadFault;
 
-/// The number of bytes that are read at a time.
+/// The largest number of bytes that are read at a time.
 const PIECE: usize = 65_536;
 
 /// The result of an upload whose bytes all arrived.
@@ -31,6 +31,13 @@ fn front(piece: &[u8], count: usize) -> &[u8]
     ensures { result.now ≡ take count piece.now }
 {
     piece.split_at(count).0
+}
+
+/// The number of bytes of a content of this size that are read at a time.
+fn piece_of(size: Size) -> usize
+    ensures { 0 < result }
+{
+    size.get().clamp(1, PIECE as u64) as usize
 }
 
 /// Reads the content to its end, and pushes its bytes to the intake. Each piece is read into `buffer`.
@@ -83,7 +90,7 @@ fn fill<S: Alter, B: Body>(
     ensures known { result ≢ Err (AnswerFault.Store StoreFault.UnknownSchema) }
 {
     let mut intake = Intake::begin(alloc, upload, size)?;
-    let mut buffer = vec![in alloc; 0u8; PIECE]?;
+    let mut buffer = vec![in alloc; 0u8; piece_of(size)]?;
     take_all(store, content, &mut intake, &mut buffer)?;
     Ok(intake.end()?)
 }

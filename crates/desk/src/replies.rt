@@ -137,7 +137,8 @@ impl Reply {
 
     /// The reply with the content of an object: 200.
     pub(crate) fn content(row: ObjectRow) -> Reply
-        ensures shows { (o : Object) → row.size ≡ length o.bytes → IsReplyOf result (Ok (serves o)) }
+        ensures shows { (o : Object) → row.size ≡ length o.bytes
+            → IsReplyOf result (Ok (serves o)) }
         ensures body { result.body ≡ ReplyBody.Content row }
     {
         Reply {

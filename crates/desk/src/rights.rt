@@ -89,7 +89,8 @@ pub(crate) fn pull_question<'a>(case: &Case<'a>) -> Question<'a>
 /// The question whether the caller may push to the ref.
 pub(crate) fn push_question<'a>(case: &Case<'a>, ref_name: &'a RefName) -> Question<'a>
     ensures { question_view result
-        ≡ push_question (case_user case.entry.now) (case_repo case.entry.now).name (ref_text ref_name.now) }
+        ≡ push_question (case_user case.entry.now) (case_repo case.entry.now).name
+        (ref_text ref_name.now) }
 {
     Question {
         user: case.user,
@@ -125,7 +126,8 @@ pub(crate) fn may_push(case: &Case<'_>, ref_name: &RefName) -> Result<(), Denial
 
 /// Whether the caller has the right on the ref and the path of the lock.
 fn has_right(case: &Case<'_>, right: Right, row: &LockRow) -> bool
-    ensures { result ≡ has_right case.entry.now right (lock_seen (case_repo case.entry.now).name row.now) }
+    ensures { result
+        ≡ has_right case.entry.now right (lock_seen (case_repo case.entry.now).name row.now) }
 {
     is_allowed(case.policy, &lock_question(case, right, row))
 }

@@ -2,15 +2,14 @@
 
 ghost use Rattle.std.specs.Prelude.{◌≡◌, ℕ, List, IfOk, Ok, Some, option_map};
 ghost use Rattle.names.specs.Names.{repo_text};
-ghost use Rattle.model.specs.Callers as model;
 ghost use Rattle.model.specs.Answers.{releases};
 ghost use Rattle.model.specs.Locks.{unlock_verdict};
 ghost use Rattle.forms.specs.Requests.{unlock_asked};
 ghost use Rattle.refinement.specs.Left.{From};
 ghost use Rattle.locks.specs.Finding.{lock_seen, lock_with};
 ghost use Rattle.desk.specs.Replies.{IsReplyOf};
-ghost use Rattle.desk.specs.Done.{Answers};
-ghost use Rattle.desk.specs.Rights.{IsUserOf, Judges, case_repo, case_seen, case_user};
+ghost use Rattle.desk.specs.Done.{Answers, AnswersUser};
+ghost use Rattle.desk.specs.Rights.{Judges, case_repo, case_user};
 ghost use Rattle.desk.specs.Unlocking.{found_verdict, lock_verdict, right_to_release};
 
 use crate::cases::{Case, Denial};
@@ -56,7 +55,8 @@ fn lock_to_release<'a>(
     force: bool,
     found: Option<&'a LockRow>,
 ) -> Result<&'a LockRow, Denial>
-    ensures verdict { Judges (λ row. releases (lock_seen (case_repo case.entry.now).name row.now)) result
+    ensures verdict { Judges
+        (λ row. releases (lock_seen (case_repo case.entry.now).name row.now)) result
         (found_verdict case.entry.now force
         (option_map (λ row. lock_seen (case_repo case.entry.now).name row.now) found.entry)) }
     ensures same { IfOk result (λ row. found.entry ≡ Some row) }
@@ -73,7 +73,8 @@ fn lock_to_release<'a>(
 
 /// The reply to a lock that was released.
 fn released_reply(alloc: Global, row: &LockRow) -> Result<Reply, AllocError>
-    ensures { IfOk result (λ reply. (repo : List ℕ) → IsReplyOf reply (Ok (releases (lock_seen repo row.now)))) }
+    ensures { IfOk result (λ reply. (repo : List ℕ)
+        → IsReplyOf reply (Ok (releases (lock_seen repo row.now)))) }
 {
     Reply::telling(alloc, &Answer::Released(&shown(row)))
 }
@@ -92,7 +93,8 @@ fn release<S: Alter>(
     row: &LockRow,
 ) -> Result<Reply, StoreFault>
     ensures { From S.Store store.old store.new (λ world.
-        lock_with (repo_text repo.now) row.now.id world ≡ Some (lock_seen (repo_text repo.now) row.now)
+        lock_with (repo_text repo.now) row.now.id world
+        ≡ Some (lock_seen (repo_text repo.now) row.now)
         → Answers S.Store store.old store.new world
         (Ok (releases (lock_seen (repo_text repo.now) row.now))) result) }
 {
@@ -115,9 +117,8 @@ pub(crate) fn unlock<S: Alter>(
     case: &Case<'_>,
     asked: &UnlockRequest,
 ) -> Result<Reply, StoreFault>
-    ensures { From S.Store store.old store.new (λ world.
-        (who : model.Caller) → IsUserOf case.entry.now who → Answers S.Store store.old store.new world
-        (unlock_verdict (case_seen world case.entry.now who) (unlock_asked asked.entry.now)) result) }
+    ensures { AnswersUser S.Store case.entry.now store.old store.new
+        (λ seen. unlock_verdict seen (unlock_asked asked.entry.now)) result }
 {
     let found = locks::get(store, case.repo.name(), asked.id)?;
     match lock_to_release(case, asked.force, found.as_ref()) {

@@ -104,10 +104,10 @@ pub(crate) fn put<S: Alter, B: Body>(
     content: &mut B,
 ) -> Result<Answered, AnswerFault>
     ensures answered { (bytes : List ℕ) × HasRead B.Body content.old content.new bytes
-        × From S.Store store.old store.new (λ world. (who : model.Caller) → IsUserOf case.entry.now who
-        → IsAnsweredAs S.Store true store.old store.new world (case_repo case.entry.now).name
-        (put_verdict (case_seen world case.entry.now who) (B.size content.old) (put_asked asked.entry.now))
-        bytes (B.size content.new) result) }
+        × From S.Store store.old store.new (λ world. (who : model.Caller)
+        → IsUserOf case.entry.now who → IsAnsweredAs S.Store true store.old store.new world
+        (case_repo case.entry.now).name (put_verdict (case_seen world case.entry.now who)
+        (B.size content.old) (put_asked asked.entry.now)) bytes (B.size content.new) result) }
     ensures leaves { IfOk result (λ a. a.leaves_body ≡ true → content.new ≡ content.old) }
     ensures whole { IfOk result (λ a. a.leaves_body ≡ false → B.size content.new ≡ 0) }
     ensures good { OnOk result (B.failed content.new ≡ B.failed content.old) }

@@ -3,17 +3,15 @@
 
 ghost use Rattle.std.specs.Prelude.{◌≡◌, ℕ, List, IfOk, Ok};
 ghost use Rattle.names.specs.Names.{ref_text, user_text};
-ghost use Rattle.model.specs.Callers as model;
 ghost use Rattle.model.specs.Answers.{splits};
 ghost use Rattle.model.specs.Pages.{page_limit, page_of};
 ghost use Rattle.model.specs.Locks.{ref_locks, verify_locks_verdict};
 ghost use Rattle.forms.specs.Requests.{verify_locks_asked};
-ghost use Rattle.refinement.specs.Left.{From};
 ghost use Rattle.cursor.specs.Paging.{cursor_or_first, page_seen};
 ghost use Rattle.cursor.specs.Wanted.{form_of_filter};
 ghost use Rattle.desk.specs.Replies.{IsReplyOf};
-ghost use Rattle.desk.specs.Done.{Answers};
-ghost use Rattle.desk.specs.Rights.{IsUserOf, Judges, case_seen, case_user};
+ghost use Rattle.desk.specs.Done.{Answers, AnswersUser};
+ghost use Rattle.desk.specs.Rights.{Judges, case_user};
 ghost use Rattle.desk.specs.Paging.{filter_by_ref, verify_start};
 
 use crate::cases::{Case, Denial};
@@ -84,10 +82,9 @@ fn verify_from<S: Alter>(
     limit: Option<i64>,
     cursor: Option<LockId>,
 ) -> Result<Reply, StoreFault>
-    ensures { From S.Store store.old store.new (λ world.
-        (who : model.Caller) → IsUserOf case.entry.now who → Answers S.Store store.old store.new world
-        (Ok (splits (case_user case.entry.now) (page_of (cursor_or_first cursor) (page_limit limit)
-        (ref_locks (case_seen world case.entry.now who) (ref_text ref_name.entry.now))))) result) }
+    ensures { AnswersUser S.Store case.entry.now store.old store.new
+        (λ seen. Ok (splits (case_user case.entry.now) (page_of (cursor_or_first cursor)
+        (page_limit limit) (ref_locks seen (ref_text ref_name.entry.now))))) result }
 {
     let wanted = of_ref(ref_name);
     let limit = read_limit(limit);
@@ -114,10 +111,8 @@ pub(crate) fn verify_locks<S: Alter>(
     case: &Case<'_>,
     asked: &VerifyLocksRequest,
 ) -> Result<Reply, StoreFault>
-    ensures { From S.Store store.old store.new (λ world.
-        (who : model.Caller) → IsUserOf case.entry.now who → Answers S.Store store.old store.new world
-        (verify_locks_verdict (case_seen world case.entry.now who)
-        (verify_locks_asked asked.entry.now)) result) }
+    ensures { AnswersUser S.Store case.entry.now store.old store.new
+        (λ seen. verify_locks_verdict seen (verify_locks_asked asked.entry.now)) result }
 {
     let ref_name = ref_or_default(case, asked.ref_name.as_ref());
     match verify_start(case, ref_name, asked) {

@@ -72,7 +72,8 @@ pub(crate) fn grant<S: Alter, W: Write>(
     ensures issues { From S.Store store.old store.new (λ world. MatchResult result
         (λ _. (text : List ℕ) × Issues S.Store world store.old store.new asked.entry.now text)
         (λ _. Holds S.Store store.new world)) }
-    ensures world { From S.Store store.old store.new (λ world. Works S.Store store.old store.new world) }
+    ensures world { From S.Store store.old store.new (λ world.
+        Works S.Store store.old store.new world) }
 {
     let token = offer(alloc, store, asked)?;
     let line = token_line(alloc, policy, asked.repo, token.as_str())?;

@@ -131,7 +131,8 @@ impl Resource {
 
     /// The resource's parameter in a path; empty if it has none.
     fn parameter_in(self, path: &str) -> &str
-        ensures { result.now ≡ parameter_in (under_lfs (row_of self).rest) (drop 3 (parts path.now)) }
+        ensures { result.now
+            ≡ parameter_in (under_lfs (row_of self).rest) (drop 3 (parts path.now)) }
     {
         match self {
             Resource::Batch | Resource::Locks | Resource::VerifyLocks | Resource::Verify => "",
@@ -177,7 +178,8 @@ impl Route<'_> {
 /// Fails only if memory runs out.
 fn add(router: &mut Router<Resource>, resource: Resource) -> Result<(), AllocError>
     requires { nearest (pattern_of resource) (rows_in router.old) ≡ None }
-    ensures { OnOk result (rows_in router.new ≡ placed (pattern_of resource, resource) (rows_in router.old)) }
+    ensures { OnOk result
+        (rows_in router.new ≡ placed (pattern_of resource, resource) (rows_in router.old)) }
 {
     match router.insert(resource.pattern(), resource) {
         Ok(()) => Ok(()),

@@ -1,26 +1,27 @@
 use Rattle.std.proofs.Common.{◌≡◌, ◌∙◌, ℕ, List, Option, Ok, Err, map, sym, ap, subst}
 use Rattle.names.specs.Names.{ref_text}
+use Rattle.model.specs.Batch.{batch_verdict}
 use Rattle.model.specs.Locks.{ref_or_default}
 use Rattle.model.specs.Answers.{offers}
 use Rattle.forms.specs.Offers.{offer_at}
 use Rattle.forms.specs.Requests.{batch_asked}
 use Rattle.forms.specs.declared.offers.Offer.{Offer}
 use Rattle.desk.specs.declared.cases.Case.{Case}
-use Rattle.desk.specs.Rights.{case_repo, denial_view}
+use Rattle.desk.specs.Rights.{IsCallerOf, case_repo, case_seen, denial_view}
 use Rattle.desk.specs.Replies.{IsReplyOf}
 use Rattle.desk.proofs.Showing.{read_alike}
-use Rattle.desk.proofs.Unchanged.{denial_is_quiet}
-use Rattle.desk.proofs.Offering.{batch_refused, batch_replied, batch_denied, reads_nothing, offers_are_quiet, batch_allowed}
+use Rattle.desk.proofs.Unchanged.{denial_is_quiet, refused_after, replied_after}
+use Rattle.desk.proofs.Offering.{batch_denied, reads_nothing, offers_are_quiet, batch_allowed}
 use Rattle.desk.proofs.batching.batch.Goals as goal
 
 pub returns-in_err-objects-in-Ok : goal.returns-in_err-objects-in-Ok
 returns-in_err-objects-in-Ok g c =
-    batch_refused g.S.Store c.args.store.now c.batch_objects.new.store c.args.case.now (batch_asked c.args.asked.now) _ c.in_err-objects-in-Ok.ensures.world _
+    refused_after g.S.Store c.args.store.now c.batch_objects.new.store (IsCallerOf c.args.case.now) (λ world who. batch_verdict (case_seen world c.args.case.now who) (batch_asked c.args.asked.now)) _ c.in_err-objects-in-Ok.ensures.world _
     c.from_residual.result c.from_residual.ensures.1
 
 pub returns-in_err-batch_reply-in-Ok : goal.returns-in_err-batch_reply-in-Ok
 returns-in_err-batch_reply-in-Ok g c =
-    batch_refused g.S.Store c.args.store.now c.batch_objects.new.store c.args.case.now (batch_asked c.args.asked.now) _ c.in_ok-objects-in-Ok.ensures.world _
+    refused_after g.S.Store c.args.store.now c.batch_objects.new.store (IsCallerOf c.args.case.now) (λ world who. batch_verdict (case_seen world c.args.case.now who) (batch_asked c.args.asked.now)) _ c.in_ok-objects-in-Ok.ensures.world _
     c.from_residual-in_err-batch_reply-in-Ok.result c.from_residual-in_err-batch_reply-in-Ok.ensures.1
 
 pub returns-in_ok-batch_reply-in-Ok : goal.returns-in_ok-batch_reply-in-Ok
@@ -35,7 +36,7 @@ returns-in_ok-batch_reply-in-Ok g c =
     let reply = c.in_ok-batch_reply-in-Ok.field-0 in
     let shows : IsReplyOf reply (Ok (offers (map (offer_at links) some))) =
     subst (λ (os : List Offer). IsReplyOf reply (Ok (offers (map (offer_at links) os)))) c.as_slice.ensures.value c.in_ok-batch_reply-in-Ok.ensures in
-    batch_replied g.S.Store c.args.store.now c.batch_objects.new.store case asked _ c.in_ok-objects-in-Ok.ensures.world
+    replied_after g.S.Store c.args.store.now c.batch_objects.new.store (IsCallerOf case) (λ world who. batch_verdict (case_seen world case who) asked) _ c.in_ok-objects-in-Ok.ensures.world
     (Ok (offers (map (offer_at links) some))) reply (offers_are_quiet (map (offer_at links) some)) shows
     (λ world laws judged who is_caller. batch_allowed case who world ref links is_caller c.links_of-links.ensures asked some named c.in-Ok.ensures judged)
 
@@ -46,6 +47,6 @@ returns-in_ok-denial_reply-in-Err g c =
     let ref = ref_text c.ref_or_default-ref_name.result.now in
     let named : ref_or_default asked.ref (case_repo case) ≡ ref =
     sym (c.ref_or_default-ref_name.ensures ∙ ap (λ (o : Option (List ℕ)). ref_or_default o (case_repo case)) (read_alike ref_text c.args.asked.now.ref_name c.as_ref.result c.as_ref.ensures.value)) in
-    batch_replied g.S.Store c.args.store.now c.args.store.now case asked _ (reads_nothing g.S.Store c.args.store.now)
+    replied_after g.S.Store c.args.store.now c.args.store.now (IsCallerOf case) (λ world who. batch_verdict (case_seen world case who) asked) _ (reads_nothing g.S.Store c.args.store.now)
     (Err (denial_view c.in-Err.denial)) c.in_ok-denial_reply-in-Err.field-0 (denial_is_quiet g.S.Store (denial_view c.in-Err.denial)) c.in_ok-denial_reply-in-Err.ensures
     (λ world laws read who is_caller. batch_denied case who world ref asked (denial_view c.in-Err.denial) is_caller.user named c.in-Err.ensures)

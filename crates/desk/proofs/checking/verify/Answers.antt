@@ -10,7 +10,7 @@ use Rattle.refinement.specs.Left.{Reads}
 use Rattle.uploads.specs.Finding.{Finds}
 use Rattle.uploads.proofs.Sizes.{size_found}
 use Rattle.desk.specs.Objects.{size_check}
-use Rattle.desk.specs.Rights.{case_repo, case_seen}
+use Rattle.desk.specs.Rights.{IsUserOf, case_repo, case_seen}
 use Rattle.desk.proofs.Showing.{read_alike}
 use Rattle.desk.proofs.Pushing.{check_is_quiet, pushes, verify_by}
 use Rattle.desk.proofs.Unchanged.{refused_after, replied_after}
@@ -18,12 +18,12 @@ use Rattle.desk.proofs.checking.verify.Goals as goal
 
 pub returns-in_err-found-in-Ok : goal.returns-in_err-found-in-Ok
 returns-in_err-found-in-Ok g c =
-    refused_after g.S.Store c.args.store.now c.find.new.store c.args.case.now (λ world who. verify_verdict (case_seen world c.args.case.now who) (verify_asked c.args.asked.now)) _
+    refused_after g.S.Store c.args.store.now c.find.new.store (IsUserOf c.args.case.now) (λ world who. verify_verdict (case_seen world c.args.case.now who) (verify_asked c.args.asked.now)) _
     c.in_err-found-in-Ok.ensures.world _ c.from_residual.result c.from_residual.ensures.1
 
 pub returns-in_err-checked_reply-in-Ok : goal.returns-in_err-checked_reply-in-Ok
 returns-in_err-checked_reply-in-Ok g c =
-    refused_after g.S.Store c.args.store.now c.find.new.store c.args.case.now (λ world who. verify_verdict (case_seen world c.args.case.now who) (verify_asked c.args.asked.now)) _
+    refused_after g.S.Store c.args.store.now c.find.new.store (IsUserOf c.args.case.now) (λ world who. verify_verdict (case_seen world c.args.case.now who) (verify_asked c.args.asked.now)) _
     c.in_ok-found-in-Ok.ensures.world _ c.from_residual-in_err-checked_reply-in-Ok.result c.from_residual-in_err-checked_reply-in-Ok.ensures.1
 
 pub returns-in_ok-checked_reply-in-Ok : goal.returns-in_ok-checked_reply-in-Ok
@@ -36,7 +36,7 @@ returns-in_ok-checked_reply-in-Ok g c =
     let reads : Reads g.S.Store c.args.store.now c.find.new.store (λ world. Finds g.S.Store world c.find.new.store (case_repo case).name asked.name c.in_ok-found-in-Ok.found) =
     subst (λ (n : List ℕ). Reads g.S.Store c.args.store.now c.find.new.store (λ world. Finds g.S.Store world c.find.new.store n asked.name c.in_ok-found-in-Ok.found)) c.name.ensures c.in_ok-found-in-Ok.ensures.world in
     let sizes = option_map (λ row. row.size) c.in_ok-found-in-Ok.found in
-    replied_after g.S.Store c.args.store.now c.find.new.store case (λ world who. verify_verdict (case_seen world case who) asked) _ reads
+    replied_after g.S.Store c.args.store.now c.find.new.store (IsUserOf case) (λ world who. verify_verdict (case_seen world case who) asked) _ reads
     (size_check sizes asked.size >>= λ same. Ok confirms) c.in_ok-checked_reply-in-Ok.field-0 (check_is_quiet g.S.Store (size_check sizes asked.size)) c.in_ok-checked_reply-in-Ok.ensures
     (λ world laws found who user.
     verify_by (case_seen world case who) ref asked sizes (sym named) (pushes case who ref (Ok tt) user c.in-Ok.ensures)

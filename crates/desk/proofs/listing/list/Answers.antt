@@ -7,7 +7,7 @@ use Rattle.model.specs.Pages.{page_limit, page_of}
 use Rattle.forms.specs.Requests.{list_asked}
 use Rattle.refinement.proofs.Leading.{from_weaker, reads_none}
 use Rattle.desk.specs.Done.{Answers}
-use Rattle.desk.specs.Rights.{case_seen, denial_view}
+use Rattle.desk.specs.Rights.{IsUserOf, case_seen, denial_view}
 use Rattle.desk.proofs.Showing.{list_is}
 use Rattle.desk.proofs.Unchanged.{denial_is_quiet, refused_after, replied_after}
 use Rattle.desk.proofs.listing.list.Goals as goal
@@ -26,7 +26,7 @@ returns-in_ok-denial_reply-in-Err g c =
     let case = c.args.case.now in
     let asked = list_asked c.args.asked.now in
     let denial = denial_view c.in-Err.denial in
-    replied_after g.S.Store c.args.store.now c.args.store.now case (λ world who. list_verdict (case_seen world case who) asked) (λ _. ⊤) (reads_none g.S.Store c.args.store.now (λ _. ⊤) (λ _ _ _. tt))
+    replied_after g.S.Store c.args.store.now c.args.store.now (IsUserOf case) (λ world who. list_verdict (case_seen world case who) asked) (λ _. ⊤) (reads_none g.S.Store c.args.store.now (λ _. ⊤) (λ _ _ _. tt))
     (Err denial) c.in_ok-denial_reply-in-Err.field-0 (denial_is_quiet g.S.Store denial) c.in_ok-denial_reply-in-Err.ensures
     (λ world laws read who user.
     let from = λ (start : Result ℕ Denial). start >>= λ cursor. Ok (lists (page_of cursor (page_limit asked.limit) (listed_locks (case_seen world case who) asked))) in
@@ -35,5 +35,5 @@ returns-in_ok-denial_reply-in-Err g c =
 pub returns-in_err-denial_reply-in-Err : goal.returns-in_err-denial_reply-in-Err
 returns-in_err-denial_reply-in-Err g c =
     let case = c.args.case.now in
-    refused_after g.S.Store c.args.store.now c.args.store.now case (λ world who. list_verdict (case_seen world case who) (list_asked c.args.asked.now)) (λ _. ⊤)
+    refused_after g.S.Store c.args.store.now c.args.store.now (IsUserOf case) (λ world who. list_verdict (case_seen world case who) (list_asked c.args.asked.now)) (λ _. ⊤)
     (reads_none g.S.Store c.args.store.now (λ _. ⊤) (λ _ _ _. tt)) _ c.from_residual.result c.from_residual.ensures.1

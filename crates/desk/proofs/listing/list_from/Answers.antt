@@ -7,7 +7,7 @@ use Rattle.forms.specs.Requests.{list_asked}
 use Rattle.locks.specs.Finding.{lock_seen}
 use Rattle.cursor.specs.Paging.{cursor_or_first, page_seen}
 use Rattle.cursor.specs.Wanted.{wanted_locks}
-use Rattle.desk.specs.Rights.{case_policy, case_repo, case_seen, case_user}
+use Rattle.desk.specs.Rights.{IsUserOf, case_policy, case_repo, case_seen, case_user}
 use Rattle.desk.proofs.Showing.{list_is_quiet, listed_alike}
 use Rattle.desk.proofs.Unchanged.{refused_after, replied_after}
 use Rattle.desk.proofs.listing.list_from.Goals as goal
@@ -20,7 +20,7 @@ returns g c =
     let repo = (case_repo case).name in
     let found = c.in_ok-found.found in
     let sees = may_list (case_policy case) (case_user case) in
-    replied_after g.S.Store c.args.store.now c.page.new.store case (λ world who. Ok (lists (page_of cursor (page_limit asked.limit) (listed_locks (case_seen world case who) asked)))) _
+    replied_after g.S.Store c.args.store.now c.page.new.store (IsUserOf case) (λ world who. Ok (lists (page_of cursor (page_limit asked.limit) (listed_locks (case_seen world case who) asked)))) _
     c.in_ok-found.ensures.world (Ok (lists (page_seen repo found))) c.in_ok-page_reply.field-0 (list_is_quiet (page_seen repo found)) (c.in_ok-page_reply.ensures repo)
     (λ world laws paged who user.
     let seen = paged sees (λ row answer k. let is : answer ≡ sees (lock_seen repo row) = search rules in is ∙ ap (λ n. sees (lock_seen n row)) (sym c.name.ensures)) in
@@ -30,12 +30,12 @@ returns g c =
 
 pub returns-in_err-page_reply : goal.returns-in_err-page_reply
 returns-in_err-page_reply g c =
-    refused_after g.S.Store c.args.store.now c.page.new.store c.args.case.now
+    refused_after g.S.Store c.args.store.now c.page.new.store (IsUserOf c.args.case.now)
     (λ world who. Ok (lists (page_of (cursor_or_first c.args.cursor) (page_limit c.args.asked.now.limit) (listed_locks (case_seen world c.args.case.now who) (list_asked c.args.asked.now))))) _
     c.in_ok-found.ensures.world _ c.from_residual-in_err-page_reply.result c.from_residual-in_err-page_reply.ensures.1
 
 pub returns-in_err-found : goal.returns-in_err-found
 returns-in_err-found g c =
-    refused_after g.S.Store c.args.store.now c.page.new.store c.args.case.now
+    refused_after g.S.Store c.args.store.now c.page.new.store (IsUserOf c.args.case.now)
     (λ world who. Ok (lists (page_of (cursor_or_first c.args.cursor) (page_limit c.args.asked.now.limit) (listed_locks (case_seen world c.args.case.now who) (list_asked c.args.asked.now))))) _
     c.in_err-found.ensures.world _ c.from_residual.result c.from_residual.ensures.1

@@ -7,7 +7,7 @@ use Rattle.forms.specs.Requests.{lock_asked}
 use Rattle.refinement.proofs.Leading.{from_weaker, reads_none}
 use Rattle.locks.specs.Creating.{placed_verdict}
 use Rattle.desk.specs.Done.{Answers}
-use Rattle.desk.specs.Rights.{case_policy, case_seen, denial_view}
+use Rattle.desk.specs.Rights.{IsUserOf, case_policy, case_seen, denial_view}
 use Rattle.desk.proofs.Unchanged.{denial_is_quiet, refused_after, replied_after}
 use Rattle.desk.proofs.Verdicts.{verdict_alike}
 use Rattle.desk.proofs.locking.lock.Goals as goal
@@ -27,7 +27,7 @@ returns-in_ok-denial_reply-in-Err g c =
     let case = c.args.case.now in
     let w = c.wanted_by-wanted.result in
     let denial = denial_view c.in-Err.denial in
-    replied_after g.S.Store c.args.store.now c.args.store.now case (λ world who. lock_verdict (case_seen world case who) (lock_asked c.args.asked.now)) (λ _. ⊤) (reads_none g.S.Store c.args.store.now (λ _. ⊤) (λ _ _ _. tt))
+    replied_after g.S.Store c.args.store.now c.args.store.now (IsUserOf case) (λ world who. lock_verdict (case_seen world case who) (lock_asked c.args.asked.now)) (λ _. ⊤) (reads_none g.S.Store c.args.store.now (λ _. ⊤) (λ _ _ _. tt))
     (Err denial) c.in_ok-denial_reply-in-Err.field-0 (denial_is_quiet g.S.Store denial) c.in_ok-denial_reply-in-Err.ensures
     (λ world laws read who user.
     let denied = ap (λ (may : Result ⊤ Denial). may >>= λ _. placed_verdict world w) (ap (λ q. permit (case_policy case) q 403) (sym c.question_on.ensures) ∙ c.in-Err.ensures) in
@@ -36,5 +36,5 @@ returns-in_ok-denial_reply-in-Err g c =
 pub returns-in_err-denial_reply-in-Err : goal.returns-in_err-denial_reply-in-Err
 returns-in_err-denial_reply-in-Err g c =
     let case = c.args.case.now in
-    refused_after g.S.Store c.args.store.now c.args.store.now case (λ world who. lock_verdict (case_seen world case who) (lock_asked c.args.asked.now)) (λ _. ⊤)
+    refused_after g.S.Store c.args.store.now c.args.store.now (IsUserOf case) (λ world who. lock_verdict (case_seen world case who) (lock_asked c.args.asked.now)) (λ _. ⊤)
     (reads_none g.S.Store c.args.store.now (λ _. ⊤) (λ _ _ _. tt)) _ c.from_residual.result c.from_residual.ensures.1

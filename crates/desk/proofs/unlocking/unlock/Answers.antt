@@ -4,7 +4,7 @@ use Rattle.model.specs.Locks.{unlock_verdict}
 use Rattle.forms.specs.Requests.{unlock_asked}
 use Rattle.refinement.proofs.Leading.{reads_lead}
 use Rattle.locks.specs.Finding.{lock_seen, lock_with}
-use Rattle.desk.specs.Rights.{case_repo, case_seen, denial_view}
+use Rattle.desk.specs.Rights.{IsUserOf, case_repo, case_seen, denial_view}
 use Rattle.desk.specs.Unlocking.{found_verdict}
 use Rattle.desk.specs.Done.{Answers}
 use Rattle.desk.proofs.Releasing.{verdict_on_found, id_found}
@@ -40,7 +40,7 @@ returns g c =
     let case = c.args.case.now in
     let asked = unlock_asked c.args.asked.now in
     let repo = (case_repo case).name in
-    replied_after g.S.Store c.args.store.now c.get.new.store case (λ world who. unlock_verdict (case_seen world case who) asked) _ c.in_ok-found.ensures.world
+    replied_after g.S.Store c.args.store.now c.get.new.store (IsUserOf case) (λ world who. unlock_verdict (case_seen world case who) asked) _ c.in_ok-found.ensures.world
     (Err (denial_view c.in-Err.denial)) c.in_ok-denial_reply-in-Err.field-0 (denial_is_quiet g.S.Store (denial_view c.in-Err.denial)) c.in_ok-denial_reply-in-Err.ensures
     (λ world laws seen who user.
     let found = read_alike (lock_seen repo) c.in_ok-found.found c.as_ref.result c.as_ref.ensures.value
@@ -50,11 +50,11 @@ returns g c =
 pub returns-in_err-denial_reply-in-Err : goal.returns-in_err-denial_reply-in-Err
 returns-in_err-denial_reply-in-Err g c =
     let case = c.args.case.now in
-    refused_after g.S.Store c.args.store.now c.get.new.store case (λ world who. unlock_verdict (case_seen world case who) (unlock_asked c.args.asked.now)) _ c.in_ok-found.ensures.world
+    refused_after g.S.Store c.args.store.now c.get.new.store (IsUserOf case) (λ world who. unlock_verdict (case_seen world case who) (unlock_asked c.args.asked.now)) _ c.in_ok-found.ensures.world
     _ c.from_residual-in_err-denial_reply-in-Err.result c.from_residual-in_err-denial_reply-in-Err.ensures.1
 
 pub returns-in_err-found : goal.returns-in_err-found
 returns-in_err-found g c =
     let case = c.args.case.now in
-    refused_after g.S.Store c.args.store.now c.get.new.store case (λ world who. unlock_verdict (case_seen world case who) (unlock_asked c.args.asked.now)) _ c.in_err-found.ensures.world
+    refused_after g.S.Store c.args.store.now c.get.new.store (IsUserOf case) (λ world who. unlock_verdict (case_seen world case who) (unlock_asked c.args.asked.now)) _ c.in_err-found.ensures.world
     _ c.from_residual.result c.from_residual.ensures.1
