@@ -1,5 +1,5 @@
 -- How the definitions decide a request, step by step.
-use Rattle.std.proofs.Common.{◌≡◌, ◌∙◌, ℕ, not, ◌||◌, List, Some, Result, Ok, Err, bytes_eq, refl, sym, ap₂, subst}
+use Rattle.std.proofs.Common.{◌≡◌, ◌∙◌, ℕ, not, ◌||◌, List, Some, Result, Ok, Err, bytes_eq, refl, sym, ap, ap₂, subst}
 use Rattle.std.specs.Prelude.{IsErrAnd}
 use Rattle.std.specs.Bool.{⊤}
 use Rattle.sqlite_trees.specs.declared.store.Store.{Ghosts}
@@ -14,6 +14,7 @@ use Rattle.model.specs.Policy.{Policy, Repo, Question, repo_named}
 use Rattle.model.specs.Forms.{Request, needs_upload, is_upload}
 use Rattle.model.specs.Callers as model
 use Rattle.model.specs.Callers.{caller_by, lock_question}
+use Rattle.model.specs.Cases as cases
 use Rattle.model.specs.Cases.{Setting, DeskRequest, case_in}
 use Rattle.model.specs.Answers.{Answer, Denial, Plan, by_rule, by_rules, permit, store_refusal}
 use Rattle.model.specs.Locks.{place_verdict, lock_verdict, new_lock}
@@ -25,18 +26,18 @@ use Rattle.forms.specs.Requests.{lock_asked}
 use Rattle.forms.specs.declared.lock.LockRequest.{LockRequest}
 use Rattle.tables.specs.declared.Store.{Store}
 use Rattle.tables.specs.declared.fault.StoreFault.{StoreFault}
-use Rattle.refinement.specs.Left.{Leads, Gives}
-use Rattle.refinement.proofs.Leading.{ends_still, denial_changes_none, still_then}
+use Rattle.refinement.specs.Left.{From, Leads, Gives}
+use Rattle.refinement.proofs.Leading.{from_weaker, ends_still, denial_changes_none, still_then}
 use Rattle.tokens.specs.Callers.{IsHolder}
 use Rattle.tokens.specs.declared.callers.Caller.{Caller}
-use Rattle.desk.specs.Done.{Answers, given_by}
+use Rattle.desk.specs.Done.{Answers, AnswersUser, AnswersCaller, given_by, verdict_by}
 use Rattle.desk.proofs.Lent.{none_lent}
 use Rattle.desk.specs.Replies.{IsReplyOf}
 use Rattle.desk.specs.declared.replies.Reply.{Reply}
 use Rattle.desk.specs.Admission.{admission_result}
 use Rattle.locks.specs.Creating.{state_of, lock_wanted}
 use Rattle.desk.specs.Locking.{IsWantedBy, question_on, allowed_verdict}
-use Rattle.desk.specs.Rights.{IsUserOf, case_policy, case_seen}
+use Rattle.desk.specs.Rights.{IsUserOf, IsCallerOf, case_policy, case_repo, case_seen}
 use Rattle.desk.specs.declared.cases.Case.{Case}
 use Rattle.tables.specs.declared.new_rows.NewLock.{NewLock}
 
@@ -130,3 +131,26 @@ done_then g old mid new world given r p done = record {
   lends = done.lends;
   gives = still_then g old mid new world (after world (Some (given_by given r))) (left_by (answer_ending world (Some (given_by given r))) world (after world (Some given))) p done.gives;
 }
+
+-- ---- requests without a content
+
+module _ {S : Type 0} (g : Ghosts S) (old new : Store S) (case : Case) (verdict : cases.Case → Answer) (r : Result Reply StoreFault) where
+  -- the plan of the request is to answer with the verdict
+  abbrev pub Plans : Request → Type 0
+  Plans asked = (seen : cases.Case) (left : ℕ) → plan_for seen left asked ≡ plan_to (verdict seen)
+
+  -- the caller is answered, whatever the content is
+  abbrev pub AnswersWhole : Request → Type 0
+  AnswersWhole asked = From g old new (λ world. (who : model.Caller) → IsCallerOf case who → (left : ℕ) (content : List ℕ)
+      → Answers g old new world (verdict_by world (case_repo case).name (plan_for (case_seen world case who) left asked) content) r)
+
+  pub whole_caller : (asked : Request) → Plans asked → AnswersCaller g case old new verdict r → AnswersWhole asked
+  whole_caller asked plans = from_weaker g old new _ _
+      (λ world done who is left content.
+      let seen = case_seen world case who in
+      let repo = (case_repo case).name in
+      let same = ap (λ plan. verdict_by world repo plan content) (plans seen left) ∙ answer_finished world repo content (verdict seen) in
+      subst (λ (v : Answer). Answers g old new world v r) (sym same) (done who is))
+
+  pub whole_user : (asked : Request) → Plans asked → AnswersUser g case old new verdict r → AnswersWhole asked
+  whole_user asked plans done = whole_caller asked plans (from_weaker g old new _ _ (λ world done who is. done who is.user) done)

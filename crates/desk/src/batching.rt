@@ -11,7 +11,7 @@ ghost use Rattle.forms.specs.Offers.{offer_at};
 ghost use Rattle.forms.specs.Requests.{batch_asked, object_asked};
 ghost use Rattle.refinement.specs.Left.{Reads};
 ghost use Rattle.desk.specs.Replies.{IsReplyOf};
-ghost use Rattle.desk.specs.Done.{Answers, AnswersCaller};
+ghost use Rattle.desk.specs.Done.{AnswersCaller};
 ghost use Rattle.desk.specs.Batching.{AreLinksOf, IsSound, actions_for, actions_on, judged_as, judged_by, judged_on, may_transfer};
 ghost use Rattle.desk.specs.Rights.{Judges};
 

@@ -3,7 +3,7 @@
 ghost use Rattle.std.specs.Prelude.{option_map};
 ghost use Rattle.model.specs.Objects.{verify_verdict};
 ghost use Rattle.forms.specs.Requests.{verify_asked};
-ghost use Rattle.desk.specs.Done.{Answers, AnswersUser};
+ghost use Rattle.desk.specs.Done.{AnswersUser};
 ghost use Rattle.desk.specs.Objects.{RepliesChecked, size_check};
 ghost use Rattle.desk.specs.Rights.{Judges};
 

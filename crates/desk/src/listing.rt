@@ -8,7 +8,7 @@ ghost use Rattle.forms.specs.Requests.{list_asked};
 ghost use Rattle.cursor.specs.Paging.{cursor_or_first, page_seen};
 ghost use Rattle.cursor.specs.Wanted.{form_of_filter};
 ghost use Rattle.desk.specs.Replies.{IsReplyOf};
-ghost use Rattle.desk.specs.Done.{Answers, AnswersUser};
+ghost use Rattle.desk.specs.Done.{AnswersUser};
 ghost use Rattle.desk.specs.Rights.{Judges};
 ghost use Rattle.desk.specs.Paging.{filters_of, list_start};
 

@@ -10,7 +10,7 @@ ghost use Rattle.forms.specs.Requests.{verify_locks_asked};
 ghost use Rattle.cursor.specs.Paging.{cursor_or_first, page_seen};
 ghost use Rattle.cursor.specs.Wanted.{form_of_filter};
 ghost use Rattle.desk.specs.Replies.{IsReplyOf};
-ghost use Rattle.desk.specs.Done.{Answers, AnswersUser};
+ghost use Rattle.desk.specs.Done.{AnswersUser};
 ghost use Rattle.desk.specs.Rights.{Judges, case_user};
 ghost use Rattle.desk.specs.Paging.{filter_by_ref, verify_start};
 
