@@ -1,7 +1,7 @@
 -- A batch: from what the code judges of each object to the verdict of the definitions.
-use Rattle.std.proofs.Common.{◌≡◌, ◌∙◌, ℕ, ◌+◌, ◌-◌, ◌==◌, Bool, true, false, List, [], ◌∷◌, ◌++◌, map, Option, Some, None, Result, Ok, Err, IfOk, refl, sym, ap, ap₂}
+use Rattle.std.proofs.Common.{◌≡◌, ◌∙◌, ℕ, ◌+◌, ◌-◌, ◌==◌, Bool, true, false, List, [], ◌∷◌, ◌++◌, map, Option, Some, None, Result, Ok, Err, refl, sym, ap, ap₂}
 use Rattle.std.specs.Bool.{⊤}
-use Rattle.std.specs.Prelude.{IsErrAnd, nat_le, option_map}
+use Rattle.std.specs.Prelude.{nat_le, option_map}
 use Rattle.std.proofs.lemmas.List.{map-append}
 use Rattle.sqlite_trees.specs.declared.store.Store.{Ghosts}
 use Rattle.names.specs.declared.rules.Rule.{Rule}
@@ -28,22 +28,16 @@ use Rattle.forms.specs.Requests.{object_asked}
 use Rattle.forms.specs.Offers.{offer_at, result_at, actions_at}
 use Rattle.tables.specs.declared.Store.{Store}
 use Rattle.tables.specs.declared.rows.ObjectRow.{ObjectRow}
-use Rattle.tables.specs.declared.fault.StoreFault.{StoreFault}
-use Rattle.refinement.specs.Left.{From, Reads}
-use Rattle.refinement.proofs.Leading.{reads_lead, reads_none}
+use Rattle.refinement.specs.Left.{Reads}
+use Rattle.refinement.proofs.Leading.{reads_none}
 use Rattle.uploads.specs.Finding.{Finds}
 use Rattle.uploads.proofs.Sizes.{size_found}
 use Rattle.desk.specs.declared.cases.Case.{Case}
-use Rattle.desk.specs.declared.replies.Reply.{Reply}
-use Rattle.desk.specs.Replies.{IsReplyOf}
-use Rattle.desk.specs.Done.{Answers}
 use Rattle.desk.specs.declared.batching.NamedObject.{NamedObject}
-use Rattle.desk.specs.Batching.{IsSound, Judged, AreLinksOf, sound_size, actions_for, actions_on, judged_as, judged_on, judged_by, may_transfer}
+use Rattle.desk.specs.Batching.{IsSound, Judged, AreLinksOf, actions_for, actions_on, judged_as, judged_on, judged_by, may_transfer}
 use Rattle.desk.specs.Rights.{IsCallerOf, case_policy, case_repo, case_user, case_seen}
 use Rattle.desk.proofs.Placing.{room_is}
-use Rattle.desk.proofs.Lent.{none_lent}
-use Rattle.desk.proofs.Unchanged.{IsQuiet, replied_with}
-use Rattle.desk.proofs.Verdicts.{refused_early}
+use Rattle.desk.proofs.Unchanged.{IsQuiet}
 
 -- a batch that is granted changes no world
 pub offers_are_quiet : (some : List Offer) → IsQuiet (Ok (offers some))

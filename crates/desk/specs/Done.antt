@@ -42,7 +42,7 @@ module _ {S : Type 0} (g : Ghosts S) where
   -- each such caller is answered: the verdict is that on the world that the store held
   abbrev pub AnswersEach : (Caller → Type 0) → Store S → Store S → (World → Caller → Answer) → Result Reply StoreFault → Type 0
   AnswersEach IsAsking old new verdict r =
-      From g old new (λ world. (who : Caller) → IsAsking who → Answers g old new world (verdict world who) r)
+      From g old new (λ world. (who : Caller) → IsAsking who → Answers old new world (verdict world who) r)
 
   -- the user of the case is answered, by the verdict on the case
   abbrev pub AnswersUser : Case → Store S → Store S → (model.Case → Answer) → Result Reply StoreFault → Type 0

@@ -6,7 +6,6 @@ use Rattle.model.specs.Answers.{offers}
 use Rattle.forms.specs.Offers.{offer_at}
 use Rattle.forms.specs.Requests.{batch_asked}
 use Rattle.forms.specs.declared.offers.Offer.{Offer}
-use Rattle.desk.specs.declared.cases.Case.{Case}
 use Rattle.desk.specs.Rights.{IsCallerOf, case_repo, case_seen, denial_view}
 use Rattle.desk.specs.Replies.{IsReplyOf}
 use Rattle.desk.proofs.Showing.{read_alike}
