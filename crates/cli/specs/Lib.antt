@@ -1,3 +1,2 @@
-pub mod Numbers
-pub mod Statuses
-pub mod Asking
+pub mod Clocks
+pub mod Answers

@@ -4,15 +4,10 @@
 //! success, 1 for a refusal, 2 for invalid arguments. `main` passes the machine's arguments and streams.
 #![tactic(auto)]
 
-mod args;
-mod commands;
-mod faults;
 mod files;
 mod moments;
 mod operating;
-mod operator_commands;
 mod operators;
-mod policy_args;
 mod policy_command;
 mod policy_lines;
 mod program;
@@ -20,6 +15,6 @@ mod serve;
 mod session;
 mod via;
 
-pub use args::ServeArgs;
+pub use command_line::ServeArgs;
 pub use program::{refuse_args, run};
 pub use serve::{Doors, serve_doors};

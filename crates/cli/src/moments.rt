@@ -2,9 +2,9 @@
 
 ghost use Rattle.std.specs.Prelude.{◌≡◌};
 ghost use Rattle.std.specs.Time.{system_time_nanos};
-ghost use Rattle.cli.specs.Numbers.{moment_at};
+ghost use Rattle.cli.specs.Clocks.{moment_at};
 
-use crate::faults::Fault;
+use command_line::Fault;
 use names::Moment;
 use std::rt::Clock;
 use std::time::{SystemTime, UNIX_EPOCH};

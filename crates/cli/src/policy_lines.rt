@@ -2,7 +2,7 @@
 
 ghost use Rattle.std.specs.Prelude.{◌≡◌, IfOk, string_bytes};
 ghost use Rattle.policy.specs.Values.{decision_view, policy_view};
-ghost use Rattle.cli.specs.Asking.{counts_line, decision_line, policy_line, row_line};
+ghost use Rattle.cli.specs.Answers.{counts_line, decision_line, policy_line, row_line};
 
 use policy::{Policy, Verdict};
 use std::alloc::{AllocError, Global};

@@ -1,8 +1,7 @@
 //! Asks a running server to run a command.
 
-use crate::args::OperatorCommand;
-use crate::faults::Fault;
 use crate::files::read_paths;
+use command_line::{Fault, OperatorCommand};
 use control::{Reply, Status, read_reply, request_bytes};
 use std::alloc::{AllocError, Global};
 use std::io::{self, Read, Write};

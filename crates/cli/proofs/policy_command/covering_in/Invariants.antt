@@ -1,6 +1,6 @@
 use Rattle.std.proofs.Common.{◌≡◌, ◌+◌, drop, map}
 use Rattle.policy.specs.Values.{row_view}
-use Rattle.cli.specs.Asking.{covering_from}
+use Rattle.cli.specs.Answers.{covering_from}
 use Rattle.cli.proofs.policy_command.covering_in.Given as goal
 
 -- no row before this one covers the row

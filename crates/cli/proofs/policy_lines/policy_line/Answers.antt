@@ -2,7 +2,7 @@ use Rattle.std.proofs.Common.{◌≡◌, ◌∙◌, sym, ap, length}
 use Rattle.std.proofs.lemmas.List.{length-map}
 use Rattle.std.proofs.lemmas.Result.{IfOk-weaker}
 use Rattle.policy.specs.Values.{policy_view, repo_view, row_view}
-use Rattle.cli.specs.Asking.{counts_line, policy_line}
+use Rattle.cli.specs.Answers.{counts_line, policy_line}
 use Rattle.cli.proofs.policy_lines.policy_line.Goals as goal
 
 pub returns : goal.returns

@@ -2,8 +2,8 @@ use Rattle.std.proofs.Common.{◌≡◌, ◌∙◌, ◌≤◌, length, sym, ap, 
 use Rattle.std.specs.Char.{is_ascii_digit}
 use Rattle.std.specs.List.{list_all}
 use Rattle.std.proofs.lemmas.Bool.Decides.{nat_tests}
-use Rattle.cli.proofs.Numbers.{number_parsed}
-use Rattle.cli.proofs.args.number_in.Goals as goal
+use Rattle.command_line.proofs.Numbers.{number_parsed}
+use Rattle.command_line.proofs.args.number_in.Goals as goal
 
 pub returns : goal.returns
 returns c =

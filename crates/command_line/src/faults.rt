@@ -1,7 +1,7 @@
 //! Why the program ends with a status other than 0, and what it then prints.
 
 ghost use Rattle.std.specs.Prelude.{◌≡◌};
-ghost use Rattle.cli.specs.Statuses.{status_of};
+ghost use Rattle.command_line.specs.Statuses.{status_of};
 
 use control::{RequestFault, Status};
 use operator::{PathsFault, TaskFault};
@@ -15,7 +15,7 @@ use tokens::TokenFault;
 /// Why the program ends with a status other than 0. Each prints one line; the first prints the text of `clap`,
 /// `PolicyDescribed` two lines, and the last none.
 #[derive(Debug, Drop, Error)]
-pub(crate) enum Fault {
+pub enum Fault {
     /// The arguments are not a command. The text is `clap`'s, with its own line ends.
     #[error("{0}")]
     Arguments(clap::Error),
@@ -116,7 +116,7 @@ impl From<clap::Error> for Fault {
 }
 
 impl From<PolicyFault> for Fault {
-    ghost use Rattle.cli.specs.Statuses.{of_policy};
+    ghost use Rattle.command_line.specs.Statuses.{of_policy};
 
     ghost from_gives = { λ fault gives. gives ≡ of_policy fault };
 
@@ -129,7 +129,7 @@ impl From<PolicyFault> for Fault {
 }
 
 impl From<StoreFault> for Fault {
-    ghost use Rattle.cli.specs.Statuses.{of_store};
+    ghost use Rattle.command_line.specs.Statuses.{of_store};
 
     ghost from_gives = { λ fault gives. gives ≡ of_store fault };
 
@@ -142,7 +142,7 @@ impl From<StoreFault> for Fault {
 }
 
 impl From<TaskFault> for Fault {
-    ghost use Rattle.cli.specs.Statuses.{of_task};
+    ghost use Rattle.command_line.specs.Statuses.{of_task};
 
     ghost from_gives = { λ fault gives. gives ≡ of_task fault };
 
@@ -158,7 +158,7 @@ impl From<TaskFault> for Fault {
 }
 
 impl From<PathsFault> for Fault {
-    ghost use Rattle.cli.specs.Statuses.{of_paths};
+    ghost use Rattle.command_line.specs.Statuses.{of_paths};
 
     ghost from_gives = { λ fault gives. gives ≡ of_paths fault };
 
@@ -181,7 +181,7 @@ impl From<RequestFault> for Fault {
 }
 
 impl From<AllocError> for Fault {
-    ghost use Rattle.cli.specs.declared.faults.Fault.TheVariants.{Memory};
+    ghost use Rattle.command_line.specs.declared.faults.Fault.TheVariants.{Memory};
 
     ghost from_gives = { λ _ gives. gives ≡ Memory };
 

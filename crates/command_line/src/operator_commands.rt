@@ -101,7 +101,7 @@ const PATH_HELP: &str =
 const OPERATION_HELP: &str = "What the token is for";
 
 /// The file that random bytes are read from, if no other is given.
-pub(crate) const RANDOM: &str = "/dev/urandom";
+pub const RANDOM: &str = "/dev/urandom";
 
 const VIA_HELP: &str =
     "The control socket of a running server, which runs the command over its own files";

@@ -1,9 +1,10 @@
 //! Parses the arguments of the program.
 
-ghost use Rattle.std.specs.Prelude.{◌≡◌};
+ghost use Rattle.std.specs.Prelude.{◌≡◌, ◌≤◌, IfOk, IfSome};
 ghost use Rattle.std.specs.Char.{is_ascii_digit};
 ghost use Rattle.std.specs.List.{list_all};
-ghost use Rattle.cli.specs.Numbers.{number_in, number_within, moment_in};
+ghost use Rattle.command_line.specs.Numbers.{number_in, number_within, moment_in};
+ghost use Rattle.command_line.specs.Ranges.{AreInRange, IsInRange};
 
 use crate::commands::{program, served_program};
 use crate::faults::Fault;
@@ -25,7 +26,7 @@ const IDLE: u64 = 10;
 
 /// What the arguments ask for.
 #[derive(Debug, Drop)]
-pub(crate) enum Command<'a> {
+pub enum Command<'a> {
     /// Print the help or the version on standard output.
     Text(clap::Error),
     /// The command `session`.
@@ -42,7 +43,7 @@ pub(crate) enum Command<'a> {
 
 /// A command of an operator.
 #[derive(Debug, Drop)]
-pub(crate) enum OperatorCommand<'a> {
+pub enum OperatorCommand<'a> {
     /// The command `authenticate`.
     Authenticate(TokenArgs<'a>),
     /// The command `prune`, with the moment that was given.
@@ -61,7 +62,7 @@ pub(crate) enum OperatorCommand<'a> {
 
 /// The files of a command. A file that the command does not read has an empty name.
 #[derive(Clone, Copy, Debug)]
-pub(crate) struct Files<'a> {
+pub struct Files<'a> {
     /// The database file.
     pub db: &'a str,
     /// The policy file.
@@ -72,7 +73,7 @@ pub(crate) struct Files<'a> {
 
 /// The arguments of `session`.
 #[derive(Clone, Copy, Debug)]
-pub(crate) struct SessionArgs<'a> {
+pub struct SessionArgs<'a> {
     /// The database file.
     pub db: &'a str,
     /// The policy file.
@@ -100,7 +101,7 @@ pub struct ServeArgs<'a> {
 
 /// The arguments of `authenticate`.
 #[derive(Debug, Drop)]
-pub(crate) struct TokenArgs<'a> {
+pub struct TokenArgs<'a> {
     /// Who gets the token.
     pub user: UserName,
     /// The moment; `None` for the clock's.
@@ -113,7 +114,7 @@ pub(crate) struct TokenArgs<'a> {
 
 /// The arguments of `pushcheck`.
 #[derive(Debug, Drop)]
-pub(crate) struct PushArgs {
+pub struct PushArgs {
     /// The user who pushes.
     pub user: UserName,
     /// The repository that is pushed to.
@@ -141,7 +142,8 @@ fn number_in(text: &str) -> Option<u64>
 
 /// The number that 1 to 18 decimal digits write, if it is in this range; `None` for any other text.
 fn number_within(text: &str, least: u64, most: u64) -> Option<u64>
-    ensures { result ≡ number_within least most text.now }
+    ensures value { result ≡ number_within least most text.now }
+    ensures range { IfSome result (λ number. (least ≤ number) × (number ≤ most)) }
 {
     let number = number_in(text)?;
     if least <= number && number <= most {
@@ -203,7 +205,9 @@ fn count_of(
     name: &'static str,
     option: &'static str,
     most: u64,
-) -> Result<Option<u64>, Fault> {
+) -> Result<Option<u64>, Fault>
+    ensures { IfOk result (λ count. IfSome count (λ number. (1 ≤ number) × (number ≤ most))) }
+{
     match matches.get_str(name) {
         None => Ok(None),
         Some(text) => match number_within(text, 1, most) {
@@ -213,7 +217,9 @@ fn count_of(
     }
 }
 
-fn serve_args<'a>(matches: &ArgMatches<'a>) -> Result<ServeArgs<'a>, Fault> {
+fn serve_args<'a>(matches: &ArgMatches<'a>) -> Result<ServeArgs<'a>, Fault>
+    ensures { IfOk result AreInRange }
+{
     Ok(ServeArgs {
         db: value_of(matches, "db"),
         policy: value_of(matches, "policy"),
@@ -282,7 +288,9 @@ fn command_of<'a>(
     alloc: Global,
     name: &str,
     matches: &ArgMatches<'a>,
-) -> Result<Option<Command<'a>>, Fault> {
+) -> Result<Option<Command<'a>>, Fault>
+    ensures { IfOk result (λ command. IfSome command IsInRange) }
+{
     match name {
         "session" => return Ok(Some(Command::Session(session_args(matches)?))),
         "serve" => return Ok(Some(Command::Serve(serve_args(matches)?))),
@@ -308,7 +316,9 @@ fn is_text_asked_for(kind: ErrorKind) -> bool {
 /// # Errors
 ///
 /// `Arguments` if `clap` rejects them, `Value` if a value is out of range, `Memory`.
-pub(crate) fn read_args<'a>(alloc: Global, args: &'a [String]) -> Result<Command<'a>, Fault> {
+pub fn read_args<'a>(alloc: Global, args: &'a [String]) -> Result<Command<'a>, Fault>
+    ensures { IfOk result IsInRange }
+{
     let mut program = program(alloc)?;
     let matches = match program.try_get_matches_from_mut(args) {
         Ok(matches) => matches,
@@ -330,7 +340,7 @@ pub(crate) fn read_args<'a>(alloc: Global, args: &'a [String]) -> Result<Command
 
 /// What the words of a request ask a server for.
 #[derive(Debug, Drop)]
-pub(crate) enum Asked<'a> {
+pub enum Asked<'a> {
     /// Print the help on the output.
     Text(clap::Error),
     /// A command of an operator.
@@ -343,7 +353,7 @@ pub(crate) enum Asked<'a> {
 ///
 /// `Arguments` if `clap` rejects them, which it does if they name files, a socket, or a command that is not an
 /// operator's; `Value` if a value is out of range; `Request` if there is no command, and `Memory`.
-pub(crate) fn read_words<'a>(alloc: Global, words: &'a [String]) -> Result<Asked<'a>, Fault> {
+pub fn read_words<'a>(alloc: Global, words: &'a [String]) -> Result<Asked<'a>, Fault> {
     let mut program = served_program(alloc)?;
     let matches = match program.try_get_matches_from_mut(words) {
         Ok(matches) => matches,

@@ -1,5 +1,5 @@
--- Which arguments are numbers, and the moment of a clock. A text is the list of its bytes.
-use Rattle.std.specs.Prelude.{◌≡◌, ℕ, ◌/◌, Bool, ◌&&◌, nat_le, List, length, Option, Some, None, if◌then◌else◌}
+-- Which arguments are numbers. A text is the list of its bytes.
+use Rattle.std.specs.Prelude.{ℕ, Bool, ◌&&◌, nat_le, List, length, Option, Some, None, if◌then◌else◌}
 use Rattle.std.specs.Char.{is_ascii_digit}
 use Rattle.std.specs.List.{list_all}
 use Rattle.std.specs.Str.Parse.{digits_value}
@@ -21,7 +21,3 @@ number_within least most text =
 -- the moment that the digits write
 abbrev pub moment_in : List ℕ → Option ℕ
 moment_in text = if is_number text && nat_le (digits_value 10 text) last_moment then Some (digits_value 10 text) else None
-
--- the moment of a clock that shows this many nanoseconds after 1970: its whole seconds
-abbrev pub moment_at : ℕ → Option ℕ
-moment_at nanos = if nat_le (nanos / 1000000000) last_moment then Some (nanos / 1000000000) else None

@@ -1,19 +1,7 @@
--- What the command `policy` asks of a policy, and the lines that it prints.
-use Rattle.std.specs.Prelude.{ℕ, ◌+◌, ◌-◌, ◌==◌, Bool, true, false, List, [], ◌∷◌, Option, Some, None, option_map, codes, decimal, length, ◌++◌, slice_get, if◌then◌else◌}
-use Rattle.names.specs.Names.{user_text, repo_text, ref_text, path_text}
-use Rattle.model.specs.Policy.{Policy, Question, Row, Decision, allowed, denied}
+-- What the command `policy` answers, and the lines that it prints.
+use Rattle.std.specs.Prelude.{ℕ, ◌+◌, ◌-◌, ◌==◌, Bool, true, false, List, [], ◌∷◌, Option, Some, None, codes, decimal, length, ◌++◌, slice_get, if◌then◌else◌}
+use Rattle.model.specs.Policy.{Policy, Row, Decision, allowed, denied}
 use Rattle.policy.specs.Covering.{covers}
-use Rattle.cli.specs.declared.policy_args.AskedQuestion.{AskedQuestion}
-
--- the question of the arguments, as the definitions have it
-abbrev pub asked_view : AskedQuestion → Question
-asked_view q = record {
-  user = user_text q.user;
-  repo = repo_text q.repo;
-  right = q.right;
-  ref = option_map ref_text q.ref_name;
-  path = option_map path_text q.path;
-}
 
 -- the question is allowed
 abbrev pub is_allowed : Decision → Bool

@@ -12,7 +12,7 @@ use std::alloc::Global;
 
 /// The arguments of `policy`.
 #[derive(Debug, Drop)]
-pub(crate) struct PolicyArgs<'a> {
+pub struct PolicyArgs<'a> {
     /// The policy file.
     pub policy: &'a str,
     /// What to print of it.
@@ -21,7 +21,7 @@ pub(crate) struct PolicyArgs<'a> {
 
 /// What the command `policy` prints of a policy file.
 #[derive(Debug, Drop)]
-pub(crate) enum PolicyTask {
+pub enum PolicyTask {
     /// How many repositories and rows it has.
     Count,
     /// Which row decides a question.
@@ -32,7 +32,7 @@ pub(crate) enum PolicyTask {
 
 /// A question to the policy that owns its parts.
 #[derive(Debug, Drop)]
-pub(crate) struct AskedQuestion {
+pub struct AskedQuestion {
     /// The user who asks.
     pub user: UserName,
     /// The repository.
@@ -47,7 +47,7 @@ pub(crate) struct AskedQuestion {
 
 impl AskedQuestion {
     ghost use Rattle.policy.specs.Values.{question_view};
-    ghost use Rattle.cli.specs.Asking.{asked_view};
+    ghost use Rattle.command_line.specs.Asking.{asked_view};
 
     /// The question, as the policy takes it.
     pub fn question(&self) -> Question<'_>

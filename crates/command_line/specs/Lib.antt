@@ -1,0 +1,4 @@
+pub mod Numbers
+pub mod Statuses
+pub mod Asking
+pub mod Ranges
