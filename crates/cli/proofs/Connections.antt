@@ -13,7 +13,7 @@ use Rattle.tokens.specs.declared.requests.TokenRequest.{TokenRequest}
 use Rattle.tokens.specs.Issuing.{Issues}
 use Rattle.service.specs.declared.ends.Served.{Served}
 use Rattle.service.specs.Served.{IsServed, IsUnserved}
-use Rattle.operator.specs.Works.{Work, takes, steps_of, bound_of_works, Works}
+use Rattle.operator.specs.Works.{takes, steps_of, bound_of_works, Works}
 use Rattle.operator.proofs.Working.{works_still, works_takes}
 
 -- the steps of calls that each take one

@@ -1,4 +1,4 @@
-use Rattle.std.proofs.Common.{◌-◌, ◌≤◌, ℕ}
+use Rattle.std.proofs.Common.{◌-◌, ◌≤◌}
 use Rattle.refinement.specs.Left.{From}
 use Rattle.operator.specs.Works.{Works}
 use Rattle.cli.proofs.serve.ServeContext.serve_all.Given as goal
