@@ -6,7 +6,7 @@ use model::Form;
 use names::Rule;
 use routes::Routes;
 use service::judge;
-use wire::{Cut, FIELD_ROOM, Head, first_head, front_of};
+use wire::{Cut, FIELD_LIMIT, Head, first_head, front_of};
 
 /// What a head asks for: the request, the owner and the name of the repository, the parameter and the query
 /// of the target, and the size of the body.
@@ -23,8 +23,7 @@ type Judged = Result<Asked, (Rule, &'static str)>;
 
 /// Asserts that the head of the text asks for this, or is refused this way.
 fn expect_judged(rt: &impl Tester, routes: &Routes, text: &[u8], want: &Judged) {
-    let mut fields = unwrap(rt, vec![in rt.alloc(); EMPTY_HEADER_SPAN; FIELD_ROOM]);
-    assert!(rt; FIELD_ROOM <= fields.len());
+    let mut fields = [EMPTY_HEADER_SPAN; FIELD_LIMIT];
     let Cut::Head(spans) = first_head(text, &mut fields) else {
         panic!(rt; "there is no head: {text:?}");
     };
