@@ -5,7 +5,7 @@ use clap::{Arg, ArgAction, Command};
 use std::alloc::{AllocError, Global};
 
 const ABOUT: &str =
-    "A Git LFS server that keeps locks, so that two people do not paint the same scene in the same hour";
+    "A Git LFS server: stores files and locks paths, with access rules for each path";
 
 /// What `-V` prints after the program's name.
 const VERSION: &str = "0.1.0";
@@ -25,8 +25,8 @@ Answers the requests on standard input, and writes the replies to standard outpu
 Standard input holds what one connection of a client would send: HTTP requests, one after the \
 other. Each is answered as soon as it has arrived.
 
-The status is 0 where the input ended or the server closed the connection, 1 where the policy or \
-the database was refused or reading or writing failed, and 2 if the arguments are wrong.";
+The status is 0 if the input ended or the server closed the connection, 1 if the policy or the \
+database was refused or reading or writing failed, and 2 if the arguments are wrong.";
 
 const SERVE_ABOUT: &str = "Serves connections to a TCP address, one after the other";
 
@@ -67,7 +67,7 @@ const CONTROL_HELP: &str =
     "The path of a socket on which operators' commands are taken, with --via; only this user may use it";
 
 const DB_HELP: &str =
-    "The database file; it is made where there is none, in a folder that is there";
+    "The database file; it is created if it does not exist, in a folder that exists";
 
 const POLICY_HELP: &str = "The policy file: which repositories there are, and who may do what";
 

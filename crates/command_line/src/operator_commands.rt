@@ -26,8 +26,8 @@ A token to download lets its user pull and list; one to upload covers all that t
 the user. It is valid for the policy's token_seconds. The database keeps only its SHA-256, so the \
 printed line is the only copy of the token.
 
-The status is 0 where the token was issued, 1 where something was refused, and 2 if the arguments \
-are wrong. No token is left where the status is not 0, but perhaps where the database failed (G2).";
+The status is 0 if the token was issued, 1 if something was refused, and 2 if the arguments are \
+wrong. No token is stored unless the status is 0, except perhaps after a failure of the database (G2).";
 
 const PRUNE_ABOUT: &str = "Removes the tokens that have expired, and prints their number";
 
