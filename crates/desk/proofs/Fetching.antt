@@ -1,5 +1,6 @@
 -- Requests for the content of an object.
-use Rattle.std.proofs.Common.{◌≡◌, ℕ, List, Option, Some, None, Ok, Err, refl, sym, subst}
+use Rattle.std.proofs.Common.{◌≡◌, ℕ, List, length, Some, None, Result, Ok, Err, refl, sym, subst}
+use Rattle.std.specs.Prelude.{IsErrAnd}
 use Rattle.sqlite_trees.specs.declared.store.Store.{Ghosts}
 use Rattle.names.specs.declared.rules.Rule.TheVariants.{X1}
 use Rattle.model.specs.World.{World, Object, object_named}
@@ -16,11 +17,14 @@ use Rattle.uploads.proofs.Sizes.{size_found}
 use Rattle.desk.specs.declared.replies.Reply.{Reply}
 use Rattle.desk.specs.declared.replies.ReplyBody.{ReplyBody}
 use Rattle.desk.specs.declared.cases.Case as code
-use Rattle.desk.specs.Replies.{Lends}
-use Rattle.desk.specs.Objects.{RepliesFound}
+use Rattle.desk.specs.declared.replies.ReplyBody.TheVariants.{Content}
+use Rattle.desk.specs.declared.cases.Denial.TheVariants as denied
+use Rattle.desk.specs.declared.outcomes.NotGranted.{NotGranted}
+use Rattle.desk.specs.declared.outcomes.NotGranted.TheVariants as not_granted
+use Rattle.desk.specs.Replies.{IsReplyOf, Lends}
 use Rattle.desk.specs.Rights.{IsUserOf, case_policy, case_repo, case_user, case_seen}
-use Rattle.desk.specs.Done.{Answers, verdict_by}
-use Rattle.desk.proofs.Unchanged.{denial_is_quiet, replied_after, replied_with}
+use Rattle.desk.specs.Done.{AnswersOrDenies, verdict_by}
+use Rattle.desk.proofs.Unchanged.{denied_after, replied_with}
 
 module _ (world : World) (repo : List ℕ) (c : Case) (name content : List ℕ) (may : may_pull c.setting.policy c.caller.user c.repo.name 404 ≡ Ok tt) where
   -- the verdict if the repository has no object of the name
@@ -41,26 +45,31 @@ module _ {S : Type 0} (g : Ghosts S) (old new : Store S) (case : code.Case) (nam
   verdict : List ℕ → World → Caller → Answer
   verdict content world who = verdict_by world (case_repo case).name (get_verdict (case_seen world case who) name) content
 
-  abbrev IsGot : Reply → World → Type 0
-  IsGot reply world = (who : Caller) → IsUserOf case who → (content : List ℕ)
-      → Answers g old new world (verdict_by world (case_repo case).name (get_verdict (case_seen world case who) name) content) (Ok reply)
+  abbrev IsGot : Result Reply NotGranted → World → Type 0
+  IsGot r world = (who : Caller) → IsUserOf case who → (content : List ℕ)
+      → AnswersOrDenies g old new world (verdict_by world (case_repo case).name (get_verdict (case_seen world case who) name) content) r
 
-  -- the object that was found is the reply, or X1
-  pub got : (found : Option ObjectRow) (reply : Reply) → Reads g old new (λ world. Finds g world new (case_repo case).name name found)
-      → RepliesFound found (Ok reply) → From g old new (IsGot reply)
+  -- no object of the name was found
+  pub got_none : Reads g old new (λ world. Finds g world new (case_repo case).name name None) → (r : Result Reply NotGranted) → IsErrAnd r (λ e. e ≡ not_granted.Denied (denied.Rule X1))
+      → From g old new (IsGot r)
   unfolding verdict
-  got None reply reads shows = record {
+  got_none reads r is = record {
     honest = reads.same.was_honest;
     each = λ honest world h who user content.
-        (replied_after g old new (IsUserOf case) (verdict content) (λ w. Finds g w new (case_repo case).name name None) reads (Err (by_rule X1)) reply (denial_is_quiet g (by_rule X1)) shows
+        (denied_after g old new (IsUserOf case) (verdict content) (λ w. Finds g w new (case_repo case).name name None) reads (denied.Rule X1) r is
         (λ w laws none k is_user. get_none w (case_repo case).name (case_seen w case k) name content (pulls case k is_user may)
         (size_found g w new (case_repo case) name None laws none))).each honest world h who user;
   }
-  got (Some row) reply reads shows = record {
+
+  -- the object that was found is the reply
+  pub got : (row : ObjectRow) (reply : Reply) → Reads g old new (λ world. Finds g world new (case_repo case).name name (Some row))
+      → ((o : Object) → row.size ≡ length o.bytes → IsReplyOf reply (Ok (serves o))) → reply.body ≡ Content row → From g old new (IsGot (Ok reply))
+  unfolding verdict
+  got row reply reads shows body = record {
     honest = reads.same.was_honest;
     each = λ honest world h who user content.
         let found = reads.each honest world h in
         let is = get_some world (case_repo case).name (case_seen world case who) name content (pulls case who user may) row.size found.0 (size_found g world new (case_repo case) name (Some row) h.laws found) found.1 in
-        replied_with g old new (IsUserOf case) (verdict content) (λ w. Finds g w new (case_repo case).name name (Some row)) reads (Ok (serves found.0)) reply (λ w. refl) (λ w. refl) (shows.0 found.0 found.2) honest world h who is
-        (subst (λ (b : ReplyBody). Lends g new b (Ok (serves found.0))) (sym shows.1) (found.0, refl, found.3));
+        replied_with g old new (IsUserOf case) (verdict content) (λ w. Finds g w new (case_repo case).name name (Some row)) reads (Ok (serves found.0)) reply (λ w. refl) (λ w. refl) (shows found.0 found.2) honest world h who is
+        (subst (λ (b : ReplyBody). Lends g new b (Ok (serves found.0))) (sym body) (found.0, refl, found.3));
   }

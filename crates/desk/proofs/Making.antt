@@ -1,5 +1,5 @@
 -- From the result of a request for a lock to the reply.
-use Rattle.std.proofs.Common.{◌≡◌, ◌∙◌, ◌<◌, ◌+◌, ℕ, true, nat_lt, Some, None, Option, Result, Ok, Err, IfOk, OnErr, refl, sym, ap, subst, arith, false}
+use Rattle.std.proofs.Common.{◌≡◌, ◌∙◌, ◌<◌, ◌+◌, ℕ, true, nat_lt, Some, None, Option, Ok, Err, refl, sym, ap, subst, arith, false}
 use Rattle.std.proofs.lemmas.Bool.Decides.{nat_tests}
 use Rattle.sqlite_trees.specs.declared.store.Store.{Ghosts}
 use Rattle.names.specs.Names.{repo_text, ref_text, path_text}
@@ -8,7 +8,6 @@ use Rattle.names.specs.declared.rules.Rule.TheVariants.{L5}
 use Rattle.model.specs.World.{World, Lock}
 use Rattle.model.specs.RepoState.{lock_at}
 use Rattle.model.specs.Answers.{Answer, makes_lock, by_lock, by_rule, store_refusal}
-use Rattle.tables.specs.declared.fault.StoreFault.{StoreFault}
 use Rattle.tables.specs.declared.Store.{Store}
 use Rattle.tables.specs.declared.new_rows.NewLock.{NewLock}
 use Rattle.tables.specs.declared.rows.Creation.{Creation}
@@ -68,11 +67,15 @@ module _ {S : Type 0} (g : Ghosts S) (mid new : Store S) (world : World) (w : Ne
   creates_plainly (Held row) = refl
   creates_plainly UsedUp = refl
 
-  pub reported_by : (creation : Creation) (r : Result Reply StoreFault) → Creates g world w mid new (Ok creation) → IfOk r (ReportsCreation creation ready) → OnErr r (MadeNothing creation)
-      → Answers g mid new world (placed_verdict world w) r
-  reported_by creation (Ok reply) done reports none = record {
-    shows = subst (IsReplyOf reply) (sym done.0) (shows creation reply done.0 reports);
-    lends = subst (Lends g new reply.body) (sym done.0) (none_lent g new reply.body (answer_of world w creation) (creates_plainly creation) (shows creation reply done.0 reports).body);
-    gives = done.2;
-  }
-  reported_by creation (Err fault) done reports none = record { shows = tt; lends = tt; gives = refuses creation none done.0 done.2 }
+  module _ (creation : Creation) (done : Creates g world w mid new (Ok creation)) where
+    -- the reply reports what the call did
+    pub reported_by : (reply : Reply) → ReportsCreation creation ready reply → Answers g mid new world (placed_verdict world w) (Ok reply)
+    reported_by reply reports = record {
+      shows = subst (IsReplyOf reply) (sym done.0) (shows creation reply done.0 reports);
+      lends = subst (Lends g new reply.body) (sym done.0) (none_lent g new reply.body (answer_of world w creation) (creates_plainly creation) (shows creation reply done.0 reports).body);
+      gives = done.2;
+    }
+
+    -- memory ran out for the reply; no lock was made
+    pub unreported : MadeNothing creation → Gives g mid new world (placed_verdict world w) store_refusal
+    unreported none = refuses creation none done.0 done.2

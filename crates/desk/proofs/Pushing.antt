@@ -1,7 +1,6 @@
 -- Requests that push objects: their ref, and the verdicts on verification and on a place for an upload.
-use Rattle.std.proofs.Common.{◌≡◌, ℕ, ◌==◌, true, false, List, Option, Some, None, Result, Ok, Err, refl, subst}
+use Rattle.std.proofs.Common.{◌≡◌, ◌∙◌, ℕ, ◌==◌, true, false, List, Option, Some, None, Result, Ok, Err, refl, ap, subst}
 use Rattle.std.specs.Bool.{⊤}
-use Rattle.sqlite_trees.specs.declared.store.Store.{Ghosts}
 use Rattle.names.specs.declared.rules.Rule.TheVariants.{X3, V1, V2}
 use Rattle.model.specs.Reading.{◌>>=◌, check, ok_or}
 use Rattle.model.specs.RepoState.{size_of}
@@ -14,32 +13,30 @@ use Rattle.model.specs.Objects.{put_verdict, verify_verdict}
 use Rattle.desk.specs.Objects.{has_place, size_check}
 use Rattle.desk.specs.Rights.{IsUserOf, case_policy, case_repo, case_user}
 use Rattle.desk.specs.declared.cases.Case as code
-use Rattle.desk.proofs.Unchanged.{IsQuiet, denial_is_quiet}
+use Rattle.desk.proofs.Unchanged.{IsQuiet}
 
 -- whether the caller may push is asked of the user of the definitions
 pub pushes : (case : code.Case) (who : Caller) (ref : List ℕ) (answer : Result ⊤ Denial) → IsUserOf case who
     → may_push (case_policy case) (case_user case) (case_repo case).name ref ≡ answer → may_push (case_policy case) who.user (case_repo case).name ref ≡ answer
 pushes case who ref answer user may = subst (λ (u : List ℕ). may_push (case_policy case) u (case_repo case).name ref ≡ answer) user may
 
--- the two checks of a size, one after the other, are one check
-checked : (found : Option ℕ) (size : ℕ)
-    → (by_rules (ok_or found V1) >>= λ stored. by_rules (check (stored == size) V2) >>= λ same. Ok confirms) ≡ (size_check found size >>= λ same. Ok confirms)
-checked None size = refl
-checked (Some stored) size = refl
-
--- a check that is confirmed changes no world
-pub check_is_quiet : {S : Type 0} (g : Ghosts S) (check : Result ⊤ Denial) → IsQuiet (check >>= λ same. Ok confirms)
-check_is_quiet g (Ok same) = record { ending = λ world. refl; after = λ world. refl; plain = refl }
-check_is_quiet g (Err denial) = denial_is_quiet g denial
+-- a confirmation changes no world
+pub confirmation_is_quiet : IsQuiet (Ok confirms)
+confirmation_is_quiet = record { ending = λ world. refl; after = λ world. refl; plain = refl }
 
 module _ (c : Case) (ref : List ℕ) where
   abbrev may : Result ⊤ Denial
   may = may_push c.setting.policy c.caller.user c.repo.name ref
 
-  -- the verdict on verification, by the size that was found
-  pub verify_by : (asked : VerifyForm) (found : Option ℕ) → ref_or_default asked.ref c.repo ≡ ref → may ≡ Ok tt → size_of asked.name c.state ≡ found
-      → verify_verdict c asked ≡ (size_check found asked.size >>= λ same. Ok confirms)
-  verify_by asked found named allowed is = rw (named, allowed, is) (checked found asked.size)
+  -- the verdict on verification, by the check of the size that was found
+  pub verify_by : (asked : VerifyForm) (found : Option ℕ) (checked : Result ⊤ Denial) → ref_or_default asked.ref c.repo ≡ ref → may ≡ Ok tt → size_of asked.name c.state ≡ found
+      → size_check found asked.size ≡ checked → verify_verdict c asked ≡ (checked >>= λ same. Ok confirms)
+  verify_by asked found checked named allowed is sized = rw (named, allowed, is) (by_check found) ∙ ap (λ v. v >>= λ same. Ok confirms) sized
+    where
+      -- the two checks of a size, one after the other, are one check
+      by_check : (found : Option ℕ) → (by_rules (ok_or found V1) >>= λ stored. by_rules (check (stored == asked.size) V2) >>= λ same. Ok confirms) ≡ (size_check found asked.size >>= λ same. Ok confirms)
+      by_check None = refl
+      by_check (Some stored) = refl
 
   pub verify_denied : (asked : VerifyForm) (denial : Denial) → ref_or_default asked.ref c.repo ≡ ref → may ≡ Err denial → verify_verdict c asked ≡ Err denial
   verify_denied asked denial named denied = rw (named, denied) refl

@@ -1,6 +1,7 @@
 -- Requests to upload an object: denied before its content is read, or answered by all of it.
 use Rattle.std.proofs.Common.{◌≡◌, ◌∙◌, ℕ, false, true, List, [], ◌++◌, length, Result, Ok, Err, is_ok, refl, sym, ap, subst, append-nil, arith}
 use Rattle.std.specs.declared.alloc.AllocError.{AllocError}
+use Rattle.std.specs.Bool.{⊤}
 use Rattle.std.proofs.lemmas.List.{nil_from_length}
 use Rattle.sqlite_trees.specs.declared.store.Store.{Ghosts}
 use Rattle.model.specs.World.{World}
@@ -21,7 +22,9 @@ use Rattle.desk.specs.declared.receiving.Receipt.{Receipt}
 use Rattle.desk.specs.declared.receiving.Receipt.TheVariants.{Stored, Differs}
 use Rattle.desk.specs.declared.replies.Reply.{Reply}
 use Rattle.desk.specs.Replies.{IsReplyOf}
-use Rattle.desk.specs.Rights.{IsUserOf, case_repo, case_seen, denial_view, Judges}
+use Rattle.desk.specs.declared.outcomes.NotGranted.{NotGranted}
+use Rattle.desk.specs.Objects.{Permits}
+use Rattle.desk.specs.Rights.{IsUserOf, case_repo, case_seen, denial_view}
 use Rattle.desk.specs.Done.{Answers, AnswersIf, IsAnsweredAs, verdict_by}
 use Rattle.desk.specs.Receiving.{RepliesReceived, Receives, object_from, answer_of}
 use Rattle.desk.proofs.Arriving.{kept_refused}
@@ -47,12 +50,12 @@ module _ {S : Type 0} (g : Ghosts S) (old mid : Store S) (case : Case) (asked : 
   IsPut new bytes left r world = (who : Caller) → IsUserOf case who → IsAnsweredAs g true old new world (case_repo case).name (plan world who) bytes left r
 
   -- this is the result on whether the content may be uploaded
-  abbrev pub IsJudgedOf : Result Unit code.Denial → ℕ → Type 0
-  IsJudgedOf verdict n =
-      Reads g old mid (λ world. (who : Caller) → IsUserOf case who → Judges (λ (_ : Unit). receives asked.name) verdict (put_verdict (case_seen world case who) n asked))
+  abbrev pub IsJudgedOf : Result ⊤ NotGranted → ℕ → Type 0
+  IsJudgedOf may n =
+      Reads g old mid (λ world. (who : Caller) → IsUserOf case who → Permits may (receives asked.name) (put_verdict (case_seen world case who) n asked))
 
-  pub judged_as : (n : ℕ) (verdict value : Result Unit code.Denial) → verdict ≡ value → n ≡ size → IsJudgedOf verdict n → IsJudgedOf value size
-  judged_as n verdict value is same reads = subst (IsJudgedOf value) same (subst (λ (v : Result Unit code.Denial). IsJudgedOf v n) is reads)
+  pub judged_as : (n : ℕ) (may : Result ⊤ NotGranted) → n ≡ size → IsJudgedOf may n → IsJudgedOf may size
+  judged_as n may same reads = subst (IsJudgedOf may) same reads
 
   -- the store refused, or memory ran out, before the content was read
   pub put_refused : (P : World → Type 0) (left : ℕ) (f : StoreFault) → Reads g old mid P → From g old mid (IsPut mid [] left (Err (fault.Store f)))

@@ -9,14 +9,15 @@ use Rattle.model.specs.Bounds.{changed, failed}
 use Rattle.model.proofs.Lists.{found_passes}
 use Rattle.tables.specs.declared.Store.{Store}
 use Rattle.tables.specs.declared.fault.StoreFault.{StoreFault}
-use Rattle.refinement.specs.Left.{Ends}
+use Rattle.refinement.specs.Left.{Ends, Gives}
 use Rattle.refinement.specs.Removal.{without_found}
 use Rattle.locks.specs.Removing.{Removes}
 use Rattle.desk.proofs.Lent.{none_lent}
 use Rattle.desk.specs.declared.cases.Denial as code
 use Rattle.desk.specs.declared.replies.Reply.{Reply}
 use Rattle.desk.specs.Replies.{IsReplyOf}
-use Rattle.desk.specs.Done.{Answers}
+use Rattle.desk.specs.Done.{Answers, AnswersOrDenies}
+use Rattle.desk.specs.declared.outcomes.NotGranted.{NotGranted}
 use Rattle.std.specs.List.{AllByRecursion}
 use Rattle.std.proofs.lemmas.Bool.Decides.{nat_tests}
 use Rattle.names.specs.declared.rules.Rule.TheVariants.{L2, L3}
@@ -26,7 +27,7 @@ use Rattle.model.specs.World.{World, Lock, IsWorld}
 use Rattle.model.specs.RepoState.{locks_of}
 use Rattle.model.specs.Forms.{UnlockForm}
 use Rattle.model.specs.Callers.{Caller, is_own, lock_question, sees}
-use Rattle.model.specs.Answers.{Denial, permit, releases, by_rule, by_rules}
+use Rattle.model.specs.Answers.{Denial, permit, releases, by_rule, by_rules, store_refusal}
 use Rattle.model.specs.Locks.{release_verdict, unlock_verdict}
 use Rattle.model.specs.Pages.{IsBelow}
 use Rattle.model.proofs.Pages.{Rise, rise_from, locks_rise}
@@ -145,12 +146,9 @@ module _ {S : Type 0} (g : Ghosts S) (old new : Store S) (world : World) (repo :
     gives = subst (λ (o : Option Lock). Ends g old new changed world (without_found o world) (without_found o world)) there done.1;
   }
 
-  pub not_removed : (fault : StoreFault) → Removes g world repo id old new (Ok false) → Answers g old new world (Ok (releases l)) (Err fault)
-  not_removed fault done = absurd (true≢false (sym (ap is_some there) ∙ done.0))
+  -- the lock is there, so it is removed
+  pub not_removed : (r : Result Reply NotGranted) → Removes g world repo id old new (Ok false) → AnswersOrDenies g old new world (Ok (releases l)) r
+  not_removed r done = absurd (true≢false (sym (ap is_some there) ∙ done.0))
 
-  pub removal_refused : (fault : StoreFault) → Removes g world repo id old new (Err fault) → Answers g old new world (Ok (releases l)) (Err fault)
-  removal_refused fault done = record {
-    shows = tt;
-    lends = tt;
-    gives = subst (λ (o : Option Lock). Ends g old new failed world (without_found o world) world) there done;
-  }
+  pub removal_refused : (fault : StoreFault) → Removes g world repo id old new (Err fault) → Gives g old new world (Ok (releases l)) store_refusal
+  removal_refused fault done = subst (λ (o : Option Lock). Ends g old new failed world (without_found o world) world) there done

@@ -8,7 +8,7 @@ use Rattle.model.specs.World.{World, Lock}
 use Rattle.model.specs.RepoState.{locks_of}
 use Rattle.model.specs.Forms.{ListForm, VerifyLocksForm}
 use Rattle.model.specs.Callers.{Caller, is_own, may_list, pull_question, push_question}
-use Rattle.model.specs.Answers.{Denial, Grant, Page, lists, splits, by_rules, permit}
+use Rattle.model.specs.Answers.{Answer, Denial, Page, lists, splits, by_rules, permit}
 use Rattle.model.specs.Locks.{meets, list_verdict, listed_locks, ref_locks, ref_or_default, verify_locks_verdict}
 use Rattle.model.specs.Pages.{cursor_in, page_limit, page_of}
 use Rattle.forms.specs.ShownLocks.{IsOf, lock_shown}
@@ -91,22 +91,26 @@ after_start (Ok x) cursor f = refl
 after_start (Err denial) cursor f = refl
 
 module _ (case : Case) (who : Caller) (is_user : IsUserOf case who) (world : World) where
-  -- the verdict on a request for a list, from the id at which it begins
-  pub list_is : (asked : ListForm)
-      → list_verdict (case_seen world case who) asked ≡ (list_start case asked >>= λ cursor. Ok (lists (page_of cursor (page_limit asked.limit) (listed_locks (case_seen world case who) asked))))
-  list_is asked =
-      let rest : Result Grant Denial = by_rules (cursor_in asked.cursor) >>= λ cursor. Ok (lists (page_of cursor (page_limit asked.limit) (listed_locks (case_seen world case who) asked))) in
-      ap (λ user. permit (case_policy case) (pull_question user (case_repo case).name) 403 >>= λ may. rest) (sym is_user)
-      ∙ after_start (permit (case_policy case) (pull_question (case_user case) (case_repo case).name) 403) (by_rules (cursor_in asked.cursor))
-      (λ cursor. Ok (lists (page_of cursor (page_limit asked.limit) (listed_locks (case_seen world case who) asked))))
+  -- the page of a list that begins at this id
+  abbrev pub listed_from : ListForm → ℕ → Answer
+  listed_from asked cursor = Ok (lists (page_of cursor (page_limit asked.limit) (listed_locks (case_seen world case who) asked)))
 
-  -- the same for the locks of a ref
-  pub verify_is : (asked : VerifyLocksForm)
-      → verify_locks_verdict (case_seen world case who) asked ≡ (verify_start case (ref_or_default asked.ref (case_repo case)) asked >>= λ cursor.
-      Ok (splits (case_user case) (page_of cursor (page_limit asked.limit) (ref_locks (case_seen world case who) (ref_or_default asked.ref (case_repo case))))))
-  verify_is asked =
-      let ref = ref_or_default asked.ref (case_repo case) in
-      ap (λ user. permit (case_policy case) (push_question user (case_repo case).name ref) 403 >>= λ may. by_rules (cursor_in asked.cursor) >>= λ cursor.
-      Ok (splits user (page_of cursor (page_limit asked.limit) (ref_locks (case_seen world case who) ref)))) (sym is_user)
-      ∙ after_start (permit (case_policy case) (push_question (case_user case) (case_repo case).name ref) 403) (by_rules (cursor_in asked.cursor))
-      (λ cursor. Ok (splits (case_user case) (page_of cursor (page_limit asked.limit) (ref_locks (case_seen world case who) ref))))
+  -- the verdict on a request for a list, by where the list begins
+  pub list_by : (asked : ListForm) (start : Result ℕ Denial) → list_start case asked ≡ start → list_verdict (case_seen world case who) asked ≡ (start >>= listed_from asked)
+  list_by asked start is =
+      ap (λ user. permit (case_policy case) (pull_question user (case_repo case).name) 403 >>= λ may. by_rules (cursor_in asked.cursor) >>= listed_from asked) (sym is_user)
+      ∙ after_start (permit (case_policy case) (pull_question (case_user case) (case_repo case).name) 403) (by_rules (cursor_in asked.cursor)) (listed_from asked)
+      ∙ ap (λ s. s >>= listed_from asked) is
+
+  -- the page of the locks of a ref that begins at this id
+  abbrev pub split_from : VerifyLocksForm → List ℕ → ℕ → Answer
+  split_from asked ref cursor = Ok (splits (case_user case) (page_of cursor (page_limit asked.limit) (ref_locks (case_seen world case who) ref)))
+
+  -- the verdict on a request for the locks of a ref, by where the page begins
+  pub verify_by : (asked : VerifyLocksForm) (ref : List ℕ) (start : Result ℕ Denial) → ref ≡ ref_or_default asked.ref (case_repo case) → verify_start case ref asked ≡ start
+      → verify_locks_verdict (case_seen world case who) asked ≡ (start >>= split_from asked ref)
+  verify_by asked ref start named is =
+      rw (← named) (ap (λ user. permit (case_policy case) (push_question user (case_repo case).name ref) 403 >>= λ may. by_rules (cursor_in asked.cursor) >>= λ cursor.
+      Ok (splits user (page_of cursor (page_limit asked.limit) (ref_locks (case_seen world case who) ref)))) (sym is_user))
+      ∙ after_start (permit (case_policy case) (push_question (case_user case) (case_repo case).name ref) 403) (by_rules (cursor_in asked.cursor)) (split_from asked ref)
+      ∙ ap (λ s. s >>= split_from asked ref) is

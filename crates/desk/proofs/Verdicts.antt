@@ -30,14 +30,16 @@ use Rattle.refinement.specs.Left.{From, Leads, Gives}
 use Rattle.refinement.proofs.Leading.{from_weaker, ends_still, denial_changes_none, still_then}
 use Rattle.tokens.specs.Callers.{IsHolder}
 use Rattle.tokens.specs.declared.callers.Caller.{Caller}
-use Rattle.desk.specs.Done.{Answers, AnswersUser, AnswersCaller, given_by, verdict_by}
+use Rattle.desk.specs.Done.{Answers, AnswersOrDenies, AnswersUser, AnswersCaller, RepliesOrDenies, given_by, verdict_by}
+use Rattle.desk.specs.declared.outcomes.NotGranted.{NotGranted}
+use Rattle.desk.specs.declared.outcomes.NotGranted.TheVariants as not_granted
 use Rattle.desk.proofs.Lent.{none_lent}
 use Rattle.desk.specs.Replies.{IsReplyOf}
 use Rattle.desk.specs.declared.replies.Reply.{Reply}
 use Rattle.desk.specs.Admission.{admission_result}
 use Rattle.locks.specs.Creating.{state_of, lock_wanted}
 use Rattle.desk.specs.Locking.{IsWantedBy, question_on, allowed_verdict}
-use Rattle.desk.specs.Rights.{IsUserOf, IsCallerOf, case_policy, case_repo, case_seen}
+use Rattle.desk.specs.Rights.{IsUserOf, IsCallerOf, case_policy, case_repo, case_seen, denial_view}
 use Rattle.desk.specs.declared.cases.Case.{Case}
 use Rattle.tables.specs.declared.new_rows.NewLock.{NewLock}
 
@@ -112,29 +114,41 @@ module _ {S : Type 0} (g : Ghosts S) (old new : Store S) (world : World) (given 
   })
 
   -- a refusal of the inner call is passed on as a refusal
-  pub passed_on : (P : StoreFault → Type 0) (r : Result Reply StoreFault) → IsErrAnd r P → Gives g old new world given store_refusal → Answers g old new world given r
-  passed_on P (Ok reply) is p = absurd is
-  passed_on P (Err fault) is p = record { shows = tt; lends = tt; gives = p }
+  pub passed_on : (fault : StoreFault) (r : Result Reply NotGranted) → IsErrAnd r (λ e. e ≡ not_granted.Store fault) → Gives g old new world given store_refusal → AnswersOrDenies g old new world given r
+  passed_on fault (Ok reply) is p = absurd is
+  passed_on fault (Err e) is p = subst (λ (x : NotGranted). AnswersOrDenies g old new world given (Err x)) (sym is) (record { shows = tt; lends = tt; gives = p })
 
   -- the store refused or memory ran out before anything was tried
   pub refused_done : (fault : StoreFault) → Leads g old new world (λ bound. bound) → Answers g old new world given (Err fault)
   refused_done fault p = record { shows = tt; lends = tt; gives = ends_still g old new failed world (after world (Some given)) refl p }
 
-  pub refused_early : (P : StoreFault → Type 0) (r : Result Reply StoreFault) → IsErrAnd r P → Leads g old new world (λ bound. bound) → Answers g old new world given r
-  refused_early P r is p = passed_on P r is (ends_still g old new failed world (after world (Some given)) refl p)
+  pub refused_early : (fault : StoreFault) (r : Result Reply NotGranted) → IsErrAnd r (λ e. e ≡ not_granted.Store fault) → Leads g old new world (λ bound. bound) → AnswersOrDenies g old new world given r
+  refused_early fault r is p = passed_on fault r is (ends_still g old new failed world (after world (Some given)) refl p)
 
--- the result after calls that only read
-pub done_then : {S : Type 0} (g : Ghosts S) (old mid new : Store S) (world : World) (given : Answer) (r : Result Reply StoreFault) → Leads g old mid world (λ bound. bound)
-    → Answers g mid new world given r → Answers g old new world given r
-done_then g old mid new world given r p done = record {
-  shows = done.shows;
-  lends = done.lends;
-  gives = still_then g old mid new world (after world (Some (given_by given r))) (left_by (answer_ending world (Some (given_by given r))) world (after world (Some given))) p done.gives;
-}
+  -- the reply to a request that was granted or denied
+  pub replied : (done : Result Reply NotGranted) (r : Result Reply StoreFault) → AnswersOrDenies g old new world given done → RepliesOrDenies done r → Answers g old new world given r
+  replied (Ok reply) r done is = subst (Answers g old new world given) (sym is) done
+  replied (Err (not_granted.Store fault)) r done is = subst (Answers g old new world given) (sym is) done
+  replied (Err (not_granted.Denied denial)) (Ok reply) done is = denied_done (denial_view denial) reply done.0 is done.1
+  replied (Err (not_granted.Denied denial)) (Err fault) done is = refused_done fault done.1
+
+module _ {S : Type 0} (g : Ghosts S) (old mid new : Store S) (world : World) (given : Answer) where
+  -- the result after calls that only read
+  pub done_then : (r : Result Reply StoreFault) → Leads g old mid world (λ bound. bound) → Answers g mid new world given r → Answers g old new world given r
+  done_then r p done = record {
+    shows = done.shows;
+    lends = done.lends;
+    gives = still_then g old mid new world (after world (Some (given_by given r))) (left_by (answer_ending world (Some (given_by given r))) world (after world (Some given))) p done.gives;
+  }
+
+  pub granted_then : (r : Result Reply NotGranted) → Leads g old mid world (λ bound. bound) → AnswersOrDenies g mid new world given r → AnswersOrDenies g old new world given r
+  granted_then (Ok reply) p done = done_then (Ok reply) p done
+  granted_then (Err (not_granted.Store fault)) p done = done_then (Err fault) p done
+  granted_then (Err (not_granted.Denied denial)) p done = (done.0, still_then g old mid new world world (λ bound. bound) p done.1)
 
 -- ---- requests without a content
 
-module _ {S : Type 0} (g : Ghosts S) (old new : Store S) (case : Case) (verdict : cases.Case → Answer) (r : Result Reply StoreFault) where
+module _ {S : Type 0} (g : Ghosts S) (old new : Store S) (case : Case) (verdict : cases.Case → Answer) (r : Result Reply NotGranted) where
   -- the plan of the request is to answer with the verdict
   abbrev pub Plans : Request → Type 0
   Plans asked = (seen : cases.Case) (left : ℕ) → plan_for seen left asked ≡ plan_to (verdict seen)
@@ -142,7 +156,7 @@ module _ {S : Type 0} (g : Ghosts S) (old new : Store S) (case : Case) (verdict 
   -- the caller is answered, whatever the content is
   abbrev pub AnswersWhole : Request → Type 0
   AnswersWhole asked = From g old new (λ world. (who : model.Caller) → IsCallerOf case who → (left : ℕ) (content : List ℕ)
-      → Answers g old new world (verdict_by world (case_repo case).name (plan_for (case_seen world case who) left asked) content) r)
+      → AnswersOrDenies g old new world (verdict_by world (case_repo case).name (plan_for (case_seen world case who) left asked) content) r)
 
   pub whole_caller : (asked : Request) → Plans asked → AnswersCaller g case old new verdict r → AnswersWhole asked
   whole_caller asked plans = from_weaker g old new _ _
@@ -150,7 +164,7 @@ module _ {S : Type 0} (g : Ghosts S) (old new : Store S) (case : Case) (verdict 
       let seen = case_seen world case who in
       let repo = (case_repo case).name in
       let same = ap (λ plan. verdict_by world repo plan content) (plans seen left) ∙ answer_finished world repo content (verdict seen) in
-      subst (λ (v : Answer). Answers g old new world v r) (sym same) (done who is))
+      subst (λ (v : Answer). AnswersOrDenies g old new world v r) (sym same) (done who is))
 
   pub whole_user : (asked : Request) → Plans asked → AnswersUser g case old new verdict r → AnswersWhole asked
   whole_user asked plans done = whole_caller asked plans (from_weaker g old new _ _ (λ world done who is. done who is.user) done)

@@ -13,15 +13,17 @@ use Rattle.model.specs.Views.{SameViews}
 use Rattle.model.specs.Laws.{quota_of}
 use Rattle.tables.specs.declared.Store.{Store}
 use Rattle.tables.specs.declared.fault.StoreFault.{StoreFault}
-use Rattle.refinement.specs.Left.{From, Gives, Keeps}
+use Rattle.refinement.specs.Left.{From, Gives, Keeps, Leads}
 use Rattle.uploads.specs.Bounds.{StoresWithin}
 use Rattle.desk.specs.declared.replies.Reply.{Reply}
 use Rattle.desk.specs.declared.outcomes.Answered.{Answered}
 use Rattle.desk.specs.declared.outcomes.AnswerFault.{AnswerFault}
 use Rattle.desk.specs.declared.outcomes.AnswerFault.TheVariants.{Store as by_store, Body as by_body}
+use Rattle.desk.specs.declared.outcomes.NotGranted.{NotGranted}
+use Rattle.desk.specs.declared.outcomes.NotGranted.TheVariants as not_granted
 use Rattle.desk.specs.declared.cases.Case.{Case}
 use Rattle.desk.specs.Replies.{IsReplyOf, Lends}
-use Rattle.desk.specs.Rights.{IsUserOf, IsCallerOf, case_seen}
+use Rattle.desk.specs.Rights.{IsUserOf, IsCallerOf, case_seen, denial_view}
 
 -- the answer that is given: the verdict, or a store refusal if the store refused or memory ran out
 abbrev pub given_by : Answer → Result Reply StoreFault → Answer
@@ -39,20 +41,33 @@ module _ {S : Type 0} (g : Ghosts S) where
     pub lends : IfOk r (λ reply. Lends g new reply.body verdict)
     pub gives : Gives g old new world verdict (given_by verdict r)
 
-  -- each such caller is answered: the verdict is that on the world that the store held
-  abbrev pub AnswersEach : (Caller → Type 0) → Store S → Store S → (World → Caller → Answer) → Result Reply StoreFault → Type 0
-  AnswersEach IsAsking old new verdict r =
-      From g old new (λ world. (who : Caller) → IsAsking who → Answers old new world (verdict world who) r)
+  -- the verdict is answered; or it is this denial, and the store was only read
+  abbrev pub AnswersOrDenies : Store S → Store S → World → Answer → Result Reply NotGranted → Type 0
+  AnswersOrDenies old new world verdict (Ok reply) = Answers old new world verdict (Ok reply)
+  AnswersOrDenies old new world verdict (Err (not_granted.Store fault)) = Answers old new world verdict (Err fault)
+  AnswersOrDenies old new world verdict (Err (not_granted.Denied denial)) =
+      (verdict ≡ Err (denial_view denial)) × Leads g old new world (λ bound. bound)
 
-  -- the user of the case is answered, by the verdict on the case
-  abbrev pub AnswersUser : Case → Store S → Store S → (model.Case → Answer) → Result Reply StoreFault → Type 0
+  -- each such caller is answered or denied: the verdict is that on the world that the store held
+  abbrev pub AnswersEach : (Caller → Type 0) → Store S → Store S → (World → Caller → Answer) → Result Reply NotGranted → Type 0
+  AnswersEach IsAsking old new verdict r =
+      From g old new (λ world. (who : Caller) → IsAsking who → AnswersOrDenies old new world (verdict world who) r)
+
+  -- the user of the case is answered or denied, by the verdict on the case
+  abbrev pub AnswersUser : Case → Store S → Store S → (model.Case → Answer) → Result Reply NotGranted → Type 0
   AnswersUser case old new verdict r =
       AnswersEach (IsUserOf case) old new (λ world who. verdict (case_seen world case who)) r
 
   -- the same, if the verdict also depends on the token that the caller presented
-  abbrev pub AnswersCaller : Case → Store S → Store S → (model.Case → Answer) → Result Reply StoreFault → Type 0
+  abbrev pub AnswersCaller : Case → Store S → Store S → (model.Case → Answer) → Result Reply NotGranted → Type 0
   AnswersCaller case old new verdict r =
       AnswersEach (IsCallerOf case) old new (λ world who. verdict (case_seen world case who)) r
+
+-- the reply to a request: its own, or that to its denial; a fault of the store is passed on
+abbrev pub RepliesOrDenies : Result Reply NotGranted → Result Reply StoreFault → Type 0
+RepliesOrDenies (Ok reply) r = r ≡ Ok reply
+RepliesOrDenies (Err (not_granted.Store fault)) r = r ≡ Err fault
+RepliesOrDenies (Err (not_granted.Denied denial)) r = IfOk r (λ reply. IsReplyOf reply (Err (denial_view denial)))
 
 -- ---- requests with a content
 

@@ -12,7 +12,7 @@ ghost use Rattle.refinement.specs.Left.{From};
 ghost use Rattle.tokens.specs.Callers.{IsHolder};
 ghost use Rattle.desk.specs.Replies.{IsReplyOf};
 ghost use Rattle.desk.specs.Contents.{HasRead, IsLeftBy};
-ghost use Rattle.desk.specs.Done.{Answers, LeavesOthers, IsAnsweredAs, IsSettled, StaysWithin, given_with, verdict_by};
+ghost use Rattle.desk.specs.Done.{AnswersOrDenies, LeavesOthers, IsAnsweredAs, IsSettled, StaysWithin, given_with, verdict_by};
 ghost use Rattle.desk.specs.Rights.{IsCallerOf, case_repo, case_seen};
 ghost use Rattle.desk.specs.Asking.{is_put, uploads, plan_seen, request_seen, setting_of};
 
@@ -23,7 +23,7 @@ use crate::checking::verify;
 use crate::downloading::get;
 use crate::listing::list;
 use crate::locking::lock;
-use crate::outcomes::{AnswerFault, Answered, whole};
+use crate::outcomes::{AnswerFault, Answered, NotGranted, reply_or_denial, whole};
 use crate::replies::Reply;
 use crate::unlocking::unlock;
 use crate::uploading::put;
@@ -174,7 +174,7 @@ fn answer_request<S: Alter, B: Body>(
 {
     match request {
         Request::Put(asked) => put(store, alloc, case, asked, content),
-        _ => whole(answer_whole(alloc, store, case, request)),
+        _ => whole(reply_or_denial(alloc, answer_whole(alloc, store, case, request))),
     }
 }
 
@@ -182,25 +182,25 @@ fn answer_request<S: Alter, B: Body>(
 ///
 /// # Errors
 ///
-/// A [`StoreFault`], which leaves the contents of the store unchanged; `Refused` for an upload.
+/// `Denied`, and `Store`, which is `Refused` for an upload. Both leave the contents of the store unchanged.
 fn answer_whole<S: Alter>(
     alloc: Global,
     store: &mut Store<S>,
     case: &Case<'_>,
     request: &Request,
-) -> Result<Reply, StoreFault>
+) -> Result<Reply, NotGranted>
     ensures { From S.Store store.old store.new (λ world. (who : model.Caller)
         → IsCallerOf case.entry.now who → (size : ℕ) (content : List ℕ)
-        → Answers S.Store store.old store.new world
+        → AnswersOrDenies S.Store store.old store.new world
         (verdict_by world (case_repo case.entry.now).name (plan_for
         (case_seen world case.entry.now who) size (request_asked request.entry.now)) content)
         result) }
 {
     match request {
         Request::Batch(asked) => batch(store, alloc, case, asked),
-        Request::Get(asked) => get(store, alloc, case, asked),
-        Request::Put(_) => Err(StoreFault::Refused),
-        Request::Verify(asked) => verify(store, alloc, case, asked),
+        Request::Get(asked) => get(store, case, asked),
+        Request::Put(_) => Err(StoreFault::Refused.into()),
+        Request::Verify(asked) => verify(store, case, asked),
         Request::Lock(asked) => lock(store, alloc, case, asked),
         Request::List(asked) => list(store, alloc, case, asked),
         Request::VerifyLocks(asked) => verify_locks(store, alloc, case, asked),

@@ -16,8 +16,9 @@ ghost use Rattle.desk.specs.Batching.{AreLinksOf, IsSound, actions_for, actions_
 ghost use Rattle.desk.specs.Rights.{Judges};
 
 use crate::cases::{Case, Denial};
+use crate::outcomes::NotGranted;
 use crate::replies::Reply;
-use crate::rights::{denial_reply, may_push, permit, pull_question, ref_or_default};
+use crate::rights::{may_push, permit, pull_question, ref_or_default};
 use crate::uploading::fits;
 use forms::{Actions, Answer, BatchObject, BatchRequest, DenialStatus, Links, Offer, ShownBatch};
 use names::{Oid, Operation, RefName, Rule, Size};
@@ -179,27 +180,23 @@ fn batch_reply(alloc: Global, links: &Links<'_>, objects: &[Offer]) -> Result<Re
     Reply::telling(alloc, &Answer::Offered(&batch))
 }
 
-/// Answers a batch: the policy's denial, or what the caller can do with each object.
+/// Answers a batch with what the caller can do with each object.
 ///
 /// # Errors
 ///
-/// A [`StoreFault`], which leaves the contents of the store unchanged.
+/// `Denied` by the policy, and `Store`. Both leave the contents of the store unchanged.
 pub(crate) fn batch<S: Alter>(
     store: &mut Store<S>,
     alloc: Global,
     case: &Case<'_>,
     asked: &BatchRequest,
-) -> Result<Reply, StoreFault>
+) -> Result<Reply, NotGranted>
     ensures { AnswersCaller S.Store case.entry.now store.old store.new
         (λ seen. batch_verdict seen (batch_asked asked.entry.now)) result }
 {
     let ref_name = ref_or_default(case, asked.ref_name.as_ref());
-    match may_batch(case, asked.operation, ref_name) {
-        Ok(()) => {
-            let objects = batch_objects(alloc, store, case.repo, asked)?;
-            let links = links_of(case, ref_name);
-            Ok(batch_reply(alloc, &links, objects.as_slice())?)
-        }
-        Err(denial) => Ok(denial_reply(alloc, denial)?),
-    }
+    may_batch(case, asked.operation, ref_name)?;
+    let objects = batch_objects(alloc, store, case.repo, asked)?;
+    let links = links_of(case, ref_name);
+    Ok(batch_reply(alloc, &links, objects.as_slice())?)
 }

@@ -2,8 +2,7 @@
 
 ghost use Rattle.std.specs.Prelude.{◌≡◌, ℕ, List, IfOk, Ok};
 ghost use Rattle.model.specs.Answers.{lists};
-ghost use Rattle.model.specs.Pages.{page_limit, page_of};
-ghost use Rattle.model.specs.Locks.{list_verdict, listed_locks};
+ghost use Rattle.model.specs.Locks.{list_verdict};
 ghost use Rattle.forms.specs.Requests.{list_asked};
 ghost use Rattle.cursor.specs.Paging.{cursor_or_first, page_seen};
 ghost use Rattle.cursor.specs.Wanted.{form_of_filter};
@@ -13,14 +12,15 @@ ghost use Rattle.desk.specs.Rights.{Judges};
 ghost use Rattle.desk.specs.Paging.{filters_of, list_start};
 
 use crate::cases::{Case, Denial};
+use crate::outcomes::NotGranted;
 use crate::pages::{shown_locks, start_at};
 use crate::replies::Reply;
-use crate::rights::{denial_reply, may_list, permit, pull_question};
+use crate::rights::{may_list, permit, pull_question};
 use cursor::{Filter, Page, page, read_limit};
 use forms::{Answer, DenialStatus, ListRequest, ShownPage};
 use names::LockId;
 use std::alloc::{AllocError, Global};
-use tables::{Alter, Store, StoreFault};
+use tables::{Alter, Store};
 
 /// The id at which the list begins, if the caller may pull.
 fn list_start(case: &Case<'_>, asked: &ListRequest) -> Result<Option<LockId>, Denial>
@@ -54,22 +54,21 @@ fn page_reply(alloc: Global, page: &Page) -> Result<Reply, AllocError>
     Reply::telling(alloc, &Answer::Listed(&shown))
 }
 
-/// Answers with the page that begins at the cursor.
+/// Answers a request for a list of locks with a page.
 ///
 /// # Errors
 ///
-/// A [`StoreFault`], which leaves the contents of the store unchanged.
-fn list_from<S: Alter>(
+/// `Denied` by the policy or L4, and `Store`. Both leave the contents of the store unchanged.
+pub(crate) fn list<S: Alter>(
     store: &mut Store<S>,
     alloc: Global,
     case: &Case<'_>,
     asked: &ListRequest,
-    cursor: Option<LockId>,
-) -> Result<Reply, StoreFault>
+) -> Result<Reply, NotGranted>
     ensures { AnswersUser S.Store case.entry.now store.old store.new
-        (λ seen. Ok (lists (page_of (cursor_or_first cursor) (page_limit asked.entry.now.limit)
-        (listed_locks seen (list_asked asked.entry.now))))) result }
+        (λ seen. list_verdict seen (list_asked asked.entry.now)) result }
 {
+    let cursor = list_start(case, asked)?;
     let found = page(
         alloc,
         store,
@@ -80,24 +79,4 @@ fn list_from<S: Alter>(
         read_limit(asked.limit),
     )?;
     Ok(page_reply(alloc, &found)?)
-}
-
-/// Answers a request for a list of locks: the policy's denial, L4, or a page.
-///
-/// # Errors
-///
-/// A [`StoreFault`], which leaves the contents of the store unchanged.
-pub(crate) fn list<S: Alter>(
-    store: &mut Store<S>,
-    alloc: Global,
-    case: &Case<'_>,
-    asked: &ListRequest,
-) -> Result<Reply, StoreFault>
-    ensures { AnswersUser S.Store case.entry.now store.old store.new
-        (λ seen. list_verdict seen (list_asked asked.entry.now)) result }
-{
-    match list_start(case, asked) {
-        Ok(cursor) => list_from(store, alloc, case, asked, cursor),
-        Err(denial) => Ok(denial_reply(alloc, denial)?),
-    }
 }

@@ -9,17 +9,18 @@ ghost use Rattle.forms.specs.ShownLocks.{lock_shown};
 ghost use Rattle.refinement.specs.Left.{From};
 ghost use Rattle.locks.specs.Creating.{placed_verdict};
 ghost use Rattle.desk.specs.Locking.{ShowsRow, lock_part, IsReadyAfter, ReportsHeld, ReportsCreation, MadeNothing, IsWantedBy, question_on};
-ghost use Rattle.desk.specs.Done.{Answers, AnswersUser};
+ghost use Rattle.desk.specs.Done.{AnswersOrDenies, AnswersUser};
 
 use crate::cases::Case;
+use crate::outcomes::NotGranted;
 use crate::replies::Reply;
-use crate::rights::{denial_reply, permit, ref_or_default};
+use crate::rights::{permit, ref_or_default};
 use forms::{Answer, DenialStatus, LockRequest, ShownLock};
 use model::Right;
 use names::{LockId, Rule};
 use policy::Question;
 use std::alloc::{AllocError, Global};
-use tables::{Alter, Creation, LockRow, NewLock, Store, StoreFault};
+use tables::{Alter, Creation, LockRow, NewLock, Store};
 
 /// The part of a row that a client sees.
 pub(crate) fn shown(row: &LockRow) -> ShownLock<'_>
@@ -66,12 +67,12 @@ fn held_reply(alloc: Global, row: &LockRow) -> Result<Reply, AllocError>
 }
 
 /// The reply for a `Creation`; `ready` is the one for a free path.
-fn reply_to(alloc: Global, creation: &Creation, ready: Reply) -> Result<Reply, StoreFault>
+fn reply_to(alloc: Global, creation: &Creation, ready: Reply) -> Result<Reply, AllocError>
     ensures reports { IfOk result (ReportsCreation creation.entry.now ready) }
     ensures refused { OnErr result (MadeNothing creation.entry.now) }
 {
     match creation {
-        Creation::Held(row) => Ok(held_reply(alloc, row)?),
+        Creation::Held(row) => held_reply(alloc, row),
         Creation::Created(_) | Creation::UsedUp => Ok(ready),
     }
 }
@@ -82,20 +83,20 @@ fn reply_to(alloc: Global, creation: &Creation, ready: Reply) -> Result<Reply, S
 ///
 /// # Errors
 ///
-/// A [`StoreFault`], which leaves the contents of the store unchanged.
+/// `Store`, which leaves the contents of the store unchanged.
 fn make_lock<S: Alter>(
     store: &mut Store<S>,
     alloc: Global,
     wanted: &NewLock<'_>,
-) -> Result<Reply, StoreFault>
+) -> Result<Reply, NotGranted>
     ensures { From S.Store store.old store.new (λ world.
-        Answers S.Store store.old store.new world
+        AnswersOrDenies S.Store store.old store.new world
         (placed_verdict world wanted.entry.now) result) }
 {
     let made = locks::made(store, wanted.repo)?;
     let ready = free_reply(alloc, made, wanted)?;
     let creation = locks::create(store, wanted)?;
-    reply_to(alloc, &creation, ready)
+    Ok(reply_to(alloc, &creation, ready)?)
 }
 
 /// The lock that the request asks for.
@@ -124,23 +125,25 @@ fn question_on<'a>(wanted: &NewLock<'a>) -> Question<'a>
     }
 }
 
-/// Answers a request for a lock: the policy's denial, or the result of `make_lock`.
+/// Answers a request for a lock: the result of `make_lock`.
 ///
 /// # Errors
 ///
-/// A [`StoreFault`], which leaves the contents of the store unchanged.
+/// `Denied` by the policy, and `Store`. Both leave the contents of the store unchanged.
 pub(crate) fn lock<S: Alter>(
     store: &mut Store<S>,
     alloc: Global,
     case: &Case<'_>,
     asked: &LockRequest,
-) -> Result<Reply, StoreFault>
+) -> Result<Reply, NotGranted>
     ensures { AnswersUser S.Store case.entry.now store.old store.new
         (λ seen. lock_verdict seen (lock_asked asked.entry.now)) result }
 {
     let wanted = wanted_by(case, asked);
-    match permit(case.policy, &question_on(&wanted), DenialStatus::Forbidden) {
-        Ok(()) => make_lock(store, alloc, &wanted),
-        Err(denial) => Ok(denial_reply(alloc, denial)?),
-    }
+    permit(
+        case.policy,
+        &question_on(&wanted),
+        DenialStatus::Forbidden,
+    )?;
+    make_lock(store, alloc, &wanted)
 }

@@ -2,12 +2,15 @@
 
 ghost use Rattle.std.specs.Prelude.{◌≡◌};
 ghost use Rattle.desk.specs.declared.outcomes.AnswerFault.TheVariants as fault;
+ghost use Rattle.desk.specs.declared.outcomes.NotGranted.TheVariants as request;
 ghost use Rattle.tables.specs.declared.fault.StoreFault.TheVariants as store;
-ghost use Rattle.desk.specs.Done.{whole};
+ghost use Rattle.desk.specs.Done.{RepliesOrDenies, whole};
 
+use crate::cases::Denial;
 use crate::replies::Reply;
+use crate::rights::denial_reply;
 use names::BodyFault;
-use std::alloc::AllocError;
+use std::alloc::{AllocError, Global};
 use tables::StoreFault;
 use thiserror::Error;
 
@@ -52,6 +55,57 @@ impl From<AllocError> for AnswerFault {
 
     fn from(_error: AllocError) -> AnswerFault {
         AnswerFault::Store(StoreFault::Memory)
+    }
+}
+
+/// Why a request is not granted.
+#[derive(Clone, Copy, Debug, PartialEq, Eq)]
+pub(crate) enum NotGranted {
+    /// It is denied.
+    Denied(Denial),
+    /// The store refused, or memory ran out.
+    Store(StoreFault),
+}
+
+impl From<Denial> for NotGranted {
+    ghost from_gives = { λ denial result. result ≡ request.Denied denial };
+
+    fn from(denial: Denial) -> NotGranted {
+        NotGranted::Denied(denial)
+    }
+}
+
+impl From<StoreFault> for NotGranted {
+    ghost from_gives = { λ refused result. result ≡ request.Store refused };
+
+    fn from(fault: StoreFault) -> NotGranted {
+        NotGranted::Store(fault)
+    }
+}
+
+impl From<AllocError> for NotGranted {
+    ghost from_gives = { λ _ result. result ≡ request.Store store.Memory };
+
+    fn from(_error: AllocError) -> NotGranted {
+        NotGranted::Store(StoreFault::Memory)
+    }
+}
+
+/// The reply to a request: its own, or that to its denial.
+///
+/// # Errors
+///
+/// The fault of the store; `Memory` also if memory runs out for the reply to a denial.
+pub(crate) fn reply_or_denial(
+    alloc: Global,
+    done: Result<Reply, NotGranted>,
+) -> Result<Reply, StoreFault>
+    ensures { RepliesOrDenies done result }
+{
+    match done {
+        Ok(reply) => Ok(reply),
+        Err(NotGranted::Denied(denial)) => Ok(denial_reply(alloc, denial)?),
+        Err(NotGranted::Store(fault)) => Err(fault),
     }
 }
 

@@ -8,14 +8,15 @@ ghost use Rattle.forms.specs.Requests.{unlock_asked};
 ghost use Rattle.refinement.specs.Left.{From};
 ghost use Rattle.locks.specs.Finding.{lock_seen, lock_with};
 ghost use Rattle.desk.specs.Replies.{IsReplyOf};
-ghost use Rattle.desk.specs.Done.{Answers, AnswersUser};
+ghost use Rattle.desk.specs.Done.{AnswersOrDenies, AnswersUser};
 ghost use Rattle.desk.specs.Rights.{Judges, case_repo, case_user};
 ghost use Rattle.desk.specs.Unlocking.{found_verdict, lock_verdict, right_to_release};
 
 use crate::cases::{Case, Denial};
 use crate::locking::shown;
+use crate::outcomes::NotGranted;
 use crate::replies::Reply;
-use crate::rights::{denial_reply, is_own, lock_question, permit, sees};
+use crate::rights::{is_own, lock_question, permit, sees};
 use forms::{Answer, DenialStatus, UnlockRequest};
 use model::Right;
 use names::{RepoName, Rule};
@@ -85,44 +86,42 @@ fn released_reply(alloc: Global, row: &LockRow) -> Result<Reply, AllocError>
 ///
 /// # Errors
 ///
-/// A [`StoreFault`], which leaves the contents of the store unchanged.
+/// `Store`, which leaves the contents of the store unchanged.
 fn release<S: Alter>(
     store: &mut Store<S>,
     alloc: Global,
     repo: &RepoName,
     row: &LockRow,
-) -> Result<Reply, StoreFault>
+) -> Result<Reply, NotGranted>
     ensures { From S.Store store.old store.new (λ world.
         lock_with (repo_text repo.now) row.now.id world
         ≡ Some (lock_seen (repo_text repo.now) row.now)
-        → Answers S.Store store.old store.new world
+        → AnswersOrDenies S.Store store.old store.new world
         (Ok (releases (lock_seen (repo_text repo.now) row.now))) result) }
 {
     let reply = released_reply(alloc, row)?;
     if locks::remove(store, repo, row.id)? {
         Ok(reply)
     } else {
-        Err(StoreFault::Refused)
+        Err(StoreFault::Refused.into())
     }
 }
 
-/// Answers a request to release a lock: L2, L3 or the policy's denial, or the lock that was released.
+/// Answers a request to release a lock with the lock that was released.
 ///
 /// # Errors
 ///
-/// A [`StoreFault`], which leaves the contents of the store unchanged.
+/// `Denied` by L2, L3 or the policy, and `Store`. Both leave the contents of the store unchanged.
 pub(crate) fn unlock<S: Alter>(
     store: &mut Store<S>,
     alloc: Global,
     case: &Case<'_>,
     asked: &UnlockRequest,
-) -> Result<Reply, StoreFault>
+) -> Result<Reply, NotGranted>
     ensures { AnswersUser S.Store case.entry.now store.old store.new
         (λ seen. unlock_verdict seen (unlock_asked asked.entry.now)) result }
 {
     let found = locks::get(store, case.repo.name(), asked.id)?;
-    match lock_to_release(case, asked.force, found.as_ref()) {
-        Ok(row) => release(store, alloc, case.repo.name(), row),
-        Err(denial) => Ok(denial_reply(alloc, denial)?),
-    }
+    let row = lock_to_release(case, asked.force, found.as_ref())?;
+    release(store, alloc, case.repo.name(), row)
 }

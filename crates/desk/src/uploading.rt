@@ -10,12 +10,12 @@ ghost use Rattle.forms.specs.Requests.{put_asked};
 ghost use Rattle.refinement.specs.Left.{From, Reads};
 ghost use Rattle.desk.specs.Contents.{HasRead, IsLeftBy};
 ghost use Rattle.desk.specs.Done.{IsAnsweredAs};
-ghost use Rattle.desk.specs.Objects.{has_place};
+ghost use Rattle.desk.specs.Objects.{Permits, has_place};
 ghost use Rattle.desk.specs.Receiving.{RepliesReceived};
-ghost use Rattle.desk.specs.Rights.{IsUserOf, Judges, case_repo, case_seen};
+ghost use Rattle.desk.specs.Rights.{IsUserOf, case_repo, case_seen};
 
 use crate::cases::{Case, Denial};
-use crate::outcomes::{AnswerFault, Answered};
+use crate::outcomes::{AnswerFault, Answered, NotGranted};
 use crate::receiving::{Receipt, receive};
 use crate::replies::Reply;
 use crate::rights::{denial_reply, may_push, ref_or_default};
@@ -53,30 +53,27 @@ pub(crate) fn fits(used: u64, size: u64, quota: u64) -> bool
     }
 }
 
-/// The caller may upload an object of this name and this size, before its bytes are read; or the policy's denial, or
-/// X3.
+/// The caller may upload an object of this name and this size, before its bytes are read.
 ///
 /// # Errors
 ///
-/// A [`StoreFault`], which leaves the contents of the store unchanged.
+/// `Denied` by the policy or X3, and `Store`. Both leave the contents of the store unchanged.
 fn may_upload<S: Alter>(
     store: &mut Store<S>,
     case: &Case<'_>,
     asked: &PutRequest,
     size: u64,
-) -> Result<Result<(), Denial>, StoreFault>
+) -> Result<(), NotGranted>
     ensures { Reads S.Store store.old store.new (λ world.
-        (who : model.Caller) → IsUserOf case.entry.now who → IfOk result
-        (λ verdict. Judges (λ _. receives (put_asked asked.entry.now).name) verdict
-        (put_verdict (case_seen world case.entry.now who) size (put_asked asked.entry.now)))) }
+        (who : model.Caller) → IsUserOf case.entry.now who
+        → Permits result (receives (put_asked asked.entry.now).name)
+        (put_verdict (case_seen world case.entry.now who) size (put_asked asked.entry.now))) }
 {
-    if let Err(denial) = may_push(case, ref_or_default(case, asked.ref_name.as_ref())) {
-        return Ok(Err(denial));
-    }
+    may_push(case, ref_or_default(case, asked.ref_name.as_ref()))?;
     if has_place(store, case.repo, &asked.name, size)? {
-        Ok(Ok(()))
+        Ok(())
     } else {
-        Ok(Err(Denial::Rule(Rule::X3)))
+        Err(Denial::Rule(Rule::X3).into())
     }
 }
 
@@ -113,7 +110,7 @@ pub(crate) fn put<S: Alter, B: Body>(
     ensures good { OnOk result (B.failed content.new ≡ B.failed content.old) }
     ensures fault { IfErr result (IsLeftBy B.Body content.old content.new) }
 {
-    match may_upload(store, case, asked, content.left())? {
+    match may_upload(store, case, asked, content.left()) {
         Ok(()) => {
             let receipt = receive(alloc, store, case.repo.name(), &asked.name, content)?;
             let reply = received_reply(alloc, receipt)?;
@@ -122,12 +119,13 @@ pub(crate) fn put<S: Alter, B: Body>(
                 leaves_body: false,
             })
         }
-        Err(denial) => {
+        Err(NotGranted::Denied(denial)) => {
             let reply = denial_reply(alloc, denial)?;
             Ok(Answered {
                 reply,
                 leaves_body: true,
             })
         }
+        Err(NotGranted::Store(fault)) => Err(fault.into()),
     }
 }

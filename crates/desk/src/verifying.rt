@@ -4,25 +4,25 @@
 ghost use Rattle.std.specs.Prelude.{◌≡◌, ℕ, List, IfOk, Ok};
 ghost use Rattle.names.specs.Names.{ref_text, user_text};
 ghost use Rattle.model.specs.Answers.{splits};
-ghost use Rattle.model.specs.Pages.{page_limit, page_of};
-ghost use Rattle.model.specs.Locks.{ref_locks, verify_locks_verdict};
+ghost use Rattle.model.specs.Locks.{verify_locks_verdict};
 ghost use Rattle.forms.specs.Requests.{verify_locks_asked};
 ghost use Rattle.cursor.specs.Paging.{cursor_or_first, page_seen};
 ghost use Rattle.cursor.specs.Wanted.{form_of_filter};
 ghost use Rattle.desk.specs.Replies.{IsReplyOf};
 ghost use Rattle.desk.specs.Done.{AnswersUser};
-ghost use Rattle.desk.specs.Rights.{Judges, case_user};
+ghost use Rattle.desk.specs.Rights.{Judges};
 ghost use Rattle.desk.specs.Paging.{filter_by_ref, verify_start};
 
 use crate::cases::{Case, Denial};
+use crate::outcomes::NotGranted;
 use crate::pages::{shown_locks, start_at};
 use crate::replies::Reply;
-use crate::rights::{denial_reply, permit, push_question, ref_or_default};
+use crate::rights::{permit, push_question, ref_or_default};
 use cursor::{Filter, Page, page, read_limit, split};
 use forms::{Answer, DenialStatus, SplitPage, VerifyLocksRequest};
 use names::{LockId, RefName, UserName};
 use std::alloc::{AllocError, Global};
-use tables::{Alter, Store, StoreFault};
+use tables::{Alter, Store};
 
 /// The id at which the page begins, if the caller may push to the ref.
 fn verify_start(
@@ -69,54 +69,30 @@ fn split_reply(alloc: Global, page: &mut Page, user: &UserName) -> Result<Reply,
     Reply::telling(alloc, &Answer::Split(&shown))
 }
 
-/// Answers with the page that begins at the cursor.
+/// Answers a request for the locks of a ref with a page.
 ///
 /// # Errors
 ///
-/// A [`StoreFault`], which leaves the contents of the store unchanged.
-fn verify_from<S: Alter>(
-    store: &mut Store<S>,
-    alloc: Global,
-    case: &Case<'_>,
-    ref_name: &RefName,
-    limit: Option<i64>,
-    cursor: Option<LockId>,
-) -> Result<Reply, StoreFault>
-    ensures { AnswersUser S.Store case.entry.now store.old store.new
-        (λ seen. Ok (splits (case_user case.entry.now) (page_of (cursor_or_first cursor)
-        (page_limit limit) (ref_locks seen (ref_text ref_name.entry.now))))) result }
-{
-    let wanted = of_ref(ref_name);
-    let limit = read_limit(limit);
-    let mut found = page(
-        alloc,
-        store,
-        case.repo.name(),
-        &wanted,
-        |_| true,
-        cursor,
-        limit,
-    )?;
-    Ok(split_reply(alloc, &mut found, case.user)?)
-}
-
-/// Answers a request for the locks of a ref: the policy's denial, L4, or a page.
-///
-/// # Errors
-///
-/// A [`StoreFault`], which leaves the contents of the store unchanged.
+/// `Denied` by the policy or L4, and `Store`. Both leave the contents of the store unchanged.
 pub(crate) fn verify_locks<S: Alter>(
     store: &mut Store<S>,
     alloc: Global,
     case: &Case<'_>,
     asked: &VerifyLocksRequest,
-) -> Result<Reply, StoreFault>
+) -> Result<Reply, NotGranted>
     ensures { AnswersUser S.Store case.entry.now store.old store.new
         (λ seen. verify_locks_verdict seen (verify_locks_asked asked.entry.now)) result }
 {
     let ref_name = ref_or_default(case, asked.ref_name.as_ref());
-    match verify_start(case, ref_name, asked) {
-        Ok(cursor) => verify_from(store, alloc, case, ref_name, asked.limit, cursor),
-        Err(denial) => Ok(denial_reply(alloc, denial)?),
-    }
+    let cursor = verify_start(case, ref_name, asked)?;
+    let mut found = page(
+        alloc,
+        store,
+        case.repo.name(),
+        &of_ref(ref_name),
+        |_| true,
+        cursor,
+        read_limit(asked.limit),
+    )?;
+    Ok(split_reply(alloc, &mut found, case.user)?)
 }

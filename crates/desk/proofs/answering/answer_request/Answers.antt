@@ -9,6 +9,7 @@ use Rattle.desk.specs.Asking.{uploads}
 use Rattle.desk.specs.Rights.{case_repo, case_seen}
 use Rattle.desk.proofs.Arriving.{read_none}
 use Rattle.desk.proofs.Early.{alike, answered_whole, fault_whole, good_whole, leaves_whole, read_whole, settled_whole, uploads_none}
+use Rattle.desk.proofs.Verdicts.{replied}
 use Rattle.desk.proofs.answering.answer_request.Goals as goal
 
 pub returns-in-Put-clause-answered : goal.returns-in-Put-clause-answered
@@ -39,7 +40,7 @@ pub returns-in_default : goal.returns-in_default
 returns-in_default g c =
     let content = c.args.content.now in
     let case = c.args.case.now in
-    let done = c.answer_whole.result in
+    let done = c.reply_or_denial.result in
     rw c.whole.ensures (record {
       answered = (
         [],
@@ -47,7 +48,8 @@ returns-in_default g c =
         from_weaker g.S.Store c.args.store.now c.answer_whole.new.store _ _
             (λ world answers who user size sized.
             answered_whole g.S.Store (uploads (request_asked c.args.request.now)) world (case_repo case).name (plan_for (case_seen world case who) size (request_asked c.args.request.now))
-            c.args.store.now c.answer_whole.new.store (g.B.Body.size content) done (uploads_none c.args.request.now c.in_default.not-Put) (answers who user size))
+            c.args.store.now c.answer_whole.new.store (g.B.Body.size content) done (uploads_none c.args.request.now c.in_default.not-Put)
+            (λ bytes. replied g.S.Store c.args.store.now c.answer_whole.new.store world _ c.answer_whole.result done (answers who user size bytes) c.reply_or_denial.ensures))
             c.answer_whole.ensures,
       );
       settled = λ none. (settled_whole done, refl);

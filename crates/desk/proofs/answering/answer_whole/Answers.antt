@@ -6,7 +6,7 @@ use Rattle.model.specs.Objects.{verify_verdict}
 use Rattle.model.specs.Verdict.{plan_for}
 use Rattle.forms.specs.Requests.{batch_asked, list_asked, lock_asked, request_asked, unlock_asked, verify_asked, verify_locks_asked}
 use Rattle.refinement.proofs.Leading.{from_weaker}
-use Rattle.desk.specs.Done.{Answers, verdict_by}
+use Rattle.desk.specs.Done.{AnswersOrDenies, verdict_by}
 use Rattle.desk.specs.Rights.{case_repo, case_seen}
 use Rattle.desk.proofs.Verdicts.{whole_caller, whole_user}
 use Rattle.desk.proofs.answering.answer_whole.Goals as goal
@@ -21,7 +21,7 @@ returns-in-Get g c =
     from_weaker g.S.Store c.args.store.now c.get.new.store _ _
     (λ world done who user size content.
     let asks = ap (λ q. verdict_by world (case_repo c.args.case.now).name (plan_for (case_seen world c.args.case.now who) size (request_asked q)) content) c.in-Get.is in
-    subst (λ (v : Answer). Answers g.S.Store c.args.store.now c.get.new.store world v c.get.result) (sym asks) (done who user.user content)) c.get.ensures
+    subst (λ (v : Answer). AnswersOrDenies g.S.Store c.args.store.now c.get.new.store world v c.get.result) (sym asks) (done who user.user content)) c.get.ensures
 
 pub returns-in-Verify : goal.returns-in-Verify
 returns-in-Verify g c =

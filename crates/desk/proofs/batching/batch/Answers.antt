@@ -1,4 +1,4 @@
-use Rattle.std.proofs.Common.{◌≡◌, ◌∙◌, ℕ, List, Option, Ok, Err, map, sym, ap, subst}
+use Rattle.std.proofs.Common.{◌≡◌, ◌∙◌, ℕ, List, Option, Ok, map, sym, ap, subst}
 use Rattle.names.specs.Names.{ref_text}
 use Rattle.model.specs.Batch.{batch_verdict}
 use Rattle.model.specs.Locks.{ref_or_default}
@@ -9,43 +9,43 @@ use Rattle.forms.specs.declared.offers.Offer.{Offer}
 use Rattle.desk.specs.Rights.{IsCallerOf, case_repo, case_seen, denial_view}
 use Rattle.desk.specs.Replies.{IsReplyOf}
 use Rattle.desk.proofs.Showing.{read_alike}
-use Rattle.desk.proofs.Unchanged.{denial_is_quiet, refused_after, replied_after}
+use Rattle.desk.proofs.Unchanged.{denied_after, refused_after, replied_after}
 use Rattle.desk.proofs.Offering.{batch_denied, reads_nothing, offers_are_quiet, batch_allowed}
 use Rattle.desk.proofs.batching.batch.Goals as goal
 
-pub returns-in_err-objects-in-Ok : goal.returns-in_err-objects-in-Ok
-returns-in_err-objects-in-Ok g c =
-    refused_after g.S.Store c.args.store.now c.batch_objects.new.store (IsCallerOf c.args.case.now) (λ world who. batch_verdict (case_seen world c.args.case.now who) (batch_asked c.args.asked.now)) _ c.in_err-objects-in-Ok.ensures.world _
-    c.from_residual.result c.from_residual.ensures.1
+pub returns-in_err-objects : goal.returns-in_err-objects
+returns-in_err-objects g c =
+    refused_after g.S.Store c.args.store.now c.batch_objects.new.store (IsCallerOf c.args.case.now) (λ world who. batch_verdict (case_seen world c.args.case.now who) (batch_asked c.args.asked.now)) _ c.in_err-objects.ensures.world _
+    c.from_residual-in_err-objects.result c.from_residual-in_err-objects.ensures.1
 
-pub returns-in_err-batch_reply-in-Ok : goal.returns-in_err-batch_reply-in-Ok
-returns-in_err-batch_reply-in-Ok g c =
-    refused_after g.S.Store c.args.store.now c.batch_objects.new.store (IsCallerOf c.args.case.now) (λ world who. batch_verdict (case_seen world c.args.case.now who) (batch_asked c.args.asked.now)) _ c.in_ok-objects-in-Ok.ensures.world _
-    c.from_residual-in_err-batch_reply-in-Ok.result c.from_residual-in_err-batch_reply-in-Ok.ensures.1
+pub returns-in_err-batch_reply : goal.returns-in_err-batch_reply
+returns-in_err-batch_reply g c =
+    refused_after g.S.Store c.args.store.now c.batch_objects.new.store (IsCallerOf c.args.case.now) (λ world who. batch_verdict (case_seen world c.args.case.now who) (batch_asked c.args.asked.now)) _ c.in_ok-objects.ensures.world _
+    c.from_residual-in_err-batch_reply.result c.from_residual-in_err-batch_reply.ensures.1
 
-pub returns-in_ok-batch_reply-in-Ok : goal.returns-in_ok-batch_reply-in-Ok
-returns-in_ok-batch_reply-in-Ok g c =
+pub returns : goal.returns
+returns g c =
     let case = c.args.case.now in
     let asked = batch_asked c.args.asked.now in
     let links = c.links_of-links.result in
-    let some = c.in_ok-objects-in-Ok.objects.items in
+    let some = c.in_ok-objects.objects.items in
     let ref = ref_text c.ref_or_default-ref_name.result.now in
     let named : ref_or_default asked.ref (case_repo case) ≡ ref =
     sym (c.ref_or_default-ref_name.ensures ∙ ap (λ (o : Option (List ℕ)). ref_or_default o (case_repo case)) (read_alike ref_text c.args.asked.now.ref_name c.as_ref.result c.as_ref.ensures.value)) in
-    let reply = c.in_ok-batch_reply-in-Ok.field-0 in
+    let reply = c.in_ok-batch_reply.field-0 in
     let shows : IsReplyOf reply (Ok (offers (map (offer_at links) some))) =
-    subst (λ (os : List Offer). IsReplyOf reply (Ok (offers (map (offer_at links) os)))) c.as_slice.ensures.value c.in_ok-batch_reply-in-Ok.ensures in
-    replied_after g.S.Store c.args.store.now c.batch_objects.new.store (IsCallerOf case) (λ world who. batch_verdict (case_seen world case who) asked) _ c.in_ok-objects-in-Ok.ensures.world
+    subst (λ (os : List Offer). IsReplyOf reply (Ok (offers (map (offer_at links) os)))) c.as_slice.ensures.value c.in_ok-batch_reply.ensures in
+    replied_after g.S.Store c.args.store.now c.batch_objects.new.store (IsCallerOf case) (λ world who. batch_verdict (case_seen world case who) asked) _ c.in_ok-objects.ensures.world
     (Ok (offers (map (offer_at links) some))) reply (offers_are_quiet (map (offer_at links) some)) shows
-    (λ world laws judged who is_caller. batch_allowed case who world ref links is_caller c.links_of-links.ensures asked some named c.in-Ok.ensures judged)
+    (λ world laws judged who is_caller. batch_allowed case who world ref links is_caller c.links_of-links.ensures asked some named c.in_ok-may_batch.ensures judged)
 
-pub returns-in_ok-denial_reply-in-Err : goal.returns-in_ok-denial_reply-in-Err
-returns-in_ok-denial_reply-in-Err g c =
+pub returns-in_err-may_batch : goal.returns-in_err-may_batch
+returns-in_err-may_batch g c =
     let case = c.args.case.now in
     let asked = batch_asked c.args.asked.now in
     let ref = ref_text c.ref_or_default-ref_name.result.now in
     let named : ref_or_default asked.ref (case_repo case) ≡ ref =
     sym (c.ref_or_default-ref_name.ensures ∙ ap (λ (o : Option (List ℕ)). ref_or_default o (case_repo case)) (read_alike ref_text c.args.asked.now.ref_name c.as_ref.result c.as_ref.ensures.value)) in
-    replied_after g.S.Store c.args.store.now c.args.store.now (IsCallerOf case) (λ world who. batch_verdict (case_seen world case who) asked) _ (reads_nothing g.S.Store c.args.store.now)
-    (Err (denial_view c.in-Err.denial)) c.in_ok-denial_reply-in-Err.field-0 (denial_is_quiet g.S.Store (denial_view c.in-Err.denial)) c.in_ok-denial_reply-in-Err.ensures
-    (λ world laws read who is_caller. batch_denied case who world ref asked (denial_view c.in-Err.denial) is_caller.user named c.in-Err.ensures)
+    denied_after g.S.Store c.args.store.now c.args.store.now (IsCallerOf case) (λ world who. batch_verdict (case_seen world case who) asked) _ (reads_nothing g.S.Store c.args.store.now)
+    c.in_err-may_batch.field-0.0 c.from_residual.result c.from_residual.ensures.1
+    (λ world laws read who is_caller. batch_denied case who world ref asked (denial_view c.in_err-may_batch.field-0.0) is_caller.user named c.in_err-may_batch.ensures)

@@ -1,6 +1,8 @@
+use Rattle.std.proofs.Common.{Ok}
 use Rattle.refinement.proofs.Leading.{reads_lead}
-use Rattle.desk.proofs.Making.{reported_by}
-use Rattle.desk.proofs.Verdicts.{done_then, passed_on, refused_early}
+use Rattle.tables.specs.declared.fault.StoreFault.TheVariants.{Memory}
+use Rattle.desk.proofs.Making.{reported_by, unreported}
+use Rattle.desk.proofs.Verdicts.{granted_then, passed_on, refused_early}
 use Rattle.desk.proofs.locking.make_lock.Goals as goal
 
 pub returns : goal.returns
@@ -13,9 +15,24 @@ returns g c =
       honest = λ k. made.same.was_honest (create.honest k);
       each = λ honest world h.
           let lead = reads_lead g.S.Store old mid _ world made h in
-          done_then g.S.Store old mid c.create.new.store world _ c.reply_to.result lead
+          granted_then g.S.Store old mid c.create.new.store world _ (Ok c.in_ok-reply_to.field-0) lead
           (reported_by g.S.Store mid c.create.new.store world c.args.wanted.now c.in_ok-made.made (made.each (create.honest honest) world h) c.in_ok-ready.ready c.in_ok-ready.ensures
-          c.in_ok-creation.creation c.reply_to.result (create.each honest world lead.holds) c.reply_to.ensures.reports c.reply_to.ensures.refused);
+          c.in_ok-creation.creation (create.each honest world lead.holds) c.in_ok-reply_to.field-0 c.in_ok-reply_to.ensures.reports);
+    }
+
+pub returns-in_err-reply_to : goal.returns-in_err-reply_to
+returns-in_err-reply_to g c =
+    let mid = c.made.new.store in
+    let made = c.in_ok-made.ensures.world in
+    let create = c.in_ok-creation.ensures.world in
+    record {
+      honest = λ k. made.same.was_honest (create.honest k);
+      each = λ honest world h.
+          let lead = reads_lead g.S.Store c.args.store.now mid _ world made h in
+          granted_then g.S.Store c.args.store.now mid c.create.new.store world _ c.from_residual-in_err-reply_to.result lead
+          (passed_on g.S.Store mid c.create.new.store world _ Memory c.from_residual-in_err-reply_to.result c.from_residual-in_err-reply_to.ensures.1
+          (unreported g.S.Store mid c.create.new.store world c.args.wanted.now c.in_ok-made.made (made.each (create.honest honest) world h) c.in_ok-ready.ready c.in_ok-ready.ensures
+          c.in_ok-creation.creation (create.each honest world lead.holds) c.in_err-reply_to.ensures.refused));
     }
 
 pub returns-in_err-creation : goal.returns-in_err-creation
@@ -26,7 +43,7 @@ returns-in_err-creation g c =
       honest = λ k. made.same.was_honest (create.honest k);
       each = λ honest world h.
           let lead = reads_lead g.S.Store c.args.store.now c.made.new.store _ world made h in
-          done_then g.S.Store c.args.store.now c.made.new.store c.create.new.store world _ c.from_residual-in_err-creation.result lead
+          granted_then g.S.Store c.args.store.now c.made.new.store c.create.new.store world _ c.from_residual-in_err-creation.result lead
           (passed_on g.S.Store c.made.new.store c.create.new.store world _ _ c.from_residual-in_err-creation.result c.from_residual-in_err-creation.ensures.1 (create.each honest world lead.holds));
     }
 

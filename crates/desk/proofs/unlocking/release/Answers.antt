@@ -1,10 +1,9 @@
-use Rattle.std.proofs.Common.{Ok, subst}
-use Rattle.std.proofs.lemmas.Result.{err_from_is_err_and}
+use Rattle.std.proofs.Common.{Ok, Err, subst}
 use Rattle.names.specs.Names.{repo_text}
-use Rattle.tables.specs.declared.fault.StoreFault.TheVariants.{Refused}
 use Rattle.locks.specs.Finding.{lock_seen}
 use Rattle.locks.specs.Removing.{Removes}
 use Rattle.desk.proofs.Releasing.{removed, not_removed, removal_refused}
+use Rattle.desk.proofs.Verdicts.{passed_on}
 use Rattle.desk.proofs.unlocking.release.Goals as goal
 
 pub returns-in_err-remove : goal.returns-in_err-remove
@@ -12,8 +11,8 @@ returns-in_err-remove g c = record {
   honest = c.in_err-remove.ensures.world.honest;
   each = λ honest world h there.
       let repo = repo_text c.args.repo.now in
-      let p = err_from_is_err_and c.from_residual-in_err-remove.result c.from_residual-in_err-remove.ensures.1 in
-      rw p.1 (removal_refused g.S.Store c.args.store.now c.remove.new.store world repo c.args.row.now.id (lock_seen repo c.args.row.now) there p.0 (c.in_err-remove.ensures.world.each honest world h));
+      passed_on g.S.Store c.args.store.now c.remove.new.store world _ c.in_err-remove.field-0.0 c.from_residual-in_err-remove.result c.from_residual-in_err-remove.ensures.1
+      (removal_refused g.S.Store c.args.store.now c.remove.new.store world repo c.args.row.now.id (lock_seen repo c.args.row.now) there c.in_err-remove.field-0.0 (c.in_err-remove.ensures.world.each honest world h));
 }
 
 pub returns-then-branch : goal.returns-then-branch
@@ -30,6 +29,6 @@ returns-else-branch g c = record {
   honest = c.in_ok-remove.ensures.world.honest;
   each = λ honest world h there.
       let repo = repo_text c.args.repo.now in
-      not_removed g.S.Store c.args.store.now c.remove.new.store world repo c.args.row.now.id (lock_seen repo c.args.row.now) there Refused
+      not_removed g.S.Store c.args.store.now c.remove.new.store world repo c.args.row.now.id (lock_seen repo c.args.row.now) there (Err c.into.result)
       (subst (λ b. Removes g.S.Store world repo c.args.row.now.id c.args.store.now c.remove.new.store (Ok b)) c.if-branch.false (c.in_ok-remove.ensures.world.each honest world h));
 }

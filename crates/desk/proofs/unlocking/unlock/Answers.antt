@@ -1,57 +1,51 @@
-use Rattle.std.proofs.Common.{◌≡◌, ◌∙◌, Ok, Err, Some, option_map, sym, ap, subst}
+use Rattle.std.proofs.Common.{◌≡◌, ◌∙◌, Ok, Some, option_map, sym, ap, subst}
 use Rattle.model.specs.Answers.{Answer, releases}
 use Rattle.model.specs.Locks.{unlock_verdict}
 use Rattle.forms.specs.Requests.{unlock_asked}
 use Rattle.refinement.proofs.Leading.{reads_lead}
 use Rattle.locks.specs.Finding.{lock_seen, lock_with}
-use Rattle.desk.specs.Rights.{IsUserOf, case_repo, case_seen, denial_view}
+use Rattle.desk.specs.Rights.{IsUserOf, case_repo, case_seen}
 use Rattle.desk.specs.Unlocking.{found_verdict}
-use Rattle.desk.specs.Done.{Answers}
+use Rattle.desk.specs.Done.{AnswersOrDenies}
 use Rattle.desk.proofs.Releasing.{verdict_on_found, id_found}
 use Rattle.desk.proofs.Showing.{read_alike}
-use Rattle.desk.proofs.Unchanged.{denial_is_quiet, refused_after, replied_after}
-use Rattle.desk.proofs.Verdicts.{done_then}
+use Rattle.desk.proofs.Unchanged.{denied_after, refused_after}
+use Rattle.desk.proofs.Verdicts.{granted_then}
 use Rattle.desk.proofs.unlocking.unlock.Goals as goal
 
-pub returns-in-Ok : goal.returns-in-Ok
-returns-in-Ok g c =
+pub returns : goal.returns
+returns g c =
     let case = c.args.case.now in
     let asked = unlock_asked c.args.asked.now in
     let get = c.in_ok-found.ensures.world in
     let repo = (case_repo case).name in
-    let l = lock_seen repo c.in-Ok.row.now in
+    let l = lock_seen repo c.in_ok-row.row.now in
     record {
       honest = λ k. get.same.was_honest (c.release.ensures.honest k);
       each = λ honest world h who user.
           let seen : option_map (lock_seen repo) c.in_ok-found.found ≡ lock_with repo asked.id world =
           subst (λ n. option_map (lock_seen n) c.in_ok-found.found ≡ lock_with n asked.id world) c.name.ensures (get.each (c.release.ensures.honest honest) world h) in
           let found = read_alike (lock_seen repo) c.in_ok-found.found c.as_ref.result c.as_ref.ensures.value ∙ seen in
-          let there : lock_with repo asked.id world ≡ Some l = sym found ∙ ap (option_map (λ row. lock_seen repo row.now)) c.in-Ok.ensures.same in
-          let given : unlock_verdict (case_seen world case who) asked ≡ Ok (releases l) = verdict_on_found world case who asked user h.laws ∙ ap (found_verdict case asked.force) (sym found) ∙ c.in-Ok.ensures.verdict in
+          let there : lock_with repo asked.id world ≡ Some l = sym found ∙ ap (option_map (λ row. lock_seen repo row.now)) c.in_ok-row.ensures.same in
+          let given : unlock_verdict (case_seen world case who) asked ≡ Ok (releases l) = verdict_on_found world case who asked user h.laws ∙ ap (found_verdict case asked.force) (sym found) ∙ c.in_ok-row.ensures.verdict in
           let lead = reads_lead g.S.Store c.args.store.now c.get.new.store _ world get h in
-          subst (λ (v : Answer). Answers g.S.Store c.args.store.now c.release.new.store world v c.release.result) (sym given)
-          (done_then g.S.Store c.args.store.now c.get.new.store c.release.new.store world _ c.release.result lead
-          (subst (λ n. lock_with n c.in-Ok.row.now.id world ≡ Some (lock_seen n c.in-Ok.row.now) → Answers g.S.Store c.get.new.store c.release.new.store world (Ok (releases (lock_seen n c.in-Ok.row.now))) c.release.result)
-          c.name-in-Ok.ensures (c.release.ensures.each honest world lead.holds) (id_found repo asked.id world l there)));
+          subst (λ (v : Answer). AnswersOrDenies g.S.Store c.args.store.now c.release.new.store world v c.release.result) (sym given)
+          (granted_then g.S.Store c.args.store.now c.get.new.store c.release.new.store world _ c.release.result lead
+          (subst (λ n. lock_with n c.in_ok-row.row.now.id world ≡ Some (lock_seen n c.in_ok-row.row.now) → AnswersOrDenies g.S.Store c.get.new.store c.release.new.store world (Ok (releases (lock_seen n c.in_ok-row.row.now))) c.release.result)
+          c.name-2.ensures (c.release.ensures.each honest world lead.holds) (id_found repo asked.id world l there)));
     }
 
-pub returns : goal.returns
-returns g c =
+pub returns-in_err-row : goal.returns-in_err-row
+returns-in_err-row g c =
     let case = c.args.case.now in
     let asked = unlock_asked c.args.asked.now in
     let repo = (case_repo case).name in
-    replied_after g.S.Store c.args.store.now c.get.new.store (IsUserOf case) (λ world who. unlock_verdict (case_seen world case who) asked) _ c.in_ok-found.ensures.world
-    (Err (denial_view c.in-Err.denial)) c.in_ok-denial_reply-in-Err.field-0 (denial_is_quiet g.S.Store (denial_view c.in-Err.denial)) c.in_ok-denial_reply-in-Err.ensures
+    denied_after g.S.Store c.args.store.now c.get.new.store (IsUserOf case) (λ world who. unlock_verdict (case_seen world case who) asked) _ c.in_ok-found.ensures.world
+    c.in_err-row.field-0.0 c.from_residual-in_err-row.result c.from_residual-in_err-row.ensures.1
     (λ world laws seen who user.
     let found = read_alike (lock_seen repo) c.in_ok-found.found c.as_ref.result c.as_ref.ensures.value
     ∙ subst (λ n. option_map (lock_seen n) c.in_ok-found.found ≡ lock_with n asked.id world) c.name.ensures seen in
-    verdict_on_found world case who asked user laws ∙ ap (found_verdict case asked.force) (sym found) ∙ c.in-Err.ensures.verdict)
-
-pub returns-in_err-denial_reply-in-Err : goal.returns-in_err-denial_reply-in-Err
-returns-in_err-denial_reply-in-Err g c =
-    let case = c.args.case.now in
-    refused_after g.S.Store c.args.store.now c.get.new.store (IsUserOf case) (λ world who. unlock_verdict (case_seen world case who) (unlock_asked c.args.asked.now)) _ c.in_ok-found.ensures.world
-    _ c.from_residual-in_err-denial_reply-in-Err.result c.from_residual-in_err-denial_reply-in-Err.ensures.1
+    verdict_on_found world case who asked user laws ∙ ap (found_verdict case asked.force) (sym found) ∙ c.in_err-row.ensures.verdict)
 
 pub returns-in_err-found : goal.returns-in_err-found
 returns-in_err-found g c =

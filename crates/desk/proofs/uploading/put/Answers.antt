@@ -4,19 +4,19 @@ use Rattle.forms.specs.Requests.{put_asked}
 use Rattle.refinement.specs.Left.{From}
 use Rattle.tables.specs.declared.fault.StoreFault.TheVariants.{Memory}
 use Rattle.desk.specs.Receiving.{Receives}
+use Rattle.desk.specs.declared.outcomes.NotGranted.TheVariants as not_granted
 use Rattle.desk.proofs.Arriving.{read_none}
 use Rattle.desk.proofs.Puts.{judged_as, put_refused, put_denied, put_failed, put_done, put_unreported}
 use Rattle.desk.proofs.uploading.put.Goals as goal
 
-pub returns-in_err-may_upload-clause-answered : goal.returns-in_err-may_upload-clause-answered
-returns-in_err-may_upload-clause-answered g c =
+pub returns-in-Err-Store-clause-answered : goal.returns-in-Err-Store-clause-answered
+returns-in-Err-Store-clause-answered g c =
     let content = c.args.content.now in
     let size = g.B.Body.size content in
-    let p = err_from_is_err_and c.from_residual.result c.from_residual.ensures.1 in
-    rw (p.1, p.2) (
+    rw c.into.ensures (
       [],
       read_none g.B.Body content content (g.met.B.Body.moves_none content) refl,
-      put_refused g.S.Store c.args.store.now c.may_upload.new.store c.args.case.now (put_asked c.args.asked.now) size _ size c.in_err-may_upload.field-0.0 c.in_err-may_upload.ensures,
+      put_refused g.S.Store c.args.store.now c.may_upload.new.store c.args.case.now (put_asked c.args.asked.now) size _ size c.in-Err-Store.fault c.in-Err-Store.ensures,
     )
 
 pub returns-in_err-receipt-in-Ok-clause-answered : goal.returns-in_err-receipt-in-Ok-clause-answered
@@ -25,8 +25,8 @@ returns-in_err-receipt-in-Ok-clause-answered g c =
     let asked = put_asked c.args.asked.now in
     let size = g.B.Body.size c.args.content.now in
     let left = g.B.Body.size c.receive.new.content in
-    let judged = judged_as g.S.Store c.args.store.now c.may_upload.new.store case asked size c.left.result c.in_ok-may_upload.field-0 (Ok tt) c.in-Ok.is c.left.ensures c.in_ok-may_upload.ensures in
-    let p = err_from_is_err_and c.from_residual-in_err-receipt-in-Ok.result c.from_residual-in_err-receipt-in-Ok.ensures.1 in
+    let judged = judged_as g.S.Store c.args.store.now c.may_upload.new.store case asked size c.left.result (Ok tt) c.left.ensures c.in-Ok.ensures in
+    let p = err_from_is_err_and c.from_residual.result c.from_residual.ensures.1 in
     let read = c.in_err-receipt-in-Ok.ensures.bytes in
     rw (p.1, p.2) (
       read.0,
@@ -41,7 +41,7 @@ returns-in_err-reply-in-Ok-clause-answered g c =
     let asked = put_asked c.args.asked.now in
     let size = g.B.Body.size c.args.content.now in
     let left = g.B.Body.size c.receive.new.content in
-    let judged = judged_as g.S.Store c.args.store.now c.may_upload.new.store case asked size c.left.result c.in_ok-may_upload.field-0 (Ok tt) c.in-Ok.is c.left.ensures c.in_ok-may_upload.ensures in
+    let judged = judged_as g.S.Store c.args.store.now c.may_upload.new.store case asked size c.left.result (Ok tt) c.left.ensures c.in-Ok.ensures in
     let p = err_from_is_err_and c.from_residual-in_err-reply-in-Ok.result c.from_residual-in_err-reply-in-Ok.ensures.1 in
     let received = c.in_ok-receipt-in-Ok.ensures in
     rw (p.1, p.2) (
@@ -58,7 +58,7 @@ returns-in_ok-reply-in-Ok-clause-answered g c =
     let asked = put_asked c.args.asked.now in
     let size = g.B.Body.size c.args.content.now in
     let left = g.B.Body.size c.receive.new.content in
-    let judged = judged_as g.S.Store c.args.store.now c.may_upload.new.store case asked size c.left.result c.in_ok-may_upload.field-0 (Ok tt) c.in-Ok.is c.left.ensures c.in_ok-may_upload.ensures in
+    let judged = judged_as g.S.Store c.args.store.now c.may_upload.new.store case asked size c.left.result (Ok tt) c.left.ensures c.in-Ok.ensures in
     let received = c.in_ok-receipt-in-Ok.ensures in (
       received.bytes.0,
       received.bytes.1,
@@ -67,25 +67,26 @@ returns-in_ok-reply-in-Ok-clause-answered g c =
           c.in_ok-reply-in-Ok.reply c.in_ok-reply-in-Ok.ensures,
     )
 
-pub returns-in_err-reply-in-Err-clause-answered : goal.returns-in_err-reply-in-Err-clause-answered
-returns-in_err-reply-in-Err-clause-answered g c =
+pub returns-in_err-reply-in-Err-Denied-clause-answered : goal.returns-in_err-reply-in-Err-Denied-clause-answered
+returns-in_err-reply-in-Err-Denied-clause-answered g c =
     let content = c.args.content.now in
     let size = g.B.Body.size content in
-    let p = err_from_is_err_and c.from_residual-in_err-reply-in-Err.result c.from_residual-in_err-reply-in-Err.ensures.1 in
+    let p = err_from_is_err_and c.from_residual-in_err-reply-in-Err-Denied.result c.from_residual-in_err-reply-in-Err-Denied.ensures.1 in
     rw (p.1, p.2) (
       [],
       read_none g.B.Body content content (g.met.B.Body.moves_none content) refl,
-      put_refused g.S.Store c.args.store.now c.may_upload.new.store c.args.case.now (put_asked c.args.asked.now) size _ size Memory c.in_ok-may_upload.ensures,
+      put_refused g.S.Store c.args.store.now c.may_upload.new.store c.args.case.now (put_asked c.args.asked.now) size _ size Memory c.in-Err-Denied.ensures,
     )
 
-pub returns-in_ok-reply-in-Err-clause-answered : goal.returns-in_ok-reply-in-Err-clause-answered
-returns-in_ok-reply-in-Err-clause-answered g c =
+pub returns-in_ok-reply-in-Err-Denied-clause-answered : goal.returns-in_ok-reply-in-Err-Denied-clause-answered
+returns-in_ok-reply-in-Err-Denied-clause-answered g c =
     let case = c.args.case.now in
     let asked = put_asked c.args.asked.now in
     let content = c.args.content.now in
-    let size = g.B.Body.size content in (
+    let size = g.B.Body.size content in
+    let denial = c.in-Err-Denied.denial in (
       [],
       read_none g.B.Body content content (g.met.B.Body.moves_none content) refl,
-      put_denied g.S.Store c.args.store.now c.may_upload.new.store case asked size size c.in-Err.denial c.in_ok-reply-in-Err.reply c.in_ok-reply-in-Err.ensures
-          (judged_as g.S.Store c.args.store.now c.may_upload.new.store case asked size c.left.result c.in_ok-may_upload.field-0 (Err c.in-Err.denial) c.in-Err.is c.left.ensures c.in_ok-may_upload.ensures),
+      put_denied g.S.Store c.args.store.now c.may_upload.new.store case asked size size denial c.in_ok-reply-in-Err-Denied.reply c.in_ok-reply-in-Err-Denied.ensures
+          (judged_as g.S.Store c.args.store.now c.may_upload.new.store case asked size c.left.result (Err (not_granted.Denied denial)) c.left.ensures (rw c.in-Err-Denied.field-0-is at c.in-Err-Denied.ensures)),
     )
