@@ -11,7 +11,7 @@ use Rattle.model.specs.Answers.{Answer, by_rule, may_pull, serves}
 use Rattle.model.specs.Objects.{get_verdict}
 use Rattle.tables.specs.declared.Store.{Store}
 use Rattle.tables.specs.declared.rows.ObjectRow.{ObjectRow}
-use Rattle.refinement.specs.Left.{Reads, From}
+use Rattle.refinement.specs.Left.{Reads}
 use Rattle.uploads.specs.Finding.{Finds}
 use Rattle.uploads.proofs.Sizes.{size_found}
 use Rattle.desk.specs.declared.replies.Reply.{Reply}
@@ -23,8 +23,8 @@ use Rattle.desk.specs.declared.outcomes.NotGranted.{NotGranted}
 use Rattle.desk.specs.declared.outcomes.NotGranted.TheVariants as not_granted
 use Rattle.desk.specs.Replies.{IsReplyOf, Lends}
 use Rattle.desk.specs.Rights.{IsUserOf, case_policy, case_repo, case_user, case_seen}
-use Rattle.desk.specs.Done.{AnswersOrDenies, verdict_by}
-use Rattle.desk.proofs.Unchanged.{denied_after, replied_with}
+use Rattle.desk.specs.Done.{AnswersEach, verdict_by}
+use Rattle.desk.proofs.Unchanged.{denied_after, served_after}
 
 module _ (world : World) (repo : List ℕ) (c : Case) (name content : List ℕ) (may : may_pull c.setting.policy c.caller.user c.repo.name 404 ≡ Ok tt) where
   -- the verdict if the repository has no object of the name
@@ -41,35 +41,24 @@ pub pulls : (case : code.Case) (who : Caller) → IsUserOf case who → may_pull
     → may_pull (case_policy case) who.user (case_repo case).name 404 ≡ Ok tt
 pulls case who user may = subst (λ (u : List ℕ). may_pull (case_policy case) u (case_repo case).name 404 ≡ Ok tt) user may
 
-module _ {S : Type 0} (g : Ghosts S) (old new : Store S) (case : code.Case) (name : List ℕ) (may : may_pull (case_policy case) (case_user case) (case_repo case).name 404 ≡ Ok tt) where
-  verdict : List ℕ → World → Caller → Answer
-  verdict content world who = verdict_by world (case_repo case).name (get_verdict (case_seen world case who) name) content
-
-  abbrev IsGot : Result Reply NotGranted → World → Type 0
-  IsGot r world = (who : Caller) → IsUserOf case who → (content : List ℕ)
-      → AnswersOrDenies g old new world (verdict_by world (case_repo case).name (get_verdict (case_seen world case who) name) content) r
+module _ {S : Type 0} (g : Ghosts S) (old new : Store S) (case : code.Case) (name : List ℕ) (may : may_pull (case_policy case) (case_user case) (case_repo case).name 404 ≡ Ok tt) (content : List ℕ) where
+  abbrev verdict : World → Caller → Answer
+  verdict world who = verdict_by world (case_repo case).name (get_verdict (case_seen world case who) name) content
 
   -- no object of the name was found
-  pub got_none : Reads g old new (λ world. Finds g world new (case_repo case).name name None) → (r : Result Reply NotGranted) → IsErrAnd r (λ e. e ≡ not_granted.Denied (denied.Rule X1))
-      → From g old new (IsGot r)
-  unfolding verdict
-  got_none reads r is = record {
-    honest = reads.same.was_honest;
-    each = λ honest world h who user content.
-        (denied_after g old new (IsUserOf case) (verdict content) (λ w. Finds g w new (case_repo case).name name None) reads (denied.Rule X1) r is
-        (λ w laws none k is_user. get_none w (case_repo case).name (case_seen w case k) name content (pulls case k is_user may)
-        (size_found g w new (case_repo case) name None laws none))).each honest world h who user;
-  }
+  pub got_none : (r : Result Reply NotGranted) → Reads g old new (λ world. Finds g world new (case_repo case).name name None) → IsErrAnd r (λ e. e ≡ not_granted.Denied (denied.Rule X1))
+      → AnswersEach g (IsUserOf case) old new verdict r
+  got_none r reads is =
+      denied_after _ r reads is (λ world laws none who is_user. get_none world (case_repo case).name (case_seen world case who) name content (pulls case who is_user may)
+      (size_found g world new (case_repo case) name None laws none))
 
   -- the object that was found is the reply
   pub got : (row : ObjectRow) (reply : Reply) → Reads g old new (λ world. Finds g world new (case_repo case).name name (Some row))
-      → ((o : Object) → row.size ≡ length o.bytes → IsReplyOf reply (Ok (serves o))) → reply.body ≡ Content row → From g old new (IsGot (Ok reply))
-  unfolding verdict
-  got row reply reads shows body = record {
-    honest = reads.same.was_honest;
-    each = λ honest world h who user content.
-        let found = reads.each honest world h in
-        let is = get_some world (case_repo case).name (case_seen world case who) name content (pulls case who user may) row.size found.0 (size_found g world new (case_repo case) name (Some row) h.laws found) found.1 in
-        replied_with g old new (IsUserOf case) (verdict content) (λ w. Finds g w new (case_repo case).name name (Some row)) reads (Ok (serves found.0)) reply (λ w. refl) (λ w. refl) (shows found.0 found.2) honest world h who is
-        (subst (λ (b : ReplyBody). Lends g new b (Ok (serves found.0))) (sym body) (found.0, refl, found.3));
-  }
+      → ((o : Object) → row.size ≡ length o.bytes → IsReplyOf reply (Ok (serves o))) → reply.body ≡ Content row → AnswersEach g (IsUserOf case) old new verdict (Ok reply)
+  got row reply reads shows body =
+      served_after reply reads (λ world laws found who is_user. (
+        found.0,
+        get_some world (case_repo case).name (case_seen world case who) name content (pulls case who is_user may) row.size found.0 (size_found g world new (case_repo case) name (Some row) laws found) found.1,
+        shows found.0 found.2,
+        subst (λ (b : ReplyBody). Lends g new b (Ok (serves found.0))) (sym body) (found.0, refl, found.3),
+      ))

@@ -28,8 +28,6 @@ use Rattle.forms.specs.Requests.{object_asked}
 use Rattle.forms.specs.Offers.{offer_at, result_at, actions_at}
 use Rattle.tables.specs.declared.Store.{Store}
 use Rattle.tables.specs.declared.rows.ObjectRow.{ObjectRow}
-use Rattle.refinement.specs.Left.{Reads}
-use Rattle.refinement.proofs.Leading.{reads_none}
 use Rattle.uploads.specs.Finding.{Finds}
 use Rattle.uploads.proofs.Sizes.{size_found}
 use Rattle.desk.specs.declared.cases.Case.{Case}
@@ -182,9 +180,3 @@ batch_denied case who world ref asked denial user named denied = at asked.operat
     at : (operation : Operation) → asked.operation ≡ operation → may_transfer case operation ref ≡ Err denial → batch_verdict (case_seen world case who) asked ≡ Err denial
     at operation.Download is e = rw (is, sym user, e) refl
     at operation.Upload is e = rw (is, sym user, named, e) refl
-
--- ---- its answer
-
--- nothing was read
-pub reads_nothing : {S : Type 0} (g : Ghosts S) (s : Store S) → Reads g s s (λ world. ⊤)
-reads_nothing g s = reads_none g s (λ world. ⊤) (λ honest world h. tt)

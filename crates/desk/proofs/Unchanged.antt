@@ -1,26 +1,29 @@
 -- Requests that only read the store: their replies, and what a stop leaves.
-use Rattle.std.proofs.Common.{◌≡◌, false, Some, Result, Ok, Err, refl, sym, subst}
-use Rattle.std.specs.Prelude.{IsErrAnd}
+use Rattle.std.proofs.Common.{◌≡◌, ◌∙◌, ℕ, false, List, Some, Result, Ok, Err, refl, sym, ap, subst}
+use Rattle.std.specs.Prelude.{IsErrAnd, ⊤}
 use Rattle.sqlite_trees.specs.declared.store.Store.{Ghosts}
-use Rattle.model.specs.World.{World, IsWorld}
+use Rattle.model.specs.World.{World, Object, IsWorld}
 use Rattle.model.specs.Callers.{Caller}
-use Rattle.model.specs.Answers.{Answer}
+use Rattle.model.specs.Forms.{Request}
+use Rattle.model.specs.Cases as cases
+use Rattle.model.specs.Answers.{Answer, serves}
+use Rattle.model.specs.Verdict.{plan_to, plan_for}
 use Rattle.model.specs.Steps.{after}
 use Rattle.model.specs.Bounds.{is_changed, answer_ending}
-use Rattle.tables.specs.Shown.{IsHonest}
 use Rattle.tables.specs.declared.Store.{Store}
 use Rattle.refinement.specs.Representation.{Holds}
 use Rattle.tables.specs.declared.fault.StoreFault.{StoreFault}
 use Rattle.refinement.specs.Left.{Reads, Ends}
-use Rattle.refinement.proofs.Leading.{reads_lead, ends_still}
+use Rattle.refinement.proofs.Leading.{reads_lead, reads_none, ends_still}
 use Rattle.desk.specs.declared.replies.Reply.{Reply}
 use Rattle.desk.specs.Replies.{IsReplyOf, Lends}
-use Rattle.desk.specs.Done.{Answers, AnswersEach}
-use Rattle.desk.specs.Rights.{denial_view}
+use Rattle.desk.specs.Done.{Answers, AnswersCaller, AnswersEach, AnswersOrDenies, AnswersUser, verdict_by}
+use Rattle.desk.specs.Rights.{IsCallerOf, case_repo, case_seen, denial_view}
+use Rattle.desk.specs.declared.cases.Case.{Case}
 use Rattle.desk.specs.declared.cases.Denial as code
 use Rattle.desk.specs.declared.outcomes.NotGranted.{NotGranted}
 use Rattle.desk.specs.declared.outcomes.NotGranted.TheVariants as not_granted
-use Rattle.desk.proofs.Verdicts.{refused_done}
+use Rattle.desk.proofs.Verdicts.{answer_finished, refused_done}
 use Rattle.desk.proofs.Lent.{serves_object, none_lent}
 
 -- the answer changes no world
@@ -29,43 +32,86 @@ pub record IsQuiet (given : Answer) : Type 0 where
   pub after : (world : World) → after world (Some given) ≡ world
   pub plain : serves_object given ≡ false
 
-module _ {S : Type 0} (g : Ghosts S) (old new : Store S) (IsAsking : Caller → Type 0) (verdict : World → Caller → Answer) (P : World → Type 0) (reads : Reads g old new P) where
-  -- the store refused, or memory ran out
-  pub refused_after : (fault : StoreFault) (r : Result Reply NotGranted) → IsErrAnd r (λ e. e ≡ not_granted.Store fault) → AnswersEach g IsAsking old new verdict r
-  refused_after fault (Ok reply) is = absurd is
-  refused_after fault (Err e) is = subst (λ (x : NotGranted). AnswersEach g IsAsking old new verdict (Err x)) (sym is) (record {
+-- the verdict changes nothing, and its reply is given after calls that only read
+replied_with : {S : Type 0} (g : Ghosts S) (old new : Store S) (P : World → Type 0) (verdict given : Answer) (reply : Reply) → Reads g old new P
+    → ((world : World) → is_changed (answer_ending world (Some given)) ≡ false) → ((world : World) → after world (Some given) ≡ world)
+    → IsReplyOf reply given → (world : World) → Holds g old world → verdict ≡ given → Lends g new reply.body given → Answers g old new world verdict (Ok reply)
+replied_with g old new P verdict given reply reads ending same shows world h is lends =
+    subst (λ (v : Answer). Answers g old new world v (Ok reply)) (sym is) (record {
+      shows = shows;
+      lends = lends;
+      gives = subst (λ (w : World). Ends g old new (answer_ending world (Some given)) world w w) (sym (same world))
+          (ends_still g old new (answer_ending world (Some given)) world world (ending world) (reads_lead g old new P world reads h));
+    })
+
+module _ {S : Type 0} {g : Ghosts S} {old new : Store S} {IsAsking : Caller → Type 0} {verdict : World → Caller → Answer} {P : World → Type 0} where
+  -- the store refused, or memory ran out, after calls that only read
+  pub refused_after : (fault : StoreFault) (r : Result Reply NotGranted) → Reads g old new P → IsErrAnd r (λ e. e ≡ not_granted.Store fault) → AnswersEach g IsAsking old new verdict r
+  refused_after fault (Ok reply) reads is = absurd is
+  refused_after fault (Err e) reads is = subst (λ (x : NotGranted). AnswersEach g IsAsking old new verdict (Err x)) (sym is) (record {
     honest = reads.same.was_honest;
     each = λ honest world h who asks. refused_done g old new world (verdict world who) fault (reads_lead g old new P world reads h);
   })
 
-  -- the request is denied
-  pub denied_after : (denial : code.Denial) (r : Result Reply NotGranted) → IsErrAnd r (λ e. e ≡ not_granted.Denied denial)
+  -- the request is denied after calls that only read
+  pub denied_after : (denial : code.Denial) (r : Result Reply NotGranted) → Reads g old new P → IsErrAnd r (λ e. e ≡ not_granted.Denied denial)
       → ((world : World) → IsWorld world → P world → (who : Caller) → IsAsking who → verdict world who ≡ Err (denial_view denial)) → AnswersEach g IsAsking old new verdict r
-  denied_after denial (Ok reply) is given = absurd is
-  denied_after denial (Err e) is given = subst (λ (x : NotGranted). AnswersEach g IsAsking old new verdict (Err x)) (sym is) (record {
+  denied_after denial (Ok reply) reads is given = absurd is
+  denied_after denial (Err e) reads is given = subst (λ (x : NotGranted). AnswersEach g IsAsking old new verdict (Err x)) (sym is) (record {
     honest = reads.same.was_honest;
     each = λ honest world h who asks. (given world h.laws (reads.each honest world h) who asks, reads_lead g old new P world reads h);
   })
 
-  -- the verdict changes nothing, and its reply is given
-  pub replied_with : (given : Answer) (reply : Reply) → ((world : World) → is_changed (answer_ending world (Some given)) ≡ false)
-      → ((world : World) → after world (Some given) ≡ world) → IsReplyOf reply given
-      → (honest : IsHonest g new) (world : World) → Holds g old world → (who : Caller) → verdict world who ≡ given → Lends g new reply.body given
-      → Answers g old new world (verdict world who) (Ok reply)
-  replied_with given reply ending same shows honest world h who is lends =
-      subst (λ (v : Answer). Answers g old new world v (Ok reply)) (sym is) (record {
-        shows = shows;
-        lends = lends;
-        gives = subst (λ (w : World). Ends g old new (answer_ending world (Some given)) world w w) (sym (same world))
-            (ends_still g old new (answer_ending world (Some given)) world world (ending world) (reads_lead g old new P world reads h));
-      })
-
-  -- the same for a verdict that is not the content of an object
-  pub replied_after : (given : Answer) (reply : Reply) → IsQuiet given → IsReplyOf reply given
-      → ((world : World) → IsWorld world → P world → (who : Caller) → IsAsking who → verdict world who ≡ given) → AnswersEach g IsAsking old new verdict (Ok reply)
-  replied_after given reply quiet shows is = record {
+  -- the reply is the content of an object
+  pub served_after : (reply : Reply) → Reads g old new P
+      → ((world : World) → IsWorld world → P world → (who : Caller) → IsAsking who
+      → (o : Object) × (verdict world who ≡ Ok (serves o)) × IsReplyOf reply (Ok (serves o)) × Lends g new reply.body (Ok (serves o))) → AnswersEach g IsAsking old new verdict (Ok reply)
+  served_after reply reads is = record {
     honest = reads.same.was_honest;
     each = λ honest world h who asks.
-        replied_with given reply quiet.ending quiet.after shows honest world h who (is world h.laws (reads.each honest world h) who asks)
-        (none_lent g new reply.body given quiet.plain shows.body);
+        let served = is world h.laws (reads.each honest world h) who asks in
+        replied_with g old new P (verdict world who) (Ok (serves served.0)) reply reads (λ w. refl) (λ w. refl) served.2 world h served.1 served.3;
   }
+
+  -- the reply is another one that changes nothing
+  pub replied_after : (given : Answer) (reply : Reply) → Reads g old new P → IsQuiet given → IsReplyOf reply given
+      → ((world : World) → IsWorld world → P world → (who : Caller) → IsAsking who → verdict world who ≡ given) → AnswersEach g IsAsking old new verdict (Ok reply)
+  replied_after given reply reads quiet shows is = record {
+    honest = reads.same.was_honest;
+    each = λ honest world h who asks.
+        replied_with g old new P (verdict world who) given reply reads quiet.ending quiet.after shows world h (is world h.laws (reads.each honest world h) who asks) (none_lent g new reply.body given quiet.plain shows.body);
+  }
+
+-- the request is denied before any call
+pub denied_first : {S : Type 0} {g : Ghosts S} {s : Store S} {IsAsking : Caller → Type 0} {verdict : World → Caller → Answer} (denial : code.Denial) (r : Result Reply NotGranted) → IsErrAnd r (λ e. e ≡ not_granted.Denied denial)
+    → ((world : World) (who : Caller) → IsAsking who → verdict world who ≡ Err (denial_view denial)) → AnswersEach g IsAsking s s verdict r
+denied_first denial r is given = denied_after denial r (reads_none _ _ (λ _. ⊤) (λ _ _ _. tt)) is (λ world laws read who asks. given world who asks)
+
+module _ {S : Type 0} {g : Ghosts S} {old new : Store S} {IsAsking IsCalling : Caller → Type 0} {verdict given : World → Caller → Answer} {r : Result Reply NotGranted} where
+  -- the same verdict
+  pub answers_alike : ((world : World) (who : Caller) → IsCalling who → IsAsking who × (verdict world who ≡ given world who)) → AnswersEach g IsAsking old new verdict r → AnswersEach g IsCalling old new given r
+  answers_alike alike done = record {
+    honest = done.honest;
+    each = λ honest world h who calls.
+        let same = alike world who calls in
+        subst (λ (v : Answer). AnswersOrDenies g old new world v r) same.1 (done.each honest world h who same.0);
+  }
+
+-- ---- requests without a content
+
+module _ (case : Case) (verdict : cases.Case → Answer) (asked : Request) (left : ℕ) (content : List ℕ) (plans : (seen : cases.Case) → plan_for seen left asked ≡ plan_to (verdict seen)) where
+  -- the answer to such a request, whatever the content is
+  abbrev answer_to : World → Caller → Answer
+  answer_to world who = verdict_by world (case_repo case).name (plan_for (case_seen world case who) left asked) content
+
+  planned : (world : World) (who : Caller) → verdict (case_seen world case who) ≡ answer_to world who
+  planned world who =
+      let seen = case_seen world case who in
+      sym (ap (λ plan. verdict_by world (case_repo case).name plan content) (plans seen) ∙ answer_finished world (case_repo case).name content (verdict seen))
+
+  module _ {S : Type 0} {g : Ghosts S} {old new : Store S} {r : Result Reply NotGranted} where
+    pub whole_caller : AnswersCaller g case old new verdict r → AnswersEach g (IsCallerOf case) old new answer_to r
+    whole_caller done = answers_alike (λ world who is. (is, planned world who)) done
+
+    pub whole_user : AnswersUser g case old new verdict r → AnswersEach g (IsCallerOf case) old new answer_to r
+    whole_user done = answers_alike (λ world who is. (is.user, planned world who)) done

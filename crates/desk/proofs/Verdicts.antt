@@ -27,10 +27,10 @@ use Rattle.forms.specs.declared.lock.LockRequest.{LockRequest}
 use Rattle.tables.specs.declared.Store.{Store}
 use Rattle.tables.specs.declared.fault.StoreFault.{StoreFault}
 use Rattle.refinement.specs.Left.{From, Leads, Gives}
-use Rattle.refinement.proofs.Leading.{from_weaker, ends_still, denial_changes_none, still_then}
+use Rattle.refinement.proofs.Leading.{ends_still, denial_changes_none, still_then}
 use Rattle.tokens.specs.Callers.{IsHolder}
 use Rattle.tokens.specs.declared.callers.Caller.{Caller}
-use Rattle.desk.specs.Done.{Answers, AnswersOrDenies, AnswersUser, AnswersCaller, RepliesOrDenies, given_by, verdict_by}
+use Rattle.desk.specs.Done.{Answers, AnswersOrDenies, RepliesOrDenies, given_by}
 use Rattle.desk.specs.declared.outcomes.NotGranted.{NotGranted}
 use Rattle.desk.specs.declared.outcomes.NotGranted.TheVariants as not_granted
 use Rattle.desk.proofs.Lent.{none_lent}
@@ -145,26 +145,3 @@ module _ {S : Type 0} (g : Ghosts S) (old mid new : Store S) (world : World) (gi
   granted_then (Ok reply) p done = done_then (Ok reply) p done
   granted_then (Err (not_granted.Store fault)) p done = done_then (Err fault) p done
   granted_then (Err (not_granted.Denied denial)) p done = (done.0, still_then g old mid new world world (λ bound. bound) p done.1)
-
--- ---- requests without a content
-
-module _ {S : Type 0} (g : Ghosts S) (old new : Store S) (case : Case) (verdict : cases.Case → Answer) (r : Result Reply NotGranted) where
-  -- the plan of the request is to answer with the verdict
-  abbrev pub Plans : Request → Type 0
-  Plans asked = (seen : cases.Case) (left : ℕ) → plan_for seen left asked ≡ plan_to (verdict seen)
-
-  -- the caller is answered, whatever the content is
-  abbrev pub AnswersWhole : Request → Type 0
-  AnswersWhole asked = From g old new (λ world. (who : model.Caller) → IsCallerOf case who → (left : ℕ) (content : List ℕ)
-      → AnswersOrDenies g old new world (verdict_by world (case_repo case).name (plan_for (case_seen world case who) left asked) content) r)
-
-  pub whole_caller : (asked : Request) → Plans asked → AnswersCaller g case old new verdict r → AnswersWhole asked
-  whole_caller asked plans = from_weaker g old new _ _
-      (λ world done who is left content.
-      let seen = case_seen world case who in
-      let repo = (case_repo case).name in
-      let same = ap (λ plan. verdict_by world repo plan content) (plans seen left) ∙ answer_finished world repo content (verdict seen) in
-      subst (λ (v : Answer). AnswersOrDenies g old new world v r) (sym same) (done who is))
-
-  pub whole_user : (asked : Request) → Plans asked → AnswersUser g case old new verdict r → AnswersWhole asked
-  whole_user asked plans done = whole_caller asked plans (from_weaker g old new _ _ (λ world done who is. done who is.user) done)

@@ -13,7 +13,9 @@ use Rattle.model.specs.Views.{SameViews}
 use Rattle.model.specs.Laws.{quota_of}
 use Rattle.tables.specs.declared.Store.{Store}
 use Rattle.tables.specs.declared.fault.StoreFault.{StoreFault}
-use Rattle.refinement.specs.Left.{From, Gives, Keeps, Leads}
+use Rattle.tables.specs.Shown.{IsHonest}
+use Rattle.refinement.specs.Representation.{Holds}
+use Rattle.refinement.specs.Left.{Gives, Keeps, Leads}
 use Rattle.uploads.specs.Bounds.{StoresWithin}
 use Rattle.desk.specs.declared.replies.Reply.{Reply}
 use Rattle.desk.specs.declared.outcomes.Answered.{Answered}
@@ -49,9 +51,11 @@ module _ {S : Type 0} (g : Ghosts S) where
       (verdict ≡ Err (denial_view denial)) × Leads g old new world (λ bound. bound)
 
   -- each such caller is answered or denied: the verdict is that on the world that the store held
-  abbrev pub AnswersEach : (Caller → Type 0) → Store S → Store S → (World → Caller → Answer) → Result Reply NotGranted → Type 0
-  AnswersEach IsAsking old new verdict r =
-      From g old new (λ world. (who : Caller) → IsAsking who → AnswersOrDenies old new world (verdict world who) r)
+  pub record AnswersEach
+      (IsAsking : Caller → Type 0) (old new : Store S) (verdict : World → Caller → Answer) (r : Result Reply NotGranted) : Type 0 where
+    pub honest : IsHonest g new → IsHonest g old
+    pub each : IsHonest g new → (world : World) → Holds g old world → (who : Caller) → IsAsking who
+        → AnswersOrDenies old new world (verdict world who) r
 
   -- the user of the case is answered or denied, by the verdict on the case
   abbrev pub AnswersUser : Case → Store S → Store S → (model.Case → Answer) → Result Reply NotGranted → Type 0

@@ -12,7 +12,7 @@ ghost use Rattle.refinement.specs.Left.{From};
 ghost use Rattle.tokens.specs.Callers.{IsHolder};
 ghost use Rattle.desk.specs.Replies.{IsReplyOf};
 ghost use Rattle.desk.specs.Contents.{HasRead, IsLeftBy};
-ghost use Rattle.desk.specs.Done.{AnswersOrDenies, LeavesOthers, IsAnsweredAs, IsSettled, StaysWithin, given_with, verdict_by};
+ghost use Rattle.desk.specs.Done.{AnswersEach, LeavesOthers, IsAnsweredAs, IsSettled, StaysWithin, given_with, verdict_by};
 ghost use Rattle.desk.specs.Rights.{IsCallerOf, case_repo, case_seen};
 ghost use Rattle.desk.specs.Asking.{is_put, uploads, plan_seen, request_seen, setting_of};
 
@@ -189,12 +189,11 @@ fn answer_whole<S: Alter>(
     case: &Case<'_>,
     request: &Request,
 ) -> Result<Reply, NotGranted>
-    ensures { From S.Store store.old store.new (λ world. (who : model.Caller)
-        → IsCallerOf case.entry.now who → (size : ℕ) (content : List ℕ)
-        → AnswersOrDenies S.Store store.old store.new world
-        (verdict_by world (case_repo case.entry.now).name (plan_for
+    ensures { (size : ℕ) (content : List ℕ)
+        → AnswersEach S.Store (IsCallerOf case.entry.now) store.old store.new (λ world who.
+        verdict_by world (case_repo case.entry.now).name (plan_for
         (case_seen world case.entry.now who) size (request_asked request.entry.now)) content)
-        result) }
+        result }
 {
     match request {
         Request::Batch(asked) => batch(store, alloc, case, asked),

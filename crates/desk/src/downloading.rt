@@ -1,11 +1,9 @@
 //! The request for the content of an object (Git LFS API, Basic Transfers, "Downloads").
 
 ghost use Rattle.std.specs.Prelude.{ℕ, List};
-ghost use Rattle.model.specs.Callers as model;
 ghost use Rattle.model.specs.Objects.{get_verdict};
 ghost use Rattle.forms.specs.Requests.{get_asked};
-ghost use Rattle.refinement.specs.Left.{From};
-ghost use Rattle.desk.specs.Done.{AnswersOrDenies, verdict_by};
+ghost use Rattle.desk.specs.Done.{AnswersEach, verdict_by};
 ghost use Rattle.desk.specs.Rights.{IsUserOf, case_repo, case_seen};
 
 use crate::cases::{Case, Denial};
@@ -26,12 +24,11 @@ pub(crate) fn get<S: Alter>(
     case: &Case<'_>,
     asked: &GetRequest,
 ) -> Result<Reply, NotGranted>
-    ensures { From S.Store store.old store.new (λ world.
-        (who : model.Caller) → IsUserOf case.entry.now who → (content : List ℕ)
-        → AnswersOrDenies S.Store store.old store.new world
-        (verdict_by world (case_repo case.entry.now).name
+    ensures { (content : List ℕ)
+        → AnswersEach S.Store (IsUserOf case.entry.now) store.old store.new (λ world who.
+        verdict_by world (case_repo case.entry.now).name
         (get_verdict (case_seen world case.entry.now who) (get_asked asked.entry.now)) content)
-        result) }
+        result }
 {
     permit(case.policy, &pull_question(case), DenialStatus::NotFound)?;
     let found = uploads::find(store, case.repo.name(), &asked.name)?;

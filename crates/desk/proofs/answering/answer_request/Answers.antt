@@ -45,12 +45,13 @@ returns-in_default g c =
       answered = (
         [],
         read_none g.B.Body content content (g.met.B.Body.moves_none content) refl,
-        from_weaker g.S.Store c.args.store.now c.answer_whole.new.store _ _
-            (λ world answers who user size sized.
-            answered_whole g.S.Store (uploads (request_asked c.args.request.now)) world (case_repo case).name (plan_for (case_seen world case who) size (request_asked c.args.request.now))
+        record {
+          honest = (c.answer_whole.ensures 0 []).honest;
+          each = λ honest world h who user size sized.
+              answered_whole g.S.Store (uploads (request_asked c.args.request.now)) world (case_repo case).name (plan_for (case_seen world case who) size (request_asked c.args.request.now))
             c.args.store.now c.answer_whole.new.store (g.B.Body.size content) done (uploads_none c.args.request.now c.in_default.not-Put)
-            (λ bytes. replied g.S.Store c.args.store.now c.answer_whole.new.store world _ c.answer_whole.result done (answers who user size bytes) c.reply_or_denial.ensures))
-            c.answer_whole.ensures,
+              (λ bytes. replied g.S.Store c.args.store.now c.answer_whole.new.store world _ c.answer_whole.result done ((c.answer_whole.ensures size bytes).each honest world h who user) c.reply_or_denial.ensures);
+        },
       );
       settled = λ none. (settled_whole done, refl);
       leaves = leaves_whole content done;

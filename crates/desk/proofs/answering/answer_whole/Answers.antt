@@ -1,49 +1,38 @@
-use Rattle.std.proofs.Common.{ap, subst, sym}
-use Rattle.model.specs.Answers.{Answer}
+use Rattle.std.proofs.Common.{ap, sym}
 use Rattle.model.specs.Batch.{batch_verdict}
 use Rattle.model.specs.Locks.{list_verdict, lock_verdict, unlock_verdict, verify_locks_verdict}
 use Rattle.model.specs.Objects.{verify_verdict}
 use Rattle.model.specs.Verdict.{plan_for}
 use Rattle.forms.specs.Requests.{batch_asked, list_asked, lock_asked, request_asked, unlock_asked, verify_asked, verify_locks_asked}
-use Rattle.refinement.proofs.Leading.{from_weaker}
-use Rattle.desk.specs.Done.{AnswersOrDenies, verdict_by}
+use Rattle.desk.specs.Done.{verdict_by}
 use Rattle.desk.specs.Rights.{case_repo, case_seen}
-use Rattle.desk.proofs.Verdicts.{whole_caller, whole_user}
+use Rattle.desk.proofs.Unchanged.{answers_alike, whole_caller, whole_user}
 use Rattle.desk.proofs.answering.answer_whole.Goals as goal
 
 pub returns-in-Batch : goal.returns-in-Batch
-returns-in-Batch g c =
-    whole_caller g.S.Store c.args.store.now c.batch.new.store c.args.case.now (λ seen. batch_verdict seen (batch_asked c.in-Batch.asked)) c.batch.result (request_asked c.args.request.now)
-    (λ seen left. ap (λ q. plan_for seen left (request_asked q)) c.in-Batch.is) c.batch.ensures
+returns-in-Batch g c size content =
+    whole_caller c.args.case.now (λ seen. batch_verdict seen (batch_asked c.in-Batch.asked)) (request_asked c.args.request.now) size content (λ seen. ap (λ q. plan_for seen size (request_asked q)) c.in-Batch.is) c.batch.ensures
 
 pub returns-in-Get : goal.returns-in-Get
-returns-in-Get g c =
-    from_weaker g.S.Store c.args.store.now c.get.new.store _ _
-    (λ world done who user size content.
-    let asks = ap (λ q. verdict_by world (case_repo c.args.case.now).name (plan_for (case_seen world c.args.case.now who) size (request_asked q)) content) c.in-Get.is in
-    subst (λ (v : Answer). AnswersOrDenies g.S.Store c.args.store.now c.get.new.store world v c.get.result) (sym asks) (done who user.user content)) c.get.ensures
+returns-in-Get g c size content =
+    answers_alike (λ world who is. (is.user, ap (λ q. verdict_by world (case_repo c.args.case.now).name (plan_for (case_seen world c.args.case.now who) size (request_asked q)) content) (sym c.in-Get.is))) (c.get.ensures content)
 
 pub returns-in-Verify : goal.returns-in-Verify
-returns-in-Verify g c =
-    whole_user g.S.Store c.args.store.now c.verify.new.store c.args.case.now (λ seen. verify_verdict seen (verify_asked c.in-Verify.asked)) c.verify.result (request_asked c.args.request.now)
-    (λ seen left. ap (λ q. plan_for seen left (request_asked q)) c.in-Verify.is) c.verify.ensures
+returns-in-Verify g c size content =
+    whole_user c.args.case.now (λ seen. verify_verdict seen (verify_asked c.in-Verify.asked)) (request_asked c.args.request.now) size content (λ seen. ap (λ q. plan_for seen size (request_asked q)) c.in-Verify.is) c.verify.ensures
 
 pub returns-in-Lock : goal.returns-in-Lock
-returns-in-Lock g c =
-    whole_user g.S.Store c.args.store.now c.lock.new.store c.args.case.now (λ seen. lock_verdict seen (lock_asked c.in-Lock.asked)) c.lock.result (request_asked c.args.request.now)
-    (λ seen left. ap (λ q. plan_for seen left (request_asked q)) c.in-Lock.is) c.lock.ensures
+returns-in-Lock g c size content =
+    whole_user c.args.case.now (λ seen. lock_verdict seen (lock_asked c.in-Lock.asked)) (request_asked c.args.request.now) size content (λ seen. ap (λ q. plan_for seen size (request_asked q)) c.in-Lock.is) c.lock.ensures
 
 pub returns-in-List : goal.returns-in-List
-returns-in-List g c =
-    whole_user g.S.Store c.args.store.now c.list.new.store c.args.case.now (λ seen. list_verdict seen (list_asked c.in-List.asked)) c.list.result (request_asked c.args.request.now)
-    (λ seen left. ap (λ q. plan_for seen left (request_asked q)) c.in-List.is) c.list.ensures
+returns-in-List g c size content =
+    whole_user c.args.case.now (λ seen. list_verdict seen (list_asked c.in-List.asked)) (request_asked c.args.request.now) size content (λ seen. ap (λ q. plan_for seen size (request_asked q)) c.in-List.is) c.list.ensures
 
 pub returns-in-VerifyLocks : goal.returns-in-VerifyLocks
-returns-in-VerifyLocks g c =
-    whole_user g.S.Store c.args.store.now c.verify_locks.new.store c.args.case.now (λ seen. verify_locks_verdict seen (verify_locks_asked c.in-VerifyLocks.asked)) c.verify_locks.result (request_asked c.args.request.now)
-    (λ seen left. ap (λ q. plan_for seen left (request_asked q)) c.in-VerifyLocks.is) c.verify_locks.ensures
+returns-in-VerifyLocks g c size content =
+    whole_user c.args.case.now (λ seen. verify_locks_verdict seen (verify_locks_asked c.in-VerifyLocks.asked)) (request_asked c.args.request.now) size content (λ seen. ap (λ q. plan_for seen size (request_asked q)) c.in-VerifyLocks.is) c.verify_locks.ensures
 
 pub returns-in-Unlock : goal.returns-in-Unlock
-returns-in-Unlock g c =
-    whole_user g.S.Store c.args.store.now c.unlock.new.store c.args.case.now (λ seen. unlock_verdict seen (unlock_asked c.in-Unlock.asked)) c.unlock.result (request_asked c.args.request.now)
-    (λ seen left. ap (λ q. plan_for seen left (request_asked q)) c.in-Unlock.is) c.unlock.ensures
+returns-in-Unlock g c size content =
+    whole_user c.args.case.now (λ seen. unlock_verdict seen (unlock_asked c.in-Unlock.asked)) (request_asked c.args.request.now) size content (λ seen. ap (λ q. plan_for seen size (request_asked q)) c.in-Unlock.is) c.unlock.ensures

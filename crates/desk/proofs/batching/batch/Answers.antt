@@ -1,27 +1,22 @@
 use Rattle.std.proofs.Common.{◌≡◌, ◌∙◌, ℕ, List, Option, Ok, map, sym, ap, subst}
 use Rattle.names.specs.Names.{ref_text}
-use Rattle.model.specs.Batch.{batch_verdict}
 use Rattle.model.specs.Locks.{ref_or_default}
 use Rattle.model.specs.Answers.{offers}
 use Rattle.forms.specs.Offers.{offer_at}
 use Rattle.forms.specs.Requests.{batch_asked}
 use Rattle.forms.specs.declared.offers.Offer.{Offer}
-use Rattle.desk.specs.Rights.{IsCallerOf, case_repo, case_seen, denial_view}
+use Rattle.desk.specs.Rights.{case_repo, denial_view}
 use Rattle.desk.specs.Replies.{IsReplyOf}
 use Rattle.desk.proofs.Showing.{read_alike}
-use Rattle.desk.proofs.Unchanged.{denied_after, refused_after, replied_after}
-use Rattle.desk.proofs.Offering.{batch_denied, reads_nothing, offers_are_quiet, batch_allowed}
+use Rattle.desk.proofs.Unchanged.{denied_first, refused_after, replied_after}
+use Rattle.desk.proofs.Offering.{batch_denied, offers_are_quiet, batch_allowed}
 use Rattle.desk.proofs.batching.batch.Goals as goal
 
 pub returns-in_err-objects : goal.returns-in_err-objects
-returns-in_err-objects g c =
-    refused_after g.S.Store c.args.store.now c.batch_objects.new.store (IsCallerOf c.args.case.now) (λ world who. batch_verdict (case_seen world c.args.case.now who) (batch_asked c.args.asked.now)) _ c.in_err-objects.ensures.world _
-    c.from_residual-in_err-objects.result c.from_residual-in_err-objects.ensures.1
+returns-in_err-objects g c = refused_after _ _ c.in_err-objects.ensures.world c.from_residual-in_err-objects.ensures.1
 
 pub returns-in_err-batch_reply : goal.returns-in_err-batch_reply
-returns-in_err-batch_reply g c =
-    refused_after g.S.Store c.args.store.now c.batch_objects.new.store (IsCallerOf c.args.case.now) (λ world who. batch_verdict (case_seen world c.args.case.now who) (batch_asked c.args.asked.now)) _ c.in_ok-objects.ensures.world _
-    c.from_residual-in_err-batch_reply.result c.from_residual-in_err-batch_reply.ensures.1
+returns-in_err-batch_reply g c = refused_after _ _ c.in_ok-objects.ensures.world c.from_residual-in_err-batch_reply.ensures.1
 
 pub returns : goal.returns
 returns g c =
@@ -35,8 +30,7 @@ returns g c =
     let reply = c.in_ok-batch_reply.field-0 in
     let shows : IsReplyOf reply (Ok (offers (map (offer_at links) some))) =
     subst (λ (os : List Offer). IsReplyOf reply (Ok (offers (map (offer_at links) os)))) c.as_slice.ensures.value c.in_ok-batch_reply.ensures in
-    replied_after g.S.Store c.args.store.now c.batch_objects.new.store (IsCallerOf case) (λ world who. batch_verdict (case_seen world case who) asked) _ c.in_ok-objects.ensures.world
-    (Ok (offers (map (offer_at links) some))) reply (offers_are_quiet (map (offer_at links) some)) shows
+    replied_after _ reply c.in_ok-objects.ensures.world (offers_are_quiet (map (offer_at links) some)) shows
     (λ world laws judged who is_caller. batch_allowed case who world ref links is_caller c.links_of-links.ensures asked some named c.in_ok-may_batch.ensures judged)
 
 pub returns-in_err-may_batch : goal.returns-in_err-may_batch
@@ -46,6 +40,5 @@ returns-in_err-may_batch g c =
     let ref = ref_text c.ref_or_default-ref_name.result.now in
     let named : ref_or_default asked.ref (case_repo case) ≡ ref =
     sym (c.ref_or_default-ref_name.ensures ∙ ap (λ (o : Option (List ℕ)). ref_or_default o (case_repo case)) (read_alike ref_text c.args.asked.now.ref_name c.as_ref.result c.as_ref.ensures.value)) in
-    denied_after g.S.Store c.args.store.now c.args.store.now (IsCallerOf case) (λ world who. batch_verdict (case_seen world case who) asked) _ (reads_nothing g.S.Store c.args.store.now)
-    c.in_err-may_batch.field-0.0 c.from_residual.result c.from_residual.ensures.1
-    (λ world laws read who is_caller. batch_denied case who world ref asked (denial_view c.in_err-may_batch.field-0.0) is_caller.user named c.in_err-may_batch.ensures)
+    denied_first _ _ c.from_residual.ensures.1
+    (λ world who is_caller. batch_denied case who world ref asked (denial_view c.in_err-may_batch.field-0.0) is_caller.user named c.in_err-may_batch.ensures)

@@ -1,23 +1,19 @@
 use Rattle.std.proofs.Common.{◌≡◌, ◌∙◌, ℕ, List, Option, Ok, Err, sym, ap, subst}
 use Rattle.std.specs.Prelude.{option_map}
 use Rattle.names.specs.Names.{ref_text}
-use Rattle.model.specs.Answers.{confirms}
 use Rattle.model.specs.Locks.{ref_or_default}
-use Rattle.model.specs.Objects.{verify_verdict}
 use Rattle.forms.specs.Requests.{verify_asked}
 use Rattle.refinement.specs.Left.{Reads}
 use Rattle.uploads.specs.Finding.{Finds}
 use Rattle.uploads.proofs.Sizes.{size_found}
-use Rattle.desk.specs.Rights.{IsUserOf, case_repo, case_seen, denial_view}
+use Rattle.desk.specs.Rights.{case_repo, case_seen, denial_view}
 use Rattle.desk.proofs.Showing.{read_alike}
 use Rattle.desk.proofs.Pushing.{confirmation_is_quiet, pushes, verify_by}
 use Rattle.desk.proofs.Unchanged.{denied_after, refused_after, replied_after}
 use Rattle.desk.proofs.checking.verify.Goals as goal
 
 pub returns-in_err-found : goal.returns-in_err-found
-returns-in_err-found g c =
-    refused_after g.S.Store c.args.store.now c.find.new.store (IsUserOf c.args.case.now) (λ world who. verify_verdict (case_seen world c.args.case.now who) (verify_asked c.args.asked.now)) _
-    c.in_err-found.ensures.world _ c.from_residual-in_err-found.result c.from_residual-in_err-found.ensures.1
+returns-in_err-found g c = refused_after _ _ c.in_err-found.ensures.world c.from_residual-in_err-found.ensures.1
 
 pub returns-in_err-check_size : goal.returns-in_err-check_size
 returns-in_err-check_size g c =
@@ -28,8 +24,7 @@ returns-in_err-check_size g c =
     c.ref_or_default.ensures ∙ ap (λ (o : Option (List ℕ)). ref_or_default o (case_repo case)) (read_alike ref_text c.args.asked.now.ref_name c.as_ref.result c.as_ref.ensures.value) in
     let reads : Reads g.S.Store c.args.store.now c.find.new.store (λ world. Finds g.S.Store world c.find.new.store (case_repo case).name asked.name c.in_ok-found.found) =
     subst (λ (n : List ℕ). Reads g.S.Store c.args.store.now c.find.new.store (λ world. Finds g.S.Store world c.find.new.store n asked.name c.in_ok-found.found)) c.name.ensures c.in_ok-found.ensures.world in
-    denied_after g.S.Store c.args.store.now c.find.new.store (IsUserOf case) (λ world who. verify_verdict (case_seen world case who) asked) _ reads
-    c.in_err-check_size.field-0.0 c.from_residual-in_err-check_size.result c.from_residual-in_err-check_size.ensures.1
+    denied_after _ _ reads c.from_residual-in_err-check_size.ensures.1
     (λ world laws found who user.
     verify_by (case_seen world case who) ref asked (option_map (λ row. row.size) c.in_ok-found.found) (Err (denial_view c.in_err-check_size.field-0.0)) (sym named) (pushes case who ref (Ok tt) user c.in_ok-may_push.ensures)
     (size_found g.S.Store world c.find.new.store (case_repo case) asked.name c.in_ok-found.found laws found) c.in_err-check_size.ensures)
@@ -43,8 +38,7 @@ returns g c =
     c.ref_or_default.ensures ∙ ap (λ (o : Option (List ℕ)). ref_or_default o (case_repo case)) (read_alike ref_text c.args.asked.now.ref_name c.as_ref.result c.as_ref.ensures.value) in
     let reads : Reads g.S.Store c.args.store.now c.find.new.store (λ world. Finds g.S.Store world c.find.new.store (case_repo case).name asked.name c.in_ok-found.found) =
     subst (λ (n : List ℕ). Reads g.S.Store c.args.store.now c.find.new.store (λ world. Finds g.S.Store world c.find.new.store n asked.name c.in_ok-found.found)) c.name.ensures c.in_ok-found.ensures.world in
-    replied_after g.S.Store c.args.store.now c.find.new.store (IsUserOf case) (λ world who. verify_verdict (case_seen world case who) asked) _ reads
-    (Ok confirms) c.confirmation.result confirmation_is_quiet c.confirmation.ensures.confirmed
+    replied_after _ _ reads confirmation_is_quiet c.confirmation.ensures.confirmed
     (λ world laws found who user.
     verify_by (case_seen world case who) ref asked (option_map (λ row. row.size) c.in_ok-found.found) (Ok tt) (sym named) (pushes case who ref (Ok tt) user c.in_ok-may_push.ensures)
     (size_found g.S.Store world c.find.new.store (case_repo case) asked.name c.in_ok-found.found laws found) c.in_ok-check_size.ensures)

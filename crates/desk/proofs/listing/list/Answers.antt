@@ -1,36 +1,27 @@
 use Rattle.std.proofs.Common.{rules, ◌≡◌, ◌∙◌, Ok, Err, sym, ap, ap₂, subst}
-use Rattle.std.specs.Bool.{⊤}
 use Rattle.model.specs.Callers.{may_list}
 use Rattle.model.specs.Answers.{Page, lists}
-use Rattle.model.specs.Locks.{list_verdict}
 use Rattle.model.specs.Pages.{page_of}
 use Rattle.forms.specs.Requests.{list_asked}
-use Rattle.refinement.proofs.Leading.{reads_none}
 use Rattle.locks.specs.Finding.{lock_seen}
 use Rattle.cursor.specs.Paging.{cursor_or_first, page_seen}
 use Rattle.cursor.specs.Wanted.{wanted_locks}
-use Rattle.desk.specs.Rights.{IsUserOf, case_policy, case_repo, case_seen, case_user, denial_view}
+use Rattle.desk.specs.Rights.{case_policy, case_repo, case_user, denial_view}
 use Rattle.desk.proofs.Showing.{list_by, list_is_quiet, listed_alike}
-use Rattle.desk.proofs.Unchanged.{denied_after, refused_after, replied_after}
+use Rattle.desk.proofs.Unchanged.{denied_first, refused_after, replied_after}
 use Rattle.desk.proofs.listing.list.Goals as goal
 
 pub returns-in_err-cursor : goal.returns-in_err-cursor
 returns-in_err-cursor g c =
     let case = c.args.case.now in
     let asked = list_asked c.args.asked.now in
-    denied_after g.S.Store c.args.store.now c.args.store.now (IsUserOf case) (λ world who. list_verdict (case_seen world case who) asked) (λ _. ⊤)
-    (reads_none g.S.Store c.args.store.now (λ _. ⊤) (λ _ _ _. tt)) c.in_err-cursor.field-0.0 c.from_residual.result c.from_residual.ensures.1
-    (λ world laws read who user. list_by case who user world asked (Err (denial_view c.in_err-cursor.field-0.0)) c.in_err-cursor.ensures)
+    denied_first _ _ c.from_residual.ensures.1 (λ world who user. list_by case who user world asked (Err (denial_view c.in_err-cursor.field-0.0)) c.in_err-cursor.ensures)
 
 pub returns-in_err-found : goal.returns-in_err-found
-returns-in_err-found g c =
-    refused_after g.S.Store c.args.store.now c.page.new.store (IsUserOf c.args.case.now) (λ world who. list_verdict (case_seen world c.args.case.now who) (list_asked c.args.asked.now)) _
-    c.in_err-found.ensures.world _ c.from_residual-in_err-found.result c.from_residual-in_err-found.ensures.1
+returns-in_err-found g c = refused_after _ _ c.in_err-found.ensures.world c.from_residual-in_err-found.ensures.1
 
 pub returns-in_err-page_reply : goal.returns-in_err-page_reply
-returns-in_err-page_reply g c =
-    refused_after g.S.Store c.args.store.now c.page.new.store (IsUserOf c.args.case.now) (λ world who. list_verdict (case_seen world c.args.case.now who) (list_asked c.args.asked.now)) _
-    c.in_ok-found.ensures.world _ c.from_residual-in_err-page_reply.result c.from_residual-in_err-page_reply.ensures.1
+returns-in_err-page_reply g c = refused_after _ _ c.in_ok-found.ensures.world c.from_residual-in_err-page_reply.ensures.1
 
 pub returns : goal.returns
 returns g c =
@@ -40,8 +31,7 @@ returns g c =
     let repo = (case_repo case).name in
     let found = c.in_ok-found.found in
     let sees = may_list (case_policy case) (case_user case) in
-    replied_after g.S.Store c.args.store.now c.page.new.store (IsUserOf case) (λ world who. list_verdict (case_seen world case who) asked) _
-    c.in_ok-found.ensures.world (Ok (lists (page_seen repo found))) c.in_ok-page_reply.field-0 (list_is_quiet (page_seen repo found)) (c.in_ok-page_reply.ensures repo)
+    replied_after _ _ c.in_ok-found.ensures.world (list_is_quiet (page_seen repo found)) (c.in_ok-page_reply.ensures repo)
     (λ world laws paged who user.
     let seen = paged sees (λ row answer k. let is : answer ≡ sees (lock_seen repo row) = search rules in is ∙ ap (λ n. sees (lock_seen n row)) (sym c.name.ensures)) in
     let cut : page_seen repo found ≡ page_of cursor c.read_limit.result (wanted_locks repo world c.filter_of.result sees) =

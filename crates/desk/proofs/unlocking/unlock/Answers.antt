@@ -4,7 +4,7 @@ use Rattle.model.specs.Locks.{unlock_verdict}
 use Rattle.forms.specs.Requests.{unlock_asked}
 use Rattle.refinement.proofs.Leading.{reads_lead}
 use Rattle.locks.specs.Finding.{lock_seen, lock_with}
-use Rattle.desk.specs.Rights.{IsUserOf, case_repo, case_seen}
+use Rattle.desk.specs.Rights.{case_repo, case_seen}
 use Rattle.desk.specs.Unlocking.{found_verdict}
 use Rattle.desk.specs.Done.{AnswersOrDenies}
 use Rattle.desk.proofs.Releasing.{verdict_on_found, id_found}
@@ -40,15 +40,11 @@ returns-in_err-row g c =
     let case = c.args.case.now in
     let asked = unlock_asked c.args.asked.now in
     let repo = (case_repo case).name in
-    denied_after g.S.Store c.args.store.now c.get.new.store (IsUserOf case) (λ world who. unlock_verdict (case_seen world case who) asked) _ c.in_ok-found.ensures.world
-    c.in_err-row.field-0.0 c.from_residual-in_err-row.result c.from_residual-in_err-row.ensures.1
+    denied_after _ _ c.in_ok-found.ensures.world c.from_residual-in_err-row.ensures.1
     (λ world laws seen who user.
     let found = read_alike (lock_seen repo) c.in_ok-found.found c.as_ref.result c.as_ref.ensures.value
     ∙ subst (λ n. option_map (lock_seen n) c.in_ok-found.found ≡ lock_with n asked.id world) c.name.ensures seen in
     verdict_on_found world case who asked user laws ∙ ap (found_verdict case asked.force) (sym found) ∙ c.in_err-row.ensures.verdict)
 
 pub returns-in_err-found : goal.returns-in_err-found
-returns-in_err-found g c =
-    let case = c.args.case.now in
-    refused_after g.S.Store c.args.store.now c.get.new.store (IsUserOf case) (λ world who. unlock_verdict (case_seen world case who) (unlock_asked c.args.asked.now)) _ c.in_err-found.ensures.world
-    _ c.from_residual.result c.from_residual.ensures.1
+returns-in_err-found g c = refused_after _ _ c.in_err-found.ensures.world c.from_residual.ensures.1

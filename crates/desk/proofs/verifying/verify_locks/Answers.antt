@@ -1,16 +1,14 @@
 use Rattle.std.proofs.Common.{rules, ◌≡◌, ◌∙◌, ℕ, true, List, Option, Ok, Err, sym, ap, ap₂, subst}
-use Rattle.std.specs.Bool.{⊤}
 use Rattle.names.specs.Names.{ref_text}
 use Rattle.model.specs.Answers.{Page, splits}
-use Rattle.model.specs.Locks.{ref_or_default, verify_locks_verdict}
+use Rattle.model.specs.Locks.{ref_or_default}
 use Rattle.model.specs.Pages.{page_of}
 use Rattle.forms.specs.Requests.{verify_locks_asked}
-use Rattle.refinement.proofs.Leading.{reads_none}
 use Rattle.cursor.specs.Paging.{cursor_or_first, page_seen}
 use Rattle.cursor.specs.Wanted.{wanted_locks}
-use Rattle.desk.specs.Rights.{IsUserOf, case_repo, case_seen, case_user, denial_view}
+use Rattle.desk.specs.Rights.{case_repo, case_user, denial_view}
 use Rattle.desk.proofs.Showing.{read_alike, ref_alike, split_is_quiet, verify_by}
-use Rattle.desk.proofs.Unchanged.{denied_after, refused_after, replied_after}
+use Rattle.desk.proofs.Unchanged.{denied_first, refused_after, replied_after}
 use Rattle.desk.proofs.verifying.verify_locks.Goals as goal
 
 pub returns-in_err-cursor : goal.returns-in_err-cursor
@@ -20,19 +18,13 @@ returns-in_err-cursor g c =
     let ref = ref_text c.ref_or_default-ref_name.result.now in
     let named : ref ≡ ref_or_default asked.ref (case_repo case) =
     c.ref_or_default-ref_name.ensures ∙ ap (λ (o : Option (List ℕ)). ref_or_default o (case_repo case)) (read_alike ref_text c.args.asked.now.ref_name c.as_ref.result c.as_ref.ensures.value) in
-    denied_after g.S.Store c.args.store.now c.args.store.now (IsUserOf case) (λ world who. verify_locks_verdict (case_seen world case who) asked) (λ _. ⊤)
-    (reads_none g.S.Store c.args.store.now (λ _. ⊤) (λ _ _ _. tt)) c.in_err-cursor.field-0.0 c.from_residual.result c.from_residual.ensures.1
-    (λ world laws read who user. verify_by case who user world asked ref (Err (denial_view c.in_err-cursor.field-0.0)) named c.in_err-cursor.ensures)
+    denied_first _ _ c.from_residual.ensures.1 (λ world who user. verify_by case who user world asked ref (Err (denial_view c.in_err-cursor.field-0.0)) named c.in_err-cursor.ensures)
 
 pub returns-in_err-found : goal.returns-in_err-found
-returns-in_err-found g c =
-    refused_after g.S.Store c.args.store.now c.page.new.store (IsUserOf c.args.case.now) (λ world who. verify_locks_verdict (case_seen world c.args.case.now who) (verify_locks_asked c.args.asked.now)) _
-    c.in_err-found.ensures.world _ c.from_residual-in_err-found.result c.from_residual-in_err-found.ensures.1
+returns-in_err-found g c = refused_after _ _ c.in_err-found.ensures.world c.from_residual-in_err-found.ensures.1
 
 pub returns-in_err-split_reply : goal.returns-in_err-split_reply
-returns-in_err-split_reply g c =
-    refused_after g.S.Store c.args.store.now c.page.new.store (IsUserOf c.args.case.now) (λ world who. verify_locks_verdict (case_seen world c.args.case.now who) (verify_locks_asked c.args.asked.now)) _
-    c.in_ok-found.ensures.world _ c.from_residual-in_err-split_reply.result c.from_residual-in_err-split_reply.ensures.1
+returns-in_err-split_reply g c = refused_after _ _ c.in_ok-found.ensures.world c.from_residual-in_err-split_reply.ensures.1
 
 pub returns : goal.returns
 returns g c =
@@ -45,8 +37,7 @@ returns g c =
     let repo = (case_repo case).name in
     let user = case_user case in
     let found = c.in_ok-found.found in
-    replied_after g.S.Store c.args.store.now c.page.new.store (IsUserOf case) (λ world who. verify_locks_verdict (case_seen world case who) asked) _
-    c.in_ok-found.ensures.world (Ok (splits user (page_seen repo found))) c.in_ok-split_reply.field-0 (split_is_quiet user (page_seen repo found)) (c.in_ok-split_reply.ensures repo)
+    replied_after _ _ c.in_ok-found.ensures.world (split_is_quiet user (page_seen repo found)) (c.in_ok-split_reply.ensures repo)
     (λ world laws paged who is_user.
     let seen = paged (λ _. true) (λ row answer k. search rules) in
     let cut : page_seen repo found ≡ page_of cursor c.read_limit.result (wanted_locks repo world c.of_ref.result (λ _. true)) =
