@@ -1,15 +1,16 @@
 -- An answer before its content is read, after calls that only read, and of a request without content.
 use Rattle.std.proofs.Common.{◌≡◌, ◌∙◌, ◌<◌, ℕ, Bool, true, false, MatchBool, List, [], ◌∷◌, Result, Ok, Err, is_err, refl, sym, ap, subst}
+use Rattle.std.specs.Prelude.{IsErrAnd}
 use Rattle.std.specs.Result.{IfOk, IfErr, OnOk}
 use Rattle.std.proofs.lemmas.Bool.{true≢false}
 use Rattle.sqlite_trees.specs.declared.store.Store.{Ghosts}
-use Rattle.names.specs.declared.bodies.Body as Body
+use Rattle.names.specs.declared.bodies.Body.{Ghosts as BodyGhosts}
 use Rattle.model.specs.World.{World}
 use Rattle.model.specs.Answers.{Answer, Denial, Plan, receives}
 use Rattle.tables.specs.declared.Store.{Store}
 use Rattle.tables.specs.declared.fault.StoreFault.{StoreFault}
-use Rattle.refinement.specs.Left.{Leads, Keeps}
-use Rattle.refinement.proofs.Leading.{keeps_still, still_then}
+use Rattle.refinement.specs.Left.{From, Leads, Keeps, Reads}
+use Rattle.refinement.proofs.Leading.{keeps_still, reads_lead, still_then}
 use Rattle.desk.specs.declared.outcomes.Answered.{Answered}
 use Rattle.desk.specs.declared.outcomes.AnswerFault.{AnswerFault}
 use Rattle.desk.specs.declared.outcomes.AnswerFault.TheVariants as fault
@@ -21,7 +22,8 @@ use Rattle.forms.specs.declared.request.Request.TheVariants as form
 use Rattle.desk.specs.Asking.{uploads}
 use Rattle.desk.specs.Contents.{IsLeftBy}
 use Rattle.desk.specs.Replies.{IsReplyOf}
-use Rattle.desk.specs.Done.{Answers, AnswersIf, IsAnsweredAs, IsSettled, verdict_by, whole}
+use Rattle.desk.specs.Done.{Answers, AnswersIf, AnswersRequest, IsAnsweredAs, IsSettled, verdict_by, whole}
+use Rattle.desk.proofs.Arriving.{read_none}
 use Rattle.desk.proofs.Verdicts.{denied_done, refused_done, done_then}
 
 module _ {S : Type 0} (g : Ghosts S) (is_upload : Bool) (world : World) (repo : List ℕ) (plan : Result Plan Denial) where
@@ -78,36 +80,110 @@ module _ {S : Type 0} (g : Ghosts S) (is_upload : Bool) (world : World) (repo : 
       if_whole more (Ok reply) is = is
       if_whole more (Err f) is = is
 
--- the same request, repository and plan
-pub alike : {S : Type 0} (g : Ghosts S) (old new : Store S) (world : World) (bytes : List ℕ) (left : ℕ) (r : Result Answered AnswerFault)
-    (u v : Bool) (repo name : List ℕ) (plan made : Result Plan Denial) → u ≡ v → repo ≡ name → plan ≡ made
-    → IsAnsweredAs g u old new world repo plan bytes left r → IsAnsweredAs g v old new world name made bytes left r
-alike g old new world bytes left r u v repo name plan made same named planned done =
-    subst (λ (b : Bool). IsAnsweredAs g b old new world name made bytes left r) same
-    (subst (λ (n : List ℕ). IsAnsweredAs g u old new world n made bytes left r) named
-    (subst (λ (p : Result Plan Denial). IsAnsweredAs g u old new world repo p bytes left r) planned done))
+-- ---- the answer to a request, whoever asks
 
--- ---- the result for a request whose body was read before
+module _ {S B W : Type 0} {g : Ghosts S} {b : BodyGhosts B} {is_upload : Bool} {repo : List ℕ} {IsAsking : W → Type 0} {plan : World → W → ℕ → Result Plan Denial} {old new : Store S} {content : B}
+    (unread : b.moves content content []) where
+  -- the store refused, or memory ran out, after calls that only read
+  pub failed_first : {P : World → Type 0} (f : StoreFault) (r : Result Answered AnswerFault) → Reads g old new P → IsErrAnd r (λ e. e ≡ fault.Store f) → AnswersRequest g b is_upload repo IsAsking plan old new content content r
+  failed_first f (Ok answered) reads is = absurd is
+  failed_first f (Err e) reads is = subst (λ (x : AnswerFault). AnswersRequest g b is_upload repo IsAsking plan old new content content (Err x)) (sym is) (record {
+    bytes = [];
+    read = read_none b content content unread refl;
+    answered = record {
+      honest = reads.same.was_honest;
+      each = λ honest world h who asks size sized. failed_early g is_upload world repo (plan world who size) old new (reads_lead g old new _ world reads h) (b.size content) f;
+    };
+    settled = λ none. (tt, refl);
+    leaves = tt;
+    whole = tt;
+    good = tt;
+    fault = refl;
+  })
 
-pub settled_whole : (done : Result Reply StoreFault) → IsSettled (whole done)
-settled_whole (Ok reply) = refl
-settled_whole (Err f) = tt
+  -- the plan refuses
+  pub denied_first : {P : World → Type 0} (denial : Denial) (answered : Answered) → Reads g old new P
+      → ((world : World) → P world → (who : W) → IsAsking who → (size : ℕ) → (is_upload ≡ true → size ≡ b.size content) → plan world who size ≡ Err denial)
+      → IsReplyOf answered.reply (Err denial) → answered.leaves_body ≡ is_upload → AnswersRequest g b is_upload repo IsAsking plan old new content content (Ok answered)
+  denied_first denial answered reads is shows leaves = record {
+    bytes = [];
+    read = read_none b content content unread refl;
+    answered = record {
+      honest = reads.same.was_honest;
+      each = λ honest world h who asks size sized.
+          denied_early g is_upload world repo (plan world who size) old new (reads_lead g old new _ world reads h) (b.size content) denial answered (is world (reads.each honest world h) who asks size sized) shows leaves;
+    };
+    settled = λ none. (leaves ∙ none, refl);
+    leaves = λ stays. refl;
+    whole = λ stays put. absurd (true≢false (sym put ∙ sym leaves ∙ stays));
+    good = refl;
+    fault = tt;
+  }
 
-pub leaves_whole : {B : Type 0} (content : B) (done : Result Reply StoreFault) → IfOk (whole done) (λ a. a.leaves_body ≡ true → content ≡ content)
-leaves_whole content (Ok reply) = λ leaves. refl
-leaves_whole content (Err f) = tt
+  -- the body was read before
+  pub answered_before : (done : Result Reply StoreFault) → is_upload ≡ false
+      → ((size : ℕ) (body : List ℕ) → From g old new (λ world. (who : W) → IsAsking who → Answers g old new world (verdict_by world repo (plan world who size) body) done))
+      → AnswersRequest g b is_upload repo IsAsking plan old new content content (whole done)
+  answered_before done none answers = record {
+    bytes = [];
+    read = read_none b content content unread refl;
+    answered = record {
+      honest = (answers 0 []).honest;
+      each = λ honest world h who asks size sized.
+          answered_whole g is_upload world repo (plan world who size) old new (b.size content) done none (λ body. (answers size body).each honest world h who asks);
+    };
+    settled = λ off. (settled_whole done, refl);
+    leaves = leaves_whole done;
+    whole = read_whole done;
+    good = good_whole done;
+    fault = fault_whole done;
+  }
+    where
+      settled_whole : (done : Result Reply StoreFault) → IsSettled (whole done)
+      settled_whole (Ok reply) = refl
+      settled_whole (Err f) = tt
 
-pub read_whole : (left : ℕ) (upload : Bool) (done : Result Reply StoreFault) → upload ≡ false → IfOk (whole done) (λ a. a.leaves_body ≡ false → upload ≡ true → left ≡ 0)
-read_whole left upload (Ok reply) none = λ stays put. absurd (true≢false (sym put ∙ none))
-read_whole left upload (Err f) none = tt
+      leaves_whole : (done : Result Reply StoreFault) → IfOk (whole done) (λ a. a.leaves_body ≡ true → content ≡ content)
+      leaves_whole (Ok reply) = λ leaves. refl
+      leaves_whole (Err f) = tt
 
-pub good_whole : (n : ℕ) (done : Result Reply StoreFault) → OnOk (whole done) (n ≡ n)
-good_whole n (Ok reply) = refl
-good_whole n (Err f) = tt
+      read_whole : (done : Result Reply StoreFault) → IfOk (whole done) (λ a. a.leaves_body ≡ false → is_upload ≡ true → b.size content ≡ 0)
+      read_whole (Ok reply) = λ stays put. absurd (true≢false (sym put ∙ none))
+      read_whole (Err f) = tt
 
-pub fault_whole : {B : Type 0} (g : Body.Ghosts B) (content : B) (done : Result Reply StoreFault) → IfErr (whole done) (IsLeftBy g content content)
-fault_whole g content (Ok reply) = tt
-fault_whole g content (Err f) = refl
+      good_whole : (done : Result Reply StoreFault) → OnOk (whole done) (b.failed content ≡ b.failed content)
+      good_whole (Ok reply) = refl
+      good_whole (Err f) = tt
+
+      fault_whole : (done : Result Reply StoreFault) → IfErr (whole done) (IsLeftBy b content content)
+      fault_whole (Ok reply) = tt
+      fault_whole (Err f) = refl
+
+module _ {S B W V : Type 0} {g : Ghosts S} {b : BodyGhosts B} {is_upload other : Bool} {repo name : List ℕ} {IsAsking : W → Type 0} {IsCalling : V → Type 0} {plan : World → W → ℕ → Result Plan Denial}
+    {made : World → V → ℕ → Result Plan Denial} {old mid new : Store S} {before after : B} {r : Result Answered AnswerFault} {P : World → Type 0} where
+  -- the same plan for the same request, after calls that only read
+  pub answered_after : is_upload ≡ other → repo ≡ name → Reads g old mid P
+      → ((world : World) → P world → (v : V) → IsCalling v → (size : ℕ) → (is_upload ≡ true → size ≡ b.size before) → (who : W) × IsAsking who × (plan world who size ≡ made world v size))
+      → AnswersRequest g b is_upload repo IsAsking plan mid new before after r → AnswersRequest g b other name IsCalling made old new before after r
+  answered_after upload named reads same done =
+      subst (λ (u : Bool). AnswersRequest g b u name IsCalling made old new before after r) upload
+      (subst (λ (n : List ℕ). AnswersRequest g b is_upload n IsCalling made old new before after r) named (record {
+        bytes = done.bytes;
+        read = done.read;
+        answered = record {
+          honest = λ k. reads.same.was_honest (done.answered.honest k);
+          each = λ honest world h v calls size sized.
+              let lead = reads_lead g old mid _ world reads h in
+              let asks = same world (reads.each (done.answered.honest honest) world h) v calls size sized in
+              subst (λ (p : Result Plan Denial). IsAnsweredAs g is_upload old new world repo p done.bytes (b.size after) r) asks.2
+              (answered_then g is_upload world repo (plan world asks.0 size) old mid new lead done.bytes (b.size after) r (done.answered.each honest world lead.holds asks.0 asks.1 size sized));
+        };
+        settled = done.settled;
+        leaves = done.leaves;
+        whole = done.whole;
+        good = done.good;
+        fault = done.fault;
+      }))
 
 pub uploads_none : (request : code.Request) → ((asked : PutRequest) → request ≡ form.Put asked → ⊥) → uploads (request_asked request) ≡ false
 uploads_none (form.Batch asked) other = refl

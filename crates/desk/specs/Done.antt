@@ -1,7 +1,8 @@
 -- An answered request.
-use Rattle.std.specs.Prelude.{◌≡◌, ◌≢◌, ◌<◌, ◌≤◌, ◌+◌, ◌++◌, ℕ, Bool, true, false, List, length, Option, Some, None, Result, Ok, Err, IfOk, IfErr, is_ok, is_err, MatchBool, ⊤}
+use Rattle.std.specs.Prelude.{◌≡◌, ◌≢◌, ◌<◌, ◌≤◌, ◌+◌, ◌++◌, ℕ, Bool, true, false, List, length, Option, Some, None, Result, Ok, Err, IfOk, IfErr, OnOk, is_ok, is_err, MatchBool, ⊤}
 use Rattle.sqlite_trees.specs.declared.store.Store.{Ghosts}
 use Rattle.names.specs.Texts.{largest_object}
+use Rattle.names.specs.declared.bodies.Body.{Ghosts as BodyGhosts}
 use Rattle.model.specs.Reading.{◌>>=◌}
 use Rattle.model.specs.Callers.{Caller}
 use Rattle.model.specs.Cases as model
@@ -15,7 +16,7 @@ use Rattle.tables.specs.declared.Store.{Store}
 use Rattle.tables.specs.declared.fault.StoreFault.{StoreFault}
 use Rattle.tables.specs.Shown.{IsHonest}
 use Rattle.refinement.specs.Representation.{Holds}
-use Rattle.refinement.specs.Left.{Gives, Keeps, Leads}
+use Rattle.refinement.specs.Left.{From, Gives, Keeps, Leads}
 use Rattle.uploads.specs.Bounds.{StoresWithin}
 use Rattle.desk.specs.declared.replies.Reply.{Reply}
 use Rattle.desk.specs.declared.outcomes.Answered.{Answered}
@@ -24,6 +25,7 @@ use Rattle.desk.specs.declared.outcomes.AnswerFault.TheVariants.{Store as by_sto
 use Rattle.desk.specs.declared.outcomes.NotGranted.{NotGranted}
 use Rattle.desk.specs.declared.outcomes.NotGranted.TheVariants as not_granted
 use Rattle.desk.specs.declared.cases.Case.{Case}
+use Rattle.desk.specs.Contents.{HasRead, IsLeftBy}
 use Rattle.desk.specs.Replies.{IsReplyOf, Lends}
 use Rattle.desk.specs.Rights.{IsUserOf, IsCallerOf, case_seen, denial_view}
 
@@ -121,6 +123,22 @@ module _ {S : Type 0} (g : Ghosts S) where
     pub in_time : is_upload ≡ true → IsInTime plan left r
     pub kept : is_upload ≡ true → IfErr r (λ fault. 0 < left → Keeps g old new world)
 
+-- for each that asks, the request is answered by this plan. Of its content these bytes were read: all of an upload's,
+-- unless it failed or the reply leaves the content, and none of another's
+pub record AnswersRequest
+    {S B W : Type 0} (g : Ghosts S) (b : BodyGhosts B) (is_upload : Bool) (repo : List ℕ) (IsAsking : W → Type 0)
+    (plan : World → W → ℕ → Result Plan Denial) (old new : Store S) (before after : B) (r : Result Answered AnswerFault) : Type 0 where
+  pub bytes : List ℕ
+  pub read : HasRead b before after bytes
+  pub answered : From g old new (λ world. (who : W) → IsAsking who → (size : ℕ) → (is_upload ≡ true → size ≡ b.size before)
+      → IsAnsweredAs g is_upload old new world repo (plan world who size) bytes (b.size after) r)
+  pub settled : is_upload ≡ false → IsSettled r × (after ≡ before)
+  pub leaves : IfOk r (λ a. a.leaves_body ≡ true → after ≡ before)
+  pub whole : IfOk r (λ a. a.leaves_body ≡ false → is_upload ≡ true → b.size after ≡ 0)
+  pub good : OnOk r (b.failed after ≡ b.failed before)
+  pub fault : IfErr r (IsLeftBy b before after)
+
+module _ {S : Type 0} (g : Ghosts S) where
   -- a repository whose total was at most a bound, under a policy whose quota for it is, now has at most this bound and one
   -- largest object in the database
   abbrev pub StaysWithin : Store S → Policy → World → Type 0

@@ -2,7 +2,6 @@
 
 ghost use Rattle.std.specs.Prelude.{◌≡◌, ℕ, List, true, false, IfOk, IfErr, OnOk, Err};
 ghost use Rattle.model.specs.World.{World};
-ghost use Rattle.model.specs.Callers as model;
 ghost use Rattle.model.specs.Answers.{by_rule};
 ghost use Rattle.model.specs.Steps.{after};
 ghost use Rattle.model.specs.Verdict.{caller_plan, plan_for};
@@ -12,7 +11,7 @@ ghost use Rattle.refinement.specs.Left.{From};
 ghost use Rattle.tokens.specs.Callers.{IsHolder};
 ghost use Rattle.desk.specs.Replies.{IsReplyOf};
 ghost use Rattle.desk.specs.Contents.{HasRead, IsLeftBy};
-ghost use Rattle.desk.specs.Done.{AnswersEach, LeavesOthers, IsAnsweredAs, IsSettled, StaysWithin, given_with, verdict_by};
+ghost use Rattle.desk.specs.Done.{AnswersEach, AnswersRequest, LeavesOthers, IsAnsweredAs, IsSettled, StaysWithin, given_with, verdict_by};
 ghost use Rattle.desk.specs.Rights.{IsCallerOf, case_repo, case_seen};
 ghost use Rattle.desk.specs.Asking.{is_put, uploads, plan_seen, request_seen, setting_of};
 
@@ -111,21 +110,10 @@ fn answer_caller<S: Alter, B: Body>(
     asked: &RepoRequest<'_>,
     content: &mut B,
 ) -> Result<Answered, AnswerFault>
-    ensures answered { (bytes : List ℕ) × HasRead B.Body content.old content.new bytes
-        × From S.Store store.old store.new (λ world. (who : model.Caller)
-        → IsHolder caller.entry.now who → (size : ℕ)
-        → (is_put asked.entry.now.form ≡ true → size ≡ B.size content.old)
-        → IsAnsweredAs S.Store (is_put asked.entry.now.form) store.old store.new world
-        asked.entry.now.repo.now (caller_plan world (setting_of policy.entry.now now) who
-        (request_seen asked.entry.now size))
-        bytes (B.size content.new) result) }
-    ensures settled { is_put asked.entry.now.form ≡ false
-        → IsSettled result × (content.new ≡ content.old) }
-    ensures leaves { IfOk result (λ a. a.leaves_body ≡ true → content.new ≡ content.old) }
-    ensures whole { IfOk result (λ a. a.leaves_body ≡ false → is_put asked.entry.now.form ≡ true
-        → B.size content.new ≡ 0) }
-    ensures good { OnOk result (B.failed content.new ≡ B.failed content.old) }
-    ensures fault { IfErr result (IsLeftBy B.Body content.old content.new) }
+    ensures { AnswersRequest S.Store B.Body (is_put asked.entry.now.form) asked.entry.now.repo.now
+        (IsHolder caller.entry.now) (λ world who size. caller_plan world
+        (setting_of policy.entry.now now) who (request_seen asked.entry.now size))
+        store.old store.new content.old content.new result }
 {
     match admit(alloc, policy, caller, asked) {
         Ok((repo, request)) => {
@@ -156,21 +144,10 @@ fn answer_request<S: Alter, B: Body>(
     request: &Request,
     content: &mut B,
 ) -> Result<Answered, AnswerFault>
-    ensures answered { (bytes : List ℕ) × HasRead B.Body content.old content.new bytes
-        × From S.Store store.old store.new (λ world. (who : model.Caller)
-        → IsCallerOf case.entry.now who → (size : ℕ)
-        → (uploads (request_asked request.entry.now) ≡ true → size ≡ B.size content.old)
-        → IsAnsweredAs S.Store (uploads (request_asked request.entry.now)) store.old store.new world
-        (case_repo case.entry.now).name
-        (plan_for (case_seen world case.entry.now who) size (request_asked request.entry.now))
-        bytes (B.size content.new) result) }
-    ensures settled { uploads (request_asked request.entry.now) ≡ false
-        → IsSettled result × (content.new ≡ content.old) }
-    ensures leaves { IfOk result (λ a. a.leaves_body ≡ true → content.new ≡ content.old) }
-    ensures whole { IfOk result (λ a. a.leaves_body ≡ false
-        → uploads (request_asked request.entry.now) ≡ true → B.size content.new ≡ 0) }
-    ensures good { OnOk result (B.failed content.new ≡ B.failed content.old) }
-    ensures fault { IfErr result (IsLeftBy B.Body content.old content.new) }
+    ensures { AnswersRequest S.Store B.Body (uploads (request_asked request.entry.now))
+        (case_repo case.entry.now).name (IsCallerOf case.entry.now) (λ world who size.
+        plan_for (case_seen world case.entry.now who) size (request_asked request.entry.now))
+        store.old store.new content.old content.new result }
 {
     match request {
         Request::Put(asked) => put(store, alloc, case, asked, content),

@@ -140,10 +140,6 @@ pub(crate) fn lock<S: Alter>(
         (λ seen. lock_verdict seen (lock_asked asked.entry.now)) result }
 {
     let wanted = wanted_by(case, asked);
-    permit(
-        case.policy,
-        &question_on(&wanted),
-        DenialStatus::Forbidden,
-    )?;
+    permit(case.policy, &question_on(&wanted), DenialStatus::Forbidden)?;
     make_lock(store, alloc, &wanted)
 }

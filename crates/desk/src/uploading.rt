@@ -1,15 +1,14 @@
 //! The request to upload an object (Git LFS API, Basic Transfers, "Uploads").
 
-ghost use Rattle.std.specs.Prelude.{◌≡◌, ◌+◌, ℕ, List, true, false, nat_le, IfOk, IfErr, OnOk};
+ghost use Rattle.std.specs.Prelude.{◌≡◌, ◌+◌, true, nat_le, IfOk};
 ghost use Rattle.model.specs.Callers as model;
 ghost use Rattle.model.specs.Answers.{receives};
 ghost use Rattle.model.specs.RepoState.{repo_state};
 ghost use Rattle.model.specs.Objects.{put_verdict};
 ghost use Rattle.policy.specs.Values.{repo_view};
 ghost use Rattle.forms.specs.Requests.{put_asked};
-ghost use Rattle.refinement.specs.Left.{From, Reads};
-ghost use Rattle.desk.specs.Contents.{HasRead, IsLeftBy};
-ghost use Rattle.desk.specs.Done.{IsAnsweredAs};
+ghost use Rattle.refinement.specs.Left.{Reads};
+ghost use Rattle.desk.specs.Done.{AnswersRequest};
 ghost use Rattle.desk.specs.Objects.{Permits, has_place};
 ghost use Rattle.desk.specs.Receiving.{RepliesReceived};
 ghost use Rattle.desk.specs.Rights.{IsUserOf, case_repo, case_seen};
@@ -100,15 +99,10 @@ pub(crate) fn put<S: Alter, B: Body>(
     asked: &PutRequest,
     content: &mut B,
 ) -> Result<Answered, AnswerFault>
-    ensures answered { (bytes : List ℕ) × HasRead B.Body content.old content.new bytes
-        × From S.Store store.old store.new (λ world. (who : model.Caller)
-        → IsUserOf case.entry.now who → IsAnsweredAs S.Store true store.old store.new world
-        (case_repo case.entry.now).name (put_verdict (case_seen world case.entry.now who)
-        (B.size content.old) (put_asked asked.entry.now)) bytes (B.size content.new) result) }
-    ensures leaves { IfOk result (λ a. a.leaves_body ≡ true → content.new ≡ content.old) }
-    ensures whole { IfOk result (λ a. a.leaves_body ≡ false → B.size content.new ≡ 0) }
-    ensures good { OnOk result (B.failed content.new ≡ B.failed content.old) }
-    ensures fault { IfErr result (IsLeftBy B.Body content.old content.new) }
+    ensures { AnswersRequest S.Store B.Body true (case_repo case.entry.now).name
+        (IsUserOf case.entry.now) (λ world who size.
+        put_verdict (case_seen world case.entry.now who) size (put_asked asked.entry.now))
+        store.old store.new content.old content.new result }
 {
     match may_upload(store, case, asked, content.left()) {
         Ok(()) => {

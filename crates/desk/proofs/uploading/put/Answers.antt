@@ -1,92 +1,44 @@
-use Rattle.std.proofs.Common.{ℕ, List, [], Ok, Err, refl, subst}
+use Rattle.std.proofs.Common.{◌∙◌, false, true, Ok, Err, ap, refl, sym}
+use Rattle.std.proofs.lemmas.Bool.{true≢false}
 use Rattle.std.proofs.lemmas.Result.{err_from_is_err_and}
+use Rattle.model.specs.Objects.{put_verdict}
 use Rattle.forms.specs.Requests.{put_asked}
-use Rattle.refinement.specs.Left.{From}
 use Rattle.tables.specs.declared.fault.StoreFault.TheVariants.{Memory}
-use Rattle.desk.specs.Receiving.{Receives}
-use Rattle.desk.specs.declared.outcomes.NotGranted.TheVariants as not_granted
-use Rattle.desk.proofs.Arriving.{read_none}
-use Rattle.desk.proofs.Puts.{judged_as, put_refused, put_denied, put_failed, put_done, put_unreported}
+use Rattle.desk.specs.Rights.{case_seen, denial_view}
+use Rattle.desk.proofs.Early.{denied_first, failed_first}
+use Rattle.desk.proofs.Puts.{put_done, put_failed, put_unreported, received_put}
 use Rattle.desk.proofs.uploading.put.Goals as goal
 
-pub returns-in-Err-Store-clause-answered : goal.returns-in-Err-Store-clause-answered
-returns-in-Err-Store-clause-answered g c =
-    let content = c.args.content.now in
-    let size = g.B.Body.size content in
-    rw c.into.ensures (
-      [],
-      read_none g.B.Body content content (g.met.B.Body.moves_none content) refl,
-      put_refused g.S.Store c.args.store.now c.may_upload.new.store c.args.case.now (put_asked c.args.asked.now) size _ size c.in-Err-Store.fault c.in-Err-Store.ensures,
-    )
+pub returns-in-Err-Store : goal.returns-in-Err-Store
+returns-in-Err-Store g c = failed_first (g.met.B.Body.moves_none c.args.content.now) _ (Err c.into.result) c.in-Err-Store.ensures c.into.ensures
 
-pub returns-in_err-receipt-in-Ok-clause-answered : goal.returns-in_err-receipt-in-Ok-clause-answered
-returns-in_err-receipt-in-Ok-clause-answered g c =
-    let case = c.args.case.now in
+pub returns-in_err-reply-in-Err-Denied : goal.returns-in_err-reply-in-Err-Denied
+returns-in_err-reply-in-Err-Denied g c = failed_first (g.met.B.Body.moves_none c.args.content.now) _ _ c.in-Err-Denied.ensures c.from_residual-in_err-reply-in-Err-Denied.ensures.1
+
+pub returns-in_ok-reply-in-Err-Denied : goal.returns-in_ok-reply-in-Err-Denied
+returns-in_ok-reply-in-Err-Denied g c =
     let asked = put_asked c.args.asked.now in
-    let size = g.B.Body.size c.args.content.now in
-    let left = g.B.Body.size c.receive.new.content in
-    let judged = judged_as g.S.Store c.args.store.now c.may_upload.new.store case asked size c.left.result (Ok tt) c.left.ensures c.in-Ok.ensures in
+    denied_first (g.met.B.Body.moves_none c.args.content.now) (denial_view c.in-Err-Denied.denial) (record { reply = c.in_ok-reply-in-Err-Denied.reply; leaves_body = true })
+    (rw c.in-Err-Denied.field-0-is at c.in-Err-Denied.ensures)
+    (λ world denied who user size sized. ap (λ n. put_verdict (case_seen world c.args.case.now who) n asked) (sized refl ∙ sym c.left.ensures) ∙ denied who user) c.in_ok-reply-in-Err-Denied.ensures refl
+
+pub returns-in_err-receipt-in-Ok : goal.returns-in_err-receipt-in-Ok
+returns-in_err-receipt-in-Ok g c =
+    let failed = c.in_err-receipt-in-Ok.ensures in
     let p = err_from_is_err_and c.from_residual.result c.from_residual.ensures.1 in
-    let read = c.in_err-receipt-in-Ok.ensures.bytes in
-    rw (p.1, p.2) (
-      read.0,
-      read.1,
-      put_failed g.S.Store c.args.store.now c.may_upload.new.store case asked size c.receive.new.store read.0 left judged c.in_err-receipt-in-Ok.field-0.0
-          (subst (λ (n : List ℕ). From g.S.Store c.may_upload.new.store c.receive.new.store (λ world. Receives g.S.Store c.may_upload.new.store c.receive.new.store world n asked.name read.0 left (Err c.in_err-receipt-in-Ok.field-0.0))) c.name.ensures read.2),
-    )
+    rw (p.1, p.2) (received_put c.args.case.now (put_asked c.args.asked.now) (Err c.in_err-receipt-in-Ok.field-0.0) c.left.ensures c.in-Ok.ensures failed.bytes.1 c.name.ensures failed.bytes.2
+    (λ world plan is received. put_failed is c.in_err-receipt-in-Ok.field-0.0 received) tt tt tt failed.fault)
 
-pub returns-in_err-reply-in-Ok-clause-answered : goal.returns-in_err-reply-in-Ok-clause-answered
-returns-in_err-reply-in-Ok-clause-answered g c =
-    let case = c.args.case.now in
-    let asked = put_asked c.args.asked.now in
-    let size = g.B.Body.size c.args.content.now in
-    let left = g.B.Body.size c.receive.new.content in
-    let judged = judged_as g.S.Store c.args.store.now c.may_upload.new.store case asked size c.left.result (Ok tt) c.left.ensures c.in-Ok.ensures in
-    let p = err_from_is_err_and c.from_residual-in_err-reply-in-Ok.result c.from_residual-in_err-reply-in-Ok.ensures.1 in
+pub returns-in_err-reply-in-Ok : goal.returns-in_err-reply-in-Ok
+returns-in_err-reply-in-Ok g c =
     let received = c.in_ok-receipt-in-Ok.ensures in
-    rw (p.1, p.2) (
-      received.bytes.0,
-      received.bytes.1,
-      put_unreported g.S.Store c.args.store.now c.may_upload.new.store case asked size c.receive.new.store received.bytes.0 left judged c.in_ok-receipt-in-Ok.receipt received.whole.whole
-          (subst (λ (n : List ℕ). From g.S.Store c.may_upload.new.store c.receive.new.store (λ world. Receives g.S.Store c.may_upload.new.store c.receive.new.store world n asked.name received.bytes.0 left (Ok c.in_ok-receipt-in-Ok.receipt))) c.name.ensures received.bytes.2)
-          Memory c.in_err-reply-in-Ok.field-0.0 c.in_err-reply-in-Ok.ensures,
-    )
+    let p = err_from_is_err_and c.from_residual-in_err-reply-in-Ok.result c.from_residual-in_err-reply-in-Ok.ensures.1 in
+    rw (p.1, p.2) (received_put c.args.case.now (put_asked c.args.asked.now) (Ok c.in_ok-receipt-in-Ok.receipt) c.left.ensures c.in-Ok.ensures received.bytes.1 c.name.ensures received.bytes.2
+    (λ world plan is got. put_unreported is c.in_ok-receipt-in-Ok.receipt Memory c.in_err-reply-in-Ok.field-0.0 received.whole.whole got c.in_err-reply-in-Ok.ensures) tt tt tt received.whole.good)
 
-pub returns-in_ok-reply-in-Ok-clause-answered : goal.returns-in_ok-reply-in-Ok-clause-answered
-returns-in_ok-reply-in-Ok-clause-answered g c =
-    let case = c.args.case.now in
-    let asked = put_asked c.args.asked.now in
-    let size = g.B.Body.size c.args.content.now in
-    let left = g.B.Body.size c.receive.new.content in
-    let judged = judged_as g.S.Store c.args.store.now c.may_upload.new.store case asked size c.left.result (Ok tt) c.left.ensures c.in-Ok.ensures in
-    let received = c.in_ok-receipt-in-Ok.ensures in (
-      received.bytes.0,
-      received.bytes.1,
-      put_done g.S.Store c.args.store.now c.may_upload.new.store case asked size c.receive.new.store received.bytes.0 left judged c.in_ok-receipt-in-Ok.receipt received.whole.whole
-          (subst (λ (n : List ℕ). From g.S.Store c.may_upload.new.store c.receive.new.store (λ world. Receives g.S.Store c.may_upload.new.store c.receive.new.store world n asked.name received.bytes.0 left (Ok c.in_ok-receipt-in-Ok.receipt))) c.name.ensures received.bytes.2)
-          c.in_ok-reply-in-Ok.reply c.in_ok-reply-in-Ok.ensures,
-    )
-
-pub returns-in_err-reply-in-Err-Denied-clause-answered : goal.returns-in_err-reply-in-Err-Denied-clause-answered
-returns-in_err-reply-in-Err-Denied-clause-answered g c =
-    let content = c.args.content.now in
-    let size = g.B.Body.size content in
-    let p = err_from_is_err_and c.from_residual-in_err-reply-in-Err-Denied.result c.from_residual-in_err-reply-in-Err-Denied.ensures.1 in
-    rw (p.1, p.2) (
-      [],
-      read_none g.B.Body content content (g.met.B.Body.moves_none content) refl,
-      put_refused g.S.Store c.args.store.now c.may_upload.new.store c.args.case.now (put_asked c.args.asked.now) size _ size Memory c.in-Err-Denied.ensures,
-    )
-
-pub returns-in_ok-reply-in-Err-Denied-clause-answered : goal.returns-in_ok-reply-in-Err-Denied-clause-answered
-returns-in_ok-reply-in-Err-Denied-clause-answered g c =
-    let case = c.args.case.now in
-    let asked = put_asked c.args.asked.now in
-    let content = c.args.content.now in
-    let size = g.B.Body.size content in
-    let denial = c.in-Err-Denied.denial in (
-      [],
-      read_none g.B.Body content content (g.met.B.Body.moves_none content) refl,
-      put_denied g.S.Store c.args.store.now c.may_upload.new.store case asked size size denial c.in_ok-reply-in-Err-Denied.reply c.in_ok-reply-in-Err-Denied.ensures
-          (judged_as g.S.Store c.args.store.now c.may_upload.new.store case asked size c.left.result (Err (not_granted.Denied denial)) c.left.ensures (rw c.in-Err-Denied.field-0-is at c.in-Err-Denied.ensures)),
-    )
+pub returns-in_ok-reply-in-Ok : goal.returns-in_ok-reply-in-Ok
+returns-in_ok-reply-in-Ok g c =
+    let received = c.in_ok-receipt-in-Ok.ensures in
+    received_put c.args.case.now (put_asked c.args.asked.now) (Ok c.in_ok-receipt-in-Ok.receipt) c.left.ensures c.in-Ok.ensures received.bytes.1 c.name.ensures received.bytes.2
+    (λ world plan is got. put_done is c.in_ok-receipt-in-Ok.receipt c.in_ok-reply-in-Ok.reply received.whole.whole got c.in_ok-reply-in-Ok.ensures)
+    (λ stays. absurd (true≢false (sym stays))) (λ stays put. received.whole.whole) received.whole.good tt
