@@ -14,7 +14,7 @@ const VERSION: &str = "0.1.0";
 /// the program is proved with. `tools/check_pages` compares its logic with that of `rt version`.
 const LONG_VERSION: &str = "\
 0.1.0
-rattle-kit-13b logic dac8208d650f15bf";
+rattle-kit-13f logic dac8208d650f15bf";
 
 const SESSION_ABOUT: &str =
     "Answers the requests on standard input, and writes the replies to standard output";

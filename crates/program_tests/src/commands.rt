@@ -9,7 +9,7 @@ const WORDS: &str = r#"
 # the second line is that of `rt version`
 $ --version
 | custody 0.1.0
-| rattle-kit-13b logic dac8208d650f15bf
+| rattle-kit-13f logic dac8208d650f15bf
 $ -V
 | custody 0.1.0
 $ paint
