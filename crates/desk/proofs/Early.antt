@@ -1,7 +1,7 @@
 -- An answer before its content is read, after calls that only read, and of a request without content.
 use Rattle.std.proofs.Common.{◌≡◌, ◌∙◌, ◌<◌, ℕ, Bool, true, false, MatchBool, List, [], ◌∷◌, Result, Ok, Err, is_err, refl, sym, ap, subst}
 use Rattle.std.specs.Prelude.{IsErrAnd}
-use Rattle.std.specs.Result.{IfOk, IfErr, OnOk}
+use Rattle.std.specs.Result.{IfErr}
 use Rattle.std.proofs.lemmas.Bool.{true≢false}
 use Rattle.sqlite_trees.specs.declared.store.Store.{Ghosts}
 use Rattle.names.specs.declared.bodies.Body.{Ghosts as BodyGhosts}
@@ -20,9 +20,8 @@ use Rattle.forms.specs.declared.objects.PutRequest.{PutRequest}
 use Rattle.forms.specs.declared.request.Request as code
 use Rattle.forms.specs.declared.request.Request.TheVariants as form
 use Rattle.desk.specs.Asking.{uploads}
-use Rattle.desk.specs.Contents.{IsLeftBy}
 use Rattle.desk.specs.Replies.{IsReplyOf}
-use Rattle.desk.specs.Done.{Answers, AnswersIf, AnswersRequest, IsAnsweredAs, IsSettled, verdict_by, whole}
+use Rattle.desk.specs.Done.{Answers, AnswersIf, AnswersRequest, IsAnsweredAs, verdict_by}
 use Rattle.desk.proofs.Arriving.{read_none}
 use Rattle.desk.proofs.Verdicts.{denied_done, refused_done, done_then}
 
@@ -67,19 +66,6 @@ module _ {S : Type 0} (g : Ghosts S) (is_upload : Bool) (world : World) (repo : 
       kept = λ put. kept_then r (done.kept put);
     }
 
-  -- a request that uploads nothing was answered, whatever the content is
-  pub answered_whole : (old new : Store S) (left : ℕ) (done : Result Reply StoreFault) → is_upload ≡ false
-      → ((content : List ℕ) → Answers g old new world (verdict_by world repo plan content) done) → IsAnsweredAs g is_upload old new world repo plan [] left (whole done)
-  answered_whole old new left done none answers = record {
-    answers = λ more len. if_whole more done (answers more);
-    in_time = λ put. absurd (true≢false (sym put ∙ none));
-    kept = λ put. absurd (true≢false (sym put ∙ none));
-  }
-    where
-      if_whole : (more : List ℕ) (r : Result Reply StoreFault) → Answers g old new world (verdict_by world repo plan more) r → AnswersIf g old new world (verdict_by world repo plan more) (whole r)
-      if_whole more (Ok reply) is = is
-      if_whole more (Err f) is = is
-
 -- ---- the answer to a request, whoever asks
 
 module _ {S B W : Type 0} {g : Ghosts S} {b : BodyGhosts B} {is_upload : Bool} {repo : List ℕ} {IsAsking : W → Type 0} {plan : World → W → ℕ → Result Plan Denial} {old new : Store S} {content : B}
@@ -121,43 +107,49 @@ module _ {S B W : Type 0} {g : Ghosts S} {b : BodyGhosts B} {is_upload : Bool} {
   }
 
   -- the body was read before
-  pub answered_before : (done : Result Reply StoreFault) → is_upload ≡ false
-      → ((size : ℕ) (body : List ℕ) → From g old new (λ world. (who : W) → IsAsking who → Answers g old new world (verdict_by world repo (plan world who size) body) done))
-      → AnswersRequest g b is_upload repo IsAsking plan old new content content (whole done)
-  answered_before done none answers = record {
-    bytes = [];
-    read = read_none b content content unread refl;
-    answered = record {
-      honest = (answers 0 []).honest;
-      each = λ honest world h who asks size sized.
-          answered_whole g is_upload world repo (plan world who size) old new (b.size content) done none (λ body. (answers size body).each honest world h who asks);
-    };
-    settled = λ off. (settled_whole done, refl);
-    leaves = leaves_whole done;
-    whole = read_whole done;
-    good = good_whole done;
-    fault = fault_whole done;
-  }
-    where
-      settled_whole : (done : Result Reply StoreFault) → IsSettled (whole done)
-      settled_whole (Ok reply) = refl
-      settled_whole (Err f) = tt
+  module _ (none : is_upload ≡ false) where
+    pub replied_before : (reply : Reply)
+        → ((size : ℕ) (body : List ℕ) → From g old new (λ world. (who : W) → IsAsking who → Answers g old new world (verdict_by world repo (plan world who size) body) (Ok reply)))
+        → AnswersRequest g b is_upload repo IsAsking plan old new content content (Ok (record { reply = reply; leaves_body = false }))
+    replied_before reply answers = record {
+      bytes = [];
+      read = read_none b content content unread refl;
+      answered = record {
+        honest = (answers 0 []).honest;
+        each = λ honest world h who asks size sized. record {
+          answers = λ more len. (answers size more).each honest world h who asks;
+          in_time = λ put. absurd (true≢false (sym put ∙ none));
+          kept = λ put. tt;
+        };
+      };
+      settled = λ off. (refl, refl);
+      leaves = λ stays. refl;
+      whole = λ stays put. absurd (true≢false (sym put ∙ none));
+      good = refl;
+      fault = tt;
+    }
 
-      leaves_whole : (done : Result Reply StoreFault) → IfOk (whole done) (λ a. a.leaves_body ≡ true → content ≡ content)
-      leaves_whole (Ok reply) = λ leaves. refl
-      leaves_whole (Err f) = tt
-
-      read_whole : (done : Result Reply StoreFault) → IfOk (whole done) (λ a. a.leaves_body ≡ false → is_upload ≡ true → b.size content ≡ 0)
-      read_whole (Ok reply) = λ stays put. absurd (true≢false (sym put ∙ none))
-      read_whole (Err f) = tt
-
-      good_whole : (done : Result Reply StoreFault) → OnOk (whole done) (b.failed content ≡ b.failed content)
-      good_whole (Ok reply) = refl
-      good_whole (Err f) = tt
-
-      fault_whole : (done : Result Reply StoreFault) → IfErr (whole done) (IsLeftBy b content content)
-      fault_whole (Ok reply) = tt
-      fault_whole (Err f) = refl
+    pub refused_before : (f : StoreFault) (r : Result Answered AnswerFault) → IsErrAnd r (λ e. e ≡ fault.Store f)
+        → ((size : ℕ) (body : List ℕ) → From g old new (λ world. (who : W) → IsAsking who → Answers g old new world (verdict_by world repo (plan world who size) body) (Err f)))
+        → AnswersRequest g b is_upload repo IsAsking plan old new content content r
+    refused_before f (Ok answered) is answers = absurd is
+    refused_before f (Err e) is answers = subst (λ (x : AnswerFault). AnswersRequest g b is_upload repo IsAsking plan old new content content (Err x)) (sym is) (record {
+      bytes = [];
+      read = read_none b content content unread refl;
+      answered = record {
+        honest = (answers 0 []).honest;
+        each = λ honest world h who asks size sized. record {
+          answers = λ more len. (answers size more).each honest world h who asks;
+          in_time = λ put. tt;
+          kept = λ put. absurd (true≢false (sym put ∙ none));
+        };
+      };
+      settled = λ off. (tt, refl);
+      leaves = tt;
+      whole = tt;
+      good = tt;
+      fault = refl;
+    })
 
 module _ {S B W V : Type 0} {g : Ghosts S} {b : BodyGhosts B} {is_upload other : Bool} {repo name : List ℕ} {IsAsking : W → Type 0} {IsCalling : V → Type 0} {plan : World → W → ℕ → Result Plan Denial}
     {made : World → V → ℕ → Result Plan Denial} {old mid new : Store S} {before after : B} {r : Result Answered AnswerFault} {P : World → Type 0} where

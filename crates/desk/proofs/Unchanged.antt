@@ -13,17 +13,17 @@ use Rattle.model.specs.Bounds.{is_changed, answer_ending}
 use Rattle.tables.specs.declared.Store.{Store}
 use Rattle.refinement.specs.Representation.{Holds}
 use Rattle.tables.specs.declared.fault.StoreFault.{StoreFault}
-use Rattle.refinement.specs.Left.{Reads, Ends}
+use Rattle.refinement.specs.Left.{From, Reads, Ends}
 use Rattle.refinement.proofs.Leading.{reads_lead, reads_none, ends_still}
 use Rattle.desk.specs.declared.replies.Reply.{Reply}
 use Rattle.desk.specs.Replies.{IsReplyOf, Lends}
-use Rattle.desk.specs.Done.{Answers, AnswersCaller, AnswersEach, AnswersOrDenies, AnswersUser, verdict_by}
+use Rattle.desk.specs.Done.{Answers, AnswersCaller, AnswersEach, AnswersOrDenies, AnswersUser, RepliesOrDenies, verdict_by}
 use Rattle.desk.specs.Rights.{IsCallerOf, case_repo, case_seen, denial_view}
 use Rattle.desk.specs.declared.cases.Case.{Case}
 use Rattle.desk.specs.declared.cases.Denial as code
 use Rattle.desk.specs.declared.outcomes.NotGranted.{NotGranted}
 use Rattle.desk.specs.declared.outcomes.NotGranted.TheVariants as not_granted
-use Rattle.desk.proofs.Verdicts.{answer_finished, refused_done}
+use Rattle.desk.proofs.Verdicts.{answer_finished, denied_done, refused_done}
 use Rattle.desk.proofs.Lent.{serves_object, none_lent}
 
 -- the answer changes no world
@@ -115,3 +115,16 @@ module _ (case : Case) (verdict : cases.Case → Answer) (asked : Request) (left
 
     pub whole_user : AnswersUser g case old new verdict r → AnswersEach g (IsCallerOf case) old new answer_to r
     whole_user done = answers_alike (λ world who is. (is.user, planned world who)) done
+
+-- ---- the reply to a request, or to its denial
+
+module _ {S : Type 0} (g : Ghosts S) (old new : Store S) where
+  reply_of : (world : World) (given : Answer) (done : Result Reply NotGranted) (r : Result Reply StoreFault) → AnswersOrDenies g old new world given done → RepliesOrDenies done r → Answers g old new world given r
+  reply_of world given (Ok reply) r done is = subst (Answers g old new world given) (sym is) done
+  reply_of world given (Err (not_granted.Store fault)) r done is = subst (Answers g old new world given) (sym is) done
+  reply_of world given (Err (not_granted.Denied denial)) (Ok reply) done is = denied_done g old new world given (denial_view denial) reply done.0 is done.1
+  reply_of world given (Err (not_granted.Denied denial)) (Err fault) done is = refused_done g old new world given fault done.1
+
+  pub replied : {IsAsking : Caller → Type 0} {verdict : World → Caller → Answer} {done : Result Reply NotGranted} {r : Result Reply StoreFault} → AnswersEach g IsAsking old new verdict done → RepliesOrDenies done r
+      → From g old new (λ world. (who : Caller) → IsAsking who → Answers g old new world (verdict world who) r)
+  replied answers is = record { honest = answers.honest; each = λ honest world h who asks. reply_of world _ _ _ (answers.each honest world h who asks) is }

@@ -1,5 +1,5 @@
 -- How the definitions decide a request, step by step.
-use Rattle.std.proofs.Common.{◌≡◌, ◌∙◌, ℕ, not, ◌||◌, List, Some, Result, Ok, Err, bytes_eq, refl, sym, ap, ap₂, subst}
+use Rattle.std.proofs.Common.{◌≡◌, ◌∙◌, ℕ, not, ◌||◌, List, Some, Result, Ok, Err, bytes_eq, refl, sym, ap₂, subst}
 use Rattle.std.specs.Prelude.{IsErrAnd}
 use Rattle.std.specs.Bool.{⊤}
 use Rattle.sqlite_trees.specs.declared.store.Store.{Ghosts}
@@ -14,7 +14,6 @@ use Rattle.model.specs.Policy.{Policy, Repo, Question, repo_named}
 use Rattle.model.specs.Forms.{Request, needs_upload, is_upload}
 use Rattle.model.specs.Callers as model
 use Rattle.model.specs.Callers.{caller_by, lock_question}
-use Rattle.model.specs.Cases as cases
 use Rattle.model.specs.Cases.{Setting, DeskRequest, case_in}
 use Rattle.model.specs.Answers.{Answer, Denial, Plan, by_rule, by_rules, permit, store_refusal}
 use Rattle.model.specs.Locks.{place_verdict, lock_verdict, new_lock}
@@ -26,11 +25,11 @@ use Rattle.forms.specs.Requests.{lock_asked}
 use Rattle.forms.specs.declared.lock.LockRequest.{LockRequest}
 use Rattle.tables.specs.declared.Store.{Store}
 use Rattle.tables.specs.declared.fault.StoreFault.{StoreFault}
-use Rattle.refinement.specs.Left.{From, Leads, Gives}
+use Rattle.refinement.specs.Left.{Leads, Gives}
 use Rattle.refinement.proofs.Leading.{ends_still, denial_changes_none, still_then}
 use Rattle.tokens.specs.Callers.{IsHolder}
 use Rattle.tokens.specs.declared.callers.Caller.{Caller}
-use Rattle.desk.specs.Done.{Answers, AnswersOrDenies, RepliesOrDenies, given_by}
+use Rattle.desk.specs.Done.{Answers, AnswersOrDenies, given_by}
 use Rattle.desk.specs.declared.outcomes.NotGranted.{NotGranted}
 use Rattle.desk.specs.declared.outcomes.NotGranted.TheVariants as not_granted
 use Rattle.desk.proofs.Lent.{none_lent}
@@ -39,7 +38,7 @@ use Rattle.desk.specs.declared.replies.Reply.{Reply}
 use Rattle.desk.specs.Admission.{admission_result}
 use Rattle.locks.specs.Creating.{state_of, lock_wanted}
 use Rattle.desk.specs.Locking.{IsWantedBy, question_on, allowed_verdict}
-use Rattle.desk.specs.Rights.{IsUserOf, IsCallerOf, case_policy, case_repo, case_seen, denial_view}
+use Rattle.desk.specs.Rights.{IsUserOf, case_policy, case_seen}
 use Rattle.desk.specs.declared.cases.Case.{Case}
 use Rattle.tables.specs.declared.new_rows.NewLock.{NewLock}
 
@@ -124,13 +123,6 @@ module _ {S : Type 0} (g : Ghosts S) (old new : Store S) (world : World) (given 
 
   pub refused_early : (fault : StoreFault) (r : Result Reply NotGranted) → IsErrAnd r (λ e. e ≡ not_granted.Store fault) → Leads g old new world (λ bound. bound) → AnswersOrDenies g old new world given r
   refused_early fault r is p = passed_on fault r is (ends_still g old new failed world (after world (Some given)) refl p)
-
-  -- the reply to a request that was granted or denied
-  pub replied : (done : Result Reply NotGranted) (r : Result Reply StoreFault) → AnswersOrDenies g old new world given done → RepliesOrDenies done r → Answers g old new world given r
-  replied (Ok reply) r done is = subst (Answers g old new world given) (sym is) done
-  replied (Err (not_granted.Store fault)) r done is = subst (Answers g old new world given) (sym is) done
-  replied (Err (not_granted.Denied denial)) (Ok reply) done is = denied_done (denial_view denial) reply done.0 is done.1
-  replied (Err (not_granted.Denied denial)) (Err fault) done is = refused_done fault done.1
 
 module _ {S : Type 0} (g : Ghosts S) (old mid new : Store S) (world : World) (given : Answer) where
   -- the result after calls that only read

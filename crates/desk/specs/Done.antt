@@ -81,11 +81,6 @@ RepliesOrDenies (Err (not_granted.Denied denial)) r = IfOk r (λ reply. IsReplyO
 abbrev pub verdict_by : World → List ℕ → Result Plan Denial → List ℕ → Answer
 verdict_by world repo plan content = plan >>= λ granted. finish world repo content granted
 
--- the same result, of a request whose body was read before
-abbrev pub whole : Result Reply StoreFault → Result Answered AnswerFault
-whole (Ok reply) = Ok (record { reply = reply; leaves_body = false })
-whole (Err fault) = Err (by_store fault)
-
 -- the answer that is given, if any: none if the content is cut off
 abbrev pub given_with : Answer → Result Answered AnswerFault → Option Answer
 given_with verdict (Ok answered) = Some verdict

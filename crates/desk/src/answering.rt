@@ -22,7 +22,7 @@ use crate::checking::verify;
 use crate::downloading::get;
 use crate::listing::list;
 use crate::locking::lock;
-use crate::outcomes::{AnswerFault, Answered, NotGranted, reply_or_denial, whole};
+use crate::outcomes::{AnswerFault, Answered, NotGranted, reply_or_denial};
 use crate::replies::Reply;
 use crate::unlocking::unlock;
 use crate::uploading::put;
@@ -151,7 +151,14 @@ fn answer_request<S: Alter, B: Body>(
 {
     match request {
         Request::Put(asked) => put(store, alloc, case, asked, content),
-        _ => whole(reply_or_denial(alloc, answer_whole(alloc, store, case, request))),
+        _ => {
+            let done = answer_whole(alloc, store, case, request);
+            let reply = reply_or_denial(alloc, done)?;
+            Ok(Answered {
+                reply,
+                leaves_body: false,
+            })
+        }
     }
 }
 

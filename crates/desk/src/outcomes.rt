@@ -4,7 +4,7 @@ ghost use Rattle.std.specs.Prelude.{◌≡◌};
 ghost use Rattle.desk.specs.declared.outcomes.AnswerFault.TheVariants as fault;
 ghost use Rattle.desk.specs.declared.outcomes.NotGranted.TheVariants as request;
 ghost use Rattle.tables.specs.declared.fault.StoreFault.TheVariants as store;
-ghost use Rattle.desk.specs.Done.{RepliesOrDenies, whole};
+ghost use Rattle.desk.specs.Done.{RepliesOrDenies};
 
 use crate::cases::Denial;
 use crate::replies::Reply;
@@ -106,18 +106,5 @@ pub(crate) fn reply_or_denial(
         Ok(reply) => Ok(reply),
         Err(NotGranted::Denied(denial)) => Ok(denial_reply(alloc, denial)?),
         Err(NotGranted::Store(fault)) => Err(fault),
-    }
-}
-
-/// The result for a request whose body was read before.
-pub(crate) fn whole(done: Result<Reply, StoreFault>) -> Result<Answered, AnswerFault>
-    ensures { result ≡ whole done }
-{
-    match done {
-        Ok(reply) => Ok(Answered {
-            reply,
-            leaves_body: false,
-        }),
-        Err(fault) => Err(fault.into()),
     }
 }

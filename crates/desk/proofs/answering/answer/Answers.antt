@@ -1,4 +1,4 @@
-use Rattle.std.proofs.Common.{Ok, Err, refl, sym, subst}
+use Rattle.std.proofs.Common.{Ok, refl, sym, subst}
 use Rattle.model.specs.Answers.{by_rule}
 use Rattle.tables.specs.declared.fault.StoreFault.TheVariants.{Memory}
 use Rattle.tokens.specs.Callers.{IsCalling}

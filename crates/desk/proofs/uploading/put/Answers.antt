@@ -1,4 +1,4 @@
-use Rattle.std.proofs.Common.{◌∙◌, false, true, Ok, Err, ap, refl, sym}
+use Rattle.std.proofs.Common.{◌∙◌, true, Ok, Err, ap, refl, sym}
 use Rattle.std.proofs.lemmas.Bool.{true≢false}
 use Rattle.std.proofs.lemmas.Result.{err_from_is_err_and}
 use Rattle.model.specs.Objects.{put_verdict}
