@@ -118,8 +118,8 @@ module _ {S : Type 0} (g : Ghosts S) where
     pub in_time : is_upload ≡ true → IsInTime plan left r
     pub kept : is_upload ≡ true → IfErr r (λ fault. 0 < left → Keeps g old new world)
 
--- for each that asks, the request is answered by this plan. Of its content these bytes were read: all of an upload's,
--- unless it failed or the reply leaves the content, and none of another's
+-- whoever asks, the request is answered by the plan, and these bytes of its content were read: of an upload all of them,
+-- unless the answer is a fault or the reply leaves the content unread; of any other request none
 pub record AnswersRequest
     {S B W : Type 0} (g : Ghosts S) (b : BodyGhosts B) (is_upload : Bool) (repo : List ℕ) (IsAsking : W → Type 0)
     (plan : World → W → ℕ → Result Plan Denial) (old new : Store S) (before after : B) (r : Result Answered AnswerFault) : Type 0 where
