@@ -83,9 +83,9 @@ module _ {S : Type 0} {g : Ghosts S} {old new : Store S} {IsAsking : Caller → 
   }
 
 -- the request is denied before any call
-pub denied_first : {S : Type 0} {g : Ghosts S} {s : Store S} {IsAsking : Caller → Type 0} {verdict : World → Caller → Answer} (denial : code.Denial) (r : Result Reply NotGranted) → IsErrAnd r (λ e. e ≡ not_granted.Denied denial)
+pub denied_unread : {S : Type 0} {g : Ghosts S} {s : Store S} {IsAsking : Caller → Type 0} {verdict : World → Caller → Answer} (denial : code.Denial) (r : Result Reply NotGranted) → IsErrAnd r (λ e. e ≡ not_granted.Denied denial)
     → ((world : World) (who : Caller) → IsAsking who → verdict world who ≡ Err (denial_view denial)) → AnswersEach g IsAsking s s verdict r
-denied_first denial r is given = denied_after denial r (reads_none _ _ (λ _. ⊤) (λ _ _ _. tt)) is (λ world laws read who asks. given world who asks)
+denied_unread denial r is given = denied_after denial r (reads_none _ _ (λ _. ⊤) (λ _ _ _. tt)) is (λ world laws read who asks. given world who asks)
 
 module _ {S : Type 0} {g : Ghosts S} {old new : Store S} {IsAsking IsCalling : Caller → Type 0} {verdict given : World → Caller → Answer} {r : Result Reply NotGranted} where
   -- the same verdict

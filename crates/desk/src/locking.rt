@@ -125,7 +125,7 @@ fn question_on<'a>(wanted: &NewLock<'a>) -> Question<'a>
     }
 }
 
-/// Answers a request for a lock: the result of `make_lock`.
+/// Makes the lock that the request asks for, if the policy permits it, and returns the reply.
 ///
 /// # Errors
 ///

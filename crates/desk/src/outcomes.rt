@@ -2,7 +2,7 @@
 
 ghost use Rattle.std.specs.Prelude.{◌≡◌};
 ghost use Rattle.desk.specs.declared.outcomes.AnswerFault.TheVariants as fault;
-ghost use Rattle.desk.specs.declared.outcomes.NotGranted.TheVariants as request;
+ghost use Rattle.desk.specs.declared.outcomes.NotGranted.TheVariants as not_granted;
 ghost use Rattle.tables.specs.declared.fault.StoreFault.TheVariants as store;
 ghost use Rattle.desk.specs.Done.{RepliesOrDenies};
 
@@ -68,7 +68,7 @@ pub(crate) enum NotGranted {
 }
 
 impl From<Denial> for NotGranted {
-    ghost from_gives = { λ denial result. result ≡ request.Denied denial };
+    ghost from_gives = { λ denial result. result ≡ not_granted.Denied denial };
 
     fn from(denial: Denial) -> NotGranted {
         NotGranted::Denied(denial)
@@ -76,7 +76,7 @@ impl From<Denial> for NotGranted {
 }
 
 impl From<StoreFault> for NotGranted {
-    ghost from_gives = { λ refused result. result ≡ request.Store refused };
+    ghost from_gives = { λ refused result. result ≡ not_granted.Store refused };
 
     fn from(fault: StoreFault) -> NotGranted {
         NotGranted::Store(fault)
@@ -84,7 +84,7 @@ impl From<StoreFault> for NotGranted {
 }
 
 impl From<AllocError> for NotGranted {
-    ghost from_gives = { λ _ result. result ≡ request.Store store.Memory };
+    ghost from_gives = { λ _ result. result ≡ not_granted.Store store.Memory };
 
     fn from(_error: AllocError) -> NotGranted {
         NotGranted::Store(StoreFault::Memory)

@@ -8,7 +8,7 @@ use Rattle.forms.specs.declared.offers.Offer.{Offer}
 use Rattle.desk.specs.Rights.{case_repo, denial_view}
 use Rattle.desk.specs.Replies.{IsReplyOf}
 use Rattle.desk.proofs.Showing.{read_alike}
-use Rattle.desk.proofs.Unchanged.{denied_first, refused_after, replied_after}
+use Rattle.desk.proofs.Unchanged.{denied_unread, refused_after, replied_after}
 use Rattle.desk.proofs.Offering.{batch_denied, offers_are_quiet, batch_allowed}
 use Rattle.desk.proofs.batching.batch.Goals as goal
 
@@ -40,5 +40,5 @@ returns-in_err-may_batch g c =
     let ref = ref_text c.ref_or_default-ref_name.result.now in
     let named : ref_or_default asked.ref (case_repo case) ≡ ref =
     sym (c.ref_or_default-ref_name.ensures ∙ ap (λ (o : Option (List ℕ)). ref_or_default o (case_repo case)) (read_alike ref_text c.args.asked.now.ref_name c.as_ref.result c.as_ref.ensures.value)) in
-    denied_first _ _ c.from_residual.ensures.1
+    denied_unread _ _ c.from_residual.ensures.1
     (λ world who is_caller. batch_denied case who world ref asked (denial_view c.in_err-may_batch.field-0.0) is_caller.user named c.in_err-may_batch.ensures)

@@ -8,14 +8,14 @@ use Rattle.cursor.specs.Paging.{cursor_or_first, page_seen}
 use Rattle.cursor.specs.Wanted.{wanted_locks}
 use Rattle.desk.specs.Rights.{case_policy, case_repo, case_user, denial_view}
 use Rattle.desk.proofs.Showing.{list_by, list_is_quiet, listed_alike}
-use Rattle.desk.proofs.Unchanged.{denied_first, refused_after, replied_after}
+use Rattle.desk.proofs.Unchanged.{denied_unread, refused_after, replied_after}
 use Rattle.desk.proofs.listing.list.Goals as goal
 
 pub returns-in_err-cursor : goal.returns-in_err-cursor
 returns-in_err-cursor g c =
     let case = c.args.case.now in
     let asked = list_asked c.args.asked.now in
-    denied_first _ _ c.from_residual.ensures.1 (λ world who user. list_by case who user world asked (Err (denial_view c.in_err-cursor.field-0.0)) c.in_err-cursor.ensures)
+    denied_unread _ _ c.from_residual.ensures.1 (λ world who user. list_by case who user world asked (Err (denial_view c.in_err-cursor.field-0.0)) c.in_err-cursor.ensures)
 
 pub returns-in_err-found : goal.returns-in_err-found
 returns-in_err-found g c = refused_after _ _ c.in_err-found.ensures.world c.from_residual-in_err-found.ensures.1

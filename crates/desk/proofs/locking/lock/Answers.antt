@@ -5,7 +5,7 @@ use Rattle.model.specs.Answers.{Answer, Denial, permit}
 use Rattle.locks.specs.Creating.{placed_verdict}
 use Rattle.desk.specs.Done.{AnswersOrDenies}
 use Rattle.desk.specs.Rights.{case_policy}
-use Rattle.desk.proofs.Unchanged.{denied_first}
+use Rattle.desk.proofs.Unchanged.{denied_unread}
 use Rattle.desk.proofs.Verdicts.{verdict_alike}
 use Rattle.desk.proofs.locking.lock.Goals as goal
 
@@ -13,7 +13,7 @@ pub returns-in_err-permit : goal.returns-in_err-permit
 returns-in_err-permit g c =
     let case = c.args.case.now in
     let w = c.wanted_by-wanted.result in
-    denied_first _ _ c.from_residual.ensures.1
+    denied_unread _ _ c.from_residual.ensures.1
     (λ world who user.
     let denied = ap (λ (may : Result ⊤ Denial). may >>= λ _. placed_verdict world w) (ap (λ q. permit (case_policy case) q 403) (sym c.question_on.ensures) ∙ c.in_err-permit.ensures) in
     sym (verdict_alike world case who c.args.asked.now w user c.wanted_by-wanted.ensures) ∙ denied)

@@ -8,7 +8,7 @@ use Rattle.cursor.specs.Paging.{cursor_or_first, page_seen}
 use Rattle.cursor.specs.Wanted.{wanted_locks}
 use Rattle.desk.specs.Rights.{case_repo, case_user, denial_view}
 use Rattle.desk.proofs.Showing.{read_alike, ref_alike, split_is_quiet, verify_by}
-use Rattle.desk.proofs.Unchanged.{denied_first, refused_after, replied_after}
+use Rattle.desk.proofs.Unchanged.{denied_unread, refused_after, replied_after}
 use Rattle.desk.proofs.verifying.verify_locks.Goals as goal
 
 pub returns-in_err-cursor : goal.returns-in_err-cursor
@@ -18,7 +18,7 @@ returns-in_err-cursor g c =
     let ref = ref_text c.ref_or_default-ref_name.result.now in
     let named : ref ≡ ref_or_default asked.ref (case_repo case) =
     c.ref_or_default-ref_name.ensures ∙ ap (λ (o : Option (List ℕ)). ref_or_default o (case_repo case)) (read_alike ref_text c.args.asked.now.ref_name c.as_ref.result c.as_ref.ensures.value) in
-    denied_first _ _ c.from_residual.ensures.1 (λ world who user. verify_by case who user world asked ref (Err (denial_view c.in_err-cursor.field-0.0)) named c.in_err-cursor.ensures)
+    denied_unread _ _ c.from_residual.ensures.1 (λ world who user. verify_by case who user world asked ref (Err (denial_view c.in_err-cursor.field-0.0)) named c.in_err-cursor.ensures)
 
 pub returns-in_err-found : goal.returns-in_err-found
 returns-in_err-found g c = refused_after _ _ c.in_err-found.ensures.world c.from_residual-in_err-found.ensures.1
