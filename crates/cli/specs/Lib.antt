@@ -1,2 +1,3 @@
 pub mod Clocks
 pub mod Answers
+pub mod Statuses

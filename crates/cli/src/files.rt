@@ -1,6 +1,6 @@
 //! Reads what is not the database: the policy, random bytes, and the lines of paths on the input.
 
-use command_line::Fault;
+use crate::faults::Fault;
 use operator::LONGEST_PATHS;
 use policy::{LONGEST_FILE, Policy};
 use std::alloc::Global;

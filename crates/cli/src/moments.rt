@@ -4,7 +4,7 @@ ghost use Rattle.std.specs.Prelude.{◌≡◌};
 ghost use Rattle.std.specs.Time.{system_time_nanos};
 ghost use Rattle.cli.specs.Clocks.{moment_at};
 
-use command_line::Fault;
+use crate::faults::Fault;
 use names::Moment;
 use std::rt::Clock;
 use std::time::{SystemTime, UNIX_EPOCH};

@@ -1,8 +1,9 @@
 //! The commands of an operator, over files that are opened for them.
 
+use crate::faults::Fault;
 use crate::files::{read_paths, read_policy, read_random};
 use crate::moments::moment;
-use command_line::{Fault, Files, OperatorCommand, PushArgs, TokenArgs};
+use command_line::{Files, OperatorCommand, PushArgs, TokenArgs};
 use names::{Moment, RepoName};
 use operator::{Push, Task, paths_in, repo_at};
 use policy::Policy;

@@ -6,11 +6,12 @@ ghost use Rattle.tokens.specs.declared.requests.TokenRequest.{TokenRequest};
 ghost use Rattle.tokens.specs.Issuing.{Issues};
 ghost use Rattle.operator.specs.Works.{Works};
 
+use crate::faults::Fault;
 use crate::files::read_random;
 use crate::moments::moment;
 use crate::operating::{push_of, token_request};
 use crate::program::{status_after, write_text};
-use command_line::{Asked, Fault, OperatorCommand, RANDOM, TokenArgs, read_words};
+use command_line::{Asked, OperatorCommand, RANDOM, TokenArgs, read_words};
 use control::{Request, read_request, reply_bytes, request_size};
 use operator::{Task, repo_at};
 use policy::Policy;

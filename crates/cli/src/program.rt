@@ -2,14 +2,15 @@
 
 ghost use Rattle.std.specs.Prelude.{◌≡◌, ◌≢◌, ◌≤◌};
 ghost use Rattle.std.specs.IoError.{error_kind};
-ghost use Rattle.command_line.specs.Statuses.{status_of, status_of_end};
+ghost use Rattle.cli.specs.Statuses.{status_of, status_of_end};
 
+use crate::faults::Fault;
 use crate::operating::operate;
 use crate::policy_command::policy_command;
 use crate::serve::serve;
 use crate::session::session;
 use crate::via::ask;
-use command_line::{Command, Fault, read_args};
+use command_line::{Command, read_args};
 use control::Status;
 use std::io::{self, ErrorKind, Read, Write};
 use std::rt::HostRuntime;

@@ -4,12 +4,13 @@ ghost use Rattle.std.specs.Prelude.{◌≡◌, ◌≤◌, IfOk};
 ghost use Rattle.refinement.specs.Left.{From};
 ghost use Rattle.operator.specs.Works.{Works};
 
+use crate::faults::Fault;
 use crate::files::read_policy;
 use crate::moments::moment;
 use crate::operators::OperatorContext;
 use crate::program::{print_fault, status_after};
 use crate::session::is_good;
-use command_line::{Fault, ServeArgs};
+use command_line::ServeArgs;
 use names::{Counted, Moment};
 use policy::Policy;
 use refinement::open_from;

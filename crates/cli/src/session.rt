@@ -3,11 +3,12 @@
 ghost use Rattle.std.specs.Prelude.{◌≡◌};
 ghost use Rattle.refinement.specs.Left.{From};
 ghost use Rattle.operator.specs.Works.{Works};
-ghost use Rattle.command_line.specs.Statuses.{is_good};
+ghost use Rattle.cli.specs.Statuses.{is_good};
 
+use crate::faults::Fault;
 use crate::files::read_policy;
 use crate::moments::moment;
-use command_line::{Fault, SessionArgs};
+use command_line::SessionArgs;
 use names::{Counted, Moment};
 use policy::Policy;
 use refinement::open_from;

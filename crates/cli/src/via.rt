@@ -1,7 +1,8 @@
 //! Asks a running server to run a command.
 
+use crate::faults::Fault;
 use crate::files::read_paths;
-use command_line::{Fault, OperatorCommand};
+use command_line::OperatorCommand;
 use control::{Reply, Status, read_reply, request_bytes};
 use std::alloc::{AllocError, Global};
 use std::io::{self, Read, Write};

@@ -1,4 +1,3 @@
 pub mod Numbers
-pub mod Statuses
 pub mod Asking
 pub mod Ranges

@@ -7,8 +7,8 @@ ghost use Rattle.command_line.specs.Numbers.{number_in, number_within, moment_in
 ghost use Rattle.command_line.specs.Ranges.{AreInRange, IsInRange};
 
 use crate::commands::{program, served_program};
-use crate::faults::Fault;
-use crate::operator_commands::UPLOAD;
+use crate::faults::ArgsFault;
+use crate::parameters::UPLOAD;
 use crate::policy_args::{PolicyArgs, policy_args};
 use clap::ArgMatches;
 use clap::error::ErrorKind;
@@ -166,32 +166,32 @@ pub(crate) fn value_of<'a>(matches: &ArgMatches<'a>, name: &str) -> &'a str {
 }
 
 /// The user given with `--user`.
-pub(crate) fn user_of(alloc: Global, matches: &ArgMatches<'_>) -> Result<UserName, Fault> {
+pub(crate) fn user_of(alloc: Global, matches: &ArgMatches<'_>) -> Result<UserName, ArgsFault> {
     let text = value_of(matches, "user").to_owned(alloc)?;
-    UserName::read(text).ok_or(Fault::Value("--user"))
+    UserName::read(text).ok_or(ArgsFault::Value("--user"))
 }
 
 /// The repository given with `--repo`.
-pub(crate) fn repo_of(alloc: Global, matches: &ArgMatches<'_>) -> Result<RepoName, Fault> {
+pub(crate) fn repo_of(alloc: Global, matches: &ArgMatches<'_>) -> Result<RepoName, ArgsFault> {
     let text = value_of(matches, "repo").to_owned(alloc)?;
-    RepoName::read(text).ok_or(Fault::Value("--repo"))
+    RepoName::read(text).ok_or(ArgsFault::Value("--repo"))
 }
 
 /// The ref given with `--ref`.
-pub(crate) fn ref_of(alloc: Global, matches: &ArgMatches<'_>) -> Result<RefName, Fault> {
+pub(crate) fn ref_of(alloc: Global, matches: &ArgMatches<'_>) -> Result<RefName, ArgsFault> {
     let text = value_of(matches, "ref").to_owned(alloc)?;
-    RefName::read(text).ok_or(Fault::Value("--ref"))
+    RefName::read(text).ok_or(ArgsFault::Value("--ref"))
 }
 
 /// The moment given with `--now`; `None` if the option is absent.
-fn now_of(matches: &ArgMatches<'_>) -> Result<Option<Moment>, Fault> {
+fn now_of(matches: &ArgMatches<'_>) -> Result<Option<Moment>, ArgsFault> {
     match matches.get_str("now") {
         None => Ok(None),
-        Some(text) => moment_in(text).map(Some).ok_or(Fault::Value("--now")),
+        Some(text) => moment_in(text).map(Some).ok_or(ArgsFault::Value("--now")),
     }
 }
 
-fn session_args<'a>(matches: &ArgMatches<'a>) -> Result<SessionArgs<'a>, Fault> {
+fn session_args<'a>(matches: &ArgMatches<'a>) -> Result<SessionArgs<'a>, ArgsFault> {
     Ok(SessionArgs {
         db: value_of(matches, "db"),
         policy: value_of(matches, "policy"),
@@ -205,19 +205,19 @@ fn count_of(
     name: &'static str,
     option: &'static str,
     most: u64,
-) -> Result<Option<u64>, Fault>
+) -> Result<Option<u64>, ArgsFault>
     ensures { IfOk result (λ count. IfSome count (λ number. (1 ≤ number) × (number ≤ most))) }
 {
     match matches.get_str(name) {
         None => Ok(None),
         Some(text) => match number_within(text, 1, most) {
             Some(number) => Ok(Some(number)),
-            None => Err(Fault::Value(option)),
+            None => Err(ArgsFault::Value(option)),
         },
     }
 }
 
-fn serve_args<'a>(matches: &ArgMatches<'a>) -> Result<ServeArgs<'a>, Fault>
+fn serve_args<'a>(matches: &ArgMatches<'a>) -> Result<ServeArgs<'a>, ArgsFault>
     ensures { IfOk result AreInRange }
 {
     Ok(ServeArgs {
@@ -239,7 +239,7 @@ fn operation_of(matches: &ArgMatches<'_>) -> Operation {
     }
 }
 
-fn token_args<'a>(alloc: Global, matches: &ArgMatches<'a>) -> Result<TokenArgs<'a>, Fault> {
+fn token_args<'a>(alloc: Global, matches: &ArgMatches<'a>) -> Result<TokenArgs<'a>, ArgsFault> {
     Ok(TokenArgs {
         user: user_of(alloc, matches)?,
         now: now_of(matches)?,
@@ -248,7 +248,7 @@ fn token_args<'a>(alloc: Global, matches: &ArgMatches<'a>) -> Result<TokenArgs<'
     })
 }
 
-fn push_args(alloc: Global, matches: &ArgMatches<'_>) -> Result<PushArgs, Fault> {
+fn push_args(alloc: Global, matches: &ArgMatches<'_>) -> Result<PushArgs, ArgsFault> {
     Ok(PushArgs {
         user: user_of(alloc, matches)?,
         repo: repo_of(alloc, matches)?,
@@ -261,7 +261,7 @@ fn operator_command_of<'a>(
     alloc: Global,
     name: &str,
     matches: &ArgMatches<'a>,
-) -> Result<Option<OperatorCommand<'a>>, Fault> {
+) -> Result<Option<OperatorCommand<'a>>, ArgsFault> {
     Ok(match name {
         "authenticate" => Some(OperatorCommand::Authenticate(token_args(alloc, matches)?)),
         "prune" => Some(OperatorCommand::Prune(now_of(matches)?)),
@@ -288,7 +288,7 @@ fn command_of<'a>(
     alloc: Global,
     name: &str,
     matches: &ArgMatches<'a>,
-) -> Result<Option<Command<'a>>, Fault>
+) -> Result<Option<Command<'a>>, ArgsFault>
     ensures { IfOk result (λ command. IfSome command IsInRange) }
 {
     match name {
@@ -315,15 +315,15 @@ fn is_text_asked_for(kind: ErrorKind) -> bool {
 ///
 /// # Errors
 ///
-/// `Arguments` if `clap` rejects them, `Value` if a value is out of range, `Memory`.
-pub fn read_args<'a>(alloc: Global, args: &'a [String]) -> Result<Command<'a>, Fault>
+/// `Rejected` if `clap` rejects them, `Value` if a value is out of range, `Memory`.
+pub fn read_args<'a>(alloc: Global, args: &'a [String]) -> Result<Command<'a>, ArgsFault>
     ensures { IfOk result IsInRange }
 {
     let mut program = program(alloc)?;
     let matches = match program.try_get_matches_from_mut(args) {
         Ok(matches) => matches,
         Err(error) if is_text_asked_for(error.kind()) => return Ok(Command::Text(error)),
-        Err(error) => return Err(Fault::from(error)),
+        Err(error) => return Err(ArgsFault::from(error)),
     };
     let asked = match matches.subcommand() {
         Some((name, matches)) => command_of(alloc, name, matches)?,
@@ -331,7 +331,7 @@ pub fn read_args<'a>(alloc: Global, args: &'a [String]) -> Result<Command<'a>, F
     };
     match asked {
         Some(asked) => Ok(asked),
-        None => Err(Fault::from(program.error(
+        None => Err(ArgsFault::from(program.error(
             ErrorKind::MissingSubcommand,
             "a command is needed",
         )?)),
@@ -351,18 +351,18 @@ pub enum Asked<'a> {
 ///
 /// # Errors
 ///
-/// `Arguments` if `clap` rejects them, which it does if they name files, a socket, or a command that is not an
-/// operator's; `Value` if a value is out of range; `Request` if there is no command, and `Memory`.
-pub fn read_words<'a>(alloc: Global, words: &'a [String]) -> Result<Asked<'a>, Fault> {
+/// `Rejected` if `clap` rejects them, which it does if they name files, a socket, or a command that is not an
+/// operator's; `Value` if a value is out of range; `NoCommand` if there is no command, and `Memory`.
+pub fn read_words<'a>(alloc: Global, words: &'a [String]) -> Result<Asked<'a>, ArgsFault> {
     let mut program = served_program(alloc)?;
     let matches = match program.try_get_matches_from_mut(words) {
         Ok(matches) => matches,
         Err(error) if is_text_asked_for(error.kind()) => return Ok(Asked::Text(error)),
-        Err(error) => return Err(Fault::from(error)),
+        Err(error) => return Err(ArgsFault::from(error)),
     };
     let command = match matches.subcommand() {
         Some((name, matches)) => operator_command_of(alloc, name, matches)?,
         None => None,
     };
-    Ok(Asked::Command(command.ok_or(Fault::Request)?))
+    Ok(Asked::Command(command.ok_or(ArgsFault::NoCommand)?))
 }

@@ -1,7 +1,8 @@
 //! The commands, as `clap` parses and documents them.
 
-use crate::operator_commands::{Place, REPO_HELP, with_operator_commands};
-use clap::{Arg, ArgAction, Command};
+use crate::operator_commands::{OPERATOR_COMMANDS, REPO_HELP};
+use crate::parameters::{CommandText, Kind, Parameter, Place, commands_of};
+use clap::Command;
 use std::alloc::{AllocError, Global};
 
 const ABOUT: &str =
@@ -63,137 +64,150 @@ it: a row that one earlier row covers is never reached.
 No database is opened. The status is 0 if the file has no fault and the question is allowed, 1 if the file was \
 refused or the question is denied, and 2 if the arguments are wrong.";
 
-const CONTROL_HELP: &str =
-    "The path of a socket on which operators' commands are taken, with --via; only this user may use it";
-
-const DB_HELP: &str =
+pub(crate) const DB_HELP: &str =
     "The database file; it is created if it does not exist, in a folder that exists";
 
-const POLICY_HELP: &str = "The policy file: which repositories there are, and who may do what";
+pub(crate) const POLICY_HELP: &str =
+    "The policy file: which repositories there are, and who may do what";
 
-const NOW_HELP: &str =
-    "The moment, in seconds since 1970-01-01T00:00:00Z: 0 to 253402300799 [default: the clock's]";
+/// The database file of a command that no server runs.
+const DB: Parameter = Parameter {
+    name: "db",
+    value_name: "FILE",
+    help: DB_HELP,
+    kind: Kind::Required,
+};
 
-const LISTEN_HELP: &str = "The address: an IP address or a name, and a port, as 127.0.0.1:8080";
+/// The policy file of such a command.
+const POLICY: Parameter = Parameter {
+    name: "policy",
+    value_name: "FILE",
+    help: POLICY_HELP,
+    kind: Kind::Required,
+};
 
-const REQUESTS_HELP: &str =
-    "Ends after this many connections, 1 to 1000000 [default: runs until it is ended]";
+pub(crate) const NOW: Parameter = Parameter {
+    name: "now",
+    value_name: "N",
+    help: "The moment, in seconds since 1970-01-01T00:00:00Z: 0 to 253402300799 [default: the clock's]",
+    kind: Kind::Optional,
+};
 
-const IDLE_HELP: &str =
-    "How many seconds a client may idle between two requests: 1 to 86400 [default: 10]";
+const LISTEN: Parameter = Parameter {
+    name: "listen",
+    value_name: "ADDR",
+    help: "The address: an IP address or a name, and a port, as 127.0.0.1:8080",
+    kind: Kind::Required,
+};
 
-const ASKER_HELP: &str = "Who asks: 1 to 40 of a-z, 0-9, _ and -";
+const REQUESTS: Parameter = Parameter {
+    name: "requests",
+    value_name: "N",
+    help: "Ends after this many connections, 1 to 1000000 [default: runs until it is ended]",
+    kind: Kind::Optional,
+};
 
-const RIGHT_HELP: &str = "What the user asks to do: pull, push, list, lock or force";
+const IDLE: Parameter = Parameter {
+    name: "idle",
+    value_name: "SECONDS",
+    help: "How many seconds a client may idle between two requests: 1 to 86400 [default: 10]",
+    kind: Kind::Optional,
+};
 
-const ASKED_REF_HELP: &str = "The ref that the question concerns, as refs/heads/main";
+const CONTROL: Parameter = Parameter {
+    name: "control",
+    value_name: "SOCKET",
+    help: "The path of a socket on which operators' commands are taken, with --via; only this user may use it",
+    kind: Kind::Optional,
+};
 
-const ASKED_PATH_HELP: &str = "The path that the question concerns, as art/hero.psd";
+const ASKER: Parameter = Parameter {
+    name: "user",
+    value_name: "U",
+    help: "Who asks: 1 to 40 of a-z, 0-9, _ and -",
+    kind: Kind::Question,
+};
 
-const ROWS_HELP: &str = "Prints each row, and which ones are never reached";
+const ASKED_REPO: Parameter = Parameter {
+    name: "repo",
+    value_name: "R",
+    help: REPO_HELP,
+    kind: Kind::Question,
+};
 
-/// An option with a value.
-pub(crate) fn option<'a>(
-    alloc: Global,
-    name: &'a str,
-    value_name: &'a str,
-    help: &'a str,
-) -> Arg<'a> {
-    Arg::new(alloc, name)
-        .long(name)
-        .value_name(value_name)
-        .help(help)
-}
+const RIGHT: Parameter = Parameter {
+    name: "right",
+    value_name: "RIGHT",
+    help: "What the user asks to do: pull, push, list, lock or force",
+    kind: Kind::Question,
+};
 
-pub(crate) fn db_option<'a>(alloc: Global) -> Arg<'a> {
-    option(alloc, "db", "FILE", DB_HELP)
-}
+const ASKED_REF: Parameter = Parameter {
+    name: "ref",
+    value_name: "REF",
+    help: "The ref that the question concerns, as refs/heads/main",
+    kind: Kind::Question,
+};
 
-pub(crate) fn policy_option<'a>(alloc: Global) -> Arg<'a> {
-    option(alloc, "policy", "FILE", POLICY_HELP)
-}
+const ASKED_PATH: Parameter = Parameter {
+    name: "path",
+    value_name: "PATH",
+    help: "The path that the question concerns, as art/hero.psd",
+    kind: Kind::Question,
+};
 
-pub(crate) fn now_option<'a>(alloc: Global) -> Arg<'a> {
-    option(alloc, "now", "N", NOW_HELP)
-}
+const ROWS: Parameter = Parameter {
+    name: "rows",
+    value_name: "",
+    help: "Prints each row, and which ones are never reached",
+    kind: Kind::Flag,
+};
 
-fn session_command<'a>(alloc: Global) -> Result<Command<'a>, AllocError> {
-    Command::new(alloc, "session")
-        .about(SESSION_ABOUT)
-        .long_about(SESSION_LONG_ABOUT)
-        .arg(db_option(alloc).required(true))?
-        .arg(policy_option(alloc).required(true))?
-        .arg(now_option(alloc))
-}
+const SESSION: CommandText = CommandText {
+    name: "session",
+    about: SESSION_ABOUT,
+    long_about: SESSION_LONG_ABOUT,
+    parameters: &[DB, POLICY, NOW],
+};
 
-fn serve_command<'a>(alloc: Global) -> Result<Command<'a>, AllocError> {
-    Command::new(alloc, "serve")
-        .about(SERVE_ABOUT)
-        .long_about(SERVE_LONG_ABOUT)
-        .arg(db_option(alloc).required(true))?
-        .arg(policy_option(alloc).required(true))?
-        .arg(option(alloc, "listen", "ADDR", LISTEN_HELP).required(true))?
-        .arg(option(alloc, "requests", "N", REQUESTS_HELP))?
-        .arg(option(alloc, "idle", "SECONDS", IDLE_HELP))?
-        .arg(option(alloc, "control", "SOCKET", CONTROL_HELP))
-}
+const SERVE: CommandText = CommandText {
+    name: "serve",
+    about: SERVE_ABOUT,
+    long_about: SERVE_LONG_ABOUT,
+    parameters: &[DB, POLICY, LISTEN, REQUESTS, IDLE, CONTROL],
+};
 
-/// An option of a question. Each of them requires the user, the repository and the right.
-fn question_option<'a>(
-    alloc: Global,
-    name: &'a str,
-    value_name: &'a str,
-    help: &'a str,
-) -> Result<Arg<'a>, AllocError> {
-    option(alloc, name, value_name, help)
-        .requires_arg("user")?
-        .requires_arg("repo")?
-        .requires_arg("right")
-}
+const POLICY_COMMAND: CommandText = CommandText {
+    name: "policy",
+    about: POLICY_COMMAND_ABOUT,
+    long_about: POLICY_COMMAND_LONG_ABOUT,
+    parameters: &[
+        POLICY, ASKER, ASKED_REPO, RIGHT, ASKED_REF, ASKED_PATH, ROWS,
+    ],
+};
 
-fn rows_flag<'a>(alloc: Global) -> Result<Arg<'a>, AllocError> {
-    Arg::new(alloc, "rows")
-        .long("rows")
-        .action(ArgAction::SetTrue)
-        .help(ROWS_HELP)
-        .conflicts_with("user")?
-        .conflicts_with("repo")?
-        .conflicts_with("right")?
-        .conflicts_with("ref")?
-        .conflicts_with("path")
-}
-
-fn policy_command<'a>(alloc: Global) -> Result<Command<'a>, AllocError> {
-    Command::new(alloc, "policy")
-        .about(POLICY_COMMAND_ABOUT)
-        .long_about(POLICY_COMMAND_LONG_ABOUT)
-        .arg(policy_option(alloc).required(true))?
-        .arg(question_option(alloc, "user", "U", ASKER_HELP)?)?
-        .arg(question_option(alloc, "repo", "R", REPO_HELP)?)?
-        .arg(question_option(alloc, "right", "RIGHT", RIGHT_HELP)?)?
-        .arg(question_option(alloc, "ref", "REF", ASKED_REF_HELP)?)?
-        .arg(question_option(alloc, "path", "PATH", ASKED_PATH_HELP)?)?
-        .arg(rows_flag(alloc)?)
-}
+/// The commands that only the program itself runs.
+const OWN_COMMANDS: [CommandText; 3] = [SESSION, SERVE, POLICY_COMMAND];
 
 /// The program, with its commands.
 pub(crate) fn program<'a>(alloc: Global) -> Result<Command<'a>, AllocError> {
-    let program = Command::new(alloc, "custody")
+    let own = commands_of(alloc, OWN_COMMANDS.as_slice(), Place::Here)?;
+    let operators = commands_of(alloc, OPERATOR_COMMANDS.as_slice(), Place::Here)?;
+    Command::new(alloc, "custody")
         .about(ABOUT)
         .version(VERSION)
         .long_version(LONG_VERSION)
         .subcommand_required(true)
         .arg_required_else_help(true)
-        .subcommand(session_command(alloc)?)?
-        .subcommand(serve_command(alloc)?)?
-        .subcommand(policy_command(alloc)?)?;
-    with_operator_commands(alloc, program, Place::Here)
+        .subcommands(own)?
+        .subcommands(operators)
 }
 
 /// The commands that a server takes from operators. The first word is the command.
 pub(crate) fn served_program<'a>(alloc: Global) -> Result<Command<'a>, AllocError> {
-    let program = Command::new(alloc, "custody")
+    let operators = commands_of(alloc, OPERATOR_COMMANDS.as_slice(), Place::Server)?;
+    Command::new(alloc, "custody")
         .no_binary_name(true)
-        .subcommand_required(true);
-    with_operator_commands(alloc, program, Place::Server)
+        .subcommand_required(true)
+        .subcommands(operators)
 }

@@ -1,191 +1,36 @@
-//! Why the program ends with a status other than 0, and what it then prints.
+//! Why arguments are not a command.
 
-ghost use Rattle.std.specs.Prelude.{◌≡◌};
-ghost use Rattle.command_line.specs.Statuses.{status_of};
-
-use control::{RequestFault, Status};
-use operator::{PathsFault, TaskFault};
-use policy::{PolicyFault, Sentence};
-use service::End;
 use std::alloc::AllocError;
-use tables::StoreFault;
 use thiserror::Error;
-use tokens::TokenFault;
 
-/// Why the program ends with a status other than 0. Each prints one line; the first prints the text of `clap`,
-/// `PolicyDescribed` two lines, and the last none.
+/// Why arguments are not a command.
 #[derive(Debug, Drop, Error)]
-pub enum Fault {
-    /// The arguments are not a command. The text is `clap`'s, with its own line ends.
+pub enum ArgsFault {
+    /// `clap` rejects them. The text is `clap`'s, with its own line ends.
     #[error("{0}")]
-    Arguments(clap::Error),
+    Rejected(clap::Error),
     /// A value is not valid for its option; this is the option's name.
-    #[error("custody: bad value for {0}")]
+    #[error("bad value for {0}")]
     Value(&'static str),
-    /// The line of the input with this number is not a path.
-    #[error("custody: bad path in line {0}")]
-    BadPath(usize),
-    /// The input has more lines than a push check takes.
-    #[error("custody: too many paths")]
-    TooManyPaths,
-    /// The machine's clock is out of range.
-    #[error("custody: no moment")]
-    Clock,
-    /// The policy file could not be read.
-    #[error("custody: policy not read")]
-    PolicyFile,
-    /// The file is not a policy.
-    #[error("custody: policy {0}")]
-    Policy(policy::Fault),
-    /// The same of the command `policy`, which adds a sentence that says what to mend.
-    #[error("custody: policy {}\n{}", .0.0, .0)]
-    PolicyDescribed(Sentence),
-    /// The policy has no such repository.
-    #[error("custody: R1: no such repository")]
-    Repository,
-    /// The file has fewer random bytes than a token needs, or could not be read.
-    #[error("custody: random bytes not read")]
-    Random,
-    /// The address could not be bound, or no connection could be accepted.
-    #[error("custody: network")]
-    Network,
-    /// The database refused.
-    #[error("custody: {0}")]
-    Store(StoreFault),
-    /// No token was issued.
-    #[error("custody: {0}")]
-    Token(TokenFault),
+    /// The words of a request name no command.
+    #[error("no command")]
+    NoCommand,
     /// Memory ran out.
-    #[error("custody: no memory")]
+    #[error("memory ran out")]
     Memory,
-    /// The input could not be read, or the output not be written completely.
-    #[error("custody: input or output")]
-    Output,
-    /// The session failed.
-    #[error("custody: session {0:?}")]
-    Session(End),
-    /// The control socket could not be made, or not be used.
-    #[error("custody: control socket")]
-    Control,
-    /// An operator's request did not arrive in time, or is too long; or the reply could not be written.
-    #[error("custody: operator not answered")]
-    Operator,
-    /// The server was asked for something that is not a command, or a command that it does not do.
-    #[error("custody: bad request")]
-    Request,
-    /// What is wrong was reported already, with this status.
-    #[error("reported")]
-    Reported(Status),
 }
 
-impl Fault {
-    /// The exit status: `Invalid` for arguments, their values and the lines of the input, the status that was reported, and
-    /// else `Refused`.
-    pub fn status(&self) -> Status
-        ensures { result ≡ status_of self.now }
-    {
-        match self {
-            Fault::Arguments(_) | Fault::Value(_) => Status::Invalid,
-            Fault::BadPath(_) | Fault::TooManyPaths => Status::Invalid,
-            Fault::Request => Status::Invalid,
-            Fault::Clock => Status::Refused,
-            Fault::PolicyFile => Status::Refused,
-            Fault::Policy(_) | Fault::PolicyDescribed(_) => Status::Refused,
-            Fault::Repository => Status::Refused,
-            Fault::Random => Status::Refused,
-            Fault::Network => Status::Refused,
-            Fault::Store(_) => Status::Refused,
-            Fault::Token(_) => Status::Refused,
-            Fault::Memory => Status::Refused,
-            Fault::Output => Status::Refused,
-            Fault::Session(_) => Status::Refused,
-            Fault::Control => Status::Refused,
-            Fault::Operator => Status::Refused,
-            Fault::Reported(status) => *status,
-        }
-    }
-}
-
-impl From<clap::Error> for Fault {
-    fn from(error: clap::Error) -> Fault {
+impl From<clap::Error> for ArgsFault {
+    fn from(error: clap::Error) -> ArgsFault {
         match error.kind() {
-            clap::error::ErrorKind::OutOfMemory => Fault::Memory,
-            _ => Fault::Arguments(error),
+            clap::error::ErrorKind::OutOfMemory => ArgsFault::Memory,
+            _ => ArgsFault::Rejected(error),
         }
     }
 }
 
-impl From<PolicyFault> for Fault {
-    ghost use Rattle.command_line.specs.Statuses.{of_policy};
-
-    ghost from_gives = { λ fault gives. gives ≡ of_policy fault };
-
-    fn from(fault: PolicyFault) -> Fault {
-        match fault {
-            PolicyFault::Refused(fault) => Fault::Policy(fault),
-            PolicyFault::Memory => Fault::Memory,
-        }
-    }
-}
-
-impl From<StoreFault> for Fault {
-    ghost use Rattle.command_line.specs.Statuses.{of_store};
-
-    ghost from_gives = { λ fault gives. gives ≡ of_store fault };
-
-    fn from(fault: StoreFault) -> Fault {
-        match fault {
-            StoreFault::Memory => Fault::Memory,
-            _ => Fault::Store(fault),
-        }
-    }
-}
-
-impl From<TaskFault> for Fault {
-    ghost use Rattle.command_line.specs.Statuses.{of_task};
-
-    ghost from_gives = { λ fault gives. gives ≡ of_task fault };
-
-    fn from(fault: TaskFault) -> Fault {
-        match fault {
-            TaskFault::Store(fault) => Fault::Store(fault),
-            TaskFault::Token(fault) => Fault::Token(fault),
-            TaskFault::Memory => Fault::Memory,
-            TaskFault::Output => Fault::Output,
-            TaskFault::Reported => Fault::Reported(Status::Refused),
-        }
-    }
-}
-
-impl From<PathsFault> for Fault {
-    ghost use Rattle.command_line.specs.Statuses.{of_paths};
-
-    ghost from_gives = { λ fault gives. gives ≡ of_paths fault };
-
-    fn from(fault: PathsFault) -> Fault {
-        match fault {
-            PathsFault::BadPath(line) => Fault::BadPath(line),
-            PathsFault::TooMany => Fault::TooManyPaths,
-            PathsFault::Memory => Fault::Memory,
-        }
-    }
-}
-
-impl From<RequestFault> for Fault {
-    fn from(fault: RequestFault) -> Fault {
-        match fault {
-            RequestFault::TooLong | RequestFault::TooManyWords => Fault::Request,
-            RequestFault::Memory => Fault::Memory,
-        }
-    }
-}
-
-impl From<AllocError> for Fault {
-    ghost use Rattle.command_line.specs.declared.faults.Fault.TheVariants.{Memory};
-
-    ghost from_gives = { λ _ gives. gives ≡ Memory };
-
-    fn from(_refused: AllocError) -> Fault {
-        Fault::Memory
+impl From<AllocError> for ArgsFault {
+    fn from(_refused: AllocError) -> ArgsFault {
+        ArgsFault::Memory
     }
 }

@@ -1,17 +1,7 @@
 //! The commands of an operator, as `clap` parses them.
 
-use crate::commands::{db_option, now_option, option, policy_option};
-use clap::{Arg, Command};
-use std::alloc::{AllocError, Global};
-
-/// Where a command is run.
-#[derive(Clone, Copy, Debug, PartialEq, Eq)]
-pub(crate) enum Place {
-    /// In the program that parses it, over files, or at a server.
-    Here,
-    /// At a server, which has its files open.
-    Server,
-}
+use crate::commands::{DB_HELP, NOW, POLICY_HELP};
+use crate::parameters::{CommandText, Kind, Parameter};
 
 const AUTHENTICATE_ABOUT: &str =
     "Issues a token to a user, and prints what a Git LFS client needs to use it";
@@ -84,172 +74,135 @@ Removes the uploads that were not completed, and prints their number.
 Such an upload is never served, and the next upload to its repository removes it too. No object is \
 removed. With --via it runs beside a server; with --db no other program may have the database open.";
 
-const USER_HELP: &str = "Who gets the token: 1 to 40 of a-z, 0-9, _ and -";
-
-const PUSHER_HELP: &str = "Who pushes: 1 to 40 of a-z, 0-9, _ and -";
-
 pub(crate) const REPO_HELP: &str =
     "The repository: an owner, a slash and a name, each 1 to 40 of a-z, 0-9, _ and -";
 
-const REF_HELP: &str = "The ref that is pushed to, as refs/heads/main";
+const DB: Parameter = Parameter {
+    name: "db",
+    value_name: "FILE",
+    help: DB_HELP,
+    kind: Kind::File,
+};
 
-const RANDOM_HELP: &str = "The file whose first 32 bytes the token is made of";
+const POLICY: Parameter = Parameter {
+    name: "policy",
+    value_name: "FILE",
+    help: POLICY_HELP,
+    kind: Kind::File,
+};
 
-const PATH_HELP: &str =
-    "The repository, as in the address of the Git remote: studio/film or /studio/film.git";
+const RANDOM_FILE: Parameter = Parameter {
+    name: "random",
+    value_name: "FILE",
+    help: "The file whose first 32 bytes the token is made of",
+    kind: Kind::Random,
+};
 
-const OPERATION_HELP: &str = "What the token is for";
+const VIA: Parameter = Parameter {
+    name: "via",
+    value_name: "SOCKET",
+    help: "The control socket of a running server, which runs the command over its own files",
+    kind: Kind::Socket,
+};
 
-/// The file that random bytes are read from, if no other is given.
-pub const RANDOM: &str = "/dev/urandom";
+const USER: Parameter = Parameter {
+    name: "user",
+    value_name: "U",
+    help: "Who gets the token: 1 to 40 of a-z, 0-9, _ and -",
+    kind: Kind::Required,
+};
 
-const VIA_HELP: &str =
-    "The control socket of a running server, which runs the command over its own files";
+const PUSHER: Parameter = Parameter {
+    name: "user",
+    value_name: "U",
+    help: "Who pushes: 1 to 40 of a-z, 0-9, _ and -",
+    kind: Kind::Required,
+};
 
-/// The arguments that name the operation of a token.
-pub(crate) const DOWNLOAD: &str = "download";
+const REPO: Parameter = Parameter {
+    name: "repo",
+    value_name: "R",
+    help: REPO_HELP,
+    kind: Kind::Required,
+};
 
-pub(crate) const UPLOAD: &str = "upload";
+const REF: Parameter = Parameter {
+    name: "ref",
+    value_name: "REF",
+    help: "The ref that is pushed to, as refs/heads/main",
+    kind: Kind::Required,
+};
 
-/// The command with the database file, and with the socket that may be given in place of all files.
-fn with_db<'a>(
-    alloc: Global,
-    command: Command<'a>,
-    place: Place,
-) -> Result<Command<'a>, AllocError> {
-    match place {
-        Place::Server => Ok(command),
-        Place::Here => command
-            .arg(
-                db_option(alloc)
-                    .required_unless_present("via")?
-                    .conflicts_with("via")?,
-            )?
-            .arg(option(alloc, "via", "SOCKET", VIA_HELP)),
-    }
-}
+const PATH: Parameter = Parameter {
+    name: "path",
+    value_name: "PATH",
+    help: "The repository, as in the address of the Git remote: studio/film or /studio/film.git",
+    kind: Kind::Argument,
+};
 
-/// The command with the database file and the policy file, or with the socket.
-fn with_policy<'a>(
-    alloc: Global,
-    command: Command<'a>,
-    place: Place,
-) -> Result<Command<'a>, AllocError> {
-    let command = with_db(alloc, command, place)?;
-    match place {
-        Place::Server => Ok(command),
-        Place::Here => command.arg(
-            policy_option(alloc)
-                .required_unless_present("via")?
-                .conflicts_with("via")?,
-        ),
-    }
-}
+const OPERATION: Parameter = Parameter {
+    name: "operation",
+    value_name: "OPERATION",
+    help: "What the token is for",
+    kind: Kind::Operation,
+};
 
-/// The command with the file of random bytes.
-fn with_random<'a>(
-    alloc: Global,
-    command: Command<'a>,
-    place: Place,
-) -> Result<Command<'a>, AllocError> {
-    match place {
-        Place::Server => Ok(command),
-        Place::Here => command.arg(
-            option(alloc, "random", "FILE", RANDOM_HELP)
-                .default_value(RANDOM)
-                .conflicts_with("via")?,
-        ),
-    }
-}
+const AUTHENTICATE: CommandText = CommandText {
+    name: "authenticate",
+    about: AUTHENTICATE_ABOUT,
+    long_about: AUTHENTICATE_LONG_ABOUT,
+    parameters: &[DB, VIA, POLICY, USER, NOW, RANDOM_FILE, PATH, OPERATION],
+};
 
-fn path_word<'a>(alloc: Global) -> Arg<'a> {
-    Arg::new(alloc, "path")
-        .value_name("PATH")
-        .required(true)
-        .help(PATH_HELP)
-}
+const PRUNE: CommandText = CommandText {
+    name: "prune",
+    about: PRUNE_ABOUT,
+    long_about: PRUNE_LONG_ABOUT,
+    parameters: &[DB, VIA, NOW],
+};
 
-fn operation_word<'a>(alloc: Global) -> Arg<'a> {
-    Arg::new(alloc, "operation")
-        .value_name("OPERATION")
-        .required(true)
-        .value_parser([DOWNLOAD, UPLOAD].as_slice())
-        .help(OPERATION_HELP)
-}
+const PUSHCHECK: CommandText = CommandText {
+    name: "pushcheck",
+    about: PUSHCHECK_ABOUT,
+    long_about: PUSHCHECK_LONG_ABOUT,
+    parameters: &[DB, VIA, POLICY, PUSHER, REPO, REF],
+};
 
-fn authenticate_command<'a>(alloc: Global, place: Place) -> Result<Command<'a>, AllocError> {
-    let command = Command::new(alloc, "authenticate")
-        .about(AUTHENTICATE_ABOUT)
-        .long_about(AUTHENTICATE_LONG_ABOUT);
-    let command = with_policy(alloc, command, place)?
-        .arg(option(alloc, "user", "U", USER_HELP).required(true))?
-        .arg(now_option(alloc))?;
-    with_random(alloc, command, place)?
-        .arg(path_word(alloc))?
-        .arg(operation_word(alloc))
-}
+const LOCKS: CommandText = CommandText {
+    name: "locks",
+    about: LOCKS_ABOUT,
+    long_about: LOCKS_LONG_ABOUT,
+    parameters: &[DB, VIA, REPO],
+};
 
-fn prune_command<'a>(alloc: Global, place: Place) -> Result<Command<'a>, AllocError> {
-    let command = Command::new(alloc, "prune")
-        .about(PRUNE_ABOUT)
-        .long_about(PRUNE_LONG_ABOUT);
-    with_db(alloc, command, place)?.arg(now_option(alloc))
-}
+const OBJECTS: CommandText = CommandText {
+    name: "objects",
+    about: OBJECTS_ABOUT,
+    long_about: OBJECTS_LONG_ABOUT,
+    parameters: &[DB, VIA, REPO],
+};
 
-fn repo_option<'a>(alloc: Global) -> Arg<'a> {
-    option(alloc, "repo", "R", REPO_HELP).required(true)
-}
+const CHECK: CommandText = CommandText {
+    name: "check",
+    about: CHECK_ABOUT,
+    long_about: CHECK_LONG_ABOUT,
+    parameters: &[DB, VIA],
+};
 
-fn pushcheck_command<'a>(alloc: Global, place: Place) -> Result<Command<'a>, AllocError> {
-    let command = Command::new(alloc, "pushcheck")
-        .about(PUSHCHECK_ABOUT)
-        .long_about(PUSHCHECK_LONG_ABOUT);
-    with_policy(alloc, command, place)?
-        .arg(option(alloc, "user", "U", PUSHER_HELP).required(true))?
-        .arg(repo_option(alloc))?
-        .arg(option(alloc, "ref", "REF", REF_HELP).required(true))
-}
+const SWEEP: CommandText = CommandText {
+    name: "sweep",
+    about: SWEEP_ABOUT,
+    long_about: SWEEP_LONG_ABOUT,
+    parameters: &[DB, VIA],
+};
 
-fn locks_command<'a>(alloc: Global, place: Place) -> Result<Command<'a>, AllocError> {
-    let command = Command::new(alloc, "locks")
-        .about(LOCKS_ABOUT)
-        .long_about(LOCKS_LONG_ABOUT);
-    with_db(alloc, command, place)?.arg(repo_option(alloc))
-}
-
-fn objects_command<'a>(alloc: Global, place: Place) -> Result<Command<'a>, AllocError> {
-    let command = Command::new(alloc, "objects")
-        .about(OBJECTS_ABOUT)
-        .long_about(OBJECTS_LONG_ABOUT);
-    with_db(alloc, command, place)?.arg(repo_option(alloc))
-}
-
-fn check_command<'a>(alloc: Global, place: Place) -> Result<Command<'a>, AllocError> {
-    let command = Command::new(alloc, "check")
-        .about(CHECK_ABOUT)
-        .long_about(CHECK_LONG_ABOUT);
-    with_db(alloc, command, place)
-}
-
-fn sweep_command<'a>(alloc: Global, place: Place) -> Result<Command<'a>, AllocError> {
-    let command = Command::new(alloc, "sweep")
-        .about(SWEEP_ABOUT)
-        .long_about(SWEEP_LONG_ABOUT);
-    with_db(alloc, command, place)
-}
-
-/// The program with the commands of an operator.
-pub(crate) fn with_operator_commands<'a>(
-    alloc: Global,
-    program: Command<'a>,
-    place: Place,
-) -> Result<Command<'a>, AllocError> {
-    program
-        .subcommand(authenticate_command(alloc, place)?)?
-        .subcommand(prune_command(alloc, place)?)?
-        .subcommand(pushcheck_command(alloc, place)?)?
-        .subcommand(locks_command(alloc, place)?)?
-        .subcommand(objects_command(alloc, place)?)?
-        .subcommand(check_command(alloc, place)?)?
-        .subcommand(sweep_command(alloc, place)?)
-}
+/// The commands of an operator.
+pub(crate) const OPERATOR_COMMANDS: [CommandText; 7] = [
+    AUTHENTICATE,
+    PRUNE,
+    PUSHCHECK,
+    LOCKS,
+    OBJECTS,
+    CHECK,
+    SWEEP,
+];

@@ -3,7 +3,7 @@
 ghost use Rattle.std.specs.Prelude.{◌≡◌};
 
 use crate::args::{ref_of, repo_of, user_of, value_of};
-use crate::faults::Fault;
+use crate::faults::ArgsFault;
 use clap::ArgMatches;
 use model::Right;
 use names::{LockPath, RefName, RepoName, UserName};
@@ -64,12 +64,12 @@ impl AskedQuestion {
 }
 
 /// The right given with `--right`.
-fn right_of(matches: &ArgMatches<'_>) -> Result<Right, Fault> {
-    right_named(value_of(matches, "right")).ok_or(Fault::Value("--right"))
+fn right_of(matches: &ArgMatches<'_>) -> Result<Right, ArgsFault> {
+    right_named(value_of(matches, "right")).ok_or(ArgsFault::Value("--right"))
 }
 
 /// The ref given with `--ref`; `None` if the option is absent.
-fn asked_ref_of(alloc: Global, matches: &ArgMatches<'_>) -> Result<Option<RefName>, Fault> {
+fn asked_ref_of(alloc: Global, matches: &ArgMatches<'_>) -> Result<Option<RefName>, ArgsFault> {
     match matches.get_str("ref") {
         None => Ok(None),
         Some(_) => ref_of(alloc, matches).map(Some),
@@ -77,18 +77,18 @@ fn asked_ref_of(alloc: Global, matches: &ArgMatches<'_>) -> Result<Option<RefNam
 }
 
 /// The path given with `--path`; `None` if the option is absent.
-fn asked_path_of(alloc: Global, matches: &ArgMatches<'_>) -> Result<Option<LockPath>, Fault> {
+fn asked_path_of(alloc: Global, matches: &ArgMatches<'_>) -> Result<Option<LockPath>, ArgsFault> {
     match matches.get_str("path") {
         None => Ok(None),
         Some(text) => {
             let path = LockPath::read(text.to_owned(alloc)?);
-            path.map(Some).ok_or(Fault::Value("--path"))
+            path.map(Some).ok_or(ArgsFault::Value("--path"))
         }
     }
 }
 
 /// The question. `clap` has required its first three parts.
-fn asked_of(alloc: Global, matches: &ArgMatches<'_>) -> Result<AskedQuestion, Fault> {
+fn asked_of(alloc: Global, matches: &ArgMatches<'_>) -> Result<AskedQuestion, ArgsFault> {
     Ok(AskedQuestion {
         user: user_of(alloc, matches)?,
         repo: repo_of(alloc, matches)?,
@@ -98,7 +98,7 @@ fn asked_of(alloc: Global, matches: &ArgMatches<'_>) -> Result<AskedQuestion, Fa
     })
 }
 
-fn task_of(alloc: Global, matches: &ArgMatches<'_>) -> Result<PolicyTask, Fault> {
+fn task_of(alloc: Global, matches: &ArgMatches<'_>) -> Result<PolicyTask, ArgsFault> {
     if matches.get_flag("rows") {
         Ok(PolicyTask::List)
     } else if matches.contains_id("user") {
@@ -116,7 +116,7 @@ fn task_of(alloc: Global, matches: &ArgMatches<'_>) -> Result<PolicyTask, Fault>
 pub(crate) fn policy_args<'a>(
     alloc: Global,
     matches: &ArgMatches<'a>,
-) -> Result<PolicyArgs<'a>, Fault> {
+) -> Result<PolicyArgs<'a>, ArgsFault> {
     Ok(PolicyArgs {
         policy: value_of(matches, "policy"),
         task: task_of(alloc, matches)?,

@@ -12,8 +12,8 @@ use Rattle.operator.specs.declared.paths.PathsFault.{PathsFault}
 use Rattle.operator.specs.declared.paths.PathsFault.TheVariants as paths
 use Rattle.control.specs.declared.status.Status.{Status}
 use Rattle.control.specs.declared.status.Status.TheVariants.{Good, Refused, Invalid}
-use Rattle.command_line.specs.declared.faults.Fault.{Fault}
-use Rattle.command_line.specs.declared.faults.Fault.TheVariants.{Arguments, Value, BadPath, TooManyPaths, Clock, PolicyFile, Policy, PolicyDescribed, Repository, Random, Network, Store, Token, Memory, Output, Session, Control, Operator, Request, Reported}
+use Rattle.cli.specs.declared.faults.Fault.{Fault}
+use Rattle.cli.specs.declared.faults.Fault.TheVariants.{Arguments, Value, BadPath, TooManyPaths, Clock, PolicyFile, Policy, PolicyDescribed, Repository, Random, Network, Store, Token, Memory, Output, Session, Control, Operator, Request, Reported}
 
 -- invalid for a fault of the arguments, of the paths or of a request, the status that was reported, else refused
 abbrev pub status_of : Fault → Status
