@@ -4,6 +4,10 @@
 set -eu
 unset CDPATH
 top=$(cd -- "$(dirname -- "$0")/.." && pwd)
+if [ $# -ne 1 ]; then
+    echo 'usage: examples/first-lock.sh DATABASE      a file; if it does not exist it is made' >&2
+    exit 2
+fi
 database=$1
 now=1463500146
 

@@ -14,7 +14,13 @@ import subprocess
 import sys
 import tempfile
 
-import jsonschema
+sys.dont_write_bytecode = True
+from needs import program_given, stop
+
+try:
+    import jsonschema
+except ImportError:
+    stop("the Python module jsonschema is missing: install it first, as by \"apt install python3-jsonschema\"")
 
 FOLDER = "/usr/share/gocode/src/github.com/git-lfs/git-lfs"
 POLICY = os.path.join(os.path.dirname(__file__), "..", "examples", "policy.toml")
@@ -74,8 +80,10 @@ def fault(folder, name, side, value):
 
 
 def main():
-    program = os.path.abspath(sys.argv[1])
+    program = program_given()
     folder = sys.argv[2] if len(sys.argv) > 2 else FOLDER
+    if not os.path.isdir(folder):
+        stop(f"there is no folder {folder}: it comes with the package golang-github-git-lfs-git-lfs-dev")
     failed = 0
     with tempfile.TemporaryDirectory() as room:
         common = ["--db", f"{room}/db", "--policy", POLICY, "--now", NOW]

@@ -6,7 +6,6 @@ first file on which the two differ, and ends with status 1; else how many agreed
 
     compare_policies.py PROGRAM [SECONDS [SEED]]
 """
-import os
 import random
 import re
 import subprocess
@@ -14,6 +13,9 @@ import sys
 import tempfile
 import time
 import tomllib
+
+sys.dont_write_bytecode = True
+from needs import program_given
 
 NAME = r"[a-z0-9_-]{1,40}"
 RIGHTS = ["pull", "push", "list", "lock", "force"]
@@ -261,7 +263,7 @@ def wanted_of(source):
 
 
 def main():
-    program = os.path.abspath(sys.argv[1])
+    program = program_given()
     seconds = float(sys.argv[2]) if len(sys.argv) > 2 else 60
     seed = int(sys.argv[3]) if len(sys.argv) > 3 else random.randrange(2**32)
     make, until, agreed, seen = Maker(seed), time.time() + seconds, 0, {}

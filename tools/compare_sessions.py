@@ -9,7 +9,6 @@ status 1; else how many agreed.
 """
 import hashlib
 import json
-import os
 import random
 import re
 import subprocess
@@ -18,6 +17,7 @@ import tempfile
 import time
 
 sys.dont_write_bytecode = True
+from needs import program_given
 from protocol_reading import REQUESTS, Refused, Server, denial
 
 POLICY = """base = "https://lfs.example"
@@ -426,7 +426,7 @@ def compare(program, room, make, until):
 
 
 def main():
-    program = os.path.abspath(sys.argv[1])
+    program = program_given()
     seconds = float(sys.argv[2]) if len(sys.argv) > 2 else 60
     seed = int(sys.argv[3]) if len(sys.argv) > 3 else random.randrange(2**32)
     with tempfile.TemporaryDirectory() as room:

@@ -13,7 +13,6 @@ prints the first difference, and ends with status 1; else what was compared.
     compare_walks.py PROGRAM [SECONDS [SEED]]
 """
 import json
-import os
 import random
 import sys
 import tempfile
@@ -22,6 +21,7 @@ from functools import lru_cache
 
 sys.dont_write_bytecode = True
 from compare_sessions import BASE, NOW, REPOS, TOKENS, new_database, policy_text, run
+from needs import program_given
 from protocol_reading import Server, lock_id
 
 LOCKS, MESSAGES, PAGES = 5000, 400, 120
@@ -250,7 +250,7 @@ def compare(program, room, make, until):
 
 
 def main():
-    program = os.path.abspath(sys.argv[1])
+    program = program_given()
     seconds = float(sys.argv[2]) if len(sys.argv) > 2 else 60
     seed = int(sys.argv[3]) if len(sys.argv) > 3 else random.randrange(2**32)
     with tempfile.TemporaryDirectory() as room:

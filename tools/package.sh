@@ -1,14 +1,27 @@
 #!/bin/sh
 # Makes a Debian package of the program, its manual page, the unit for systemd, the forced command and the documents. It
-# needs dpkg-deb, pandoc and gzip, and a program that bin/custody has built.
+# needs dpkg-deb, pandoc, gzip, strip (of binutils) and git, and a program that bin/custody has built; what is missing is
+# named, and no package is made.
 # usage: tools/package.sh [FOLDER]      the package is written to the folder, or to this one
 set -eu
 unset CDPATH
+for command in dpkg-deb pandoc gzip strip git; do
+    if ! command -v "$command" > /dev/null; then
+        echo "package.sh: $command is missing: install it first" >&2
+        exit 2
+    fi
+done
 folder=$(cd -- "${1:-.}" && pwd)
 top=$(cd -- "$(dirname -- "$0")/.." && pwd)
 program=$top/crates/custody/out/custody
+if ! [ -x "$program" ]; then
+    echo "package.sh: there is no program $program: bin/custody builds it" >&2
+    exit 2
+fi
 version=$("$program" -V | cut -d ' ' -f 2)
 architecture=$(dpkg --print-architecture)
+maintainer=$(git -C "$top" log -1 --format='%an <%ae>')
+commit=$(git -C "$top" log -1 --format=%h)
 root=$(mktemp -d)
 chmod 755 "$root"
 trap 'rm -rf "$root"' EXIT
@@ -16,11 +29,24 @@ trap 'rm -rf "$root"' EXIT
 documents=$root/usr/share/doc/custody
 mkdir -p "$documents/examples" "$root/usr/share/man/man1"
 install -D -m 755 "$program" "$root/usr/bin/custody"
+strip --strip-unneeded "$root/usr/bin/custody"
 install -D -m 755 "$top/examples/forced-command" "$root/usr/lib/custody/forced-command"
 install -D -m 644 "$top/examples/custody.service" "$root/lib/systemd/system/custody.service"
 install -D -m 644 "$top/examples/policy.toml" "$root/etc/custody/policy.toml"
 install -m 644 "$top/examples/nginx-site" "$top/examples/policy.toml" "$documents/examples"
 install -m 644 "$top/docs/OPERATING.md" "$top/docs/COMMANDS.md" "$top/docs/POLICY.md" "$top/docs/PROTOCOL.md" "$documents"
+
+cat > "$documents/copyright" << END
+custody, a Git LFS object and lock server. This package is made from its Git repository, at commit $commit.
+
+Copyright (C) $(git -C "$top" log -1 --format=%ad --date=format:%Y) the authors whom the repository's history names.
+The repository states no licence.
+END
+{
+    printf 'custody (%s) unstable; urgency=medium\n\n' "$version"
+    printf '  * Made from commit %s of the repository, whose history lists the changes.\n\n' "$commit"
+    printf ' -- %s  %s\n' "$maintainer" "$(git -C "$top" log -1 --format=%aD)"
+} | gzip -9 -n > "$documents/changelog.gz"
 
 # The manual page has the text of docs/COMMANDS.md.
 {
@@ -34,7 +60,7 @@ cat > "$root/DEBIAN/control" << END
 Package: custody
 Version: $version
 Architecture: $architecture
-Maintainer: $(git -C "$top" log -1 --format='%an <%ae>')
+Maintainer: $maintainer
 Installed-Size: $(du -sk "$root" | cut -f 1)
 Depends: libc6, passwd
 Recommends: nginx, openssh-server
@@ -62,7 +88,7 @@ cat > "$root/DEBIAN/prerm" << 'END'
 #!/bin/sh
 set -e
 if [ "$1" = remove ] && [ -d /run/systemd/system ]; then
-    systemctl stop custody.service || true
+    deb-systemd-invoke stop custody.service || true
 fi
 END
 chmod 755 "$root/DEBIAN/postinst" "$root/DEBIAN/prerm"

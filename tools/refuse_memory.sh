@@ -4,6 +4,10 @@
 # One run of `rt try` refuses one allocation of each test, the one with a given number. So the tests
 # take memory that they do not need, each once less than the one before it, in a copy of the crates.
 set -eu
+if ! command -v rt > /dev/null; then
+    echo 'refuse_memory.sh: rt, the command of the Rattle toolchain, is missing' >&2
+    exit 2
+fi
 NUMBER=20000
 TESTS=500
 root=$(cd "$(dirname "$0")/.." && pwd)

@@ -4,8 +4,19 @@
 # for one of the two users, and the place of a server by tools/feed_sessions.py. It needs git, git-lfs and python3, and
 # a program that bin/custody has built. It prints each command and what the client printed.
 set -eu
+unset CDPATH
 top=$(cd -- "$(dirname -- "$0")/.." && pwd)
 program=$top/crates/custody/out/custody
+for command in git git-lfs python3; do
+    if ! command -v "$command" > /dev/null; then
+        echo "try_client.sh: $command is missing: install it first" >&2
+        exit 2
+    fi
+done
+if ! [ -x "$program" ]; then
+    echo "try_client.sh: there is no program $program: bin/custody builds it" >&2
+    exit 2
+fi
 port=${1:-18080}
 work=$(mktemp -d)
 feeder=

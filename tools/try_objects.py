@@ -15,6 +15,8 @@ import subprocess
 import sys
 from pathlib import Path
 
+sys.dont_write_bytecode = True
+from needs import need_commands
 from try_server import TOP, message, require, run_all
 
 POLICY = """base = "https://lfs.example"
@@ -231,7 +233,9 @@ def main():
     parser = argparse.ArgumentParser(description=__doc__.splitlines()[0])
     parser.add_argument("--program", default=str(TOP / "bin/custody"), help="the program [default: bin/custody]")
     parser.add_argument("--only", action="append", choices=CHECKS, help="only this check")
-    return run_all(CHECKS, parser.parse_args(), POLICY)
+    arguments = parser.parse_args()
+    need_commands("sqlite3", "sha256sum")
+    return run_all(CHECKS, arguments, POLICY)
 
 
 if __name__ == "__main__":

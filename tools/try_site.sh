@@ -13,4 +13,9 @@ for command in nginx sshd ssh-keygen openssl git git-lfs python3; do
         exit 2
     fi
 done
-exec "$top/tools/try_site.py" "${1:-$top/crates/custody/out/custody}"
+program=${1:-$top/crates/custody/out/custody}
+if ! [ -x "$program" ]; then
+    echo "try_site.sh: there is no program $program: bin/custody builds it" >&2
+    exit 2
+fi
+exec "$top/tools/try_site.py" "$program"

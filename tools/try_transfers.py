@@ -19,6 +19,9 @@ import sys
 import tempfile
 import time
 
+sys.dont_write_bytecode = True
+from needs import need_commands, program_given
+
 ROWS = """
 [[row]]
 effect = "deny"
@@ -246,8 +249,10 @@ def refusals(trial):
 
 
 def main():
+    program = program_given()
+    need_commands("git", "git-lfs")
     with tempfile.TemporaryDirectory() as room:
-        trial = Trial(os.path.abspath(sys.argv[1]), room)
+        trial = Trial(program, room)
         trial.prepare()
         server = trial.serve()
         try:
