@@ -33,6 +33,7 @@ stop() {
 trap stop EXIT
 trap 'exit 129' HUP
 trap 'exit 130' INT
+trap 'exit 141' PIPE
 trap 'exit 143' TERM
 
 # Starts the server at a port; fails if the port is in use.
@@ -86,17 +87,18 @@ become() {
     [ ! -d "$work/$1" ] || cd "$work/$1"
 }
 
-# Prints a command of the user and what it prints; its status is to be 0.
+# Prints a command of the user and what it prints, of a line that changes only how it ends.
 tell() {
     echo "$SSH_USER\$ $*"
-    "$@" 2>&1 | sed 's/^/    /'
+    status=0
+    "$@" > "$work/printed" 2>&1 || status=$?
+    sed -e 's/.*\r//' -e 's/^/    /' "$work/printed"
+    return "$status"
 }
 
 # The same for a command that is to be refused.
 tell_refused() {
-    echo "$SSH_USER\$ $*"
-    ! "$@" > "$work/refused" 2>&1 || fail 'this was to be refused'
-    sed 's/^/    /' "$work/refused"
+    ! tell "$@" || fail 'this was to be refused'
 }
 
 echo "The server listens on 127.0.0.1:$port. ann makes three files and pushes them:"
