@@ -2,6 +2,8 @@
 use Rattle.std.specs.Prelude.{Bool, Result, Ok, Err}
 use Rattle.service.specs.declared.ends.End.{End}
 use Rattle.service.specs.declared.ends.End.TheVariants.{InputEnded, Closed, ReadFailed, WriteFailed, StoreFailed}
+use Rattle.command_line.specs.declared.faults.ArgsFault.{ArgsFault}
+use Rattle.command_line.specs.declared.faults.ArgsFault.TheVariants as args
 use Rattle.tables.specs.declared.fault.StoreFault.{StoreFault}
 use Rattle.tables.specs.declared.fault.StoreFault.TheVariants as tables
 use Rattle.policy.specs.declared.faults.PolicyFault.{PolicyFault}
@@ -42,6 +44,13 @@ status_of (Reported status) = status
 abbrev pub status_of_end : {A : Type 0} → Result A Fault → Status
 status_of_end (Ok x) = Good
 status_of_end (Err fault) = status_of fault
+
+-- arguments that are not a command, or memory ran out
+abbrev pub of_args : ArgsFault → Fault
+of_args (args.Rejected text) = Arguments text
+of_args (args.Value name) = Value name
+of_args args.NoCommand = Request
+of_args args.Memory = Memory
 
 -- a refusal by the database, or memory ran out
 abbrev pub of_store : StoreFault → Fault

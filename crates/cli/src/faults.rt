@@ -108,6 +108,10 @@ impl Fault {
 }
 
 impl From<ArgsFault> for Fault {
+    ghost use Rattle.cli.specs.Statuses.{of_args};
+
+    ghost from_gives = { λ fault gives. gives ≡ of_args fault };
+
     fn from(fault: ArgsFault) -> Fault {
         match fault {
             ArgsFault::Rejected(text) => Fault::Arguments(text),

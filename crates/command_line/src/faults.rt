@@ -1,5 +1,7 @@
 //! Why arguments are not a command.
 
+ghost use Rattle.std.specs.Prelude.{◌≡◌};
+
 use std::alloc::AllocError;
 use thiserror::Error;
 
@@ -30,6 +32,10 @@ impl From<clap::Error> for ArgsFault {
 }
 
 impl From<AllocError> for ArgsFault {
+    ghost use Rattle.command_line.specs.declared.faults.ArgsFault.TheVariants.{Memory};
+
+    ghost from_gives = { λ _ gives. gives ≡ Memory };
+
     fn from(_refused: AllocError) -> ArgsFault {
         ArgsFault::Memory
     }
