@@ -87,6 +87,11 @@ pub denied_unread : {S : Type 0} {g : Ghosts S} {s : Store S} {IsAsking : Caller
     → ((world : World) (who : Caller) → IsAsking who → verdict world who ≡ Err (denial_view denial)) → AnswersEach g IsAsking s s verdict r
 denied_unread denial r is given = denied_after denial r (reads_none _ _ (λ _. ⊤) (λ _ _ _. tt)) is (λ world laws read who asks. given world who asks)
 
+-- memory ran out before any call
+pub refused_unread : {S : Type 0} {g : Ghosts S} {s : Store S} {IsAsking : Caller → Type 0} {verdict : World → Caller → Answer} (fault : StoreFault) (r : Result Reply NotGranted) → IsErrAnd r (λ e. e ≡ not_granted.Store fault)
+    → AnswersEach g IsAsking s s verdict r
+refused_unread fault r is = refused_after fault r (reads_none _ _ (λ _. ⊤) (λ _ _ _. tt)) is
+
 module _ {S : Type 0} {g : Ghosts S} {old new : Store S} {IsAsking IsCalling : Caller → Type 0} {verdict given : World → Caller → Answer} {r : Result Reply NotGranted} where
   -- the same verdict
   pub answers_alike : ((world : World) (who : Caller) → IsCalling who → IsAsking who × (verdict world who ≡ given world who)) → AnswersEach g IsAsking old new verdict r → AnswersEach g IsCalling old new given r

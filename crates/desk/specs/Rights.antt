@@ -1,6 +1,6 @@
 -- A caller in a repository, and why a request is denied, in the terms of the definitions.
-use Rattle.std.specs.Prelude.{◌≡◌, ℕ, Bool, ◌||◌, List, Result, Ok, Err}
-use Rattle.names.specs.Names.{user_text}
+use Rattle.std.specs.Prelude.{◌≡◌, ℕ, Bool, ◌||◌, List, Some, None, Result, Ok, Err}
+use Rattle.names.specs.Names.{path_text, ref_text, user_text}
 use Rattle.model.specs.World.{World, Lock}
 use Rattle.model.specs.declared.Right.{Right}
 use Rattle.model.specs.declared.Right.TheVariants as right
@@ -12,7 +12,9 @@ use Rattle.model.specs.Cases.{case_in}
 use Rattle.model.specs.Answers as answer
 use Rattle.model.specs.Answers.{by_rule, by_row}
 use Rattle.forms.specs.Replies.{denial_status}
+use Rattle.policy.specs.Applicable.{question_on}
 use Rattle.policy.specs.Values.{policy_view, repo_view}
+use Rattle.tables.specs.declared.rows.LockRow.{LockRow}
 use Rattle.desk.specs.Asking.{setting_of}
 use Rattle.desk.specs.declared.cases.Case.{Case}
 use Rattle.desk.specs.declared.cases.Denial.{Denial}
@@ -47,6 +49,14 @@ pub record IsCallerOf (case : Case) (who : Caller) : Type 0 where
 -- the caller has the right on the ref and the path of the lock
 abbrev pub has_right : Case → Right → Lock → Bool
 has_right case right l = is_allowed (decide (case_policy case) (lock_question right (case_user case) l))
+
+-- the question whether the caller may list locks, on no ref and no path
+abbrev pub list_question : Case → model.Question
+list_question case = record { user = case_user case; repo = (case_repo case).name; right = right.List; ref = None; path = None }
+
+-- the policy allows on the ref and the path of the lock what the question asks
+abbrev pub allow_on : model.Policy → model.Question → LockRow → Bool
+allow_on policy q row = is_allowed (decide policy (question_on q (Some (ref_text row.ref_name)) (Some (path_text row.path))))
 
 -- the lock is the caller's own, or the caller may list or lock it
 abbrev pub may_list_or_lock : Case → Lock → Bool

@@ -15,7 +15,7 @@ use crate::cases::{Case, Denial};
 use crate::outcomes::NotGranted;
 use crate::pages::{shown_locks, start_at};
 use crate::replies::Reply;
-use crate::rights::{may_list, permit, pull_question};
+use crate::rights::{allow_on, list_rows, permit, pull_question};
 use cursor::{Filter, Page, page, read_limit};
 use forms::{Answer, DenialStatus, ListRequest, ShownPage};
 use names::LockId;
@@ -69,12 +69,13 @@ pub(crate) fn list<S: Alter>(
         (λ seen. list_verdict seen (list_asked asked.entry.now)) result }
 {
     let cursor = list_start(case, asked)?;
+    let rows = list_rows(alloc, case)?;
     let found = page(
         alloc,
         store,
         case.repo.name(),
         &filter_of(asked),
-        |row| may_list(case, row),
+        |row| allow_on(&rows, row),
         cursor,
         read_limit(asked.limit),
     )?;

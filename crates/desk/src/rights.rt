@@ -9,7 +9,7 @@ ghost use Rattle.model.specs.Callers.{is_allowed, is_own, lock_question, may_lis
 ghost use Rattle.forms.specs.Replies.{IsAnswer, denial_status};
 ghost use Rattle.policy.specs.Values.{policy_view, question_view};
 ghost use Rattle.locks.specs.Finding.{lock_seen};
-ghost use Rattle.desk.specs.Rights.{Judges, case_policy, case_repo, case_user, denial_view, has_right, may_list_or_lock};
+ghost use Rattle.desk.specs.Rights.{Judges, case_policy, case_repo, case_user, allow_on, denial_view, has_right, list_question, may_list_or_lock};
 ghost use Rattle.desk.specs.Replies.{IsReplyOf};
 
 use crate::cases::{Case, Denial};
@@ -17,7 +17,7 @@ use crate::replies::Reply;
 use forms::{Answer, DenialStatus};
 use model::Right;
 use names::RefName;
-use policy::{Policy, Question, Verdict, decide};
+use policy::{ApplicableRows, Policy, Question, Verdict, decide};
 use std::alloc::{AllocError, Global};
 use tables::LockRow;
 
@@ -124,6 +124,32 @@ pub(crate) fn may_push(case: &Case<'_>, ref_name: &RefName) -> Result<(), Denial
     )
 }
 
+/// The rows of the policy that decide which locks the caller may list.
+pub(crate) fn list_rows<'a>(
+    alloc: Global,
+    case: &Case<'a>,
+) -> Result<ApplicableRows<'a>, AllocError>
+    ensures policy { IfOk result (λ rows. policy_view rows.policy.now ≡ case_policy case.entry.now) }
+    ensures question { IfOk result (λ rows. question_view rows.question ≡ list_question case.entry.now) }
+{
+    let question = Question {
+        user: case.user,
+        repo: case.repo.name(),
+        right: Right::List,
+        ref_name: None,
+        path: None,
+    };
+    ApplicableRows::new(alloc, case.policy, question)
+}
+
+/// Whether the policy allows what the rows were chosen for on the ref and the path of the lock.
+pub(crate) fn allow_on(rows: &ApplicableRows<'_>, row: &LockRow) -> bool
+    ensures { result ≡ allow_on (policy_view rows.now.policy.now) (question_view rows.now.question) row.now }
+{
+    let verdict = rows.decide(Some(&row.ref_name), Some(&row.path));
+    matches!(verdict, Verdict::Allow(_))
+}
+
 /// Whether the caller has the right on the ref and the path of the lock.
 fn has_right(case: &Case<'_>, right: Right, row: &LockRow) -> bool
     ensures { result
@@ -133,7 +159,7 @@ fn has_right(case: &Case<'_>, right: Right, row: &LockRow) -> bool
 }
 
 /// Whether the caller may list the lock.
-pub(crate) fn may_list(case: &Case<'_>, row: &LockRow) -> bool
+fn may_list(case: &Case<'_>, row: &LockRow) -> bool
     ensures { result ≡ may_list (case_policy case.entry.now) (case_user case.entry.now)
         (lock_seen (case_repo case.entry.now).name row.now) }
 {

@@ -3,6 +3,7 @@ pub mod Lists
 pub mod Slashes
 pub mod Documents
 pub mod Rights
+pub mod Applying
 pub mod Covered
 pub mod Steps
 pub mod WholeText

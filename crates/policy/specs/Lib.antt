@@ -4,4 +4,5 @@ pub mod Values
 pub mod Language
 pub mod Reading
 pub mod Lines
+pub mod Applicable
 pub mod Covering

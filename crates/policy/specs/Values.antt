@@ -1,5 +1,5 @@
 -- The crate's values as values of the definitions.
-use Rattle.std.specs.Prelude.{◌≡◌, ◌≤◌, Bool, ◌&&◌, List, IsTrue, length, map, string_bytes, option_map}
+use Rattle.std.specs.Prelude.{◌≡◌, ◌≤◌, List, IsTrue, length, map, string_bytes, option_map}
 use Rattle.names.specs.Names.{user_text, repo_text, ref_text, path_text}
 use Rattle.model.specs.Policy as model
 use Rattle.policy.specs.Ranges.{texts, are_distinct, is_base, longest_life, most_repos, most_rows}
@@ -16,6 +16,8 @@ use Rattle.policy.specs.declared.questions.Question.{Question}
 use Rattle.policy.specs.declared.questions.Verdict.{Verdict}
 use Rattle.policy.specs.declared.questions.Verdict.TheVariants.{Allow, Deny}
 use Rattle.policy.specs.declared.policies.Policy.{Policy}
+use Rattle.policy.specs.declared.applicable.NumberedRow.{NumberedRow}
+use Rattle.policy.specs.Applicable as numbered
 
 -- a repository, as the definitions have it
 abbrev pub repo_view : Repo → model.Repo
@@ -51,11 +53,9 @@ question_view q = record {
   path = option_map (λ path. path_text path.now) q.path;
 }
 
--- the users, repositories, refs and paths of the row match the question
-abbrev pub is_about : model.Row → model.Question → Bool
-is_about row q =
-    model.held_by row.users q.user && model.held_by row.repos q.repo
-    && model.held_if_named row.refs q.ref && model.held_if_named row.paths q.path
+-- a row with its number, as the definitions have it
+abbrev pub numbered_view : NumberedRow → numbered.NumberedRow
+numbered_view n = record { number = n.number; row = row_view n.row.now }
 
 -- an answer, as the definitions have it
 abbrev pub decision_view : Verdict → model.Decision

@@ -9,7 +9,7 @@ use crate::questions::{Question, Verdict};
 use model::Effect;
 
 /// The verdict of the row with this number.
-fn decided(effect: Effect, number: u32) -> Verdict
+pub(crate) fn decided(effect: Effect, number: u32) -> Verdict
     ensures { decision_view result ≡ decision_by effect number }
 {
     match effect {

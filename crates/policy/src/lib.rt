@@ -3,9 +3,10 @@
 //! An administrator writes it as a TOML file: the server's address, its repositories, and a list of
 //! rows that say who may pull, push, list, lock and force what. [`Policy::read`] reads such a text, or
 //! reports its first fault and the place of it. [`decide`] answers a question by the first row that
-//! matches it.
+//! matches it; [`ApplicableRows`] answers many of them about different refs and paths.
 #![tactic(auto)]
 
+mod applicable;
 mod covering;
 mod decisions;
 mod entries;
@@ -20,6 +21,7 @@ mod sentences;
 mod tables;
 mod texts;
 
+pub use applicable::{ApplicableRows, applicable_law};
 pub use covering::covering_law;
 pub use decisions::decide;
 pub use entries::right_named;

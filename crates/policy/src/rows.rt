@@ -8,6 +8,7 @@
 ghost use Rattle.std.specs.Prelude.{◌≡◌, IsTrue, option_map, string_bytes};
 ghost use Rattle.std.specs.List.{list_any};
 ghost use Rattle.model.specs.Policy.{holds, held_by, held_if_named, matches, is_any, same_right};
+ghost use Rattle.policy.specs.Applicable.{applies, covers_place};
 ghost use Rattle.policy.specs.Ranges.{texts, are_entries, is_count, is_user_entry, is_repo_entry, is_ref_entry, is_path_entry};
 
 use crate::questions::Question;
@@ -82,23 +83,30 @@ pub(crate) fn has_right(rights: &[Right], asked: Right) -> bool
 }
 
 impl Row {
-    ghost use Rattle.policy.specs.Values.{row_view, question_view, is_about};
+    ghost use Rattle.policy.specs.Values.{row_view, question_view};
 
-    /// Whether all five lists hold the question. The rights are compared first, since they are the
-    /// shortest to compare.
+    /// Whether all five lists hold the question.
     pub fn matches(&self, question: &Question) -> bool
         ensures { result ≡ matches (row_view self.now) (question_view question.now) }
     {
-        has_right(&self.rights, question.right) && self.is_about(question)
+        self.applies(question) && self.covers_place(question)
     }
 
-    /// Whether the first four lists hold the question.
-    fn is_about(&self, question: &Question) -> bool
-        ensures { result ≡ is_about (row_view self.now) (question_view question.now) }
+    /// Whether the row holds the user, the repository and the right. The rights are compared first, since they are the
+    /// shortest to compare.
+    pub(crate) fn applies(&self, question: &Question) -> bool
+        ensures { result ≡ applies (question_view question.now) (row_view self.now) }
     {
-        held_if_named(&self.users, Some(question.user.as_str()))
-            && held_if_named(&self.repos, Some(question.repo.as_str()))
-            && held_if_named(&self.refs, question.ref_text())
+        has_right(&self.rights, question.right)
+            && held_by(&self.users, question.user.as_str())
+            && held_by(&self.repos, question.repo.as_str())
+    }
+
+    /// Whether the row holds the ref and the path.
+    pub(crate) fn covers_place(&self, question: &Question) -> bool
+        ensures { result ≡ covers_place (question_view question.now) (row_view self.now) }
+    {
+        held_if_named(&self.refs, question.ref_text())
             && held_if_named(&self.paths, question.path_text())
     }
 }

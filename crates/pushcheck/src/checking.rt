@@ -1,8 +1,9 @@
 //! Checks the paths of a push.
 
 ghost use Rattle.std.specs.Prelude.{◌≡◌, ◌≢◌, Err, IfOk, map};
-ghost use Rattle.names.specs.Names.{path_text};
-ghost use Rattle.model.specs.PushChecks.{path_question, path_verdict, push_verdicts};
+ghost use Rattle.names.specs.Names.{path_text, ref_text, repo_text, user_text};
+ghost use Rattle.model.specs.Callers.{push_question};
+ghost use Rattle.model.specs.PushChecks.{path_verdict, push_verdicts};
 ghost use Rattle.policy.specs.Values.{policy_view, question_view};
 ghost use Rattle.refinement.specs.Left.{Reads};
 ghost use Rattle.pushcheck.specs.Verdicts.{push_by, push_view, verdict_view};
@@ -10,44 +11,60 @@ ghost use Rattle.pushcheck.specs.Verdicts.{push_by, push_view, verdict_view};
 use crate::verdicts::{PushVerdict, verdict_by_lock};
 use model::Right;
 use names::{LockPath, RefName, RepoName, UserName};
-use policy::{Policy, Question, Verdict, decide};
+use policy::{ApplicableRows, Policy, Question, Verdict};
 use std::alloc::{AllocError, Global};
 use tables::{Alter, Store, StoreFault};
 
 /// Who pushes, and to which ref of which repository.
-#[derive(Clone, Copy)]
+#[derive(Drop)]
 struct Push<'a> {
     user: &'a UserName,
     repo: &'a RepoName,
     ref_name: &'a RefName,
+    /// The rows of the policy that decide on its paths.
+    rows: ApplicableRows<'a>,
+    pub ghost rows_are_its_own: { question_view rows.question ≡ push_question (user_text user.now) (repo_text repo.now) (ref_text ref_name.now) },
 }
 
-/// The question whether the user may push the path to the ref.
-fn question_on<'a>(push: &Push<'a>, path: &'a LockPath) -> Question<'a>
-    ensures { question_view result ≡ path_question (push_view push.entry.now) (path_text path.now) }
+/// The push of the user to the ref.
+fn push_by<'a>(
+    alloc: Global,
+    policy: &'a Policy,
+    user: &'a UserName,
+    repo: &'a RepoName,
+    ref_name: &'a RefName,
+) -> Result<Push<'a>, AllocError>
+    ensures policy { IfOk result (λ push. push.rows.policy.now ≡ policy.entry.now) }
+    ensures push { IfOk result (λ push. push_view push ≡ push_by user.entry.now repo.entry.now ref_name.entry.now) }
 {
-    Question {
-        user: push.user,
-        repo: push.repo,
+    let question = Question {
+        user,
+        repo,
         right: Right::Push,
-        ref_name: Some(push.ref_name),
-        path: Some(path),
-    }
+        ref_name: Some(ref_name),
+        path: None,
+    };
+    let rows = ApplicableRows::new(alloc, policy, question)?;
+    Ok(Push {
+        user,
+        repo,
+        ref_name,
+        rows,
+    })
 }
 
 /// The verdict on a path: that of the policy if it denies the push, else that of the lock on the path.
 fn verdict_on<S: Alter>(
     store: &mut Store<S>,
-    policy: &Policy,
     push: &Push<'_>,
     path: &LockPath,
 ) -> Result<PushVerdict, StoreFault>
     ensures known { result ≢ Err StoreFault.UnknownSchema }
     ensures world { Reads S.Store store.old store.new (λ world. IfOk result (λ verdict.
         verdict_view verdict
-        ≡ path_verdict (policy_view policy.now) world (push_view push.entry.now) (path_text path.now))) }
+        ≡ path_verdict (policy_view push.now.rows.policy.now) world (push_view push.now) (path_text path.now))) }
 {
-    match decide(policy, &question_on(push, path)) {
+    match push.rows.decide(Some(push.ref_name), Some(path)) {
         Verdict::Deny(row) => Ok(PushVerdict::Denied(row)),
         Verdict::Allow(_) => {
             let found = locks::at(store, push.repo, push.ref_name, path)?;
@@ -76,14 +93,10 @@ pub fn check<S: Alter>(
         map verdict_view verdicts.items ≡ push_verdicts (policy_view policy.now) world
         (push_by user.now repo.now ref_name.now) (map path_text paths.now))) }
 {
-    let push = Push {
-        user,
-        repo,
-        ref_name,
-    };
+    let push = push_by(alloc, policy, user, repo, ref_name)?;
     let mut verdicts = Vec::with_capacity(alloc, paths.len())?;
     for path in paths {
-        let verdict = verdict_on(store, policy, &push, path)?;
+        let verdict = verdict_on(store, &push, path)?;
         verdicts.push(verdict).map_err(AllocError::from)?;
     }
     Ok(verdicts)

@@ -12,8 +12,8 @@ pub type Asked = (
     Option<&'static str>,
 );
 
-/// The verdict on a question.
-fn ask(rt: &(impl Abort + Alloc<A = Global>), policy: &Policy, asked: &Asked) -> Verdict {
+/// The verdicts on a question: that of the policy, and that of the rows that apply to it, chosen without its ref and path.
+fn ask(rt: &(impl Abort + Alloc<A = Global>), policy: &Policy, asked: &Asked) -> [Verdict; 2] {
     let &(name, place, right, branch, file) = asked;
     let name = user(rt, name);
     let place = repo(rt, place);
@@ -28,7 +28,13 @@ fn ask(rt: &(impl Abort + Alloc<A = Global>), policy: &Policy, asked: &Asked) ->
         ref_name,
         path,
     };
-    decide(policy, &question)
+    let without = Question {
+        ref_name: None,
+        path: None,
+        ..question
+    };
+    let rows = unwrap(rt, ApplicableRows::new(rt.alloc(), policy, without));
+    [decide(policy, &question), rows.decide(ref_name, path)]
 }
 
 /// Asserts the policy's verdicts on these questions.
@@ -39,7 +45,7 @@ pub fn expect_verdicts(
 ) {
     let policy = unwrap(rt, Policy::read(rt.alloc(), source));
     for (asked, want) in verdicts {
-        assert_eq!(rt; ask(rt, &policy, asked), *want);
+        assert_eq!(rt; ask(rt, &policy, asked), [*want, *want]);
     }
 }
 

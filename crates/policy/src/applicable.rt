@@ -1,0 +1,101 @@
+//! The rows that can decide the questions of one user for one right in one repository.
+
+ghost use Rattle.std.specs.Prelude.{◌≡◌, IfOk, map, option_map};
+ghost use Rattle.names.specs.Names.{ref_text, path_text};
+ghost use Rattle.model.specs.Policy.{decide};
+ghost use Rattle.policy.specs.Values.{policy_view, question_view, decision_view, numbered_view};
+ghost use Rattle.policy.specs.Applicable.{applicable_rows, question_on, ApplicableRowsDecide};
+
+use crate::decisions::decided;
+use crate::policies::Policy;
+use crate::questions::{Question, Verdict};
+use crate::rows::Row;
+use names::{LockPath, RefName};
+use std::alloc::{AllocError, Global};
+
+/// A row with its number.
+#[derive(Clone, Copy, Debug)]
+struct NumberedRow<'a> {
+    number: u32,
+    row: &'a Row,
+}
+
+/// The rows of a policy that hold the user, the repository and the right of a question. They decide this question on
+/// each ref and path as the whole policy does.
+///
+/// Whoever asks about many paths chooses these rows once: each decision then compares their refs and paths alone.
+#[derive(Debug, Drop)]
+pub struct ApplicableRows<'a> {
+    policy: &'a Policy,
+    question: Question<'a>,
+    rows: Vec<NumberedRow<'a>>,
+    pub ghost are_those_of_the_policy: { map numbered_view rows.items ≡ applicable_rows (policy_view policy.now) (question_view question) },
+}
+
+/// The rows that apply to the question, in the order of the file.
+fn rows_for<'a>(
+    alloc: Global,
+    policy: &'a Policy,
+    question: &Question<'_>,
+) -> Result<Vec<NumberedRow<'a>>, AllocError>
+    ensures { IfOk result (λ rows. map numbered_view rows.items
+        ≡ applicable_rows (policy_view policy.entry.now) (question_view question.now)) }
+{
+    let mut rows = Vec::new(alloc);
+    for (index, row) in policy.rows.iter().enumerate() {
+        if row.applies(question) {
+            let number = index as u32 + 1;
+            rows.push(NumberedRow { number, row })?;
+        }
+    }
+    Ok(rows)
+}
+
+impl<'a> ApplicableRows<'a> {
+    /// The rows for the question. Its ref and its path are not read.
+    ///
+    /// # Errors
+    ///
+    /// Fails if memory ran out.
+    pub fn new(
+        alloc: Global,
+        policy: &'a Policy,
+        question: Question<'a>,
+    ) -> Result<ApplicableRows<'a>, AllocError>
+        ensures policy { IfOk result (λ rows. rows.policy.now ≡ policy.entry.now) }
+        ensures question { IfOk result (λ rows. rows.question ≡ question.entry) }
+    {
+        let rows = rows_for(alloc, policy, &question)?;
+        Ok(ApplicableRows {
+            policy,
+            question,
+            rows,
+        })
+    }
+
+    /// The policy's verdict on the question about this ref and this path, as that of [`decide`](crate::decide). It needs no
+    /// memory.
+    pub fn decide(&self, ref_name: Option<&RefName>, path: Option<&LockPath>) -> Verdict
+        ensures { decision_view result ≡ decide (policy_view self.now.policy.now)
+            (question_on (question_view self.now.question)
+            (option_map (λ name. ref_text name.now) ref_name.entry)
+            (option_map (λ path. path_text path.now) path.entry)) }
+    {
+        let question = Question {
+            ref_name,
+            path,
+            ..self.question
+        };
+        for numbered in &self.rows {
+            if numbered.row.covers_place(&question) {
+                return decided(numbered.row.effect, numbered.number);
+            }
+        }
+        Verdict::Deny(0)
+    }
+}
+
+/// The rows that apply to a question decide it as the policy does.
+pub fn applicable_law()
+    ensures { ApplicableRowsDecide }
+{}
