@@ -3,7 +3,7 @@ use Rattle.std.proofs.Common.{◌≡◌, ◌∙◌, ℕ, ◌+◌, ◌<◌, Bool,
 use Rattle.std.specs.List.{filter}
 use Rattle.model.specs.Policy.{Row, Question, Decision, decision_by, decide, decide_from, held_by}
 use Rattle.policy.specs.Applicable.{NumberedRow, numbered_from, applies, covers_place, decide_among, question_on, ApplicableRowsDecide}
-use Rattle.policy.specs.declared.applicable.NumberedRow as code
+use Rattle.policy.specs.declared.numbered.NumberedRow as code
 use Rattle.policy.specs.declared.applicable.ApplicableRows.{ApplicableRows}
 use Rattle.policy.specs.Values.{policy_view, question_view, row_view, numbered_view}
 use Rattle.policy.proofs.Steps.{map-drop}

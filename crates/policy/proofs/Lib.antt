@@ -4,6 +4,7 @@ pub mod Slashes
 pub mod Documents
 pub mod Rights
 pub mod Applying
+pub mod Patterned
 pub mod Covered
 pub mod Steps
 pub mod WholeText

@@ -5,4 +5,5 @@ pub mod Language
 pub mod Reading
 pub mod Lines
 pub mod Applicable
+pub mod Patterns
 pub mod Covering

@@ -16,7 +16,7 @@ use Rattle.policy.specs.declared.questions.Question.{Question}
 use Rattle.policy.specs.declared.questions.Verdict.{Verdict}
 use Rattle.policy.specs.declared.questions.Verdict.TheVariants.{Allow, Deny}
 use Rattle.policy.specs.declared.policies.Policy.{Policy}
-use Rattle.policy.specs.declared.applicable.NumberedRow.{NumberedRow}
+use Rattle.policy.specs.declared.numbered.NumberedRow.{NumberedRow}
 use Rattle.policy.specs.Applicable as numbered
 
 -- a repository, as the definitions have it

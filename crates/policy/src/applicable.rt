@@ -3,27 +3,46 @@
 ghost use Rattle.std.specs.Prelude.{◌≡◌, IfOk, map, option_map};
 ghost use Rattle.names.specs.Names.{ref_text, path_text};
 ghost use Rattle.model.specs.Policy.{decide};
-ghost use Rattle.policy.specs.Values.{policy_view, question_view, decision_view, numbered_view};
-ghost use Rattle.policy.specs.Applicable.{applicable_rows, question_on, ApplicableRowsDecide};
+ghost use Rattle.policy.specs.Values.{policy_view, question_view, decision_view, row_view, numbered_view};
+ghost use Rattle.policy.specs.Applicable.{applicable_rows, covers_place, question_on, ApplicableRowsDecide};
 
 use crate::decisions::decided;
+use crate::numbered::NumberedRow;
+use crate::patterns::{hold_if_named, patterns_of};
 use crate::policies::Policy;
 use crate::questions::{Question, Verdict};
 use crate::rows::Row;
 use names::{LockPath, RefName};
 use std::alloc::{AllocError, Global};
 
-/// A row with its number.
-#[derive(Clone, Copy, Debug)]
-struct NumberedRow<'a> {
-    number: u32,
-    row: &'a Row,
+impl<'a> NumberedRow<'a> {
+    fn new(alloc: Global, number: u32, row: &'a Row) -> Result<NumberedRow<'a>, AllocError>
+        ensures { IfOk result (λ made. numbered_view made ≡ record { number = number; row = row_view row.entry.now }) }
+    {
+        let refs = patterns_of(alloc, &row.refs)?;
+        let paths = patterns_of(alloc, &row.paths)?;
+        Ok(NumberedRow {
+            number,
+            row,
+            refs,
+            paths,
+        })
+    }
+
+    /// Whether the row holds the ref and the path.
+    fn covers_place(&self, question: &Question) -> bool
+        ensures { result ≡ covers_place (question_view question.now) (row_view self.now.row.now) }
+    {
+        hold_if_named(&self.refs, question.ref_text())
+            && hold_if_named(&self.paths, question.path_text())
+    }
 }
 
 /// The rows of a policy that hold the user, the repository and the right of a question. They decide this question on
 /// each ref and path as the whole policy does.
 ///
-/// Whoever asks about many paths chooses these rows once: each decision then compares their refs and paths alone.
+/// Whoever asks about many paths chooses these rows once: each decision then compares their refs and paths alone, with
+/// patterns that were read once.
 #[derive(Debug, Drop)]
 pub struct ApplicableRows<'a> {
     policy: &'a Policy,
@@ -45,7 +64,7 @@ fn rows_for<'a>(
     for (index, row) in policy.rows.iter().enumerate() {
         if row.applies(question) {
             let number = index as u32 + 1;
-            rows.push(NumberedRow { number, row })?;
+            rows.push(NumberedRow::new(alloc, number, row)?)?;
         }
     }
     Ok(rows)
@@ -87,7 +106,7 @@ impl<'a> ApplicableRows<'a> {
             ..self.question
         };
         for numbered in &self.rows {
-            if numbered.row.covers_place(&question) {
+            if numbered.covers_place(&question) {
                 return decided(numbered.row.effect, numbered.number);
             }
         }

@@ -12,6 +12,8 @@ mod decisions;
 mod entries;
 mod faults;
 mod keys;
+mod numbered;
+mod patterns;
 mod policies;
 mod questions;
 mod reading;

@@ -4,7 +4,7 @@ use Rattle.names.specs.declared.texts.UserName.{UserName}
 use Rattle.names.specs.declared.texts.RepoName.{RepoName}
 use Rattle.names.specs.declared.texts.RefName.{RefName}
 use Rattle.model.specs.PushChecks as model
-use Rattle.pushcheck.specs.declared.checking.Push.{Push}
+use Rattle.pushcheck.specs.declared.pushes.Push.{Push}
 use Rattle.pushcheck.specs.declared.verdicts.PushVerdict.{PushVerdict}
 use Rattle.pushcheck.specs.declared.verdicts.PushVerdict.TheVariants.{Denied, Locked}
 use Rattle.pushcheck.specs.declared.verdicts.PushVerdict.TheVariants as verdict

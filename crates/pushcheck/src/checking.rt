@@ -1,30 +1,19 @@
 //! Checks the paths of a push.
 
 ghost use Rattle.std.specs.Prelude.{◌≡◌, ◌≢◌, Err, IfOk, map};
-ghost use Rattle.names.specs.Names.{path_text, ref_text, repo_text, user_text};
-ghost use Rattle.model.specs.Callers.{push_question};
+ghost use Rattle.names.specs.Names.{path_text};
 ghost use Rattle.model.specs.PushChecks.{path_verdict, push_verdicts};
-ghost use Rattle.policy.specs.Values.{policy_view, question_view};
+ghost use Rattle.policy.specs.Values.{policy_view};
 ghost use Rattle.refinement.specs.Left.{Reads};
 ghost use Rattle.pushcheck.specs.Verdicts.{push_by, push_view, verdict_view};
 
+use crate::pushes::Push;
 use crate::verdicts::{PushVerdict, verdict_by_lock};
 use model::Right;
 use names::{LockPath, RefName, RepoName, UserName};
 use policy::{ApplicableRows, Policy, Question, Verdict};
 use std::alloc::{AllocError, Global};
 use tables::{Alter, Store, StoreFault};
-
-/// Who pushes, and to which ref of which repository.
-#[derive(Drop)]
-struct Push<'a> {
-    user: &'a UserName,
-    repo: &'a RepoName,
-    ref_name: &'a RefName,
-    /// The rows of the policy that decide on its paths.
-    rows: ApplicableRows<'a>,
-    pub ghost rows_are_its_own: { question_view rows.question ≡ push_question (user_text user.now) (repo_text repo.now) (ref_text ref_name.now) },
-}
 
 /// The push of the user to the ref.
 fn push_by<'a>(

@@ -5,6 +5,7 @@
 #![tactic(auto)]
 
 mod checking;
+mod pushes;
 mod verdicts;
 
 pub use checking::check;
