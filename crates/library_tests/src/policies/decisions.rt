@@ -13,7 +13,11 @@ pub type Asked = (
 );
 
 /// The verdicts on a question: that of the policy, and that of the rows that apply to it, chosen without its ref and path.
-fn ask(rt: &(impl Abort + Alloc<A = Global>), policy: &Policy, asked: &Asked) -> [Verdict; 2] {
+fn ask(
+    rt: &(impl Abort + Alloc<A = Global>),
+    policy: &Policy,
+    asked: &Asked,
+) -> (Verdict, Verdict) {
     let &(name, place, right, branch, file) = asked;
     let name = user(rt, name);
     let place = repo(rt, place);
@@ -34,7 +38,7 @@ fn ask(rt: &(impl Abort + Alloc<A = Global>), policy: &Policy, asked: &Asked) ->
         ..question
     };
     let rows = unwrap(rt, ApplicableRows::new(rt.alloc(), policy, without));
-    [decide(policy, &question), rows.decide(ref_name, path)]
+    (decide(policy, &question), rows.decide(ref_name, path))
 }
 
 /// Asserts the policy's verdicts on these questions.
@@ -45,7 +49,9 @@ pub fn expect_verdicts(
 ) {
     let policy = unwrap(rt, Policy::read(rt.alloc(), source));
     for (asked, want) in verdicts {
-        assert_eq!(rt; ask(rt, &policy, asked), [*want, *want]);
+        let (by_policy, by_rows) = ask(rt, &policy, asked);
+        assert_eq!(rt; by_policy, *want);
+        assert_eq!(rt; by_rows, *want);
     }
 }
 
