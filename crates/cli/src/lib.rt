@@ -7,6 +7,7 @@
 mod faults;
 mod files;
 mod moments;
+mod opening;
 mod operating;
 mod operators;
 mod policy_command;

@@ -3,15 +3,15 @@
 use crate::faults::Fault;
 use crate::files::{read_paths, read_policy, read_random};
 use crate::moments::moment;
+use crate::opening::{Job, open_for};
 use command_line::{Files, OperatorCommand, PushArgs, TokenArgs};
 use names::{Moment, RepoName};
 use operator::{Push, Task, paths_in, repo_at};
 use policy::Policy;
-use refinement::open_from;
 use std::alloc::Global;
 use std::io::{IsTerminal, Read, Write};
 use std::rt::HostRuntime;
-use tables::Start;
+use tables::{Start, Storage, Store};
 use tokens::TokenRequest;
 
 /// The token that the arguments ask for.
@@ -32,6 +32,21 @@ pub(crate) fn token_request<'a>(
     }
 }
 
+/// A task over the database, and where it prints.
+#[derive(Drop)]
+struct OperatorTask<'a, 't, W> {
+    alloc: Global,
+    task: &'a Task<'t>,
+    output: &'a mut W,
+}
+
+impl<W: Write> Job for OperatorTask<'_, '_, W> {
+    fn work<S: Storage>(self, store: &mut Store<S>) -> Result<(), Fault> {
+        self.task.run(self.alloc, store, self.output)?;
+        Ok(())
+    }
+}
+
 /// Opens the database, and runs the task over it.
 fn run_task<S: Start, W: Write>(
     rt: &HostRuntime,
@@ -40,9 +55,17 @@ fn run_task<S: Start, W: Write>(
     output: &mut W,
     start: S,
 ) -> Result<(), Fault> {
-    let mut store = open_from(rt, db, start)?;
-    task.run(rt.alloc(), &mut store, output)?;
-    Ok(())
+    let alloc = rt.alloc();
+    open_for(
+        rt,
+        db,
+        start,
+        OperatorTask {
+            alloc,
+            task,
+            output,
+        },
+    )
 }
 
 /// Issues a token to the user, and prints the line that the client needs.
