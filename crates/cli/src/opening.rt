@@ -14,7 +14,7 @@ use tables::{Start, Storage, Store};
 const MODE: u32 = 0o600;
 
 /// What is done with an open database.
-pub(crate) trait Job {
+pub(crate) trait Job: Drop {
     /// Does it. Whether it succeeds or fails, the store was led by the steps of a run of the definitions.
     fn work<S: Storage>(self, store: &mut Store<S>) -> Result<(), Fault>
         ensures { From S.Store store.old store.new (λ world.
