@@ -8,9 +8,11 @@ its bound, and fails if the bound is not kept. The last line counts the checks; 
 Linux and python3, and takes some minutes. Without --program it is bin/custody.
 """
 import argparse
+import contextlib
 import hashlib
 import json
 import os
+import pty
 import random
 import signal
 import socket
@@ -19,6 +21,7 @@ import subprocess
 import sys
 import threading
 import time
+import tty
 from pathlib import Path
 
 from try_server import POLICY, TARGET, TOP, Client, Failed, message, require, run_all
@@ -147,6 +150,46 @@ def check_silent(server, _):
         require(taken <= 3, f"a client waited for {taken:.2f} s")
     require("custody: operator not answered" in server.errors(), "the server did not report it")
     return f"a client waited for {taken:.2f} s (at most 3 s)"
+
+
+def check_turns(server, _):
+    """Ten operators who send nothing hold up a client for as long as two of them, and not as all."""
+    with contextlib.ExitStack() as held:
+        for _ in range(10):
+            held.enter_context(socket.socket(socket.AF_UNIX)).connect(socket_of(server))
+        time.sleep(0.1)
+        taken = server.time_of_lock("art/after-ten")
+    require(taken <= 5, f"a client waited for {taken:.2f} s")
+    return f"a client beside ten silent operators waited for {taken:.2f} s (at most 5 s)"
+
+
+def printed_on_terminal(words):
+    """What a command prints if its output is a terminal."""
+    ours, theirs = pty.openpty()
+    try:
+        tty.setraw(theirs)
+        require(subprocess.run(words, stdout=theirs).returncode == 0, "the command failed")
+        return os.read(ours, 65_536).decode()
+    finally:
+        os.close(ours)
+        os.close(theirs)
+
+
+def check_terminal(server, _):
+    """On a terminal the control characters of a path are escapes, by the socket and over the files; else they are not."""
+    path = "art/\u009b31m\u0085\u00a0.psd"
+    shown = "art/\\u{9b}31m\\u{85}\u00a0.psd"
+    with server.client() as client:
+        require(client.ask(message("POST", TARGET, {"path": path}))[0] == 201, "no lock")
+    words = ["locks", "--repo", "studio/film"]
+    by_socket = printed_on_terminal([server.program, *words, "--via", socket_of(server)])
+    require(by_socket.endswith(f" {shown}\n"), f"by the socket: {by_socket!r}")
+    require(via(server, *words)[1].endswith(f" {path}\n"), "the path was changed in a pipe")
+    server.end(signal.SIGTERM)
+    by_files = printed_on_terminal([server.program, *words, *server.files()[:2]])
+    require(by_files == by_socket, f"over the files: {by_files!r}")
+    server.start()
+    return "escapes on a terminal, bytes in a pipe"
 
 
 def check_idle_client(server, _):
@@ -287,6 +330,8 @@ CHECKS = {
     "stale": controlled(check_stale),
     "no-server": controlled(check_no_server),
     "silent": controlled(check_silent),
+    "turns": controlled(check_turns),
+    "terminal": controlled(check_terminal),
     "idle-client": controlled(check_idle_client),
     "under-load": controlled(check_under_load),
     "killed": controlled(check_killed),

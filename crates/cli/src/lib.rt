@@ -7,6 +7,7 @@
 mod faults;
 mod files;
 mod moments;
+mod opening;
 mod operating;
 mod operators;
 mod policy_command;
@@ -17,5 +18,6 @@ mod session;
 mod via;
 
 pub use command_line::ServeArgs;
+pub use operator::Destination;
 pub use program::{refuse_args, run};
 pub use serve::{Doors, serve_doors};

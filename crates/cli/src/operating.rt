@@ -3,15 +3,15 @@
 use crate::faults::Fault;
 use crate::files::{read_paths, read_policy, read_random};
 use crate::moments::moment;
+use crate::opening::{Job, open_for};
 use command_line::{Files, OperatorCommand, PushArgs, TokenArgs};
 use names::{Moment, RepoName};
-use operator::{Push, Task, paths_in, repo_at};
+use operator::{Destination, Push, Task, paths_in, repo_at};
 use policy::Policy;
-use refinement::open_from;
 use std::alloc::Global;
 use std::io::{IsTerminal, Read, Write};
 use std::rt::HostRuntime;
-use tables::Start;
+use tables::{Start, Storage, Store};
 use tokens::TokenRequest;
 
 /// The token that the arguments ask for.
@@ -32,17 +32,40 @@ pub(crate) fn token_request<'a>(
     }
 }
 
+/// A task over the database, and where it prints.
+#[derive(Drop)]
+struct OperatorTask<'a, 't, W> {
+    alloc: Global,
+    task: &'a Task<'t>,
+    destination: Destination,
+    output: &'a mut W,
+}
+
+impl<W: Write> Job for OperatorTask<'_, '_, W> {
+    fn work<S: Storage>(self, store: &mut Store<S>) -> Result<(), Fault> {
+        self.task
+            .run(self.alloc, store, self.destination, self.output)?;
+        Ok(())
+    }
+}
+
 /// Opens the database, and runs the task over it.
 fn run_task<S: Start, W: Write>(
     rt: &HostRuntime,
     db: &str,
     task: &Task<'_>,
+    destination: Destination,
     output: &mut W,
     start: S,
 ) -> Result<(), Fault> {
-    let mut store = open_from(rt, db, start)?;
-    task.run(rt.alloc(), &mut store, output)?;
-    Ok(())
+    let alloc = rt.alloc();
+    let task = OperatorTask {
+        alloc,
+        task,
+        destination,
+        output,
+    };
+    open_for(rt, db, start, task)
 }
 
 /// Issues a token to the user, and prints the line that the client needs.
@@ -50,6 +73,7 @@ fn authenticate<S: Start, W: Write>(
     rt: &HostRuntime,
     files: &Files<'_>,
     asked: &TokenArgs<'_>,
+    destination: Destination,
     output: &mut W,
     start: S,
 ) -> Result<(), Fault> {
@@ -59,7 +83,7 @@ fn authenticate<S: Start, W: Write>(
     let random = read_random(rt, files.random)?;
     let request = token_request(asked, repo, now, policy.token_seconds(), &random);
     let task = Task::Issue(&policy, request);
-    run_task(rt, files.db, &task, output, start)
+    run_task(rt, files.db, &task, destination, output, start)
 }
 
 /// The push that the arguments and the lines of paths describe.
@@ -84,6 +108,7 @@ fn push_check<S: Start, R: Read, W: Write>(
     files: &Files<'_>,
     asked: &PushArgs,
     input: &mut R,
+    destination: Destination,
     output: &mut W,
     start: S,
 ) -> Result<(), Fault> {
@@ -91,19 +116,22 @@ fn push_check<S: Start, R: Read, W: Write>(
     let policy = read_policy(rt, files.policy)?;
     let lines = read_paths(alloc, input)?;
     let push = push_of(alloc, &policy, asked, lines.as_slice())?;
-    run_task(rt, files.db, &Task::CheckPush(push), output, start)
+    let task = Task::CheckPush(push);
+    run_task(rt, files.db, &task, destination, output, start)
 }
 
 /// Hashes the objects again. Shows how far it is on the error stream, if that is a terminal.
 fn check<S: Start, W: Write>(
     rt: &HostRuntime,
     db: &str,
+    destination: Destination,
     output: &mut W,
     start: S,
 ) -> Result<(), Fault> {
     let errors = rt.stderr();
     let terminal = errors.is_terminal().then_some(&errors);
-    run_task(rt, db, &Task::CheckObjects(terminal), output, start)
+    let task = Task::CheckObjects(terminal);
+    run_task(rt, db, &task, destination, output, start)
 }
 
 /// Runs a command of an operator over the files, and writes what it prints.
@@ -119,20 +147,23 @@ pub(crate) fn operate<S: Start, R: Read, W: Write>(
     files: &Files<'_>,
     command: &OperatorCommand<'_>,
     input: &mut R,
+    destination: Destination,
     output: &mut W,
     start: S,
 ) -> Result<(), Fault> {
     let db = files.db;
-    match command {
-        OperatorCommand::Authenticate(asked) => authenticate(rt, files, asked, output, start),
-        OperatorCommand::Prune(now) => {
-            let now = moment(rt, *now)?;
-            run_task(rt, db, &Task::Prune(now), output, start)
+    let task = match command {
+        OperatorCommand::Authenticate(asked) => {
+            return authenticate(rt, files, asked, destination, output, start);
         }
-        OperatorCommand::PushCheck(asked) => push_check(rt, files, asked, input, output, start),
-        OperatorCommand::Locks(repo) => run_task(rt, db, &Task::ListLocks(repo), output, start),
-        OperatorCommand::Objects(repo) => run_task(rt, db, &Task::ListObjects(repo), output, start),
-        OperatorCommand::Check => check(rt, db, output, start),
-        OperatorCommand::Sweep => run_task(rt, db, &Task::Sweep, output, start),
-    }
+        OperatorCommand::PushCheck(asked) => {
+            return push_check(rt, files, asked, input, destination, output, start);
+        }
+        OperatorCommand::Check => return check(rt, db, destination, output, start),
+        OperatorCommand::Prune(now) => Task::Prune(moment(rt, *now)?),
+        OperatorCommand::Locks(repo) => Task::ListLocks(repo),
+        OperatorCommand::Objects(repo) => Task::ListObjects(repo),
+        OperatorCommand::Sweep => Task::Sweep,
+    };
+    run_task(rt, db, &task, destination, output, start)
 }

@@ -13,7 +13,7 @@ use crate::operating::{push_of, token_request};
 use crate::program::{status_after, write_text};
 use command_line::{Asked, OperatorCommand, RANDOM, TokenArgs, read_words};
 use control::{Request, read_request, reply_bytes, request_size};
-use operator::{Task, repo_at};
+use operator::{Destination, Task, repo_at};
 use policy::Policy;
 use std::alloc::Global;
 use std::io::{self, ErrorKind, Read, Write};
@@ -88,7 +88,8 @@ impl<C: Clock> OperatorContext<'_, C> {
         let repo = repo_at(self.policy, asked.path).ok_or(Fault::Repository)?;
         let random = read_random(self.rt, RANDOM)?;
         let request = token_request(asked, repo, now, self.policy.token_seconds(), &random);
-        Task::Issue(self.policy, request).run(self.rt.alloc(), store, output)?;
+        let task = Task::Issue(self.policy, request);
+        task.run(self.rt.alloc(), store, Destination::Other, output)?;
         Ok(())
     }
 
@@ -116,7 +117,8 @@ impl<C: Clock> OperatorContext<'_, C> {
             OperatorCommand::Check => Task::CheckObjects(None),
             OperatorCommand::Sweep => Task::Sweep,
         };
-        task.run(alloc, store, output)?;
+        // The program that prints the reply escapes what it prints on a terminal.
+        task.run(alloc, store, Destination::Other, output)?;
         Ok(())
     }
 

@@ -77,7 +77,7 @@ fn covering_in(earlier: &[Row], row: &Row) -> Option<usize>
 /// Writes the number of repositories and rows.
 fn write_counts<W: Write>(alloc: Global, policy: &Policy, output: &mut W) -> Result<(), Fault> {
     let mut lines = Lines::new(alloc, output)?;
-    lines.write(policy_line(alloc, policy)?.as_str())?;
+    lines.write(policy_line(alloc, policy)?.as_bytes())?;
     Ok(lines.end()?)
 }
 
@@ -93,9 +93,9 @@ fn write_decision<W: Write>(
 {
     let verdict = verdict_on(policy, asked);
     let mut lines = Lines::new(alloc, output)?;
-    lines.write(decision_line(alloc, verdict)?.as_str())?;
+    lines.write(decision_line(alloc, verdict)?.as_bytes())?;
     if let Some(row) = row_numbered(policy.rows(), number_of(verdict)) {
-        lines.write(row.to_string(alloc)?.as_str())?;
+        lines.write(row.to_string(alloc)?.as_bytes())?;
     }
     lines.end()?;
     ending(verdict)
@@ -106,8 +106,8 @@ fn write_rows<W: Write>(alloc: Global, rows: &[Row], output: &mut W) -> Result<(
     let mut lines = Lines::new(alloc, output)?;
     for (index, row) in rows.iter().enumerate() {
         let covering = covering_in(&rows[..index], row);
-        lines.write(row_line(alloc, index + 1, covering)?.as_str())?;
-        lines.write(row.to_string(alloc)?.as_str())?;
+        lines.write(row_line(alloc, index + 1, covering)?.as_bytes())?;
+        lines.write(row.to_string(alloc)?.as_bytes())?;
     }
     Ok(lines.end()?)
 }

@@ -12,6 +12,7 @@ use crate::session::session;
 use crate::via::ask;
 use command_line::{Command, read_args};
 use control::Status;
+use operator::Destination;
 use std::io::{self, ErrorKind, Read, Write};
 use std::rt::HostRuntime;
 use tables::Start;
@@ -27,6 +28,7 @@ fn dispatch<S: Start, R: Read, W: Write, E: Write>(
     rt: &HostRuntime,
     args: &[String],
     input: &mut R,
+    destination: Destination,
     output: &mut W,
     errors: &mut E,
     start: S,
@@ -36,8 +38,19 @@ fn dispatch<S: Start, R: Read, W: Write, E: Write>(
         Command::Session(asked) => session(rt, &asked, input, output, start),
         Command::Serve(asked) => serve(rt, &asked, output, errors, start),
         Command::Policy(asked) => policy_command(rt, &asked, output),
-        Command::Local(files, command) => operate(rt, &files, &command, input, output, start),
-        Command::Remote(socket, command) => ask(rt, socket, &command, args, input, output, errors),
+        Command::Local(files, command) => {
+            operate(rt, &files, &command, input, destination, output, start)
+        }
+        Command::Remote(socket, command) => ask(
+            rt,
+            socket,
+            &command,
+            args,
+            input,
+            destination,
+            output,
+            errors,
+        ),
     }
 }
 
@@ -72,8 +85,8 @@ pub(crate) fn status_after<E: Write>(ended: Result<(), Fault>, errors: &mut E) -
 /// The program: runs the command that its arguments name, over its input, its output and its error
 /// stream. Returns the exit status: 0 for success, 1 for a refusal, 2 for invalid arguments.
 ///
-/// The first argument is the program's own name. `docs/COMMANDS.md` lists what the commands print, and
-/// each line on the error stream.
+/// The first argument is the program's own name. `destination` is where the output is written to.
+/// `docs/COMMANDS.md` lists what the commands print, and each line on the error stream.
 ///
 /// `start` represents the contents of the database and its log when they are opened, which no code can
 /// read: so the proofs about the commands hold for every file. A program passes
@@ -82,13 +95,14 @@ pub fn run<S: Start, R: Read, W: Write, E: Write>(
     rt: &HostRuntime,
     args: &[String],
     input: &mut R,
+    destination: Destination,
     output: &mut W,
     errors: &mut E,
     start: S,
 ) -> u8
     ensures { result ≤ 2 }
 {
-    let ended = dispatch(rt, args, input, output, errors, start);
+    let ended = dispatch(rt, args, input, destination, output, errors, start);
     status_after(ended, errors).code()
 }
 

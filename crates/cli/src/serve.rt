@@ -7,13 +7,13 @@ ghost use Rattle.operator.specs.Works.{Works};
 use crate::faults::Fault;
 use crate::files::read_policy;
 use crate::moments::moment;
+use crate::opening::{Job, open_for};
 use crate::operators::OperatorContext;
 use crate::program::{print_fault, status_after};
 use crate::session::is_good;
 use command_line::ServeArgs;
 use names::{Counted, Moment};
 use policy::Policy;
-use refinement::open_from;
 use service::{End, Routes};
 use sockets::{
     Announced, Caller, ControlSocket, Course, PatientReader, PatientWriter, Queue, linger, prepare,
@@ -255,20 +255,37 @@ fn serve_controlled<S: Storage, C: Clock, W: Write, E: Write>(
     served
 }
 
-/// Serves the connections over the store, with a control socket if the arguments name one.
-fn serve_opened<S: Storage, C: Clock, W: Write, E: Write>(
-    context: &ServeContext<'_, C>,
-    store: &mut Store<S>,
-    args: &ServeArgs<'_>,
-    doors: Doors<'_>,
-    output: &mut W,
-    errors: &mut E,
-) -> Result<(), Fault>
-    ensures { From S.Store store.old store.new (λ world. Works S.Store store.old store.new world) }
-{
-    match args.control {
-        None => serve_store(context, store, args, doors, output, errors),
-        Some(path) => serve_controlled(context, store, args, doors.clients, path, output, errors),
+/// A server, before it has its store.
+#[derive(Drop)]
+struct Server<'a, C, W, E> {
+    context: &'a ServeContext<'a, C>,
+    args: &'a ServeArgs<'a>,
+    doors: Doors<'a>,
+    output: &'a mut W,
+    errors: &'a mut E,
+}
+
+impl<C: Clock, W: Write, E: Write> Job for Server<'_, C, W, E> {
+    fn work<S: Storage>(self, store: &mut Store<S>) -> Result<(), Fault> {
+        let Server {
+            context,
+            args,
+            doors,
+            output,
+            errors,
+        } = self;
+        match args.control {
+            None => serve_store(context, store, args, doors, output, errors),
+            Some(path) => serve_controlled(
+                context,
+                store,
+                args,
+                doors.clients,
+                path,
+                output,
+                errors,
+            ),
+        }
     }
 }
 
@@ -291,8 +308,14 @@ fn serve_bound<C: Clock, S: Start, W: Write, E: Write>(
         clock,
         idle: Duration::from_secs(args.idle),
     };
-    let mut store = open_from(rt, args.db, start)?;
-    serve_opened(&context, &mut store, args, doors, output, errors)
+    let server = Server {
+        context: &context,
+        args,
+        doors,
+        output,
+        errors,
+    };
+    open_for(rt, args.db, start, server)
 }
 
 /// Serves connections to the address, one after the other.

@@ -8,10 +8,10 @@ ghost use Rattle.cli.specs.Statuses.{is_good};
 use crate::faults::Fault;
 use crate::files::read_policy;
 use crate::moments::moment;
+use crate::opening::{Job, open_for};
 use command_line::SessionArgs;
 use names::{Counted, Moment};
 use policy::Policy;
-use refinement::open_from;
 use service::{End, Routes, serve};
 use std::alloc::Global;
 use std::io::{self, Read, Write};
@@ -78,21 +78,23 @@ pub(crate) fn is_good(end: End) -> bool
     }
 }
 
-/// Answers the requests of the input over the store.
-fn serve_opened<S: Storage, R: Read, W: Write>(
+/// The connection over the program's streams.
+#[derive(Drop)]
+struct Connection<'a, R, W> {
     alloc: Global,
-    store: &mut Store<S>,
-    context: &SessionContext<'_>,
-    input: &mut R,
-    output: &mut W,
-) -> Result<(), Fault>
-    ensures { From S.Store store.old store.new (λ world. Works S.Store store.old store.new world) }
-{
-    let end = serve_streams(alloc, store, context, input, output);
-    if is_good(end) {
-        Ok(())
-    } else {
-        Err(Fault::Session(end))
+    context: SessionContext<'a>,
+    input: &'a mut R,
+    output: &'a mut W,
+}
+
+impl<R: Read, W: Write> Job for Connection<'_, R, W> {
+    fn work<S: Storage>(self, store: &mut Store<S>) -> Result<(), Fault> {
+        let end = serve_streams(self.alloc, store, &self.context, self.input, self.output);
+        if is_good(end) {
+            Ok(())
+        } else {
+            Err(Fault::Session(end))
+        }
     }
 }
 
@@ -119,6 +121,11 @@ pub(crate) fn session<S: Start, R: Read, W: Write>(
         routes: &routes,
         now,
     };
-    let mut store = open_from(rt, args.db, start)?;
-    serve_opened(alloc, &mut store, &context, input, output)
+    let connection = Connection {
+        alloc,
+        context,
+        input,
+        output,
+    };
+    open_for(rt, args.db, start, connection)
 }

@@ -4,6 +4,7 @@ use crate::faults::Fault;
 use crate::files::read_paths;
 use command_line::OperatorCommand;
 use control::{Reply, Status, read_reply, request_bytes};
+use operator::{Destination, shown};
 use std::alloc::{AllocError, Global};
 use std::io::{self, Read, Write};
 use std::net::Shutdown;
@@ -70,6 +71,7 @@ pub(crate) fn ask<R: Read, W: Write, E: Write>(
     command: &OperatorCommand<'_>,
     args: &[String],
     input: &mut R,
+    destination: Destination,
     output: &mut W,
     errors: &mut E,
 ) -> Result<(), Fault> {
@@ -81,7 +83,8 @@ pub(crate) fn ask<R: Read, W: Write, E: Write>(
     let Some(reply) = read_reply(bytes.as_slice()) else {
         return Err(Fault::Control);
     };
-    write_printed(output, reply.output).map_err(|_| Fault::Output)?;
+    let printed = shown(alloc, reply.output, destination)?;
+    write_printed(output, printed.as_slice()).map_err(|_| Fault::Output)?;
     write_printed(errors, reply.errors).map_err(|_| Fault::Output)?;
     match reply.status {
         Status::Good => Ok(()),

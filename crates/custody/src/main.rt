@@ -1,6 +1,8 @@
 //! The program `custody`: passes the machine's arguments, streams and files to the crate `cli`.
 #![tactic(auto)]
 
+use cli::Destination;
+use std::io::IsTerminal;
 use std::process::ExitCode;
 use std::{env, io};
 use tables::Unknown;
@@ -10,6 +12,15 @@ fn args(rt: &HostRuntime) -> io::Result<Vec<String>> {
     Ok(env::args(rt)?.collect(rt.alloc())?)
 }
 
+/// What the standard output writes to.
+fn destination(rt: &HostRuntime) -> Destination {
+    if rt.stdout().is_terminal() {
+        Destination::Terminal
+    } else {
+        Destination::Other
+    }
+}
+
 fn main(rt: HostRuntime) -> ExitCode {
     let mut errors = rt.stderr();
     let status = match args(&rt) {
@@ -17,6 +28,7 @@ fn main(rt: HostRuntime) -> ExitCode {
             &rt,
             args.as_slice(),
             &mut rt.stdin(),
+            destination(&rt),
             &mut rt.stdout(),
             &mut errors,
             Unknown,

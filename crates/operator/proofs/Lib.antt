@@ -1,2 +1,3 @@
+mod Escaping
 pub mod Working
 pub mod Reached

@@ -3,11 +3,10 @@ use Rattle.std.specs.Prelude.{⊤}
 use Rattle.std.proofs.Common.{◌≡◌, ℕ, List, [], ◌∷◌, ◌++◌, Result, Ok, Err, MatchResult, refl, sym, ap, subst}
 use Rattle.sqlite_trees.specs.declared.store.Store.{Ghosts}
 use Rattle.model.specs.World.{World}
-use Rattle.model.specs.Steps.{Event, IsStep, Run}
-use Rattle.model.specs.Bounds.{Bound, next_world, bound_after}
+use Rattle.model.specs.Steps.{Event, Run}
+use Rattle.model.specs.Bounds.{Bound, bound_after}
 use Rattle.model.proofs.Left.{reports_are_true}
 use Rattle.model.proofs.Progress.{run_append}
-use Rattle.tables.specs.Shown.{IsHonest}
 use Rattle.tables.specs.declared.Store.{Store}
 use Rattle.tables.specs.declared.fault.StoreFault.{StoreFault}
 use Rattle.refinement.specs.Representation.{Holds}

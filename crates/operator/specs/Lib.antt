@@ -1,3 +1,4 @@
+pub mod Escapes
 pub mod Faults
 pub mod Lines
 pub mod Works

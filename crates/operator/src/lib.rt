@@ -6,6 +6,7 @@
 #![tactic(auto)]
 
 mod checking;
+mod escapes;
 mod faults;
 mod issuing;
 mod lines;
@@ -19,6 +20,7 @@ mod reopening;
 mod sweeping;
 mod tasks;
 
+pub use escapes::{Destination, shown};
 pub use faults::TaskFault;
 pub use issuing::repo_at;
 pub use output::Lines;

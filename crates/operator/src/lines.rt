@@ -6,18 +6,16 @@ ghost use Rattle.names.specs.Moments.{IsMomentText};
 ghost use Rattle.pushcheck.specs.Verdicts.{verdict_view};
 ghost use Rattle.locks.specs.Finding.{lock_seen};
 ghost use Rattle.operator.specs.Lines.{damage_line, lock_line, object_line, verdict_line};
+ghost use Rattle.operator.specs.Escapes.{shown};
 
+use crate::escapes::{Destination, shown};
 use names::{LockPath, moment_text};
 use pushcheck::PushVerdict;
 use std::alloc::{AllocError, Global};
 use tables::{LockRow, UploadRow};
 
 /// The line with the verdict on a path of a push.
-pub(crate) fn verdict_line(
-    alloc: Global,
-    path: &LockPath,
-    verdict: &PushVerdict,
-) -> Result<String, AllocError>
+fn verdict_line(alloc: Global, path: &LockPath, verdict: &PushVerdict) -> Result<String, AllocError>
     ensures { IfOk result (λ text. string_bytes text
         ≡ verdict_line (path_text path.now) (verdict_view verdict.now)) }
 {
@@ -32,8 +30,22 @@ pub(crate) fn verdict_line(
     }
 }
 
+/// The same, as it is written.
+pub(crate) fn shown_verdict(
+    alloc: Global,
+    path: &LockPath,
+    verdict: &PushVerdict,
+    destination: Destination,
+) -> Result<Vec<u8>, AllocError>
+    ensures { IfOk result (λ bytes. bytes.items
+        ≡ shown destination (verdict_line (path_text path.now) (verdict_view verdict.now))) }
+{
+    let line = verdict_line(alloc, path, verdict)?;
+    shown(alloc, line.as_bytes(), destination)
+}
+
 /// The line of a lock.
-pub(crate) fn lock_line(alloc: Global, row: &LockRow) -> Result<String, AllocError>
+fn lock_line(alloc: Global, row: &LockRow) -> Result<String, AllocError>
     ensures { IfOk result (λ text. (moment : List ℕ) × IsMomentText row.now.moment moment
         × ((repo : List ℕ) → string_bytes text ≡ lock_line (lock_seen repo row.now) moment)) }
 {
@@ -43,7 +55,21 @@ pub(crate) fn lock_line(alloc: Global, row: &LockRow) -> Result<String, AllocErr
     format!(in alloc; "{id} {name} {owner} {moment} {path}")
 }
 
-/// The line of an object.
+/// The same, as it is written.
+pub(crate) fn shown_lock(
+    alloc: Global,
+    row: &LockRow,
+    destination: Destination,
+) -> Result<Vec<u8>, AllocError>
+    ensures { IfOk result (λ bytes. (moment : List ℕ) × IsMomentText row.now.moment moment
+        × ((repo : List ℕ)
+        → bytes.items ≡ shown destination (lock_line (lock_seen repo row.now) moment))) }
+{
+    let line = lock_line(alloc, row)?;
+    shown(alloc, line.as_bytes(), destination)
+}
+
+/// The line of an object. Its name is of digits, so it is the same on a terminal.
 pub(crate) fn object_line(alloc: Global, row: &UploadRow) -> Result<String, AllocError>
     ensures { IfOk result (λ text. string_bytes text ≡ object_line row.now.oid row.now.size) }
 {

@@ -3,8 +3,9 @@
 ghost use Rattle.std.specs.Prelude.{⊤};
 ghost use Rattle.refinement.specs.Left.{Reads};
 
+use crate::escapes::Destination;
 use crate::faults::TaskFault;
-use crate::lines::lock_line;
+use crate::lines::shown_lock;
 use crate::output::Lines;
 use names::RepoName;
 use std::alloc::Global;
@@ -12,10 +13,15 @@ use std::io::Write;
 use tables::{Alter, LockRow, Store};
 
 /// Writes a line for each lock.
-fn write_locks<W: Write>(alloc: Global, rows: &[LockRow], output: &mut W) -> Result<(), TaskFault> {
+fn write_locks<W: Write>(
+    alloc: Global,
+    rows: &[LockRow],
+    destination: Destination,
+    output: &mut W,
+) -> Result<(), TaskFault> {
     let mut lines = Lines::new(alloc, output)?;
     for row in rows {
-        lines.write(lock_line(alloc, row)?.as_str())?;
+        lines.write(shown_lock(alloc, row, destination)?.as_slice())?;
     }
     lines.end()
 }
@@ -29,10 +35,11 @@ pub(crate) fn list_locks<S: Alter, W: Write>(
     alloc: Global,
     store: &mut Store<S>,
     repo: &RepoName,
+    destination: Destination,
     output: &mut W,
 ) -> Result<(), TaskFault>
     ensures { Reads S.Store store.old store.new (λ _. ⊤) }
 {
     let rows = locks::all(alloc, store, repo)?;
-    write_locks(alloc, rows.as_slice(), output)
+    write_locks(alloc, rows.as_slice(), destination, output)
 }

@@ -19,7 +19,7 @@ fn write_objects<W: Write>(
 ) -> Result<(), TaskFault> {
     let mut lines = Lines::new(alloc, output)?;
     for row in rows {
-        lines.write(object_line(alloc, row)?.as_str())?;
+        lines.write(object_line(alloc, row)?.as_bytes())?;
     }
     lines.end()
 }

@@ -2,7 +2,7 @@
 
 use crate::faults::TaskFault;
 use std::alloc::Global;
-use std::io::{BufWriter, Error, ErrorKind, Write};
+use std::io::{self, BufWriter, Error, ErrorKind, Write};
 
 /// Lines of output. They are buffered, and may be written only at the [end](Lines::end).
 #[derive(Drop)]
@@ -18,6 +18,11 @@ fn fault_of(error: &Error) -> TaskFault {
     }
 }
 
+fn write_line<W: Write>(output: &mut W, line: &[u8]) -> io::Result<()> {
+    output.write_all(line)?;
+    output.write_all(b"\n")
+}
+
 impl<'a, W: Write> Lines<'a, W> {
     /// Begins to write lines.
     ///
@@ -31,13 +36,13 @@ impl<'a, W: Write> Lines<'a, W> {
         }
     }
 
-    /// Writes a line.
+    /// Writes a line, and its end.
     ///
     /// # Errors
     ///
     /// `Output` if it could not be written.
-    pub fn write(&mut self, line: &str) -> Result<(), TaskFault> {
-        writeln!(self.output, "{line}").map_err(|error| fault_of(&error))
+    pub fn write(&mut self, line: &[u8]) -> Result<(), TaskFault> {
+        write_line(&mut self.output, line).map_err(|error| fault_of(&error))
     }
 
     /// Writes what is buffered.

@@ -3,8 +3,9 @@
 ghost use Rattle.std.specs.Prelude.{⊤};
 ghost use Rattle.refinement.specs.Left.{Reads};
 
+use crate::escapes::Destination;
 use crate::faults::TaskFault;
-use crate::lines::verdict_line;
+use crate::lines::shown_verdict;
 use crate::output::Lines;
 use names::{LockPath, RefName, RepoName, UserName};
 use policy::Policy;
@@ -40,11 +41,12 @@ fn write_verdicts<W: Write>(
     alloc: Global,
     paths: &[LockPath],
     verdicts: &[PushVerdict],
+    destination: Destination,
     output: &mut W,
 ) -> Result<(), TaskFault> {
     let mut lines = Lines::new(alloc, output)?;
     for (path, verdict) in paths.iter().zip(verdicts) {
-        lines.write(verdict_line(alloc, path, verdict)?.as_str())?;
+        lines.write(shown_verdict(alloc, path, verdict, destination)?.as_slice())?;
     }
     lines.end()
 }
@@ -58,6 +60,7 @@ pub(crate) fn check_push<S: Alter, W: Write>(
     alloc: Global,
     store: &mut Store<S>,
     push: &Push<'_>,
+    destination: Destination,
     output: &mut W,
 ) -> Result<(), TaskFault>
     ensures { Reads S.Store store.old store.new (λ _. ⊤) }
@@ -65,7 +68,7 @@ pub(crate) fn check_push<S: Alter, W: Write>(
     let (policy, user, repo, ref_name) = (push.policy, push.user, push.repo, push.ref_name);
     let paths = push.paths.as_slice();
     let verdicts = check(alloc, store, policy, user, repo, ref_name, paths)?;
-    write_verdicts(alloc, paths, verdicts.as_slice(), output)?;
+    write_verdicts(alloc, paths, verdicts.as_slice(), destination, output)?;
     if are_ok(verdicts.as_slice()) {
         Ok(())
     } else {

@@ -6,6 +6,7 @@ ghost use Rattle.operator.specs.Works.{Works};
 ghost use Rattle.operator.specs.Tasks.{Does};
 
 use crate::checking::check_objects;
+use crate::escapes::Destination;
 use crate::faults::TaskFault;
 use crate::issuing::grant;
 use crate::listing_locks::list_locks;
@@ -40,7 +41,8 @@ pub enum Task<'a> {
 }
 
 impl Task<'_> {
-    /// Does what the operator asks for, and writes what the command prints. `docs/COMMANDS.md` has the lines.
+    /// Does what the operator asks for, and writes what the command prints. `docs/COMMANDS.md` has the lines. The
+    /// destination is what the output writes to: on a terminal, control characters of paths are escaped.
     ///
     /// The store is led by the steps of a run of the definitions: at most one token is issued, or the expired ones are
     /// removed. After an error the world is the same, but for an `Output` after tokens were removed.
@@ -53,6 +55,7 @@ impl Task<'_> {
         &self,
         alloc: Global,
         store: &mut Store<S>,
+        destination: Destination,
         output: &mut W,
     ) -> Result<(), TaskFault>
         ensures world { From S.Store store.old store.new (λ world. MatchResult result
@@ -62,8 +65,8 @@ impl Task<'_> {
         match self {
             Task::Issue(policy, asked) => grant(alloc, store, policy, asked, output),
             Task::Prune(now) => prune(store, *now, output),
-            Task::CheckPush(push) => check_push(alloc, store, push, output),
-            Task::ListLocks(repo) => list_locks(alloc, store, repo, output),
+            Task::CheckPush(push) => check_push(alloc, store, push, destination, output),
+            Task::ListLocks(repo) => list_locks(alloc, store, repo, destination, output),
             Task::ListObjects(repo) => list_objects(alloc, store, repo, output),
             Task::CheckObjects(terminal) => check_objects(alloc, store, *terminal, output),
             Task::Sweep => sweep(alloc, store, output),

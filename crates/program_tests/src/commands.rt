@@ -153,6 +153,11 @@ status 1
 $ session --db :memory: --policy @/policy --now 5
 error custody: store G2
 status 1
+missing ../:memory:
+$ session --db file:db --policy @/policy --now 5
+error custody: store G2
+status 1
+missing ../file:db
 $ session --db @ --policy @/policy --now 5
 error custody: store G2
 status 1
@@ -168,6 +173,37 @@ $ prune --db @/db --now 5
 error custody: store G2
 status 1
 "#;
+
+/// The modes of databases and their logs.
+const MODES: &str = r#"
+# a new one is for its owner alone
+$ prune --db @/db --now 5
+| pruned 0 tokens
+mode db 600
+mode db-wal 600
+# so is one that a server has made
+via prune --now 5
+| pruned 0 tokens
+mode db 600
+# one that exists keeps its mode, and its log is given the same
+file other 0 0
+chmod other 640
+$ prune --db @/other --now 5
+| pruned 0 tokens
+mode other 640
+mode other-wal 640
+# a log that exists keeps its own
+chmod other 660
+$ prune --db @/other --now 5
+| pruned 0 tokens
+mode other 660
+mode other-wal 640
+"#;
+
+#[test]
+fn a_new_database_is_for_its_owner_alone(rt: HostRuntime) {
+    perform(&rt, &rt, "modes", POLICY, MODES);
+}
 
 /// A database of another version.
 const OTHER: &str = r#"

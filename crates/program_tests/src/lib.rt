@@ -25,6 +25,8 @@ mod policy_command;
 #[cfg(test)]
 mod program;
 #[cfg(test)]
+mod queues;
+#[cfg(test)]
 mod serving;
 #[cfg(test)]
 mod sessions;

@@ -84,6 +84,47 @@ fn paths_are_checked_before_a_push(rt: HostRuntime) {
     perform(&rt, &rt, "checked", POLICY, CHECKED);
 }
 
+/// Control characters of paths, which are escapes on a terminal. The characters next to them are not.
+const SHOWN: &str = "
+token a ann studio/film
+$ session --db @/db --policy @/policy --now 1463500146
+lock a studio/film {\"path\":\"art/\u{9b}31mred.psd\"}
+reply 201 {\"lock\":{\"id\":\"1\",\"locked_at\":\"2016-05-17T15:49:06Z\",\"owner\":{\"name\":\"ann\"},\"path\":\"art/\u{9b}31mred.psd\"}}
+lock a studio/film {\"path\":\"\u{80}\u{9f}\u{a0}\u{bf}\u{c0}\u{db}~\"}
+reply 201 {\"lock\":{\"id\":\"2\",\"locked_at\":\"2016-05-17T15:49:06Z\",\"owner\":{\"name\":\"ann\"},\"path\":\"\u{80}\u{9f}\u{a0}\u{bf}\u{c0}\u{db}~\"}}
+terminal locks --db @/db --repo studio/film
+| 1 refs/heads/main ann 2016-05-17T15:49:06Z art/\\u{9b}31mred.psd
+| 2 refs/heads/main ann 2016-05-17T15:49:06Z \\u{80}\\u{9f}\u{a0}\u{bf}\u{c0}\u{db}~
+$ locks --db @/db --repo studio/film
+| 1 refs/heads/main ann 2016-05-17T15:49:06Z art/\u{9b}31mred.psd
+| 2 refs/heads/main ann 2016-05-17T15:49:06Z \u{80}\u{9f}\u{a0}\u{bf}\u{c0}\u{db}~
+terminal pushcheck --db @/db --policy @/policy --user bob --repo studio/film --ref refs/heads/main
+line a/\u{85}b
+line art/\u{9b}31mred.psd
+| ok: a/\\u{85}b
+| locked by ann, id 1: art/\\u{9b}31mred.psd
+status 1
+terminal pushcheck --db @/db --policy @/policy --user zoe --repo studio/film --ref refs/heads/main
+line \u{9d}0;x\u{9c}
+| denied by row 0: \\u{9d}0;x\\u{9c}
+status 1
+$ pushcheck --db @/db --policy @/policy --user bob --repo studio/film --ref refs/heads/main
+line a/\u{85}b
+line art/\u{9b}31mred.psd
+| ok: a/\u{85}b
+| locked by ann, id 1: art/\u{9b}31mred.psd
+status 1
+# a server does not know what its caller prints to
+via locks --repo studio/film
+| 1 refs/heads/main ann 2016-05-17T15:49:06Z art/\u{9b}31mred.psd
+| 2 refs/heads/main ann 2016-05-17T15:49:06Z \u{80}\u{9f}\u{a0}\u{bf}\u{c0}\u{db}~
+";
+
+#[test]
+fn a_terminal_gets_no_control_character(rt: HostRuntime) {
+    perform(&rt, &rt, "shown", POLICY, SHOWN);
+}
+
 /// Inputs and values that are refused, in their order. No database is created.
 const MALFORMED: &str = r#"
 # lines that are not a path

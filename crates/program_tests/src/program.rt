@@ -2,7 +2,7 @@
 // The helpers have no clause, so a test's proof does not include those of each call.
 
 use crate::harness::{Tester, unwrap};
-use cli::ServeArgs;
+use cli::{Destination, ServeArgs};
 use sqlite::{Connection, Error, File, FileStore};
 use std::io::{Read, Write};
 use std::rt::{Files, HostRuntime};
@@ -63,14 +63,23 @@ pub(crate) fn status_over<R: Read, W: Write>(
     folder: &str,
     line: &str,
     input: &mut R,
+    destination: Destination,
     output: &mut W,
     errors: &mut Vec<u8>,
 ) -> u8 {
     let words = words(rt, folder, line);
-    cli::run(host, words.as_slice(), input, output, errors, Unknown)
+    cli::run(
+        host,
+        words.as_slice(),
+        input,
+        destination,
+        output,
+        errors,
+        Unknown,
+    )
 }
 
-/// Runs the program over the input.
+/// Runs the program over the input. Its output is no terminal.
 pub(crate) fn run(
     rt: &impl Tester,
     host: &HostRuntime,
@@ -78,10 +87,31 @@ pub(crate) fn run(
     line: &str,
     input: &str,
 ) -> Ran {
+    run_to(rt, host, folder, line, input, Destination::Other)
+}
+
+/// Runs the program over the input, with an output of this kind.
+pub(crate) fn run_to(
+    rt: &impl Tester,
+    host: &HostRuntime,
+    folder: &str,
+    line: &str,
+    input: &str,
+    destination: Destination,
+) -> Ran {
     let mut rest = input.as_bytes();
     let mut output = Vec::new(rt.alloc());
     let mut errors = Vec::new(rt.alloc());
-    let status = status_over(rt, host, folder, line, &mut rest, &mut output, &mut errors);
+    let status = status_over(
+        rt,
+        host,
+        folder,
+        line,
+        &mut rest,
+        destination,
+        &mut output,
+        &mut errors,
+    );
     Ran {
         status,
         output,

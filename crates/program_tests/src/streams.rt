@@ -3,6 +3,7 @@
 use crate::harness::Tester;
 use crate::program::{prepare, remove, status_over};
 use crate::transcript::{POLICY, play};
+use cli::Destination;
 use std::io::{self, ErrorKind, Read};
 use std::rt::HostRuntime;
 
@@ -56,6 +57,7 @@ fn a_failed_read_is_reported_after_the_replies(rt: HostRuntime) {
         "read",
         SESSION,
         &mut input,
+        Destination::Other,
         &mut output,
         &mut errors,
     );
@@ -70,7 +72,16 @@ fn expect_cut(rt: &impl Tester, host: &HostRuntime, line: &str, input: &str, wan
     let mut room = [0u8; 10];
     let mut output = room.as_mut_slice();
     let mut errors = Vec::new(rt.alloc());
-    let status = status_over(rt, host, "write", line, &mut rest, &mut output, &mut errors);
+    let status = status_over(
+        rt,
+        host,
+        "write",
+        line,
+        &mut rest,
+        Destination::Other,
+        &mut output,
+        &mut errors,
+    );
     assert!(rt;
         status == 1 && errors.as_slice() == want.as_bytes(),
         "{line}"

@@ -6,6 +6,7 @@
 //! |---|---|
 //! | `#` | a comment for the reader: what is tried |
 //! | `$` | a command: its arguments, as [`run`] reads them |
+//! | `terminal` | the same, with an output that is a terminal |
 //! | `via` | a command that a running server runs: its words |
 //! | `token` | the command that issues an upload token, and its line: the token's letter, the user, the repository |
 //! | `status` | the exit status of the command; 0 if none is given |
@@ -20,6 +21,8 @@
 //! | `post` | input: a POST: the token's letter, the repository, the rest of the target, the body |
 //! | `reply` | output: a reply of JSON: the status, the body |
 //! | `file` | a file is written before the next command: its name, how many bytes, which byte |
+//! | `chmod` | a file is given a mode before the next command: its name, three octal digits |
+//! | `mode` | the mode of a file after the command: its name, three octal digits |
 //! | `sql` | a statement that another program runs on the database before the next command |
 //! | `replace` | a change of [`POLICY`] from this command on: `OLD => NEW`, in which `\n` is a line end |
 //! | `append` | text added to the policy, after the number of copies: `\n` is a line end, `@` the number of a copy |
@@ -27,9 +30,11 @@
 
 use crate::channel::run_via;
 use crate::harness::{Tester, unwrap};
-use crate::program::{Ran, path_of, prepare, remove, run, run_sql, text_of, write};
+use crate::program::{Ran, path_of, prepare, remove, run_sql, run_to, text_of, write};
+use cli::Destination;
 use std::alloc::Global;
-use std::fs;
+use std::fs::{self, Permissions};
+use std::os::unix::fs::PermissionsExt;
 use std::rt::HostRuntime;
 
 /// A policy in which ann and bob work on a film.
@@ -51,14 +56,22 @@ paths = ["*"]
 rights = ["pull", "push", "list", "lock"]
 "#;
 
+/// How a command is run.
+#[derive(Clone, Copy)]
+enum Way {
+    /// Over files.
+    Local(Destination),
+    /// By a running server.
+    Remote,
+}
+
 /// A command, and its expected result.
 #[derive(Drop)]
 struct Step {
     /// The line that it begins on, counted after the one of the opening quote.
     line: usize,
     command: String,
-    /// Whether a running server runs the command.
-    is_remote: bool,
+    way: Way,
     input: String,
     status: u8,
     output: String,
@@ -172,7 +185,7 @@ impl Step {
         Step {
             line,
             command: String::new(alloc),
-            is_remote: false,
+            way: Way::Local(Destination::Other),
             input: String::new(alloc),
             status: 0,
             output: String::new(alloc),
@@ -229,9 +242,13 @@ impl Step {
 
     fn add(&mut self, rt: &impl Tester, mark: &str, text: &str) {
         match mark {
-            "$" | "via" => {
+            "$" | "terminal" | "via" => {
                 push(rt, &mut self.command, text, "");
-                self.is_remote = mark == "via";
+                self.way = match mark {
+                    "via" => Way::Remote,
+                    "terminal" => Way::Local(Destination::Terminal),
+                    _ => Way::Local(Destination::Other),
+                };
             }
             "token" => self.issue(rt, text),
             "status" => self.status = unwrap(rt, text.parse::<u8>()),
@@ -248,7 +265,7 @@ impl Step {
             }
             "reply" => push(rt, &mut self.output, reply(rt, text).as_str(), ""),
             "replace" | "append" | "pad" => self.change_policy(rt, mark, text),
-            "" | "#" | "file" | "sql" => {}
+            "" | "#" | "file" | "chmod" | "mode" | "sql" => {}
             _ => panic!(rt; "line {}: no such word", self.line),
         }
     }
@@ -268,10 +285,9 @@ impl Step {
             write(rt, host, folder, "policy", self.policy.as_bytes());
         }
         let (command, input) = (self.command.as_str(), self.input.as_str());
-        let ran = if self.is_remote {
-            run_via(rt, host, folder, command, input)
-        } else {
-            run(rt, host, folder, command, input)
+        let ran = match self.way {
+            Way::Remote => run_via(rt, host, folder, command, input),
+            Way::Local(destination) => run_to(rt, host, folder, command, input, destination),
         };
         let is_wanted = ran.is(self.status, self.output.as_str(), self.errors.as_str());
         if !is_wanted || self.leaves_file(rt, host, folder) {
@@ -290,10 +306,25 @@ impl Step {
     }
 }
 
-/// Changes the files between two commands.
+/// Sets the mode of the file, or asserts it.
+fn use_mode(rt: &impl Tester, host: &HostRuntime, folder: &str, mark: &str, text: &str) {
+    let (name, digits, _) = three(text);
+    let path = path_of(rt, folder, name);
+    let mode = unwrap(rt, u32::from_str_radix(digits, 8));
+    if mark == "chmod" {
+        let permissions = Permissions::from_mode(mode);
+        unwrap(rt, fs::set_permissions(host, path.as_str(), permissions));
+    } else {
+        let found = unwrap(rt, fs::metadata(host, path.as_str())).permissions();
+        assert!(rt; found.mode() & 0o777 == mode, "{folder}: mode {text}");
+    }
+}
+
+/// Changes the files between two commands, or looks at one.
 fn change_files(rt: &impl Tester, host: &HostRuntime, folder: &str, mark: &str, text: &str) {
     match mark {
         "file" => write_bytes(rt, host, folder, text),
+        "chmod" | "mode" => use_mode(rt, host, folder, mark, text),
         "sql" => run_sql(rt, host, folder, text),
         _ => {}
     }
@@ -304,7 +335,10 @@ pub(crate) fn play(rt: &impl Tester, host: &HostRuntime, folder: &str, transcrip
     let mut step = Step::new(rt.alloc(), 0);
     for (at, line) in transcript.lines().enumerate() {
         let (mark, text) = line.split_once(' ').unwrap_or((line, ""));
-        if matches!(mark, "$" | "via" | "token" | "file" | "sql") {
+        if matches!(
+            mark,
+            "$" | "terminal" | "via" | "token" | "file" | "chmod" | "mode" | "sql"
+        ) {
             step.run(rt, host, folder);
             step = Step::new(rt.alloc(), at);
         }

@@ -1,5 +1,8 @@
 //! The clients and operators that wait to be answered.
 
+ghost use Rattle.std.specs.Prelude.{◌≡◌, IfOk, OnErr, IfSome};
+ghost use Rattle.sockets.specs.Turns.{kind_of, other_than, turn_after};
+
 use mio::event::Events;
 use mio::unix::SourceFd;
 use mio::{Interest, Poll, Token};
@@ -20,6 +23,38 @@ pub enum Caller {
     Operator(UnixStream),
 }
 
+/// A kind of caller.
+#[derive(Clone, Copy, Debug, PartialEq, Eq)]
+enum Kind {
+    /// A client.
+    Client,
+    /// An operator.
+    Operator,
+}
+
+impl Kind {
+    /// The other kind.
+    fn other(self) -> Kind
+        ensures { result ≡ other_than self }
+    {
+        match self {
+            Kind::Client => Kind::Operator,
+            Kind::Operator => Kind::Client,
+        }
+    }
+}
+
+impl Caller {
+    fn kind(&self) -> Kind
+        ensures { result ≡ kind_of self.now }
+    {
+        match self {
+            Caller::Client(_) => Kind::Client,
+            Caller::Operator(_) => Kind::Operator,
+        }
+    }
+}
+
 /// A connection that was accepted while another one was served.
 #[derive(Drop)]
 struct Waiting {
@@ -33,6 +68,8 @@ struct Waiting {
 pub struct Queue<'a> {
     listener: &'a TcpListener,
     control: Option<&'a UnixListener>,
+    /// The kind that is accepted first.
+    turn: Kind,
     next: Option<Waiting>,
     poll: Poll,
     events: Events,
@@ -81,20 +118,44 @@ impl<'a> Queue<'a> {
         Ok(Queue {
             listener,
             control,
+            turn: Kind::Operator,
             next: None,
             poll,
             events,
         })
     }
 
-    /// Accepts a connection, if one waits: an operator's before a client's.
-    fn accept(&self) -> io::Result<Option<Caller>> {
-        if let Some(control) = self.control
-            && let Some((stream, _)) = if_waiting(control.accept())?
-        {
-            return Ok(Some(Caller::Operator(stream)));
+    /// Accepts a connection of this kind, if one waits.
+    fn accept_kind(&self, kind: Kind) -> io::Result<Option<Caller>>
+        ensures { IfOk result (λ found. IfSome found (λ caller. kind_of caller ≡ kind)) }
+    {
+        match (kind, self.control) {
+            (Kind::Client, _) => {
+                let accepted = if_waiting(self.listener.accept())?;
+                Ok(accepted.map(|(stream, _)| Caller::Client(stream)))
+            }
+            (Kind::Operator, Some(control)) => {
+                let accepted = if_waiting(control.accept())?;
+                Ok(accepted.map(|(stream, _)| Caller::Operator(stream)))
+            }
+            (Kind::Operator, None) => Ok(None),
         }
-        Ok(if_waiting(self.listener.accept())?.map(|(stream, _)| Caller::Client(stream)))
+    }
+
+    /// Accepts a connection, if one waits: of the kind whose turn it is, or else of the other. Then it is the turn of the
+    /// kind that was not accepted, so neither clients nor operators wait for more than one of the others.
+    fn accept(&mut self) -> io::Result<Option<Caller>>
+        ensures turn { IfOk result (λ found. self.new.turn ≡ turn_after self.old.turn found) }
+        ensures err { OnErr result (self.new.turn ≡ self.old.turn) }
+    {
+        let found = match self.accept_kind(self.turn)? {
+            Some(caller) => Some(caller),
+            None => self.accept_kind(self.turn.other())?,
+        };
+        if let Some(caller) = &found {
+            self.turn = caller.kind().other();
+        }
+        Ok(found)
     }
 
     /// Keeps a connection if one waits: `since` is since when somebody waits, if so.

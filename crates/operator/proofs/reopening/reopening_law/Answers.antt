@@ -1,7 +1,7 @@
 use Rattle.std.proofs.Common.{[], ◌∷◌}
 use Rattle.operator.specs.Works.{bound_of_works}
 use Rattle.operator.proofs.Reached.{reached_then, works_reached, reached_held}
-use Rattle.operator.specs.Works.{Works, steps_of}
+use Rattle.operator.specs.Works.{steps_of}
 use Rattle.refinement.proofs.TakenUp.{left_image}
 use Rattle.operator.proofs.reopening.reopening_law.Goals as goal
 

@@ -1,0 +1,52 @@
+//! Opens the database, for a job over it.
+
+ghost use Rattle.refinement.specs.Left.{From};
+ghost use Rattle.operator.specs.Works.{Works};
+
+use crate::faults::Fault;
+use refinement::open_from;
+use std::fs::OpenOptions;
+use std::os::unix::fs::OpenOptionsExt;
+use std::rt::HostRuntime;
+use tables::{Start, Storage, Store};
+
+/// The mode of a new database: only the user of the process may read it. Its log is made with the same mode.
+const MODE: u32 = 0o600;
+
+/// What is done with an open database.
+pub(crate) trait Job: Drop {
+    /// Does it. Whether it succeeds or fails, the store was led by the steps of a run of the definitions.
+    fn work<S: Storage>(self, store: &mut Store<S>) -> Result<(), Fault>
+        ensures { From S.Store store.old store.new (λ world.
+            Works S.Store store.old store.new world) };
+}
+
+/// Makes the database's file if it does not exist. If that fails, opening the database reports why.
+fn make_file(rt: &HostRuntime, db: &str) {
+    // Such names are refused when the database is opened.
+    if db == ":memory:" || db.starts_with("file:") {
+        return;
+    }
+    let _ = OpenOptions::new()
+        .read(true)
+        .write(true)
+        .create_new(true)
+        .mode(MODE)
+        .open(rt, db);
+}
+
+/// Opens the database, making it if it does not exist, and does the job with it.
+///
+/// # Errors
+///
+/// `Store` and `Memory` if it could not be opened; and those of the job.
+pub(crate) fn open_for<S: Start, J: Job>(
+    rt: &HostRuntime,
+    db: &str,
+    start: S,
+    job: J,
+) -> Result<(), Fault> {
+    make_file(rt, db);
+    let mut store = open_from(rt, db, start)?;
+    job.work(&mut store)
+}

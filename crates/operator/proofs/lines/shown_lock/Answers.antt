@@ -1,0 +1,14 @@
+use Rattle.std.proofs.Common.{◌∙◌, ap}
+use Rattle.std.proofs.lemmas.Result.{IfOk-weaker}
+use Rattle.operator.specs.Escapes.{shown}
+use Rattle.operator.proofs.lines.shown_lock.Goals as goal
+
+pub returns : goal.returns
+returns c =
+    IfOk-weaker c.shown.result _ _
+    (λ bytes is. (
+      c.in_ok-line.ensures.0,
+      c.in_ok-line.ensures.1,
+      λ repo. is ∙ ap (shown c.args.destination) (c.as_bytes.ensures.value ∙ c.in_ok-line.ensures.2 repo),
+    ))
+    c.shown.ensures
