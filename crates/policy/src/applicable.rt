@@ -17,7 +17,8 @@ use std::alloc::{AllocError, Global};
 
 impl<'a> NumberedRow<'a> {
     fn new(alloc: Global, number: u32, row: &'a Row) -> Result<NumberedRow<'a>, AllocError>
-        ensures { IfOk result (λ made. numbered_view made ≡ record { number = number; row = row_view row.entry.now }) }
+        ensures { IfOk result (λ made. numbered_view made
+            ≡ record { number = number; row = row_view row.entry.now }) }
     {
         let refs = patterns_of(alloc, &row.refs)?;
         let paths = patterns_of(alloc, &row.paths)?;
@@ -48,7 +49,8 @@ pub struct ApplicableRows<'a> {
     policy: &'a Policy,
     question: Question<'a>,
     rows: Vec<NumberedRow<'a>>,
-    pub ghost are_those_of_the_policy: { map numbered_view rows.items ≡ applicable_rows (policy_view policy.now) (question_view question) },
+    pub ghost are_those_of_the_policy: { map numbered_view rows.items
+        ≡ applicable_rows (policy_view policy.now) (question_view question) },
 }
 
 /// The rows that apply to the question, in the order of the file.

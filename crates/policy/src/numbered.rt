@@ -15,6 +15,8 @@ pub(crate) struct NumberedRow<'a> {
     pub row: &'a Row,
     pub refs: Vec<Pattern<'a>>,
     pub paths: Vec<Pattern<'a>>,
-    pub ghost refs_are_of_the_row: { map pattern_view refs.items ≡ map pattern_of (texts row.now.refs.items) },
-    pub ghost paths_are_of_the_row: { map pattern_view paths.items ≡ map pattern_of (texts row.now.paths.items) },
+    pub ghost refs_are_of_the_row: { map pattern_view refs.items
+        ≡ map pattern_of (texts row.now.refs.items) },
+    pub ghost paths_are_of_the_row: { map pattern_view paths.items
+        ≡ map pattern_of (texts row.now.paths.items) },
 }

@@ -24,7 +24,8 @@ fn push_by<'a>(
     ref_name: &'a RefName,
 ) -> Result<Push<'a>, AllocError>
     ensures policy { IfOk result (λ push. push.rows.policy.now ≡ policy.entry.now) }
-    ensures push { IfOk result (λ push. push_view push ≡ push_by user.entry.now repo.entry.now ref_name.entry.now) }
+    ensures push { IfOk result (λ push. push_view push
+        ≡ push_by user.entry.now repo.entry.now ref_name.entry.now) }
 {
     let question = Question {
         user,

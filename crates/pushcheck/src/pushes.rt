@@ -16,5 +16,6 @@ pub(crate) struct Push<'a> {
     pub ref_name: &'a RefName,
     /// The rows of the policy that decide on its paths.
     pub rows: ApplicableRows<'a>,
-    pub ghost rows_are_for_the_push: { question_view rows.question ≡ push_question (user_text user.now) (repo_text repo.now) (ref_text ref_name.now) },
+    pub ghost rows_are_for_the_push: { question_view rows.question
+        ≡ push_question (user_text user.now) (repo_text repo.now) (ref_text ref_name.now) },
 }
