@@ -34,14 +34,14 @@ pub(crate) fn token_request<'a>(
 
 /// A task over the database, and where it prints.
 #[derive(Drop)]
-struct OperatorTask<'a, 't, W> {
+struct OperatorTask<'a, W> {
     alloc: Global,
-    task: &'a Task<'t>,
+    task: &'a Task<'a>,
     destination: Destination,
     output: &'a mut W,
 }
 
-impl<W: Write> Job for OperatorTask<'_, '_, W> {
+impl<W: Write> Job for OperatorTask<'_, W> {
     fn work<S: Storage>(self, store: &mut Store<S>) -> Result<(), Fault> {
         self.task
             .run(self.alloc, store, self.destination, self.output)?;

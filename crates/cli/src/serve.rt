@@ -255,6 +255,23 @@ fn serve_controlled<S: Storage, C: Clock, W: Write, E: Write>(
     served
 }
 
+/// Serves the connections over the store, with a control socket if the arguments name one.
+fn serve_opened<S: Storage, C: Clock, W: Write, E: Write>(
+    context: &ServeContext<'_, C>,
+    store: &mut Store<S>,
+    args: &ServeArgs<'_>,
+    doors: Doors<'_>,
+    output: &mut W,
+    errors: &mut E,
+) -> Result<(), Fault>
+    ensures { From S.Store store.old store.new (λ world. Works S.Store store.old store.new world) }
+{
+    match args.control {
+        None => serve_store(context, store, args, doors, output, errors),
+        Some(path) => serve_controlled(context, store, args, doors.clients, path, output, errors),
+    }
+}
+
 /// A server, before it has its store.
 #[derive(Drop)]
 struct Server<'a, C, W, E> {
@@ -274,18 +291,7 @@ impl<C: Clock, W: Write, E: Write> Job for Server<'_, C, W, E> {
             output,
             errors,
         } = self;
-        match args.control {
-            None => serve_store(context, store, args, doors, output, errors),
-            Some(path) => serve_controlled(
-                context,
-                store,
-                args,
-                doors.clients,
-                path,
-                output,
-                errors,
-            ),
-        }
+        serve_opened(context, store, args, doors, output, errors)
     }
 }
 

@@ -82,14 +82,20 @@ pub(crate) fn is_good(end: End) -> bool
 #[derive(Drop)]
 struct Connection<'a, R, W> {
     alloc: Global,
-    context: SessionContext<'a>,
+    context: &'a SessionContext<'a>,
     input: &'a mut R,
     output: &'a mut W,
 }
 
 impl<R: Read, W: Write> Job for Connection<'_, R, W> {
     fn work<S: Storage>(self, store: &mut Store<S>) -> Result<(), Fault> {
-        let end = serve_streams(self.alloc, store, &self.context, self.input, self.output);
+        let Connection {
+            alloc,
+            context,
+            input,
+            output,
+        } = self;
+        let end = serve_streams(alloc, store, context, input, output);
         if is_good(end) {
             Ok(())
         } else {
@@ -123,7 +129,7 @@ pub(crate) fn session<S: Start, R: Read, W: Write>(
     };
     let connection = Connection {
         alloc,
-        context,
+        context: &context,
         input,
         output,
     };
