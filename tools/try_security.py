@@ -185,6 +185,20 @@ def try_unit():
     check(status == 0, f"and its objects are whole: {text.strip()}", text)
 
 
+def try_earlier():
+    """A database where earlier packages had it is moved, with its log, by the installation."""
+    stop()
+    files = [database(), Path(f"{database()}-wal")]
+    before = [it.read_bytes() for it in files]
+    for file in files:
+        file.rename(HOME / file.name)
+    must("dpkg", "-i", glob.glob("/try/022/*.deb")[0])
+    after = [it.read_bytes() if it.exists() else b"" for it in files]
+    started = start()
+    check(after == before and started and database().parent != HOME, "the package moves the database of an earlier one, and its log",
+          [str(it) for it in HOME.rglob("*")])
+
+
 def try_confinement():
     """What the unit withholds from the server."""
     number = process()
@@ -791,6 +805,7 @@ def try_group():
 def main():
     try_package()
     try_unit()
+    try_earlier()
     try_confinement()
     try_neighbours()
     set_up_ssh()
