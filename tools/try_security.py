@@ -652,14 +652,15 @@ def try_client():
     for user in ("ann", "bob"):
         set_up_clone(user)
     git("ann", "lfs", "track", "*.psd", "--lockable")
+    Path("/try/ann/film/art").mkdir()
     for number in range(300):
-        write(f"/try/ann/film/art/{number}.psd", "", 0o644)
-        Path(f"/try/ann/film/art/{number}.psd").write_bytes(os.urandom(1000 + 700 * number))
+        size = 1000 + 700 * number if number > 3 else 8_000_000 << number
+        Path(f"/try/ann/film/art/{number}.psd").write_bytes(os.urandom(size))
     git("ann", "add", ".")
     git("ann", "commit", "-q", "-m", "art")
     began = time.monotonic()
     status, text = git("ann", "push", "-q", "-u", "origin", "main")
-    check(status == 0, f"300 files are pushed with 8 transfers at a time, in {time.monotonic() - began:.1f} s", text)
+    check(status == 0, f"300 files of 4 kB to 64 MB are pushed with 8 transfers at a time, in {time.monotonic() - began:.1f} s", text)
     began = time.monotonic()
     status, text = git("bob", "pull", "-q", "origin", "main")
     same = run("diff", "-r", "/try/ann/film/art", "/try/bob/film/art")[0] == 0
