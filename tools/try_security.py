@@ -115,7 +115,7 @@ def listing(mask):
     """The modes, owners and names of what is in the package that was made with this umask."""
     found = glob.glob(f"/try/{mask}/*.deb")
     if not found:
-        return Path(f"/try/{mask}/log").read_text()
+        return [Path(f"/try/{mask}/log").read_text().strip()]
     lines = must("dpkg-deb", "--contents", found[0]).splitlines()
     return [(it.split()[0], it.split()[1], it.split()[-1]) for it in lines]
 
@@ -125,7 +125,7 @@ def try_package():
     plain = listing("022")
     for mask in ("007", "077"):
         check(listing(mask) == plain, f"tools/package.sh makes the same package with the umask {mask}",
-              [it for it in listing(mask) if it not in plain])
+              "\n".join(map(str, [it for it in listing(mask) if it not in plain])))
     status, text = run("dpkg", "-i", glob.glob("/try/022/*.deb")[0])
     check(status == 0, "the package installs", text)
     write("/etc/custody/policy.toml", POLICY)
@@ -152,6 +152,15 @@ def start():
     return wait_until(serving)
 
 
+def start_at_once():
+    """Starts the server. Whether it serves, and systemd did not have to start it again."""
+    return start() and must("systemctl", "show", "-P", "NRestarts", "custody").strip() == "0"
+
+
+def journal():
+    return run("journalctl", "-u", "custody", "--no-pager", "-n", "8", "-o", "cat")[1]
+
+
 def stop():
     run("systemctl", "stop", "custody")
 
@@ -167,14 +176,9 @@ def database():
 
 def try_unit():
     """First start, restart, stop, and a start without the log."""
-    good = check(start(), "the unit's first start, with no database",
-                 run("journalctl", "-u", "custody", "--no-pager", "-n", "8", "-o", "cat")[1])
-    if not good:
-        # The other checks are to say something all the same.
-        write("/etc/systemd/system/custody.service.d/try.conf", "[Service]\nSystemCallErrorNumber=EPERM\n")
-        must("systemctl", "daemon-reload")
-        if not start():
-            sys.exit("the server does not start")
+    check(start_at_once(), "the unit's first start, with no database", journal())
+    if not serving():
+        sys.exit("the server does not start")
     before = process()
     run("systemctl", "restart", "custody")
     check(wait_until(serving) and process() != before, "the unit restarts")
@@ -182,7 +186,7 @@ def try_unit():
     check(run("systemctl", "is-failed", "custody")[0] != 0 and not listening(), "and stops, without a failure")
     log = Path(f"{database()}-wal")
     log.unlink(missing_ok=True)
-    check(start() and log.exists(), "it starts from a database that was restored without its log")
+    check(start_at_once() and log.exists(), "it starts from a database that was restored without its log", journal())
     status, text = run("custody", "check", "--via", CONTROL)
     check(status == 0, f"and its objects are whole: {text.strip()}", text)
 
@@ -787,26 +791,30 @@ def try_full_disk(size=400):
     """A disk of this many MiB is filled by an upload, and is cleared again."""
     folder = database().parent
     stop()
-    kept = Path("/var/tmp/kept")
-    shutil.copytree(folder, kept, dirs_exist_ok=True)
     must("mount", "-t", "tmpfs", "-o", f"size={size}m,mode=0700,uid={pwd.getpwnam('custody').pw_uid}", "tmpfs", folder)
     check(start(), "the server starts with a database on a disk of its own")
     text = token()
-    stored = [put(text, 40_000_000, plain=True).status]
+    last, data = object_of(1_000_000)
+    stored = [ask("PUT", f"{API}/content/{last}", bearer(text), data, plain=True).status]
     while stored[-1] == 200:
         stored.append(put(text, 40_000_000, plain=True).status)
-    measured(f"{len(stored) - 1} objects of 40 MB were stored, and the next one was {stored[-1]}")
+    measured(f"{len(stored) - 2} objects of 40 MB were stored, and the next one was {stored[-1]}")
     for word in ("sweep", "prune"):
         measured(f"custody {word} on the full disk: {run('custody', word, '--via', CONTROL)}")
     run("systemctl", "restart", "custody")
     wait_until(serving)
     status, _ = run("custody", "authenticate", "--via", CONTROL, "--user", "ann", "studio/film", "upload")
     measured(f"after a restart, authenticate ends with {status}")
+    reply = ask("GET", f"{API}/content/{last}", bearer(text), plain=True)
+    check(reply.status == 200 and hashlib.sha256(reply.body).hexdigest() == last, "on a full disk, objects can be fetched")
     began = time.monotonic()
     status, out = run("/usr/lib/custody/spare", "sweep") if Path("/usr/lib/custody/spare").exists() else (127, "no spare")
     check(status == 0 and "swept" in out, f"a full disk is cleared: {out.strip()}, in {time.monotonic() - began:.1f} s", out)
     status, out = run("custody", "authenticate", "--via", CONTROL, "--user", "ann", "studio/film", "upload")
     check(status == 0, "and users get tokens again", out)
+    spare = folder / "spare"
+    check(spare.exists() and spare.stat().st_size > 5_000_000, "the spare file is there again",
+          f"{spare.stat().st_size if spare.exists() else 0} bytes")
     body = b'{"path":"art/full.psd"}'
     check(status == 0 and ask("POST", f"{API}/locks", bearer(text), body, plain=True).status == 201, "and lock paths")
     status, out = run("custody", "check", "--via", CONTROL)
@@ -830,6 +838,15 @@ def try_group():
     check(run(*words, user="git")[0] == 0 and run(*words, user="other")[0] == 1,
           "with the group, the user git may use the control socket, and another may not", mode_of(CONTROL))
     check(run("ls", database().parent, user="git")[0] != 0, "and git may not enter the folder of the database")
+    must("chown", "-R", "git:git", "/srv/git/studio")
+    configuration = Path("/etc/ssh/sshd_config.d/custody.conf")
+    configuration.write_text(configuration.read_text().replace("Match User custody", "Match User git"))
+    must("systemctl", "reload", "ssh")
+    status, text = run(*ssh_words("ann"), "git@lfs.example", "git-lfs-authenticate studio/film.git upload")
+    refs = run("git", "ls-remote", "ssh://git@lfs.example/studio/film.git", environment={"GIT_SSH_COMMAND": " ".join(ssh_words("ann"))})
+    check(status == 0 and "Bearer" in text and refs[0] == 0 and "refs/heads/main" in refs[1],
+          "users get tokens, and reach their repositories, as git", f"{text}\n{refs[1]}")
+    check(over_ssh("ann", "git-lfs-authenticate studio/film.git upload")[0] == 255, "and not as custody any more")
 
 
 def main():
