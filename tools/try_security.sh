@@ -5,13 +5,13 @@
 # bin/custody has built. The container shares the kernel, and has a network of its own.
 # usage: tools/try_security.sh [TREE [BASE]]
 #     TREE  the tree whose package is tried, if not this one: an older state has to fail
-#     BASE  the folder with Debian, made by debootstrap if it does not exist: if not given, /var/tmp/custody-bookworm
+#     BASE  the folder with Debian, made by debootstrap if it does not exist: if not given, /var/cache/custody-bookworm
 # Its status is 0 if all checks passed, 1 if one failed, and 2 if something is missing.
 set -eu
 unset CDPATH
 tools=$(cd -- "$(dirname -- "$0")" && pwd)
 tree=$(cd -- "${1:-$tools/..}" && pwd)
-base=${2:-/var/tmp/custody-bookworm}
+base=${2:-/var/cache/custody-bookworm}
 inside=systemd,systemd-sysv,dbus,nginx-light,openssh-server,git,git-lfs,curl,openssl,python3,procps,iproute2,ca-certificates
 
 missing() {
