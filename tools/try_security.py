@@ -135,9 +135,9 @@ def active():
     return run("systemctl", "is-active", "custody")[1].strip() == "active"
 
 
-def listening():
+def listening(port=8080):
     with socket.socket() as probe:
-        return probe.connect_ex(("127.0.0.1", 8080)) == 0
+        return probe.connect_ex(("127.0.0.1", port)) == 0
 
 
 def serving():
@@ -307,6 +307,7 @@ def set_up_ssh():
     if check((EXAMPLES / "sshd-custody.conf").exists(), "the package has a configuration for sshd"):
         shutil.copy(EXAMPLES / "sshd-custody.conf", "/etc/ssh/sshd_config.d/custody.conf")
     must("systemctl", "restart", "ssh")
+    wait_until(lambda: listening(22))
     if not keys_file().is_relative_to("/etc"):
         (HOME / ".ssh").mkdir(mode=0o700, exist_ok=True)
         shutil.chown(HOME / ".ssh", "custody", "custody")
@@ -841,7 +842,8 @@ def try_group():
     must("chown", "-R", "git:git", "/srv/git/studio")
     configuration = Path("/etc/ssh/sshd_config.d/custody.conf")
     configuration.write_text(configuration.read_text().replace("Match User custody", "Match User git"))
-    must("systemctl", "reload", "ssh")
+    must("systemctl", "restart", "ssh")
+    wait_until(lambda: listening(22))
     status, text = run(*ssh_words("ann"), "git@lfs.example", "git-lfs-authenticate studio/film.git upload")
     refs = run("git", "ls-remote", "ssh://git@lfs.example/studio/film.git", environment={"GIT_SSH_COMMAND": " ".join(ssh_words("ann"))})
     check(status == 0 and "Bearer" in text and refs[0] == 0 and "refs/heads/main" in refs[1],
