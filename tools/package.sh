@@ -35,8 +35,9 @@ strip --strip-unneeded "$root/usr/bin/custody"
 install -D -m 755 -t "$root/usr/lib/custody" "$top/examples/forced-command" "$top/examples/spare"
 install -D -m 644 "$top/examples/custody.service" "$root/lib/systemd/system/custody.service"
 install -D -m 644 "$top/examples/policy.toml" "$root/etc/custody/policy.toml"
-install -m 644 -t "$documents/examples" "$top/examples/nginx-site" "$top/examples/sshd-custody.conf" "$top/examples/custody-group.conf" \
-    "$top/examples/policy.toml"
+for example in nginx-site sshd-custody.conf custody-group.conf policy.toml; do
+    install -m 644 "$top/examples/$example" "$documents/examples"
+done
 # The home of the user, which is root's; and what nginx keeps of requests and replies, for which a disk may be mounted there.
 install -d -m 755 "$root/var/lib/custody" "$root/var/spool/custody"
 cat > "$root/etc/custody/authorized_keys" << 'END'

@@ -49,7 +49,6 @@ UNREACHABLE = '{"message":"the LFS server is not reachable now; try again in a m
 
 class Counts:
     passed = failed = 0
-    wrong = []
 
 
 def check(holds, what, text=""):
@@ -58,7 +57,6 @@ def check(holds, what, text=""):
         Counts.passed += 1
     else:
         Counts.failed += 1
-        Counts.wrong.append(what)
     print(f"{'ok  ' if holds else 'FAIL'} {what}", flush=True)
     if not holds and text:
         print("     " + str(text).strip()[:1500].replace("\n", "\n     "), flush=True)
@@ -201,7 +199,8 @@ def try_earlier():
     must("dpkg", "-i", glob.glob("/try/022/*.deb")[0])
     after = [it.read_bytes() if it.exists() else b"" for it in files]
     started = start()
-    check(after == before and started and database().parent != HOME, "the package moves the database of an earlier one, and its log",
+    check(after == before and started and database().parent != HOME,
+          "the package moves the database of an earlier one, and its log",
           [str(it) for it in HOME.rglob("*")])
 
 
@@ -693,7 +692,8 @@ def try_client():
     must("systemctl", "reload", "nginx")
     began = time.monotonic()
     status, text = git("ann", "push", "-q", "-u", "origin", "main")
-    check(status == 0, f"300 files of 4 kB to 64 MB are pushed with 8 transfers at a time, in {time.monotonic() - began:.1f} s", text)
+    taken = time.monotonic() - began
+    check(status == 0, f"300 files of 4 kB to 64 MB are pushed with 8 transfers at a time, in {taken:.1f} s", text)
     began = time.monotonic()
     status, text = git("bob", "clone", "-q", remote, ".")
     same = run("diff", "-r", "/try/ann/film/art", "/try/bob/film/art")[0] == 0
@@ -746,7 +746,8 @@ def try_wrong_names(count=24, size=32_000_000):
     served = results.count(422)
     check(served <= 16 and served + results.count(429) == count and waits and max(waits) < 10_000,
           f"of {count} uploads of {size // 1_000_000} MB under a wrong name with one token at once, {served} were taken", results)
-    measured(f"they took {time.monotonic() - began:.1f} s; another user waited {max(waits):.1f} s at most, of {len(waits)} requests")
+    taken = time.monotonic() - began
+    measured(f"they took {taken:.1f} s; another user waited {max(waits):.1f} s at most, of {len(waits)} requests")
 
 
 def pages():
@@ -830,7 +831,8 @@ def try_group():
     if not check((EXAMPLES / "custody-group.conf").exists(), "the package says how SSH and Git have a user of their own"):
         return
     write("/etc/systemd/system/custody.service.d/group.conf", (EXAMPLES / "custody-group.conf").read_text())
-    must("useradd", "--system", "--user-group", "--groups", "custody", "--home-dir", "/srv/git", "--no-create-home", "--shell", "/bin/sh", "git")
+    must("useradd", "--system", "--user-group", "--groups", "custody", "--home-dir", "/srv/git", "--no-create-home", "--shell",
+         "/bin/sh", "git")
     must("useradd", "--system", "other")
     must("systemctl", "daemon-reload")
     run("systemctl", "restart", "custody")
@@ -845,24 +847,20 @@ def try_group():
     must("systemctl", "restart", "ssh")
     wait_until(lambda: listening(22))
     status, text = run(*ssh_words("ann"), "git@lfs.example", "git-lfs-authenticate studio/film.git upload")
-    refs = run("git", "ls-remote", "ssh://git@lfs.example/studio/film.git", environment={"GIT_SSH_COMMAND": " ".join(ssh_words("ann"))})
+    refs = run("git", "ls-remote", "ssh://git@lfs.example/studio/film.git",
+               environment={"GIT_SSH_COMMAND": " ".join(ssh_words("ann"))})
     check(status == 0 and "Bearer" in text and refs[0] == 0 and "refs/heads/main" in refs[1],
           "users get tokens, and reach their repositories, as git", f"{text}\n{refs[1]}")
     check(over_ssh("ann", "git-lfs-authenticate studio/film.git upload")[0] == 255, "and not as custody any more")
 
 
+PARTS = [try_package, try_unit, try_earlier, try_confinement, try_neighbours, set_up_ssh, set_up_nginx, try_modes, try_ssh,
+         try_no_token, try_streams, try_limits, try_prefix, try_fields, try_log, try_given_up, try_unreachable, try_several,
+         try_full_spool, try_client, try_wrong_names, measure_growth, try_full_disk, try_group]
+
+
 def main():
-    try_package()
-    try_unit()
-    try_earlier()
-    try_confinement()
-    try_neighbours()
-    set_up_ssh()
-    set_up_nginx()
-    try_modes()
-    try_ssh()
-    for part in (try_no_token, try_streams, try_limits, try_prefix, try_fields, try_log, try_given_up, try_unreachable, try_several, try_full_spool,
-                 try_client, try_wrong_names, measure_growth, try_full_disk, try_group):
+    for part in PARTS:
         part()
     print(f"{Counts.passed} passed, {Counts.failed} failed")
     return 1 if Counts.failed else 0

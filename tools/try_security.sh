@@ -27,7 +27,8 @@ done
 if ! [ -d "$base" ]; then
     echo "Debian is being installed into $base"
     rm -rf "$base.new"
-    debootstrap --variant=minbase --include="$inside" bookworm "$base.new" > "$base.log" 2>&1 || missing "debootstrap failed: $base.log"
+    debootstrap --variant=minbase --include="$inside" bookworm "$base.new" > "$base.log" 2>&1 ||
+        missing "debootstrap failed: $base.log"
     mv "$base.new" "$base"
 fi
 
@@ -44,7 +45,8 @@ clean() {
 trap clean EXIT
 trap 'exit 1' INT TERM
 mkdir "$root" "$work/upper" "$work/layer"
-mount -t overlay overlay -o "lowerdir=$base,upperdir=$work/upper,workdir=$work/layer" "$root" || missing 'no overlay file system can be mounted'
+mount -t overlay overlay -o "lowerdir=$base,upperdir=$work/upper,workdir=$work/layer" "$root" ||
+    missing 'no overlay file system can be mounted'
 
 # The package, made with three umasks.
 mkdir "$root/try"
