@@ -5,6 +5,8 @@
 # usage: tools/package.sh [FOLDER]      the package is written to the folder, or to this one
 set -eu
 unset CDPATH
+# The modes of a package's folders and files are those that it installs, whoever makes it.
+umask 022
 for command in dpkg-deb pandoc gzip strip git; do
     if ! command -v "$command" > /dev/null; then
         echo "package.sh: $command is missing: install it first" >&2
@@ -30,10 +32,18 @@ documents=$root/usr/share/doc/custody
 mkdir -p "$documents/examples" "$root/usr/share/man/man1"
 install -D -m 755 "$program" "$root/usr/bin/custody"
 strip --strip-unneeded "$root/usr/bin/custody"
-install -D -m 755 "$top/examples/forced-command" "$root/usr/lib/custody/forced-command"
+install -D -m 755 -t "$root/usr/lib/custody" "$top/examples/forced-command" "$top/examples/spare"
 install -D -m 644 "$top/examples/custody.service" "$root/lib/systemd/system/custody.service"
 install -D -m 644 "$top/examples/policy.toml" "$root/etc/custody/policy.toml"
-install -m 644 "$top/examples/nginx-site" "$top/examples/policy.toml" "$documents/examples"
+for example in nginx-site sshd-custody.conf custody-group.conf policy.toml; do
+    install -m 644 "$top/examples/$example" "$documents/examples"
+done
+# The home of the user, which is root's; and what nginx keeps of requests and replies, for which a disk may be mounted there.
+install -d -m 755 "$root/var/lib/custody" "$root/var/spool/custody"
+cat > "$root/etc/custody/authorized_keys" << 'END'
+# One line for each key, with the name of its user (sshd(8), AUTHORIZED_KEYS FILE FORMAT):
+# restrict,command="/usr/lib/custody/forced-command ann" ssh-ed25519 AAAA... ann@studio
+END
 install -m 644 "$top/docs/OPERATING.md" "$top/docs/COMMANDS.md" "$top/docs/POLICY.md" "$top/docs/PROTOCOL.md" "$documents"
 
 cat > "$documents/copyright" << END
@@ -71,14 +81,49 @@ Description: Git LFS object and lock server
  at a time lock a path. Every reply and every stored change is proved to be what
  a short, readable definition allows.
 END
-echo /etc/custody/policy.toml > "$root/DEBIAN/conffiles"
+printf '/etc/custody/%s\n' policy.toml authorized_keys > "$root/DEBIAN/conffiles"
 cat > "$root/DEBIAN/postinst" << 'END'
 #!/bin/sh
-# Makes the user that the server and the forced command run as.
+# Makes the user that the server and the forced command run as. What the server writes is in a folder of its own.
 set -e
-if [ "$1" = configure ] && ! getent passwd custody > /dev/null; then
-    useradd --system --user-group --home-dir /var/lib/custody --create-home --shell /bin/sh custody
-    chmod 700 /var/lib/custody
+home=/var/lib/custody
+if [ "$1" = configure ]; then
+    if ! getent passwd custody > /dev/null; then
+        useradd --system --user-group --home-dir "$home" --no-create-home --shell /bin/sh custody
+    fi
+    # Earlier packages had the database in the home, which was the user's.
+    chown root:root "$home"
+    chmod 755 "$home"
+    install -d -o custody -g custody -m 700 "$home/db"
+    if [ -d /run/systemd/system ]; then
+        systemctl daemon-reload
+    fi
+    if [ -f "$home/custody.db" ] && ! [ -e "$home/db/custody.db" ]; then
+        running=no
+        if [ -d /run/systemd/system ] && systemctl --quiet is-active custody.service; then
+            running=yes
+            deb-systemd-invoke stop custody.service
+        fi
+        # The log first: the database is never found without it.
+        if [ -f "$home/custody.db-wal" ]; then
+            mv "$home/custody.db-wal" "$home/db/custody.db-wal"
+        fi
+        mv "$home/custody.db" "$home/db/custody.db"
+        if [ "$running" = yes ]; then
+            deb-systemd-invoke start custody.service
+        fi
+    fi
+    if [ -f "$home/.ssh/authorized_keys" ]; then
+        echo "custody: move the keys from $home/.ssh to /etc/custody/authorized_keys (OPERATING.md, The users)" >&2
+    fi
+fi
+END
+cat > "$root/DEBIAN/postrm" << 'END'
+#!/bin/sh
+# The database stays, also after a purge: it has what users stored.
+set -e
+if [ "$1" = remove ] || [ "$1" = purge ]; then
+    rm -f /var/lib/custody/db/spare
 fi
 if [ -d /run/systemd/system ]; then
     systemctl daemon-reload
@@ -91,5 +136,5 @@ if [ "$1" = remove ] && [ -d /run/systemd/system ]; then
     deb-systemd-invoke stop custody.service || true
 fi
 END
-chmod 755 "$root/DEBIAN/postinst" "$root/DEBIAN/prerm"
+chmod 755 "$root/DEBIAN/postinst" "$root/DEBIAN/prerm" "$root/DEBIAN/postrm"
 dpkg-deb --build --root-owner-group "$root" "$folder/custody_${version}_$architecture.deb"

@@ -152,11 +152,13 @@ class Site:
         site = (TOP / "examples/nginx-site").read_text()
         for old, new in [("127.0.0.1:8080", f"127.0.0.1:{self.http}"), ("listen 443", f"listen 127.0.0.1:{self.https}"),
                          ("lfs.example;", "localhost;"), ("/etc/ssl/certs/lfs.example.pem", certificate),
-                         ("/etc/ssl/private/lfs.example.key", key), ("/var/log/nginx", self.room)]:
+                         ("/etc/ssl/private/lfs.example.key", key), ("/var/log/nginx", self.room),
+                         ("/var/spool/custody", f"{self.room}/spool")]:
             if old not in site:
                 sys.exit(f"examples/nginx-site has no {old}")
             site = site.replace(old, new)
         self.write("site", site)
+        Path(self.room, "spool").mkdir()
         user = "user root;" if os.getuid() == 0 else ""
         config = self.write("nginx.conf", NGINX.replace("@room", self.room).replace("@user", user))
         self.children.append(subprocess.Popen(["nginx", "-c", config, "-e", f"{self.room}/nginx.log"]))
@@ -353,6 +355,7 @@ def try_other_requests(site):
     with open(large, "wb") as file:
         file.truncate((256 << 20) + 1)
     status, text = site.run("curl", "-sS", "--cacert", f"{site.room}/tls.pem", "-T", large, "-w", "\n%{http_code}",
+                            "-H", f"Authorization: Bearer {'0' * 64}",
                             f"{site.base}/studio/film.git/info/lfs/content/{'0' * 64}", may_fail=True)
     site.check("413" in text and '"message"' in text, "nginx refuses an object of more than 256 MiB", text)
 
