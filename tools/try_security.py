@@ -499,7 +499,9 @@ def hold(texts, count):
     """Begins small uploads with the tokens in turn, and leaves them unfinished. Returns how many were not refused."""
     held, refused = [], []
     for number in range(count):
-        connection = begun("PUT", f"{API}/content/{number:064}", bearer(texts[number % len(texts)]), 1000, 500)
+        word = ("Bearer", "bearer", "BEARER")[number % 3]
+        field = [("Authorization", f"{word} {texts[number % len(texts)]}")]
+        connection = begun("PUT", f"{API}/content/{number:064}", field, 1000, 500)
         reply = reply_of(connection, 0.3)
         (refused if reply.status else held).append((connection, reply))
     for connection, _ in held + refused:
