@@ -750,6 +750,8 @@ def try_wrong_names(count=24, size=32_000_000):
           f"of {count} uploads of {size // 1_000_000} MB under a wrong name with one token at once, {served} were taken", results)
     taken = time.monotonic() - began
     measured(f"they took {taken:.1f} s; another user waited {max(waits):.1f} s at most, of {len(waits)} requests")
+    _, out = run("custody", "sweep", "--via", CONTROL)
+    check(out.strip() == "swept 0 uploads", "and nothing of their bytes is kept", out)
 
 
 def pages():

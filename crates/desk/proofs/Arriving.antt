@@ -1,29 +1,32 @@
 -- An upload, from the bytes that arrive to the answer.
-use Rattle.std.proofs.Common.{◌≡◌, ◌∙◌, ◌+◌, ◌≤◌, ℕ, Bool, true, false, List, [], ◌++◌, length, Option, Some, None, is_some, Result, Ok, Err, bytes_eq, refl, sym, ap, subst, arith, take, append-nil, append_assoc, length-append, length-take}
+use Rattle.std.proofs.Common.{◌≡◌, ◌∙◌, ◌+◌, ◌≤◌, inl, inr, ℕ, Bool, true, false, List, [], ◌++◌, length, replicate, Option, Some, None, is_some, Result, Ok, Err, bytes_eq, refl, sym, ap, subst, arith, take, append-nil, append_assoc, length-append, length-take}
 use Rattle.std.specs.Prelude.{IsTrue}
 use Rattle.std.proofs.lemmas.Bool.{true≢false}
-use Rattle.std.proofs.lemmas.List.{nil_from_length}
+use Rattle.std.proofs.lemmas.List.{nil_from_length, length-replicate}
 use Rattle.std.proofs.lemmas.Slice.Eq.{bytes_eq-Decides}
 use Rattle.sqlite_trees.specs.declared.store.Store.{Ghosts}
 use Rattle.names.specs.declared.bodies.Body.{Ghosts as BodyGhosts}
 use Rattle.names.specs.Texts.{is_repo}
 use Rattle.names.specs.declared.rules.Rule.TheVariants.{X2}
-use Rattle.model.specs.World.{World, Object, name_of, object_named, with_object}
+use Rattle.model.specs.World.{World, IsWorld, Object, name_of, object_named, with_object}
 use Rattle.model.specs.Answers.{Answer, stores, by_rule, store_refusal}
 use Rattle.model.specs.Objects.{content_verdict}
-use Rattle.model.specs.Bounds.{Ending, changed, unchanged, failed, answer_ending}
+use Rattle.model.specs.Bounds.{Bound, Ending, changed, unchanged, failed, left_by, world_by, answer_ending}
 use Rattle.model.specs.Steps.{after}
+use Rattle.tables.specs.Rows.{Tables}
 use Rattle.tables.specs.Shown.{HasTables}
 use Rattle.tables.specs.Staging.{upload_number}
 use Rattle.tables.specs.declared.Store.{Store}
 use Rattle.tables.specs.declared.fault.StoreFault.{StoreFault}
 use Rattle.tables.specs.declared.rows.UploadId.{UploadId}
-use Rattle.refinement.specs.Left.{From, Keeps, Ends, Gives}
+use Rattle.refinement.specs.Representation.{Represents, Holds}
+use Rattle.refinement.specs.Left.{IsAmong, From, Keeps, Ends, Gives}
 use Rattle.refinement.specs.Staging.{Stages}
 use Rattle.refinement.proofs.Leading.{leads_none, keeps_still, keeps_then, keeps_ends, ends_reported}
 use Rattle.chunks.specs.Intakes.{IsCut, IsWhole, HasCounted, HasTaken}
 use Rattle.chunks.specs.declared.intake.Intake.{Intake}
 use Rattle.chunks.specs.declared.intake.Arrival.{Arrival}
+use Rattle.uploads.specs.Removing.{Sweeps}
 use Rattle.uploads.specs.Completing.{Staged, bytes_in, object_of, IsAsBegun, Arrives, Completes}
 use Rattle.uploads.specs.declared.completing.Kept.{Kept}
 use Rattle.uploads.specs.declared.completing.Kept.TheVariants.{New, Already}
@@ -34,7 +37,7 @@ use Rattle.desk.specs.declared.receiving.Receipt.TheVariants.{Stored, Differs}
 use Rattle.desk.specs.declared.outcomes.AnswerFault.{AnswerFault}
 use Rattle.desk.specs.declared.outcomes.AnswerFault.TheVariants as fault
 use Rattle.desk.specs.Contents.{HasRead}
-use Rattle.desk.specs.Receiving.{object_from, Takes, HasAll, Fills, Carries, Settles, Receives}
+use Rattle.desk.specs.Receiving.{object_from, Takes, HasAll, Fills, Carries, Settles, Receives, ReceivesStaged}
 
 -- ---- the content
 
@@ -103,18 +106,18 @@ module _ {S : Type 0} (g : Ghosts S) where
     pub kept_refused : (verdict : Answer) → Keeps g old new world → Gives g old new world verdict store_refusal
     kept_refused verdict keeps = ends_reported g old new world (after world (Some verdict)) keeps
 
-    carried_new : (o : Object) → o.name ≡ name_of o.bytes → object_named o.repo o.name world ≡ None → Ends g old new changed world (with_object o world) (with_object o world) → Carries g old new world o (Ok Stored)
-    carried_new o same free ends =
+    carried_new : (o : Object) → content_verdict o ≡ Ok (stores o) → object_named o.repo o.name world ≡ None → Ends g old new changed world (with_object o world) (with_object o world) → Carries g old new world o (Ok Stored)
+    carried_new o stored free ends =
         let ending : changed ≡ answer_ending world (Some (Ok (stores o))) = rw free refl in (
-          has_name o same,
-          subst (λ (v : Answer). Gives g old new world v v) (sym (has_name o same))
+          stored,
+          subst (λ (v : Answer). Gives g old new world v v) (sym stored)
               (subst (λ (e : Ending). Ends g old new e world (with_object o world) (with_object o world)) ending ends),
         )
 
-    carried_again : (o : Object) → o.name ≡ name_of o.bytes → is_some (object_named o.repo o.name world) ≡ true → Keeps g old new world → Carries g old new world o (Ok Stored)
-    carried_again o same there keeps = (
-      has_name o same,
-      subst (λ (v : Answer). Gives g old new world v v) (sym (has_name o same))
+    carried_again : (o : Object) → content_verdict o ≡ Ok (stores o) → is_some (object_named o.repo o.name world) ≡ true → Keeps g old new world → Carries g old new world o (Ok Stored)
+    carried_again o stored there keeps = (
+      stored,
+      subst (λ (v : Answer). Gives g old new world v v) (sym stored)
           (subst (λ (e : Ending). Ends g old new e world (with_object o world) (with_object o world)) (sym (quiet o world there))
           (subst (λ (w : World). Ends g old new unchanged world w w) (sym (same_world o world there)) keeps)),
     )
@@ -149,8 +152,8 @@ module _ {S : Type 0} (g : Ghosts S) where
       -- a completion is carried out as its receipt reports
       pub completed : (r : Result Kept UploadFault) → Completes g world upload old new r → Carries g old new world object (receipt_of r)
       completed (Ok New) done =
-          carried_new object (sym done.0.0) done.1 (subst (λ (o : Object). Ends g old new changed world (with_object o world) (with_object o world)) (same_object done.0) done.2)
-      completed (Ok Already) done = carried_again object (sym done.0.0) done.1 done.2
+          carried_new object (has_name object (sym done.0.0)) done.1 (subst (λ (o : Object). Ends g old new changed world (with_object o world) (with_object o world)) (same_object done.0) done.2)
+      completed (Ok Already) done = carried_again object (has_name object (sym done.0.0)) done.1 done.2
       completed (Err upload_fault.Differs) done = differs (bytes_eq upload.name (name_of (bytes_in upload))) refl done
       completed (Err (upload_fault.Store f)) done = refused (bytes_eq upload.name (name_of (bytes_in upload))) f refl done
 
@@ -282,26 +285,92 @@ module _ {S : Type 0} (g : Ghosts S) where
     λ some. absurd (omega (arith, none, some)),
   )
 
-  module _ (a b : Store S) (id : UploadId) (repo name : List ℕ) (size : ℕ) (begun : From g a b (λ world. Keeps g a b world × Stages g b (upload_number id) repo name size [])) where
-    pub received_part : (c : Store S) (bytes : List ℕ) (left : ℕ) (r : Result Arrival AnswerFault) (e : AnswerFault) → From g b c (Fills g b c id size bytes r) → From g a c (λ world. Receives g a c world repo name bytes left (Err e))
-    received_part c bytes left r e filled = record {
-      honest = λ clean. begun.honest (filled.honest clean);
-      each = λ clean world h.
-          let it = begun.each (filled.honest clean) world h in
-          let more = filled.each clean world it.0.holds repo name it.1 in
-          received_none a c world repo name bytes left e (keeps_then g a b c world it.0 more.0);
+  module _ (a : Store S) (id : UploadId) (size : ℕ) where
+    -- a fault ended the content
+    pub staged_part : (b : Store S) (bytes : List ℕ) (left : ℕ) (r : Result Arrival AnswerFault) (e : AnswerFault) → From g a b (Fills g a b id size bytes r) → From g a b (ReceivesStaged g a b id size bytes left (Err e))
+    staged_part b bytes left r e filled = record {
+      honest = filled.honest;
+      each = λ clean world h repo name is whole stages. received_none a b world repo name bytes left e (filled.each clean world h repo name stages).0;
     }
 
-    pub received : (c d : Store S) (bytes : List ℕ) (left : ℕ) (arrival : Arrival) (r : Result Receipt StoreFault) → IsTrue (is_repo repo) → length bytes ≡ size → left ≡ 0
-        → From g b c (Fills g {E = AnswerFault} b c id size bytes (Ok arrival)) → From g c d (Settles g c d id arrival r)
-        → From g a d (λ world. Receives g a d world repo name bytes left (answered_by r))
-    received c d bytes left arrival r is_repo whole none filled settled = record {
-      honest = λ clean. begun.honest (filled.honest (settled.honest clean));
-      each = λ clean world h.
-          let it = begun.each (filled.honest (settled.honest clean)) world h in
-          let more = filled.each (settled.honest clean) world it.0.holds repo name it.1 in
-          let keeps = keeps_then g a b c world it.0 more.0 in
-          let all = subst (λ (n : ℕ). HasAll g c id arrival repo name n bytes) (sym whole ∙ sym more.1.counted) more.1 in
-          received_all a d world repo name bytes left r none
-          (carries_then a c d world (object_from repo name bytes) r keeps (settled.each clean world keeps.holds repo name bytes is_repo all));
+    -- all of it arrived
+    pub staged_all : (b c : Store S) (bytes : List ℕ) (left : ℕ) (arrival : Arrival) (r : Result Receipt StoreFault) → left ≡ 0 → From g a b (Fills g {E = AnswerFault} a b id size bytes (Ok arrival))
+        → From g b c (Settles g b c id arrival r) → From g a c (ReceivesStaged g a c id size bytes left (answered_by r))
+    staged_all b c bytes left arrival r none filled settled = record {
+      honest = λ clean. filled.honest (settled.honest clean);
+      each = λ clean world h repo name is whole stages.
+          let more = filled.each (settled.honest clean) world h repo name stages in
+          let counted = more.1.counted in
+          let same : size ≡ arrival.size = omega (arith, whole, none, counted) in
+          let all = subst (λ (n : ℕ). HasAll g b id arrival repo name n bytes) same more.1 in
+          received_all a c world repo name bytes left r none (carries_then a b c world (object_from repo name bytes) r more.0 (settled.each clean world more.0.holds repo name bytes is all));
     }
+
+  -- ---- what an upload left is removed
+
+  -- nothing was done
+  pub kept_none : (a : Store S) → From g a a (Keeps g a a)
+  kept_none a = record { honest = λ k. k; each = λ k world h. keeps_still g a a world (leads_none g a world h) }
+
+  -- all staged uploads were removed, or some of them
+  pub swept_keeps : (a b : Store S) (world : World) (r : Result ℕ StoreFault) → Sweeps g world a b r → Keeps g a b world
+  swept_keeps a b world (Ok n) swept = swept.0
+  swept_keeps a b world (Err f) keeps = keeps
+
+  among_left : (t : Tables) (ending : Ending) (world made : World) (bound : Bound) → IsWorld (world_by ending world made) × Represents t (world_by ending world made) → IsAmong t (left_by ending world made bound)
+  among_left t changed world made bound is = inl is
+  among_left t unchanged world made bound is = inl is
+  among_left t failed world made bound is = inr (inl is)
+
+  -- a call, and then calls that keep the world that it led to
+  ends_then : (a b c : Store S) (world made : World) (ending : Ending) → Ends g a b ending world made (world_by ending world made) → Keeps g b c (world_by ending world made) → Ends g a c ending world made (world_by ending world made)
+  ends_then a b c world made ending p q = record {
+    holds = q.holds;
+    left = λ bound was.
+        let it = q.left (left_by ending world made bound) (p.left bound was) in
+        record { safe = it.safe; among = λ k t left. elim (it.among k t left) [ inl is ↦ among_left t ending world made bound is | inr rest ↦ rest ] };
+  }
+
+  module _ (a b c : Store S) (world : World) (keeps : (kept : World) → Holds g b kept → Keeps g b c kept) where
+    stored_then : (o : Object) (found : Option Object) → object_named o.repo o.name world ≡ found → Carries g a b world o (Ok Stored) → Carries g a c world o (Ok Stored)
+    stored_then o None free done =
+        let made = with_object o world in
+        let ending : answer_ending world (Some (Ok (stores o))) ≡ changed = rw free refl in
+        let ends : Ends g a b changed world made made = subst (λ (e : Ending). Ends g a b e world made made) ending (subst (λ (v : Answer). Gives g a b world v v) done.0 done.1) in
+        carried_new a c world o done.0 free (ends_then a b c world made changed ends (keeps made ends.holds))
+    stored_then o (Some it) is done =
+        let made = with_object o world in
+        let there : is_some (object_named o.repo o.name world) ≡ true = ap is_some is in
+        let ends : Ends g a b unchanged world made made = subst (λ (e : Ending). Ends g a b e world made made) (quiet o world there) (subst (λ (v : Answer). Gives g a b world v v) done.0 done.1) in
+        let kept : Keeps g a b world = subst (λ (w : World). Ends g a b unchanged world w w) (same_world o world there) ends in
+        carried_again a c world o done.0 there (keeps_then g a b c world kept (keeps world kept.holds))
+
+  module _ (repo name bytes : List ℕ) (left : ℕ) (world : World) where
+    received_then : (a b c : Store S) (r : Result Receipt AnswerFault) → Keeps g a b world → Receives g b c world repo name bytes left r → Receives g a c world repo name bytes left r
+    received_then a b c (Ok receipt) keeps done = carries_then a b c world (object_from repo name bytes) (Ok receipt) keeps done
+    received_then a b c (Err (fault.Store f)) keeps done = (λ rest is. carries_then a b c world (object_from repo name (bytes ++ rest)) (Err f) keeps (done.0 rest is), λ some. keeps_then g a b c world keeps (done.1 some))
+    received_then a b c (Err (fault.Body cut)) keeps done = keeps_then g a b c world keeps done
+
+    then_cleared : (a b c : Store S) (r : Result Receipt AnswerFault) → Receives g a b world repo name bytes left r → ((kept : World) → Holds g b kept → Keeps g b c kept) → Receives g a c world repo name bytes left r
+    then_cleared a b c (Ok Stored) done keeps = stored_then a b c world keeps (object_from repo name bytes) (object_named repo name world) refl done
+    then_cleared a b c (Ok Differs) done keeps =
+        let kept : Keeps g a b world = subst (λ (v : Answer). Gives g a b world v v) done.0 done.1 in
+        (done.0, subst (λ (v : Answer). Gives g a c world v v) (sym done.0) (keeps_then g a b c world kept (keeps world kept.holds)))
+    then_cleared a b c (Err (fault.Store f)) done keeps =
+        let kept = keeps world (done.0 (replicate left 0) (length-replicate left 0)).holds in (
+          λ rest is. ends_then a b c world (after world (Some (content_verdict (object_from repo name (bytes ++ rest))))) failed (done.0 rest is) kept,
+          λ some. keeps_then g a b c world (done.1 some) kept,
+        )
+    then_cleared a b c (Err (fault.Body cut)) done keeps = keeps_then g a b c world done (keeps world done.holds)
+
+  -- an upload was begun, its content was received, and what it left was removed
+  pub received : (a b c d : Store S) (id : UploadId) (repo name : List ℕ) (size : ℕ) (bytes : List ℕ) (left : ℕ) (r : Result Receipt AnswerFault) → IsTrue (is_repo repo) → length bytes + left ≡ size
+      → From g a b (λ world. Keeps g a b world × Stages g b (upload_number id) repo name size []) → From g b c (ReceivesStaged g b c id size bytes left r) → From g c d (Keeps g c d)
+      → From g a d (λ world. Receives g a d world repo name bytes left r)
+  received a b c d id repo name size bytes left r is whole begun came cleared = record {
+    honest = λ clean. begun.honest (came.honest (cleared.honest clean));
+    each = λ clean world h.
+        let it = begun.each (came.honest (cleared.honest clean)) world h in
+        let done = came.each (cleared.honest clean) world it.0.holds repo name is (sym whole) it.1 in
+        then_cleared repo name bytes left world a c d r (received_then repo name bytes left world a b c r it.0 done) (cleared.each clean);
+  }

@@ -1,5 +1,5 @@
 -- The bytes of an upload are received.
-use Rattle.std.specs.Prelude.{◌≡◌, ◌<◌, ℕ, List, [], ◌++◌, length, Result, Ok, Err, OnOk, IfOk, IsTrue, ⊤}
+use Rattle.std.specs.Prelude.{◌≡◌, ◌<◌, ◌+◌, ℕ, List, [], ◌++◌, length, Result, Ok, Err, OnOk, IfOk, IsTrue, ⊤}
 use Rattle.std.specs.declared.alloc.AllocError.{AllocError}
 use Rattle.sqlite_trees.specs.declared.store.Store.{Ghosts}
 use Rattle.names.specs.Texts.{is_repo}
@@ -72,6 +72,12 @@ module _ {S : Type 0} (g : Ghosts S) where
       ((rest : List ℕ) → length rest ≡ left → Carries old new world (object_from repo name (bytes ++ rest)) (Err f))
       × (0 < left → Keeps g old new world)
   Receives old new world repo name bytes left (Err (fault.Body cause)) = Keeps g old new world
+
+  -- the same of an upload that was staged without bytes, for a repository and with a name
+  abbrev pub ReceivesStaged : Store S → Store S → UploadId → (size : ℕ) → (bytes : List ℕ) → (left : ℕ) → Result Receipt AnswerFault → World → Type 0
+  ReceivesStaged old new id size bytes left r world =
+      (repo name : List ℕ) → IsTrue (is_repo repo) → size ≡ length bytes + left → Stages g old (upload_number id) repo name size []
+      → Receives old new world repo name bytes left r
 
 -- the reply that a receipt leads to: 200, which needs no memory, or X2
 abbrev pub RepliesReceived : Receipt → Result Reply AllocError → Type 0

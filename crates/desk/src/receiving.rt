@@ -2,9 +2,9 @@
 
 ghost use Rattle.std.specs.Prelude.{◌≡◌, ◌≢◌, ◌<◌, ◌≤◌, ℕ, List, length, take, Err, OnOk, IfErr};
 ghost use Rattle.names.specs.Names.{repo_text};
-ghost use Rattle.refinement.specs.Left.{From};
+ghost use Rattle.refinement.specs.Left.{From, Keeps};
 ghost use Rattle.desk.specs.Contents.{HasRead, IsReadOut, IsLeftBy};
-ghost use Rattle.desk.specs.Receiving.{Takes, Fills, Settles, Receives};
+ghost use Rattle.desk.specs.Receiving.{Takes, Fills, Settles, ReceivesStaged, Receives};
 
 use crate::outcomes::AnswerFault;
 use chunks::{Arrival, Intake};
@@ -116,7 +116,55 @@ fn settle<S: Alter>(
     }
 }
 
-/// Reads the content to its end, and stores it as the object of this name if its bytes have the name.
+/// Reads the content to its end as the bytes of an upload that has none yet, and makes the upload an object of its
+/// repository if they have its name.
+///
+/// # Errors
+///
+/// `Store` and `Body`, as [`receive`]. The upload may still be staged; the world is unchanged.
+fn receive_staged<S: Alter, B: Body>(
+    alloc: Global,
+    store: &mut Store<S>,
+    upload: UploadId,
+    size: Size,
+    content: &mut B,
+) -> Result<Receipt, AnswerFault>
+    ensures bytes { (bytes : List ℕ) × HasRead B.Body content.old content.new bytes
+        × From S.Store store.old store.new (λ world. ReceivesStaged S.Store store.old store.new
+        upload size bytes (B.size content.new) result world) }
+    ensures whole { OnOk result (IsReadOut B.Body content.old content.new) }
+    ensures fault { IfErr result (IsLeftBy B.Body content.old content.new) }
+    ensures known { result ≢ Err (AnswerFault.Store StoreFault.UnknownSchema) }
+{
+    let arrival = fill(alloc, store, upload, size, content)?;
+    Ok(settle(store, upload, &arrival)?)
+}
+
+/// Removes what arrived of an upload that became no object, if the store allows it. After a refusal of the store that is
+/// whatever is staged: on a full disk, uploads that failed before may be staged too. What is not removed here is removed
+/// by the next upload of its repository.
+fn clear<S: Alter>(
+    alloc: Global,
+    store: &mut Store<S>,
+    upload: UploadId,
+    received: &Result<Receipt, AnswerFault>,
+)
+    ensures { From S.Store store.old store.new (λ world.
+        Keeps S.Store store.old store.new world) }
+{
+    match received {
+        Ok(Receipt::Stored) => {}
+        Ok(Receipt::Differs) | Err(AnswerFault::Body(_)) => {
+            let _ = uploads::abandon(store, upload);
+        }
+        Err(AnswerFault::Store(_)) => {
+            let _ = uploads::sweep(alloc, store);
+        }
+    }
+}
+
+/// Reads the content to its end, and stores it as the object of this name if its bytes have the name. If they do not, or
+/// if it fails, the bytes that arrived are removed, as far as the store allows it.
 ///
 /// # Errors
 ///
@@ -143,6 +191,7 @@ pub(crate) fn receive<S: Alter, B: Body>(
         return Err(AnswerFault::Store(StoreFault::Refused));
     };
     let upload = uploads::begin(alloc, store, repo, name, size)?;
-    let arrival = fill(alloc, store, upload, size, content)?;
-    Ok(settle(store, upload, &arrival)?)
+    let received = receive_staged(alloc, store, upload, size, content);
+    clear(alloc, store, upload, &received);
+    received
 }

@@ -254,6 +254,36 @@ fn a_store_that_loses_chunks_fails_within_a_content(rt: HostRuntime) {
     assert_eq!(rt; unwrap(&rt, store.made(&repo(&rt, "studio/film"))), 0);
 }
 
+/// What stops and other programs left: staged uploads in two repositories, and a row in the place of the first chunk of
+/// the next upload.
+const LEFT: &[&str] = &[
+    "INSERT INTO uploads VALUES (7, 'studio/film', '2cf24dba5fb0a30e26e83b2ac5b9e29e1b161e5c1fa7425e73043362938b9824', 5, 0)",
+    "INSERT INTO uploads VALUES (8, 'studio/game', '2cf24dba5fb0a30e26e83b2ac5b9e29e1b161e5c1fa7425e73043362938b9824', 5, 0)",
+    "INSERT INTO chunks VALUES (9, 0, x'00')",
+];
+
+#[test]
+fn a_refusal_within_an_upload_removes_what_is_staged(rt: HostRuntime) {
+    let mut store = in_memory(&rt);
+    keep_tokens(&rt, &mut store);
+    for row in LEFT {
+        store = changed(&rt, store, row);
+    }
+    assert_eq!(rt; unwrap(&rt, store.staged_uploads(rt.alloc())).len(), 2);
+    let content = repeated(&rt, &[("x", 200_000)]);
+    let put = put_text(&rt, content.as_str());
+    expect_over(
+        &rt,
+        &mut store,
+        put.as_str(),
+        STORE_REFUSED,
+        served(1, true),
+    );
+    assert!(rt; unwrap(&rt, store.staged_uploads(rt.alloc())).is_empty());
+    assert_eq!(rt; unwrap(&rt, store.used(&repo(&rt, "studio/film"))), 0);
+    expect_over(&rt, &mut store, put.as_str(), DONE, served(1, false));
+}
+
 /// The file whose calls are counted, and the number of its calls that succeed.
 const STOPS: &[(Counted, u64)] = &[
     (Counted::Log, 36),

@@ -21,27 +21,8 @@ const EDGES: &[usize] = &[
 /// The same of the object of two chunks.
 const DOUBLE_EDGES: &[usize] = &[0, 1, 65_535, 65_536, 65_537, 70_000, 131_071];
 
-/// Asserts that one upload is staged, with the chunks that are full.
-fn expect_staged(rt: &impl Tester, server: &mut Server, arrived: usize) {
-    let staged = unwrap(rt, server.store.staged_uploads(rt.alloc()));
-    assert!(rt; staged.len() == 1, "{arrived}");
-    let id = unwrap(rt, staged.first().copied().ok_or(()));
-    let full = unwrap(rt, u32::try_from(arrived / 65_536));
-    if let Some(last) = full.checked_sub(1) {
-        let chunk = unwrap(rt, server.store.chunk(id, last));
-        assert!(rt;
-            chunk.map_or(0, |chunk| chunk.bytes().len()) == 65_536,
-            "{arrived}"
-        );
-    }
-    assert!(rt;
-        unwrap(rt, server.store.chunk(id, full)).is_none(),
-        "{arrived}"
-    );
-}
-
-/// Asserts that an upload of which only this many bytes of the content arrive has no reply and stores nothing,
-/// and that the next uploads are stored.
+/// Asserts that an upload of which only this many bytes of the content arrive has no reply and stores nothing, that
+/// the bytes that arrived are removed, and that the next uploads are stored.
 fn expect_cut(rt: &impl Tester, (size, oid): (usize, &str), arrived: usize, most: usize) {
     let content = repeated(rt, &[("x", size)]);
     let content = content.as_str();
@@ -53,11 +34,10 @@ fn expect_cut(rt: &impl Tester, (size, oid): (usize, &str), arrived: usize, most
         let sent = server.answer(rt, front, most);
         expect_sent(rt, b"a cut upload", &sent, "", served(0, false));
         assert!(rt; server.used(rt) == 0, "{arrived}");
-        expect_staged(rt, &mut server, arrived);
+        assert!(rt; server.staged(rt) == 0, "{arrived}");
         expect_step(rt, &mut server, 7, (ANN, Get(oid), Rule("X1")));
     }
     expect_step(rt, &mut server, 7, (ANN, Put(HELLO, "hello"), Done));
-    assert!(rt; server.staged(rt) == 0, "{arrived}");
     expect_step(rt, &mut server, usize::MAX, (ANN, Put(oid, content), Done));
     expect_step(
         rt,
@@ -105,6 +85,7 @@ fn an_upload_whose_source_fails_stores_nothing(rt: HostRuntime) {
         };
         assert!(rt; served == want && sink.taken().is_empty(), "{reads}");
         assert!(rt; server.used(&rt) == 0, "{reads}");
+        assert!(rt; server.staged(&rt) == 0, "{reads}");
     }
     expect_step(
         &rt,
