@@ -207,16 +207,15 @@ def check_refused(server, _):
     require(put(server, HELLO, b"hello", letter="c") == 401, "an unknown token was not refused")
     lock = message("POST", "/studio/film.git/info/lfs/locks", {"path": "art/hero.psd"})
     require(put(server, "xyz", lock) == 422, "an upload without a name was not refused")
-    # The upload whose bytes had another name stays incomplete until the next one begins, without its last chunk; the
-    # others began none.
-    expect_stored(server, UPLOADS, ["studio/film|3|0|0|-1|0"])
+    # The bytes of another name are removed; the other requests began no upload.
+    expect_stored(server, UPLOADS, [])
     expect_stored(server, "SELECT count(*) FROM locks; SELECT count(*) FROM chunks;", ["0", "0"])
     require(get(server, HELLO)[0] == 404, "an incomplete upload was served")
     for data in (b"hello", b"hello"):
         require(put(server, HELLO, data) == 200, "an upload was refused")
     require(put(server, HELLO, b"jello") == 422, "other bytes were not refused")
     require(get(server, HELLO) == (200, b"hello"), "the object differs")
-    expect_stored(server, UPLOADS, [row(5), "studio/film|5|0|0|-1|0"])
+    expect_stored(server, UPLOADS, [row(5)])
     return "refused uploads left no object, and an object that was uploaded twice has one row"
 
 

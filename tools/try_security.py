@@ -755,12 +755,13 @@ def try_wrong_names(count=24, size=32_000_000):
 
 
 def pages():
-    """How many bytes the pages of the database have, its log included."""
+    """How many bytes the pages of the database that are used have, its log included."""
     with tempfile.TemporaryDirectory() as folder:
         for file in (database(), Path(f"{database()}-wal")):
             shutil.copy(file, folder)
         with contextlib.closing(sqlite3.connect(f"{folder}/{database().name}")) as opened:
-            return opened.execute("PRAGMA page_count").fetchone()[0] * opened.execute("PRAGMA page_size").fetchone()[0]
+            count, free, size = (opened.execute(f"PRAGMA {it}").fetchone()[0] for it in ("page_count", "freelist_count", "page_size"))
+            return (count - free) * size
 
 
 def make_locks(text, count, length):
