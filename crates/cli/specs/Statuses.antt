@@ -1,7 +1,7 @@
 -- The program's exit status, and the fault that it reports.
 use Rattle.std.specs.Prelude.{Bool, Result, Ok, Err}
 use Rattle.service.specs.declared.ends.End.{End}
-use Rattle.service.specs.declared.ends.End.TheVariants.{InputEnded, Closed, ReadFailed, WriteFailed, StoreFailed}
+use Rattle.service.specs.declared.ends.End.TheVariants.{InputEnded, Closed, StoreRefused, ReadFailed, WriteFailed, StoreFailed}
 use Rattle.command_line.specs.declared.faults.ArgsFault.{ArgsFault}
 use Rattle.command_line.specs.declared.faults.ArgsFault.TheVariants as args
 use Rattle.tables.specs.declared.fault.StoreFault.{StoreFault}
@@ -81,6 +81,16 @@ of_paths paths.Memory = Memory
 abbrev pub is_good : End → Bool
 is_good InputEnded = Bool.true
 is_good Closed = Bool.true
+is_good StoreRefused = Bool.true
 is_good ReadFailed = Bool.false
 is_good WriteFailed = Bool.false
 is_good StoreFailed = Bool.false
+
+-- the server reports connections that did not end well, and store refusals
+abbrev pub is_reported : End → Bool
+is_reported InputEnded = Bool.false
+is_reported Closed = Bool.false
+is_reported StoreRefused = Bool.true
+is_reported ReadFailed = Bool.true
+is_reported WriteFailed = Bool.true
+is_reported StoreFailed = Bool.true

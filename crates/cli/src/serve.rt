@@ -3,6 +3,7 @@
 ghost use Rattle.std.specs.Prelude.{◌≡◌, ◌≤◌, IfOk};
 ghost use Rattle.refinement.specs.Left.{From};
 ghost use Rattle.operator.specs.Works.{Works};
+ghost use Rattle.cli.specs.Statuses.{is_reported};
 
 use crate::faults::Fault;
 use crate::files::read_policy;
@@ -125,8 +126,18 @@ impl<C: Clock> ServeContext<'_, C> {
         Err(Fault::Network)
     }
 
+    /// Removes what failed uploads left in the store, if there may be any. Returns whether there still may be: the store
+    /// refused.
+    fn sweep_if<S: Storage>(&self, store: &mut Store<S>, unswept: bool) -> bool
+        ensures { From S.Store store.old store.new (λ world.
+            Works S.Store store.old store.new world) }
+    {
+        unswept && uploads::sweep(self.rt.alloc(), store).is_err()
+    }
+
     /// Waits for a client, serves its connection at the clock's moment, and closes it. Operators who come before are
-    /// answered.
+    /// answered. `unswept` says whether failed uploads may have left something in the store; if so, it is removed before
+    /// the connection is served.
     ///
     /// # Errors
     ///
@@ -135,12 +146,14 @@ impl<C: Clock> ServeContext<'_, C> {
         &self,
         store: &mut Store<S>,
         queue: &mut Queue<'_>,
+        unswept: &mut bool,
         errors: &mut E,
     ) -> Result<End, Fault>
         ensures { From S.Store store.old store.new (λ world.
             Works S.Store store.old store.new world) }
     {
         let stream = self.next_client(store, queue, errors)?;
+        *unswept = self.sweep_if(store, *unswept);
         let now = moment(self.clock, None)?;
         let end = self.converse(store, now, queue, &stream);
         if end == End::Closed {
@@ -150,8 +163,9 @@ impl<C: Clock> ServeContext<'_, C> {
         Ok(end)
     }
 
-    /// Serves this many connections, and reports those that failed. Operators are answered between them. Returns how many
-    /// connections were served.
+    /// Serves this many connections, and reports those that failed. Operators are answered between them. What failed
+    /// uploads left, also those of a server that was killed, is removed before the next connection, as soon as the store
+    /// allows it. Returns how many connections were served.
     ///
     /// # Errors
     ///
@@ -168,15 +182,24 @@ impl<C: Clock> ServeContext<'_, C> {
             Works S.Store store.old store.new world) }
     {
         let mut served = 0;
+        let mut unswept = true;
         'connections: while served < most {
-            let end = self.serve_next(store, queue, errors)?;
+            let end = self.serve_next(store, queue, &mut unswept, errors)?;
             served += 1;
-            if !is_good(end) {
+            unswept = unswept || end == End::StoreRefused;
+            if is_reported(end) {
                 let _ = write_end(errors, served, end);
             }
         }
         Ok(served)
     }
+}
+
+/// Whether the end of a connection is reported: a read, a write or the store failed.
+fn is_reported(end: End) -> bool
+    ensures { result ≡ is_reported end }
+{
+    end == End::StoreRefused || !is_good(end)
 }
 
 /// Reports a connection that failed.

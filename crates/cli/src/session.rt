@@ -73,7 +73,7 @@ pub(crate) fn is_good(end: End) -> bool
     ensures { result ≡ is_good end }
 {
     match end {
-        End::InputEnded | End::Closed => true,
+        End::InputEnded | End::Closed | End::StoreRefused => true,
         End::ReadFailed | End::WriteFailed | End::StoreFailed => false,
     }
 }

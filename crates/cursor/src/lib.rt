@@ -15,7 +15,7 @@ mod windows;
 
 pub use filters::Filter;
 pub use pages::Page;
-pub use parameters::{read_cursor, read_limit};
+pub use parameters::{LONGEST_PAGE, USUAL_PAGE, read_cursor, read_limit};
 pub use splitting::split;
 pub use walks::walk_law;
 pub use windows::page;

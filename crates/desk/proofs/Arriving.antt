@@ -1,5 +1,5 @@
 -- An upload, from the bytes that arrive to the answer.
-use Rattle.std.proofs.Common.{◌≡◌, ◌∙◌, ◌+◌, ◌≤◌, inl, inr, ℕ, Bool, true, false, List, [], ◌++◌, length, replicate, Option, Some, None, is_some, Result, Ok, Err, bytes_eq, refl, sym, ap, subst, arith, take, append-nil, append_assoc, length-append, length-take}
+use Rattle.std.proofs.Common.{◌≡◌, ◌∙◌, ◌+◌, ◌≤◌, ℕ, Bool, true, false, List, [], ◌++◌, length, replicate, Option, Some, None, is_some, Result, Ok, Err, bytes_eq, refl, sym, ap, subst, arith, take, append-nil, append_assoc, length-append, length-take}
 use Rattle.std.specs.Prelude.{IsTrue}
 use Rattle.std.proofs.lemmas.Bool.{true≢false}
 use Rattle.std.proofs.lemmas.List.{nil_from_length, length-replicate}
@@ -8,21 +8,20 @@ use Rattle.sqlite_trees.specs.declared.store.Store.{Ghosts}
 use Rattle.names.specs.declared.bodies.Body.{Ghosts as BodyGhosts}
 use Rattle.names.specs.Texts.{is_repo}
 use Rattle.names.specs.declared.rules.Rule.TheVariants.{X2}
-use Rattle.model.specs.World.{World, IsWorld, Object, name_of, object_named, with_object}
+use Rattle.model.specs.World.{World, Object, name_of, object_named, with_object}
 use Rattle.model.specs.Answers.{Answer, stores, by_rule, store_refusal}
 use Rattle.model.specs.Objects.{content_verdict}
-use Rattle.model.specs.Bounds.{Bound, Ending, changed, unchanged, failed, left_by, world_by, answer_ending}
+use Rattle.model.specs.Bounds.{Ending, changed, unchanged, failed, answer_ending}
 use Rattle.model.specs.Steps.{after}
-use Rattle.tables.specs.Rows.{Tables}
 use Rattle.tables.specs.Shown.{HasTables}
 use Rattle.tables.specs.Staging.{upload_number}
 use Rattle.tables.specs.declared.Store.{Store}
 use Rattle.tables.specs.declared.fault.StoreFault.{StoreFault}
 use Rattle.tables.specs.declared.rows.UploadId.{UploadId}
-use Rattle.refinement.specs.Representation.{Represents, Holds}
-use Rattle.refinement.specs.Left.{IsAmong, From, Keeps, Ends, Gives}
+use Rattle.refinement.specs.Representation.{Holds}
+use Rattle.refinement.specs.Left.{From, Keeps, Ends, Gives}
 use Rattle.refinement.specs.Staging.{Stages}
-use Rattle.refinement.proofs.Leading.{leads_none, keeps_still, keeps_then, keeps_ends, ends_reported}
+use Rattle.refinement.proofs.Leading.{leads_none, keeps_still, keeps_then, keeps_ends, ends_then, ends_reported}
 use Rattle.chunks.specs.Intakes.{IsCut, IsWhole, HasCounted, HasTaken}
 use Rattle.chunks.specs.declared.intake.Intake.{Intake}
 use Rattle.chunks.specs.declared.intake.Arrival.{Arrival}
@@ -317,27 +316,13 @@ module _ {S : Type 0} (g : Ghosts S) where
   swept_keeps a b world (Ok n) swept = swept.0
   swept_keeps a b world (Err f) keeps = keeps
 
-  among_left : (t : Tables) (ending : Ending) (world made : World) (bound : Bound) → IsWorld (world_by ending world made) × Represents t (world_by ending world made) → IsAmong t (left_by ending world made bound)
-  among_left t changed world made bound is = inl is
-  among_left t unchanged world made bound is = inl is
-  among_left t failed world made bound is = inr (inl is)
-
-  -- a call, and then calls that keep the world that it led to
-  ends_then : (a b c : Store S) (world made : World) (ending : Ending) → Ends g a b ending world made (world_by ending world made) → Keeps g b c (world_by ending world made) → Ends g a c ending world made (world_by ending world made)
-  ends_then a b c world made ending p q = record {
-    holds = q.holds;
-    left = λ bound was.
-        let it = q.left (left_by ending world made bound) (p.left bound was) in
-        record { safe = it.safe; among = λ k t left. elim (it.among k t left) [ inl is ↦ among_left t ending world made bound is | inr rest ↦ rest ] };
-  }
-
   module _ (a b c : Store S) (world : World) (keeps : (kept : World) → Holds g b kept → Keeps g b c kept) where
     stored_then : (o : Object) (found : Option Object) → object_named o.repo o.name world ≡ found → Carries g a b world o (Ok Stored) → Carries g a c world o (Ok Stored)
     stored_then o None free done =
         let made = with_object o world in
         let ending : answer_ending world (Some (Ok (stores o))) ≡ changed = rw free refl in
         let ends : Ends g a b changed world made made = subst (λ (e : Ending). Ends g a b e world made made) ending (subst (λ (v : Answer). Gives g a b world v v) done.0 done.1) in
-        carried_new a c world o done.0 free (ends_then a b c world made changed ends (keeps made ends.holds))
+        carried_new a c world o done.0 free (ends_then g a b c world made changed ends (keeps made ends.holds))
     stored_then o (Some it) is done =
         let made = with_object o world in
         let there : is_some (object_named o.repo o.name world) ≡ true = ap is_some is in
@@ -358,7 +343,7 @@ module _ {S : Type 0} (g : Ghosts S) where
         (done.0, subst (λ (v : Answer). Gives g a c world v v) (sym done.0) (keeps_then g a b c world kept (keeps world kept.holds)))
     then_cleared a b c (Err (fault.Store f)) done keeps =
         let kept = keeps world (done.0 (replicate left 0) (length-replicate left 0)).holds in (
-          λ rest is. ends_then a b c world (after world (Some (content_verdict (object_from repo name (bytes ++ rest))))) failed (done.0 rest is) kept,
+          λ rest is. ends_then g a b c world (after world (Some (content_verdict (object_from repo name (bytes ++ rest))))) failed (done.0 rest is) kept,
           λ some. keeps_then g a b c world (done.1 some) kept,
         )
     then_cleared a b c (Err (fault.Body cut)) done keeps = keeps_then g a b c world done (keeps world done.holds)

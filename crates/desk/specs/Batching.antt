@@ -1,5 +1,5 @@
 -- A batch of objects.
-use Rattle.std.specs.Prelude.{◌≡◌, ℕ, ◌-◌, ◌==◌, List, Option, Some, None, Result, Ok, Err, ⊤, string_bytes}
+use Rattle.std.specs.Prelude.{◌≡◌, ℕ, ◌-◌, ◌==◌, List, Option, Some, None, Result, Ok, Err, ⊤}
 use Rattle.names.specs.Names.{repo_text, ref_text}
 use Rattle.names.specs.declared.rules.Rule.{Rule}
 use Rattle.names.specs.declared.rules.Rule.TheVariants.{B1, B4, B5}
@@ -55,7 +55,7 @@ judged_on state asked o = judged_as o (actions_on state asked o)
 
 -- an offer, as an object that was judged
 abbrev pub judged_by : Offer → Judged
-judged_by o = record { oid = string_bytes o.oid; size = o.size; actions = o.actions }
+judged_by o = record { oid = o.oid.now; size = o.size; actions = o.actions }
 
 -- the user may do this with objects of the ref
 abbrev pub may_transfer : Case → Operation → List ℕ → Result ⊤ Denial

@@ -103,18 +103,20 @@ fn judge<S: Alter>(
 }
 
 /// Adds the object as it was given, with what can be done with it.
-fn add_offer(
-    alloc: Global,
-    offers: &mut Vec<Offer>,
-    object: &BatchObject,
+fn add_offer<'a>(
+    offers: &mut Vec<Offer<'a>>,
+    object: &'a BatchObject,
     actions: Result<Actions, Rule>,
 ) -> Result<(), AllocError>
     ensures { OnOk result (map judged_by offers.new.items
         ≡ map judged_by offers.old.items ++ judged_as (object_asked object.now) actions ∷ []) }
 {
-    let oid = object.oid.as_str().to_owned(alloc)?;
-    let size = object.size.unwrap_or(0);
-    offers.push(Offer { oid, size, actions })?;
+    let offer = Offer {
+        oid: object.oid.as_str(),
+        size: object.size.unwrap_or(0),
+        actions,
+    };
+    offers.push(offer)?;
     Ok(())
 }
 
@@ -124,12 +126,12 @@ fn add_offer(
 /// # Errors
 ///
 /// A [`StoreFault`], which leaves the contents of the store unchanged.
-pub fn batch_objects<S: Alter>(
+pub fn batch_objects<'a, S: Alter>(
     alloc: Global,
     store: &mut Store<S>,
     repo: &Repo,
-    asked: &BatchRequest,
-) -> Result<Vec<Offer>, StoreFault>
+    asked: &'a BatchRequest,
+) -> Result<Vec<Offer<'a>>, StoreFault>
     ensures known { result ≢ Err StoreFault.UnknownSchema }
     ensures world { Reads S.Store store.old store.new (λ world. IfOk result (λ offers.
         map judged_by offers.items ≡ map (judged_on (repo_state (repo_view repo.now) world)
@@ -139,7 +141,7 @@ pub fn batch_objects<S: Alter>(
     let mut offers = Vec::with_capacity(alloc, asked.objects.len())?;
     for object in asked.objects.as_slice() {
         let actions = judge(store, repo, used, asked, object)?;
-        add_offer(alloc, &mut offers, object, actions)?;
+        add_offer(&mut offers, object, actions)?;
     }
     Ok(offers)
 }
@@ -169,7 +171,7 @@ fn links_of<'a>(case: &Case<'a>, ref_name: &'a RefName) -> Links<'a>
 }
 
 /// The reply with the objects of a batch.
-fn batch_reply(alloc: Global, links: &Links<'_>, objects: &[Offer]) -> Result<Reply, AllocError>
+fn batch_reply(alloc: Global, links: &Links<'_>, objects: &[Offer<'_>]) -> Result<Reply, AllocError>
     ensures { IfOk result (λ reply.
         IsReplyOf reply (Ok (offers (map (offer_at links.now) objects.now)))) }
 {

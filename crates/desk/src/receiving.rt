@@ -147,6 +147,7 @@ fn clear<S: Alter>(
     alloc: Global,
     store: &mut Store<S>,
     upload: UploadId,
+    size: Size,
     received: &Result<Receipt, AnswerFault>,
 )
     ensures { From S.Store store.old store.new (λ world.
@@ -155,7 +156,7 @@ fn clear<S: Alter>(
     match received {
         Ok(Receipt::Stored) => {}
         Ok(Receipt::Differs) | Err(AnswerFault::Body(_)) => {
-            let _ = uploads::abandon(store, upload);
+            let _ = uploads::abandon(store, upload, size);
         }
         Err(AnswerFault::Store(_)) => {
             let _ = uploads::sweep(alloc, store);
@@ -192,6 +193,6 @@ pub(crate) fn receive<S: Alter, B: Body>(
     };
     let upload = uploads::begin(alloc, store, repo, name, size)?;
     let received = receive_staged(alloc, store, upload, size, content);
-    clear(alloc, store, upload, &received);
+    clear(alloc, store, upload, size, &received);
     received
 }

@@ -1,5 +1,5 @@
 -- The JSON of a batch.
-use Rattle.std.proofs.Common.{◌≡◌, false, List, [], ◌∷◌, map, Result, Ok, Err, refl, ap, ◌∙◌, string_bytes}
+use Rattle.std.proofs.Common.{◌≡◌, false, List, [], ◌∷◌, map, Result, Ok, Err, refl, ap, ◌∙◌}
 use Rattle.serde_json.specs.Data.{object}
 use Rattle.serde_json.specs.Written.{has_float, items_have_float}
 use Rattle.names.specs.declared.rules.Rule.{Rule}
@@ -15,7 +15,7 @@ use Rattle.forms.specs.declared.links.LinkTexts.{LinkTexts}
 -- ---- from texts that are made once
 
 offer_is : (t : LinkTexts) (l : Links) (o : Offer) → AreTextsOf t l → (actions : Result Actions Rule)
-    → offer_json t o actions ≡ object (members (offer_members (offer_at l o) (result_at l (string_bytes o.oid) actions)))
+    → offer_json t o actions ≡ object (members (offer_members (offer_at l o) (result_at l (o.oid.now) actions)))
 offer_is t l o are (Err rule) = refl
 offer_is t l o are (Ok Stored) = refl
 offer_is t l o are (Ok Download) = rw (are.content, are.authorization, are.expires_in) refl

@@ -42,7 +42,7 @@ result_at l oid (Err rule) = Err rule
 -- an object of the batch
 abbrev pub offer_at : Links → Offer → model.Offer
 offer_at l o =
-    record { oid = string_bytes o.oid; size = o.size; actions = result_at l (string_bytes o.oid) o.actions }
+    record { oid = o.oid.now; size = o.size; actions = result_at l (o.oid.now) o.actions }
 
 -- the objects of the batch
 abbrev pub offers_shown : ShownBatch → List model.Offer
@@ -75,7 +75,7 @@ upload_json t oid = actions_data (
 
 -- the object with no actions
 abbrev pub bare : Offer → model.Offer
-bare o = record { oid = string_bytes o.oid; size = o.size; actions = Ok model.is_stored }
+bare o = record { oid = o.oid.now; size = o.size; actions = Ok model.is_stored }
 
 -- the object with these actions
 abbrev pub with_actions : Offer → Data → Data
@@ -85,8 +85,8 @@ with_actions o actions = object (members ((codes "actions", actions) ∷ offer_r
 abbrev pub offer_json : LinkTexts → Offer → Result Actions Rule → Data
 offer_json t o (Err rule) = object (members (offer_members (bare o) (Err rule)))
 offer_json t o (Ok Stored) = offer_data (bare o)
-offer_json t o (Ok Download) = with_actions o (download_json t (string_bytes o.oid))
-offer_json t o (Ok Upload) = with_actions o (upload_json t (string_bytes o.oid))
+offer_json t o (Ok Download) = with_actions o (download_json t (o.oid.now))
+offer_json t o (Ok Upload) = with_actions o (upload_json t (o.oid.now))
 
 -- the objects of the batch
 abbrev pub offers_json : LinkTexts → List Offer → Data

@@ -17,7 +17,7 @@ use serde_json::Value;
 use std::alloc::{AllocError, Global};
 
 /// The most objects of a batch.
-const OBJECT_LIMIT: usize = 100;
+pub const OBJECT_LIMIT: usize = 1_000;
 
 /// An object of a batch, as it was given.
 #[derive(Debug, Drop)]
@@ -37,7 +37,7 @@ pub struct BatchRequest {
     pub ref_name: Option<RefName>,
     /// The hash that names the objects; `None` means SHA-256.
     pub hash_algo: Option<String>,
-    /// The objects, in the order of the request: at most 100.
+    /// The objects, in the order of the request: at most [`OBJECT_LIMIT`].
     pub objects: Vec<BatchObject>,
 }
 
@@ -56,13 +56,13 @@ struct BatchValues<'a> {
 /// # Errors
 ///
 /// J1 if the body has the wrong shape; else J2 if the operation or the ref is out of range, J3 if it
-/// has more than 100 objects, J4 if it names transfers and `basic` is not among them.
+/// has more than [`OBJECT_LIMIT`] objects, J4 if it names transfers and `basic` is not among them.
 pub(crate) fn read_batch(alloc: Global, body: &[u8]) -> Result<BatchRequest, Refusal>
     ensures { Reads batch_asked result (batch_form body.now) }
 {
     let object = object_of(alloc, body)?;
     let values = batch_values(&object)?;
-    let objects = batch_objects(alloc, &object)?;
+    let objects = objects_of(alloc, &object)?;
     batch_of(alloc, values, objects)
 }
 
@@ -93,7 +93,7 @@ fn batch_values(object: &Value) -> Result<BatchValues<'_>, Rule>
 /// # Errors
 ///
 /// J1 if they are missing, or if the value or one of its items is of another kind.
-fn batch_objects(alloc: Global, object: &Value) -> Result<Vec<BatchObject>, Refusal>
+fn objects_of(alloc: Global, object: &Value) -> Result<Vec<BatchObject>, Refusal>
     ensures { Reads (λ objects. map object_asked objects.items) result
         (batch_objects (view object.now)) }
 {
@@ -187,8 +187,8 @@ fn object_in(alloc: Global, item: &Value) -> Result<BatchObject, Refusal>
 ///
 /// # Errors
 ///
-/// J2 if the operation or the ref is out of range; else J3 if there are more than 100 objects; else
-/// J4 if `basic` is not among the transfers.
+/// J2 if the operation or the ref is out of range; else J3 if there are more than [`OBJECT_LIMIT`]
+/// objects; else J4 if `basic` is not among the transfers.
 fn batch_of(
     alloc: Global,
     values: BatchValues<'_>,

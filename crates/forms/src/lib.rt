@@ -33,7 +33,7 @@ mod verify_locks;
 
 pub use action::Action;
 pub use answer::{Answer, DenialStatus};
-pub use batch::{BatchObject, BatchRequest};
+pub use batch::{BatchObject, BatchRequest, OBJECT_LIMIT};
 pub use list::ListRequest;
 pub use lock::LockRequest;
 pub use objects::{GetRequest, PutRequest, VerifyRequest};

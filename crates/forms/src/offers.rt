@@ -27,10 +27,10 @@ pub enum Actions {
 }
 
 /// An object of a batch, and what a client can do with it.
-#[derive(Debug, Drop)]
-pub struct Offer {
+#[derive(Clone, Copy, Debug)]
+pub struct Offer<'a> {
     /// The text that was given as the object's name.
-    pub oid: String,
+    pub oid: &'a str,
     /// The size that was given; 0 if it was not a whole number of 64 bits.
     pub size: u64,
     /// What the client can do with the object, or the rule that refuses it.
@@ -58,7 +58,7 @@ pub struct ShownBatch<'a> {
     /// Where the actions lead.
     pub links: Links<'a>,
     /// The objects, in the order of the request.
-    pub offers: &'a [Offer],
+    pub offers: &'a [Offer<'a>],
 }
 
 /// The JSON value of an action at the address.
@@ -91,34 +91,31 @@ fn upload_value(alloc: Global, texts: &LinkTexts, oid: &str) -> Result<Value, Al
 }
 
 /// The JSON value of an object with these actions.
-fn with_actions(alloc: Global, offer: &Offer, actions: Value) -> Result<Value, AllocError>
+fn with_actions(alloc: Global, offer: &Offer<'_>, actions: Value) -> Result<Value, AllocError>
     ensures { IfOk result (λ value. view value ≡ with_actions offer.now (view actions)) }
 {
-    let oid = offer.oid.as_str();
-    json!(in alloc; {"actions": actions, "authenticated": true, "oid": oid, "size": offer.size})
+    json!(in alloc; {"actions": actions, "authenticated": true, "oid": offer.oid, "size": offer.size})
 }
 
 /// The JSON value of an object that is already stored.
-fn stored_value(alloc: Global, offer: &Offer) -> Result<Value, AllocError>
+fn stored_value(alloc: Global, offer: &Offer<'_>) -> Result<Value, AllocError>
     ensures { IfOk result (λ value. view value ≡ offer_data (bare offer.now)) }
 {
-    let oid = offer.oid.as_str();
-    json!(in alloc; {"authenticated": true, "oid": oid, "size": offer.size})
+    json!(in alloc; {"authenticated": true, "oid": offer.oid, "size": offer.size})
 }
 
 /// The JSON value of an object that the rule refuses.
-fn refused_value(alloc: Global, offer: &Offer, rule: Rule) -> Result<Value, AllocError>
+fn refused_value(alloc: Global, offer: &Offer<'_>, rule: Rule) -> Result<Value, AllocError>
     ensures { IfOk result
         (λ value. view value ≡ object (members (offer_members (bare offer.now) (Err rule)))) }
 {
-    let oid = offer.oid.as_str();
     let code = status_of_rule(rule).as_u16();
     let message = rule_message(alloc, rule)?;
-    json!(in alloc; {"error": {"code": code, "message": message}, "oid": oid, "size": offer.size})
+    json!(in alloc; {"error": {"code": code, "message": message}, "oid": offer.oid, "size": offer.size})
 }
 
 /// The JSON value of an object of a batch.
-fn offer_value(alloc: Global, texts: &LinkTexts, offer: &Offer) -> Result<Value, AllocError>
+fn offer_value(alloc: Global, texts: &LinkTexts, offer: &Offer<'_>) -> Result<Value, AllocError>
     ensures { IfOk result
         (λ value. view value ≡ offer_json texts.now offer.now offer.now.actions) }
 {
@@ -126,17 +123,16 @@ fn offer_value(alloc: Global, texts: &LinkTexts, offer: &Offer) -> Result<Value,
         Ok(actions) => actions,
         Err(rule) => return refused_value(alloc, offer, rule),
     };
-    let oid = offer.oid.as_str();
     let value = match actions {
-        Actions::Download => download_value(alloc, texts, oid)?,
-        Actions::Upload => upload_value(alloc, texts, oid)?,
+        Actions::Download => download_value(alloc, texts, offer.oid)?,
+        Actions::Upload => upload_value(alloc, texts, offer.oid)?,
         Actions::Stored => return stored_value(alloc, offer),
     };
     with_actions(alloc, offer, value)
 }
 
 /// The JSON array of these objects.
-fn offers_value(alloc: Global, texts: &LinkTexts, offers: &[Offer]) -> Result<Value, AllocError>
+fn offers_value(alloc: Global, texts: &LinkTexts, offers: &[Offer<'_>]) -> Result<Value, AllocError>
     ensures { IfOk result (λ value. view value ≡ offers_json texts.now offers.now) }
 {
     let mut values = Vec::with_capacity(alloc, offers.len())?;

@@ -265,13 +265,19 @@ const OBJECT: (&str, &str) = (r#"{"oid":"a","size":1},"#, " a:1");
 const COUNTS: &[(&str, usize, &str, Option<&str>)] = &[
     (
         r#""operation":"upload""#,
-        99,
+        100,
         r#"{"oid":"a","size":1}"#,
         None,
     ),
     (
         r#""operation":"upload""#,
-        100,
+        999,
+        r#"{"oid":"a","size":1}"#,
+        None,
+    ),
+    (
+        r#""operation":"upload""#,
+        1_000,
         r#"{"oid":"a","size":1}"#,
         Some("J3"),
     ),
@@ -284,31 +290,31 @@ const COUNTS: &[(&str, usize, &str, Option<&str>)] = &[
     // After the shape of the last object and the ranges, before the transfers.
     (
         r#""operation":"upload""#,
-        100,
+        1_000,
         r#"{"oid":"a","size":"1"}"#,
         Some("J1"),
     ),
     (
         r#""operation":"delete""#,
-        100,
+        1_000,
         r#"{"oid":"a","size":1}"#,
         Some("J2"),
     ),
     (
         r#""operation":"upload","ref":{"name":"x"}"#,
-        100,
+        1_000,
         r#"{"oid":"a","size":1}"#,
         Some("J2"),
     ),
     (
         r#""operation":"upload","transfers":["tus"]"#,
-        100,
+        1_000,
         r#"{"oid":"a","size":1}"#,
         Some("J3"),
     ),
     (
         r#""operation":"upload","transfers":["tus"]"#,
-        99,
+        999,
         r#"{"oid":"a","size":1}"#,
         Some("J4"),
     ),
@@ -328,7 +334,7 @@ fn expect_count(rt: &impl Tester, keys: &str, count: usize, last: &str, rule: Op
 }
 
 #[test]
-fn batches_have_at_most_100_objects(rt: HostRuntime) {
+fn batches_have_at_most_1000_objects(rt: HostRuntime) {
     for &(keys, count, last, rule) in COUNTS {
         expect_count(&rt, keys, count, last, rule);
     }
@@ -338,9 +344,8 @@ fn batches_have_at_most_100_objects(rt: HostRuntime) {
 type Shown = (&'static str, u64, Result<Actions, Rule>);
 
 /// Appends the object to those of a reply.
-fn add_offer(rt: &impl Tester, offers: &mut Vec<Offer>, object: &Shown) {
+fn add_offer<'a>(rt: &impl Tester, offers: &mut Vec<Offer<'a>>, object: &Shown) {
     let &(oid, size, actions) = object;
-    let oid = owned(rt, oid);
     unwrap(rt, offers.push(Offer { oid, size, actions }));
 }
 

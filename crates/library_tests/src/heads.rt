@@ -231,11 +231,11 @@ const LENGTHS: &[(&[u8], Result<u64, Rule>)] = &[
         Ok(1_048_577),
     ),
     (
-        b"PUT / HTTP/1.1\r\nContent-Length: 268435456\r\n\r\n",
-        Ok(268_435_456),
+        b"PUT / HTTP/1.1\r\nContent-Length: 4294967296\r\n\r\n",
+        Ok(4_294_967_296),
     ),
     (
-        b"PUT / HTTP/1.1\r\nContent-Length: 268435457\r\n\r\n",
+        b"PUT / HTTP/1.1\r\nContent-Length: 4294967297\r\n\r\n",
         Err(Rule::H5),
     ),
     (

@@ -573,7 +573,11 @@ fn uploads_and_their_verification_read_the_ref_of_the_query(rt: HostRuntime) {
 const STORED: &[(&str, &str, &str)] = &[
     ("", r#"{"oid":"@","size":0}"#, "verify @ 0"),
     ("", r#"{"oid":"@","size":1}"#, "verify @ 1"),
-    ("", r#"{"oid":"@","size":268435456}"#, "verify @ 268435456"),
+    (
+        "",
+        r#"{"oid":"@","size":4294967296}"#,
+        "verify @ 4294967296",
+    ),
     ("", "\t{ \"size\" : 7,\r\n\"oid\":\"@\" }\n", "verify @ 7"),
     ("", r#"{"\u006fid":"@","size":7}"#, "verify @ 7"),
     // The body's ref is an unknown key, and the last of repeated keys counts.
@@ -608,7 +612,7 @@ const STORED: &[(&str, &str, &str)] = &[
     ("", r#"{"oid":"@","size":1.5}"#, "J2"),
     ("", r#"{"oid":"@","size":7.0}"#, "J2"),
     ("", r#"{"oid":"@","size":7e0}"#, "J2"),
-    ("", r#"{"oid":"@","size":268435457}"#, "J2"),
+    ("", r#"{"oid":"@","size":4294967297}"#, "J2"),
     ("", r#"{"oid":"@","size":18446744073709551615}"#, "J2"),
     ("", r#"{"oid":"@","size":18446744073709551616}"#, "J2"),
     ("", r#"{"oid":"","size":-1}"#, "J2"),
@@ -616,7 +620,7 @@ const STORED: &[(&str, &str, &str)] = &[
     ("", r#"{"oid":"x"}"#, "J1"),
     ("", r#"{"oid":"x","size":"7"}"#, "J1"),
     ("", r#"{"oid":7,"size":-1}"#, "J1"),
-    ("", r#"{"size":268435457}"#, "J1"),
+    ("", r#"{"size":4294967297}"#, "J1"),
     ("ref=main", r#"{"oid":"@"}"#, "J1"),
     ("ref=main", r#"{"oid":"@","size":null}"#, "J1"),
     ("ref=refs/a&ref=refs/a", "[]", "J1"),

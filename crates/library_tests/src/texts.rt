@@ -221,8 +221,8 @@ const DIGITS: &[(&str, bool)] = &[
 /// Numbers of bytes, the size of each, and its printed form.
 const SIZES: &[(u64, Option<u64>, &str)] = &[
     (0, Some(0), "0"),
-    (268_435_456, Some(268_435_456), "268435456"),
-    (268_435_457, None, NONE),
+    (4_294_967_296, Some(4_294_967_296), "4294967296"),
+    (4_294_967_297, None, NONE),
 ];
 
 /// The number of digits of a text, and whether an object's name may have that many.

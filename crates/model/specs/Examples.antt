@@ -146,7 +146,7 @@ HeadsAreRefused =
     × refuses (post_lock (authorization ∷ [])) rule.H3
     × refuses (with_field (length_field (codes "23")) first_head) rule.H4
     × refuses (post_lock (length_field (codes "1048577") ∷ [])) rule.H5
-    × refuses (head_of (codes "PUT") (lfs (codes "locks")) (length_field (codes "268435457") ∷ [])) rule.H5
+    × refuses (head_of (codes "PUT") (lfs (codes "locks")) (length_field (codes "4294967297") ∷ [])) rule.H5
     × refuses (head_of (codes "GET") (lfs (codes "locks/")) []) rule.H6
     × refuses (head_of (codes "POST") (lfs (codes "locks//unlock")) (length_field (codes "0") ∷ [])) rule.H6
     × refuses (head_of (codes "GET") (lfs (codes "locks/verify")) []) rule.H7
@@ -406,18 +406,18 @@ HashIsRefused =
     has_error (answer nothing studio ann other_hash)
     (error_body (codes "409") (codes "B3: the hash algorithm is not served") hello (codes "5"))
 
--- a batch of 101 objects
+-- a batch of 1,001 objects
 abbrev pub many_objects : List ℕ
 many_objects =
     codes "{\"operation\":\"upload\",\"objects\":["
-    ++ flat_map (λ text. text) (replicate 100 (codes "{\"oid\":\"\",\"size\":0},"))
+    ++ flat_map (λ text. text) (replicate 1000 (codes "{\"oid\":\"\",\"size\":0},"))
     ++ codes "{\"oid\":\"\",\"size\":0}]}"
 
 -- the rule refuses the batch
 abbrev pub batch_refused : List ℕ → Rule → Type 0
 batch_refused body r = answer nothing studio ann (with_body form.Batch body) ≡ Err (by_rule r)
 
--- a batch as a whole: without basic J4, a missing key J1, another operation J2, more than 100 objects J3
+-- a batch as a whole: without basic J4, a missing key J1, another operation J2, too many objects J3
 abbrev pub BatchIsRefused : Type 0
 BatchIsRefused =
     batch_refused (codes "{\"operation\":\"upload\",\"transfers\":[\"tus\"],\"objects\":[]}") rule.J4
@@ -462,7 +462,7 @@ lists_as query body =
     status_and_body (answer (without_lock (lock_by (codes "ann") 2 (codes "b")) three_locks) studio bob (list query))
     ≡ (200, body)
 
--- the cursor needs no lock; a limit below 1 is 1 and one above 100 is 100; filters
+-- the cursor needs no lock; a limit below 1 is 1, and one above the longest page is that; filters
 abbrev pub PagesAreCut : Type 0
 PagesAreCut =
     lists_as (codes "cursor=2&limit=1") (codes "{\"locks\":[" ++ lock_c ++ codes "]}")

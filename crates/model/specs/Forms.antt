@@ -166,7 +166,7 @@ is_size n = nat_le n largest_object
 
 -- the most objects of a batch
 abbrev pub object_limit : ℕ
-object_limit = 100
+object_limit = 1000
 
 -- an object with the text oid and the number size
 abbrev pub as_batch_object : Data → Option BatchObject

@@ -10,7 +10,7 @@ use Rattle.model.specs.Answers.{Page}
 
 -- the most locks of a page
 abbrev pub longest_page : ℕ
-longest_page = 100
+longest_page = 500
 
 -- the number of locks of a page for which no limit is given
 abbrev pub usual_page : ℕ

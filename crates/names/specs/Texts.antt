@@ -9,7 +9,7 @@ use Rattle.std.specs.Str.Parse.{digits_value}
 
 -- the largest object, in bytes
 abbrev pub largest_object : ℕ
-largest_object = 268435456
+largest_object = 4294967296
 
 -- the last lock id of a repository
 abbrev pub last_lock_id : ℕ

@@ -72,7 +72,7 @@ impl fmt::Display for Oid {
     }
 }
 
-/// An object's size in bytes, from 0 to 268,435,456.
+/// An object's size in bytes, from 0 to [`LARGEST_OBJECT`].
 #[derive(Clone, Copy, Debug, PartialEq, Eq, PartialOrd, Ord, Hash)]
 pub struct Size {
     bytes: u64,
@@ -89,7 +89,7 @@ impl Model for Size {
 }
 
 impl Size {
-    /// The size of this many bytes; `None` exactly above 268,435,456.
+    /// The size of this many bytes; `None` exactly above [`LARGEST_OBJECT`].
     pub fn read(bytes: u64) -> Option<Self>
         ensures accepted { IsSome result ↔ (bytes ≤ largest_object) }
         ensures value { IfSome result (λ size. size ≡ bytes) }

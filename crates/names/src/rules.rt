@@ -40,7 +40,7 @@ pub enum Rule {
     J1,
     /// A field, a query value or a part of the path is out of range.
     J2,
-    /// A batch of over 100 objects.
+    /// A batch of too many objects.
     J3,
     /// A batch that names transfers, without `basic`.
     J4,

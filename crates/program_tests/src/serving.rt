@@ -2,7 +2,7 @@
 //! begins, and read after it has ended.
 
 use crate::harness::{Tester, unwrap};
-use crate::messages::{BAD_HEAD, CREATED, HELD, MESSAGE};
+use crate::messages::{BAD_HEAD, CREATED, HELD, MESSAGE, STORE_REFUSED};
 use crate::program::{Ran, path_of, prepare, remove, run, serve_args};
 use crate::transcript::{POLICY, perform, play};
 use cli::{Doors, serve_doors};
@@ -208,7 +208,8 @@ fn serve(
     }
 }
 
-/// Serves the clients in order, and asserts what they were sent. Returns what the program printed.
+/// Serves the clients in order over a database with a token, and asserts what they were sent. Returns what the program
+/// printed.
 fn serve_clients(
     rt: &impl Tester,
     clock: &TestClock<'_>,
@@ -216,8 +217,22 @@ fn serve_clients(
     idle: u64,
     clients: &[Client],
 ) -> Ran {
+    const TOKEN: &str = "token a ann studio/film";
+    serve_between(rt, clock, folder, idle, clients, TOKEN, "")
+}
+
+/// The same between two transcripts.
+fn serve_between(
+    rt: &impl Tester,
+    clock: &TestClock<'_>,
+    folder: &str,
+    idle: u64,
+    clients: &[Client],
+    before: &str,
+    after: &str,
+) -> Ran {
     prepare(rt, clock.host, folder, POLICY);
-    play(rt, clock.host, folder, "token a ann studio/film");
+    play(rt, clock.host, folder, before);
     let listener = unwrap(rt, TcpListener::bind(clock.host, "127.0.0.1:0"));
     let mut streams = Vec::new(rt.alloc());
     for client in clients {
@@ -230,6 +245,7 @@ fn serve_clients(
             expect_replies(rt, stream, client);
         }
     }
+    play(rt, clock.host, folder, after);
     remove(clock.host, folder);
     ran
 }
@@ -265,6 +281,46 @@ fn a_failed_connection_is_reported(rt: HostRuntime) {
     let ran = serve_clients(&rt, &clock_of(&rt, 0), "left", 10, clients.as_slice());
     let errors = "custody: connection 1 WriteFailed\n";
     assert!(rt; ran.is(0, "listening on here\nserved 2 connections\n", errors));
+}
+
+/// A token whose user is out of range, so that the store refuses it.
+const BAD_ROW: &str = r#"
+token a ann studio/film
+sql UPDATE tokens SET user = 'an n'
+"#;
+
+#[test]
+fn a_store_refusal_is_reported(rt: HostRuntime) {
+    let clients = [
+        client_of(&[MESSAGE], After::Ends, &[STORE_REFUSED]),
+        client_of(&["no head\r\n\r\n"], After::Ends, &[BAD_HEAD]),
+    ];
+    let clock = clock_of(&rt, 0);
+    let ran = serve_between(&rt, &clock, "refused", 10, clients.as_slice(), BAD_ROW, "");
+    let errors = "custody: connection 1 StoreRefused\n";
+    assert!(rt; ran.is(0, "listening on here\nserved 2 connections\n", errors));
+}
+
+/// Uploads that a stop left.
+const LEFT: &str = r#"
+token a ann studio/film
+sql INSERT INTO uploads VALUES (7, 'studio/film', '2cf24dba5fb0a30e26e83b2ac5b9e29e1b161e5c1fa7425e73043362938b9824', 5, 0)
+sql INSERT INTO uploads VALUES (8, 'studio/game', '2cf24dba5fb0a30e26e83b2ac5b9e29e1b161e5c1fa7425e73043362938b9824', 5, 0)
+sql INSERT INTO chunks VALUES (8, 0, x'68656c6c6f')
+"#;
+
+/// None is left.
+const SWEPT: &str = r#"
+$ sweep --db @/db
+| swept 0 uploads
+"#;
+
+#[test]
+fn what_a_stop_left_is_removed_before_the_first_connection(rt: HostRuntime) {
+    let clients = [client_of(&[MESSAGE], After::Ends, &[CREATED])];
+    let clock = clock_of(&rt, 0);
+    let ran = serve_between(&rt, &clock, "swept", 10, clients.as_slice(), LEFT, SWEPT);
+    assert!(rt; ran.is(0, "listening on here\nserved 1 connections\n", ""));
 }
 
 #[test]

@@ -26,7 +26,6 @@ use Rattle.refinement.proofs.Lookups.{find_alike}
 use Rattle.refinement.proofs.Begun.{both_meet}
 use Rattle.refinement.proofs.Pieces.{own_number, bytes_are}
 use Rattle.refinement.proofs.Same.{same_pos}
-use Rattle.refinement.proofs.Withdrawn.{upload_withdrawn}
 use Rattle.model.proofs.Lists.{find_and}
 
 -- an upload that is found by its id, and is staged, is found as a staged one
@@ -105,7 +104,7 @@ module _ (t : Tables) (world : World) (id : ℤ) (repo name : List ℕ) (staged 
   completed_as : (begun known : Bool) → is_as_begun oid (pos size) s ≡ begun → is_some (find (is_object repo name) t.uploads) ≡ known → Completed (cond begun (cond known Already New) Differs)
   completed_as true true e f =
       let both = as_begun e in
-      (both.0, both.1, known_named true both.0 f, subst (λ (u : Tables). Represents u world) (sym (is_after Already (by_test true true e f))) (upload_withdrawn t world s r h.upload refl))
+      (both.0, both.1, known_named true both.0 f, subst (λ (u : Tables). Represents u world) (sym (is_after Already (by_test true true e f))) r)
   completed_as true false e f =
       let both = as_begun e in
       let none = known_named false both.0 f in

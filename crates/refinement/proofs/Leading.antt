@@ -4,7 +4,7 @@ use Rattle.std.proofs.lemmas.Bool.{true≢false}
 use Rattle.sqlite_trees.specs.declared.store.Store.{Ghosts}
 use Rattle.model.specs.World.{World, IsWorld}
 use Rattle.model.specs.Answers.{Answer, Denial, is_store_refusal}
-use Rattle.model.specs.Bounds.{Bound, Ending, changed, unchanged, failed, is_changed, world_by, answer_ending, ending_of, intended_world, bound_after, bound_of_run}
+use Rattle.model.specs.Bounds.{Bound, Ending, changed, unchanged, failed, is_changed, left_by, world_by, answer_ending, ending_of, intended_world, bound_after, bound_of_run}
 use Rattle.model.specs.Steps.{Exchange, Event, exchanged, judgement, after, IsExchange, IsStep, Run}
 use Rattle.model.proofs.Left.{reports_are_true}
 use Rattle.tables.specs.Rows.{Tables}
@@ -12,7 +12,7 @@ use Rattle.tables.specs.Shown.{IsHonest, IsOpen, IsDurable, HasTables, Moves, Ad
 use Rattle.tables.specs.declared.Store.{Store}
 use Rattle.tables.proofs.Moved.{moves_none, nothing_none}
 use Rattle.refinement.specs.Representation.{Represents, Holds}
-use Rattle.refinement.specs.Left.{IsBoundedBy, Leads, Keeps, Ends, Gives, Takes, From, Reads}
+use Rattle.refinement.specs.Left.{IsAmong, IsBoundedBy, Leads, Keeps, Ends, Gives, Takes, From, Reads}
 use Rattle.refinement.proofs.Holding.{holds_still}
 
 -- the bound of a run, with one more event
@@ -137,6 +137,20 @@ module _ {S : Type 0} (g : Ghosts S) where
   keeps_ends a b c unchanged world made kept p q = record { holds = q.holds; left = λ bound was. once c world bound (q.left (world ∷ bound) (p.left bound was)) }
   keeps_ends a b c failed world made kept p q =
       record { holds = q.holds; left = λ bound was. once_after c made world bound (q.left (world ∷ bound) (p.left bound was)) }
+
+  among_left : (t : Tables) (ending : Ending) (world made : World) (bound : Bound) → IsWorld (world_by ending world made) × Represents t (world_by ending world made) → IsAmong t (left_by ending world made bound)
+  among_left t changed world made bound is = inl is
+  among_left t unchanged world made bound is = inl is
+  among_left t failed world made bound is = inr (inl is)
+
+  -- a call, and then calls that keep the world that it led to
+  pub ends_then : (a b c : Store S) (world made : World) (ending : Ending) → Ends g a b ending world made (world_by ending world made) → Keeps g b c (world_by ending world made) → Ends g a c ending world made (world_by ending world made)
+  ends_then a b c world made ending p q = record {
+    holds = q.holds;
+    left = λ bound was.
+        let it = q.left (left_by ending world made bound) (p.left bound was) in
+        record { safe = it.safe; among = λ k t left. elim (it.among k t left) [ inl is ↦ among_left t ending world made bound is | inr rest ↦ rest ] };
+  }
 
   -- ---- how a call ends
 

@@ -4,6 +4,7 @@ pub mod Uploads
 pub mod Staging
 pub mod LastChunk
 pub mod Withdrawn
+pub mod Shortened
 pub mod Begun
 pub mod Kept
 pub mod Completed

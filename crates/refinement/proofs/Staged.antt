@@ -1,5 +1,5 @@
 -- What calls on uploads leave of the world that a store holds, and of a staged upload.
-use Rattle.std.proofs.Common.{◌∙◌, ℕ, ◌+◌, ◌≤◌, ℤ, List, [], ◌∷◌, ◌++◌, length, Result, Ok, Err, OnOk, OnErr, refl, sym, ap, subst}
+use Rattle.std.proofs.Common.{◌∙◌, ℕ, pos, ◌+◌, ◌≤◌, ℤ, List, [], ◌∷◌, ◌++◌, length, Result, Ok, Err, OnOk, OnErr, refl, sym, ap, subst}
 use Rattle.std.specs.List.{concat}
 use Rattle.sqlite_trees.specs.declared.store.Store.{Ghosts}
 use Rattle.names.specs.Names.{repo_text}
@@ -8,7 +8,7 @@ use Rattle.model.specs.World.{World}
 use Rattle.tables.specs.Rows.{Tables}
 use Rattle.tables.specs.Shown.{IsHonest, HasTables, Moves, Makes, Fails, Begins, shown}
 use Rattle.tables.specs.Statements.{with_chunk}
-use Rattle.tables.specs.Staging.{upload_number, asked_upload, asked_chunk, staged_with, IsBegun, without_staged, after_begin}
+use Rattle.tables.specs.Staging.{upload_number, asked_upload, asked_chunk, staged_with, IsBegun, without_staged, without_staged_from, after_begin}
 use Rattle.tables.specs.declared.Store.{Store}
 use Rattle.tables.specs.declared.fault.StoreFault.{StoreFault}
 use Rattle.tables.specs.declared.new_rows.NewUpload.{NewUpload}
@@ -20,6 +20,7 @@ use Rattle.refinement.proofs.Leading.{keeps_by, keeps_made, keeps_failed}
 use Rattle.refinement.proofs.Staging.{chunk_staged, chunk_represented}
 use Rattle.refinement.proofs.Begun.{begun_represented, begun_staged}
 use Rattle.refinement.proofs.Withdrawn.{staged_withdrawn, staged_gone}
+use Rattle.refinement.proofs.Shortened.{staged_shortened}
 
 module _ {S : Type 0} (g : Ghosts S) (a b : Store S) (id : ℤ) (repo name : List ℕ) (size : ℕ) (pieces : List (List ℕ)) where
   -- a call that leaves the tables unchanged
@@ -64,6 +65,9 @@ module _ {S : Type 0} (g : Ghosts S) (a b : Store S) (asked : NewUpload) (in_ran
 module _ {S : Type 0} (g : Ghosts S) (a b : Store S) (id : ℤ) (world : World) where
   pub keeps_removed : {T E : Type 0} (r : Result T E) → OnOk r (Makes g (without_staged id) a b) → OnErr r (Fails g (without_staged id) a b) → Holds g a world → Keeps g a b world
   keeps_removed r made failed h = keeps_by g a b r world (without_staged id) made failed (λ k o s. staged_withdrawn (shown g a) world id s) h
+
+  pub keeps_shortened : {T E : Type 0} (r : Result T E) (n : ℕ) → OnOk r (Makes g (without_staged_from id (pos n)) a b) → OnErr r (Fails g (without_staged_from id (pos n)) a b) → Holds g a world → Keeps g a b world
+  keeps_shortened r n made failed h = keeps_by g a b r world (without_staged_from id (pos n)) made failed (λ k o s. staged_shortened (shown g a) world id n s) h
 
   pub stages_none : Makes g (without_staged id) a b → Holds g a world → StagesNone g b id
   stages_none made h k o = ap (staged_with id) (made.moves.shows k h.ready o) ∙ staged_gone (shown g a) id

@@ -63,7 +63,7 @@ module _ (us : List row.Upload) (cs : List row.Chunk) (objects : List Object) (s
   abbrev pub rest : List row.Chunk
   rest = delete_where (is_of s.id) cs
 
-  alone : IsAlone s.id s us
+  pub alone : IsAlone s.id s us
   alone = found_alone us s.id s r.rise there
 
   others : (other : ℤ) → int_eq other s.id ≡ false → chunks_of other rest ≡ chunks_of other cs
@@ -73,7 +73,7 @@ module _ (us : List row.Upload) (cs : List row.Chunk) (objects : List Object) (s
       also c is = ap not (ap (λ n. int_eq n s.id) (same_number c.upload other is) ∙ apart)
 
   -- a complete upload has another id
-  complete_apart : (u : row.Upload) → (is_upload s.id u ≡ true → u ≡ s) → is_complete u ≡ true → is_upload s.id u ≡ false
+  pub complete_apart : (u : row.Upload) → (is_upload s.id u ≡ true → u ≡ s) → is_complete u ≡ true → is_upload s.id u ≡ false
   complete_apart u only whole = at (is_upload s.id u) refl
     where
       at : (v : Bool) → is_upload s.id u ≡ v → is_upload s.id u ≡ false

@@ -24,6 +24,13 @@ const OF_200: &[(Asked, Seen)] = &[
     ((1, 101, 100), (100, 101, 200, 0)),
 ];
 
+/// Pages of 501 locks: the longest page, and the usual one.
+const OF_501: &[(Asked, Seen)] = &[
+    ((1, 0, 500), (500, 1, 500, 501)),
+    ((1, 501, 500), (1, 501, 501, 0)),
+    ((1, 0, 100), (100, 1, 100, 101)),
+];
+
 /// Pages of 64 locks, which are one window.
 const OF_64: &[(Asked, Seen)] = &[((1, 0, 64), (64, 1, 64, 0)), ((1, 0, 63), (63, 1, 63, 64))];
 
@@ -100,6 +107,7 @@ fn pages_of(rt: &impl Tester, count: u32, cases: &[(Asked, Seen)]) {
 fn a_page_has_the_first_accepted_locks_and_the_next_id(rt: HostRuntime) {
     pages_of(&rt, 200, OF_200);
     pages_of(&rt, 64, OF_64);
+    pages_of(&rt, 501, OF_501);
 }
 
 #[test]
@@ -195,8 +203,10 @@ const LIMITS: &[(Option<i64>, u32)] = &[
     (Some(1), 1),
     (Some(7), 7),
     (Some(100), 100),
-    (Some(1000), 100),
-    (Some(i64::MAX), 100),
+    (Some(500), 500),
+    (Some(501), 500),
+    (Some(1000), 500),
+    (Some(i64::MAX), 500),
 ];
 
 #[test]

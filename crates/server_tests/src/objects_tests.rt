@@ -222,9 +222,64 @@ fn pieces_become_full_chunks(rt: HostRuntime) {
 fn an_abandoned_upload_leaves_no_row(rt: HostRuntime) {
     let mut store = in_memory(&rt);
     let id = begin(&rt, &mut store, "studio/film", HELLO, 5);
-    assert!(rt; uploads::abandon(&mut store, id) == Ok(()));
+    assert!(rt; uploads::abandon(&mut store, id, size_of(&rt, 5)) == Ok(()));
     assert!(rt; unwrap(&rt, store.staged_uploads(rt.alloc())).is_empty());
     assert!(rt; unwrap(&rt, uploads::all(rt.alloc(), &mut store, None)).is_empty());
+}
+
+/// The number of chunks of an upload that has at most 300.
+fn chunk_count(rt: &impl Tester, store: &mut Store<MemStore>, id: UploadId) -> u32 {
+    let mut count = 0u32;
+    for n in 0..300u32 {
+        if unwrap(rt, store.chunk(id, n)).is_some() {
+            count = count.saturating_add(1);
+        }
+    }
+    count
+}
+
+/// Begins an upload of 16,777,217 bytes, which has one chunk more than are removed at once, and adds 257 small ones.
+fn begin_large(rt: &impl Tester, store: &mut Store<MemStore>) -> UploadId {
+    let id = begin(rt, store, "studio/film", HELLO, 16_777_217);
+    for n in 0..257u32 {
+        unwrap(rt, store.add_chunk(id, n, b"x"));
+    }
+    id
+}
+
+#[test]
+fn the_last_chunks_of_an_upload_are_removed(rt: HostRuntime) {
+    let mut store = in_memory(&rt);
+    let id = begin_large(&rt, &mut store);
+    assert!(rt; unwrap(&rt, store.shorten_upload(id, 256)));
+    assert_eq!(rt; chunk_count(&rt, &mut store, id), 256);
+    assert!(rt; unwrap(&rt, store.shorten_upload(id, 300)));
+    assert_eq!(rt; chunk_count(&rt, &mut store, id), 256);
+    assert!(rt; unwrap(&rt, store.shorten_upload(id, 2)));
+    assert_eq!(rt; chunk_count(&rt, &mut store, id), 2);
+    assert!(rt; unwrap(&rt, store.shorten_upload(id, 0)));
+    assert_eq!(rt; chunk_count(&rt, &mut store, id), 0);
+    assert_eq!(rt; unwrap(&rt, store.staged_uploads(rt.alloc())).len(), 1);
+}
+
+#[test]
+fn a_large_upload_is_removed_in_parts(rt: HostRuntime) {
+    let mut store = in_memory(&rt);
+    let id = begin_large(&rt, &mut store);
+    let film = repo(&rt, "studio/film");
+    let found = unwrap(&rt, store.staged_upload(rt.alloc(), &film));
+    assert!(rt; found.map(|row| (row.id, row.size.get())) == Some((id, 16_777_217)));
+    assert!(rt; uploads::abandon(&mut store, id, size_of(&rt, 16_777_217)) == Ok(()));
+    assert_eq!(rt; chunk_count(&rt, &mut store, id), 0);
+    assert!(rt; unwrap(&rt, store.staged_upload(rt.alloc(), &film)).is_none());
+    let id = begin_large(&rt, &mut store);
+    assert_eq!(rt; uploads::sweep(rt.alloc(), &mut store), Ok(1));
+    assert_eq!(rt; chunk_count(&rt, &mut store, id), 0);
+    // The next upload replaces it.
+    let id = begin_large(&rt, &mut store);
+    begin(&rt, &mut store, "studio/film", HELLO, 5);
+    assert_eq!(rt; chunk_count(&rt, &mut store, id), 0);
+    assert_eq!(rt; unwrap(&rt, store.staged_uploads(rt.alloc())).len(), 1);
 }
 
 #[test]
@@ -256,7 +311,7 @@ fn other_bytes_are_no_object(rt: HostRuntime) {
     assert!(rt; good == Ok(Kept::New));
     assert!(rt; find(&rt, &mut store, "studio/short", HELLO).is_none());
     let staged = begin(&rt, &mut store, "studio/film", HELLO, 5);
-    unwrap(&rt, uploads::abandon(&mut store, staged));
+    unwrap(&rt, uploads::abandon(&mut store, staged, size_of(&rt, 5)));
     assert!(rt; unwrap(&rt, store.staged_uploads(rt.alloc())).is_empty());
     assert!(rt; find(&rt, &mut store, "studio/film", HELLO) == Some(5));
 }

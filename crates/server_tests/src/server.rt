@@ -173,7 +173,8 @@ pub(crate) fn sent_by<S: Alter>(
     let alloc = rt.alloc();
     let served = serve(alloc, store, policy, &routes, now, &mut source, &mut sink);
     // Without a reply that closes, a connection is read to its end.
-    assert!(rt; served.end == End::Closed || source.left().is_empty());
+    let closed = matches!(served.end, End::Closed | End::StoreRefused);
+    assert!(rt; closed || source.left().is_empty());
     let text = unwrap(rt, str::from_utf8(sink.taken()));
     let text = unwrap(rt, text.to_owned(alloc));
     Sent { text, served }
@@ -362,6 +363,16 @@ pub(crate) fn served(answered: usize, closes: bool) -> Served {
     let end = if closes { End::Closed } else { End::InputEnded };
     Served { answered, end }
 }
+
+/// The reply if the store refuses, 156 bytes.
+pub(crate) const STORE_REFUSED: &str =
+    "HTTP/1.1 500 Internal Server Error\r\nContent-Type: application/vnd.git-lfs+json\r\nContent-Length: 35\r\nConnection: close\r\n\r\n{\"message\":\"S1: the store refused\"}";
+
+/// The result if only the store refusal was sent.
+pub(crate) const STORE_REFUSAL: Served = Served {
+    answered: 1,
+    end: End::StoreRefused,
+};
 
 /// Limits, in bytes, of a read and of a write.
 pub(crate) const MOSTS: &[usize] = &[1, 7, usize::MAX];

@@ -1,10 +1,10 @@
 -- A reply is sent.
-use Rattle.std.proofs.Common.{◌≡◌, ◌∙◌, ℕ, Bool, true, false, List, [], ◌++◌, MatchBool, Option, Some, None, is_some, sym, ap, ap₂, subst}
+use Rattle.std.proofs.Common.{◌≡◌, ◌∙◌, ℕ, Bool, true, false, List, [], ◌++◌, MatchBool, Option, Some, None, is_some, option_map, sym, ap, ap₂, subst}
 use Rattle.std.specs.Io.KnownBytes.{Appends}
 use Rattle.sqlite_trees.specs.declared.store.Store.{Ghosts}
 use Rattle.model.specs.World.{World}
 use Rattle.model.specs.Cases.{Setting}
-use Rattle.model.specs.Answers.{Answer}
+use Rattle.model.specs.Answers.{Answer, is_store_refusal}
 use Rattle.model.specs.Bounds.{bound_after}
 use Rattle.model.specs.Steps.{Exchange, exchanged, closes, closes_if, allow}
 use Rattle.model.specs.Replies.{reply_text}
@@ -16,9 +16,9 @@ use Rattle.tables.specs.declared.Store.{Store}
 use Rattle.refinement.proofs.Leading.{leads_then, leads_still}
 use Rattle.service.specs.Sending.{BreaksOff}
 use Rattle.service.specs.Responding.{IsEarly}
-use Rattle.service.specs.Turns.{IsFirst, IsIncomplete, IsResponse, IsSent, EndsReply, IsTurn, EndsTurn}
+use Rattle.service.specs.Turns.{IsFirst, IsIncomplete, IsResponse, IsSent, EndsReply, IsTurn, ClosesTurn, EndsTurn}
 use Rattle.service.specs.declared.ends.End.{End}
-use Rattle.service.specs.declared.ends.End.TheVariants.{InputEnded, Closed, ReadFailed, WriteFailed, StoreFailed}
+use Rattle.service.specs.declared.ends.End.TheVariants.{InputEnded, Closed, StoreRefused, ReadFailed, WriteFailed, StoreFailed}
 use Rattle.service.specs.declared.responding.Response.{Response}
 use Rattle.service.proofs.Responses.{begins_now}
 
@@ -53,7 +53,21 @@ module _ {S : Type 0} (g : Ghosts S) (setting : Setting) (bytes next : List ℕ)
     };
   }
 
-  pub sent : (r : Response) (end : Option End) → (a : IsResponse g setting bytes next world old mid r) → Moves g (λ t. t) mid new → AddsNothing g mid new → EndsReply r.close end
+  -- a response after which the connection closes
+  closed : (r : Response) (a : IsResponse g setting bytes next world old mid r) → Moves g (λ t. t) mid new → AddsNothing g mid new → r.close ≡ true
+      → Appends was is (reply_text a.given r.allow.now r.close) → ClosesTurn g setting bytes world old new was is r.reply.is_store_refusal
+  closed r a same adds shut s =
+      let text = text_is a.e a.given r.allow.now r.close a.is a.methods a.closes in (
+        a.e,
+        a.kept,
+        turn_then a.e a.kept a.turn same adds,
+        closed_at a.e r.close shut a.begins,
+        ap (option_map is_store_refusal) a.is ∙ ap Some (sym a.is_reply.refusal),
+        a.closes ∙ shut,
+        subst (λ (t : List ℕ). Appends was is t) text s,
+      )
+
+  pub sent : (r : Response) (end : Option End) → (a : IsResponse g setting bytes next world old mid r) → Moves g (λ t. t) mid new → AddsNothing g mid new → EndsReply r.close r.reply.is_store_refusal end
       → IsSent was is a.given r.allow.now r.close end → EndsTurn g setting bytes next world old new was is end
   sent r None a same adds shut s =
       let text = text_is a.e a.given r.allow.now r.close a.is a.methods a.closes in (
@@ -66,15 +80,9 @@ module _ {S : Type 0} (g : Ghosts S) (setting : Setting) (bytes next : List ℕ)
         subst (λ (t : List ℕ). Appends was is t) text s,
       )
   sent r (Some Closed) a same adds shut s =
-      let text = text_is a.e a.given r.allow.now r.close a.is a.methods a.closes in (
-        a.e,
-        a.kept,
-        turn_then a.e a.kept a.turn same adds,
-        closed_at a.e r.close shut a.begins,
-        ap is_some a.is,
-        a.closes ∙ shut,
-        subst (λ (t : List ℕ). Appends was is t) text s,
-      )
+      subst (ClosesTurn g setting bytes world old new was is) shut.1 (closed r a same adds shut.0 s)
+  sent r (Some StoreRefused) a same adds shut s =
+      subst (ClosesTurn g setting bytes world old new was is) shut.1 (closed r a same adds shut.0 s)
   sent r (Some WriteFailed) a same adds shut s =
       let text = text_is a.e a.given r.allow.now r.close a.is a.methods a.closes in
       (a.e, a.kept, turn_then a.e a.kept a.turn same adds, begun_at a.e r.close a.begins, (s.0, subst (λ (t : List ℕ). IsBeginning was is t s.0) text s.1))
@@ -94,5 +102,6 @@ module _ {S : Type 0} (g : Ghosts S) (setting : Setting) (bytes next : List ℕ)
   unanswered InputEnded early same left = (left, same)
   unanswered ReadFailed early same left = (left, same)
   unanswered Closed early same left = absurd early
+  unanswered StoreRefused early same left = absurd early
   unanswered WriteFailed early same left = absurd early
   unanswered StoreFailed early same left = absurd early

@@ -1,12 +1,12 @@
 -- A connection, message by message.
-use Rattle.std.proofs.Common.{◌≡◌, ◌∙◌, ◌+◌, ◌<◌, ℕ, suc, Bool, true, List, [], ◌∷◌, ◌++◌, length, take, drop, get_or, map, Option, Some, None, Ok, is_some, refl, sym, ap, ap₂, subst, append-nil, append_assoc, add-zero}
+use Rattle.std.proofs.Common.{◌≡◌, ◌∙◌, ◌+◌, ◌<◌, ℕ, suc, Bool, true, false, List, [], ◌∷◌, ◌++◌, length, take, drop, get_or, map, Option, Some, None, Ok, is_some, option_map, refl, sym, ap, ap₂, subst, append-nil, append_assoc, add-zero}
 use Rattle.std.proofs.Math.Seq.{drop-cons}
 use Rattle.std.proofs.lemmas.List.{take-append-drop, map-append}
 use Rattle.std.specs.Io.KnownBytes.{Appends, Consumes}
 use Rattle.sqlite_trees.specs.declared.store.Store.{Ghosts}
 use Rattle.model.specs.World.{World, Object}
 use Rattle.model.specs.Cases.{Setting}
-use Rattle.model.specs.Answers.{Answer, serves}
+use Rattle.model.specs.Answers.{Answer, serves, is_store_refusal}
 use Rattle.model.specs.Replies.{reply_of, head_text}
 use Rattle.model.specs.Steps.{Message, message, bad_head, Exchange, Event, exchanged, Run, allow, closes, closes_if}
 use Rattle.model.specs.Stream.{BeginsWith, IsUnfinished}
@@ -24,8 +24,8 @@ use Rattle.refinement.specs.Representation.{Holds}
 use Rattle.refinement.specs.Left.{Leads}
 use Rattle.refinement.proofs.Leading.{leads_none, run_takes}
 use Rattle.service.specs.Responding.{IsEarly}
-use Rattle.service.specs.Turns.{IsTurn, IsIncomplete, less_than_head, less_than_body, EndsTurn}
-use Rattle.service.specs.Served.{IsServing, IsServed, IsRefusal, IsUnserved, IsLeftOpen, HasNoBadHead, closing, end_seen}
+use Rattle.service.specs.Turns.{IsTurn, IsIncomplete, less_than_head, less_than_body, ClosesTurn, EndsTurn}
+use Rattle.service.specs.Served.{IsServing, IsServed, IsRefusal, IsUnserved, IsLeftOpen, HasNoBadHead, LastRefused, IsClosedAs, closing, end_seen}
 use Rattle.service.specs.declared.ends.End.{End}
 use Rattle.service.specs.declared.ends.Served.{Served}
 use Rattle.service.specs.declared.ends.End.TheVariants as end
@@ -46,6 +46,11 @@ is_part text n less = record {
 -- one exchange with an answer is one reply
 one_reply : (e : Exchange) → is_some e.given ≡ true → reply_count (e ∷ []) ≡ 1
 one_reply e some = rw some refl
+
+-- an answer that is or is not a store refusal is an answer
+answered_by : (given : Option Answer) → is_some given ≡ is_some (option_map is_store_refusal given)
+answered_by None = refl
+answered_by (Some a) = refl
 
 -- an exchange without an answer is no reply and writes no text
 no_reply : (e : Exchange) → e.given ≡ None → reply_count (e ∷ []) ≡ 0
@@ -77,6 +82,7 @@ ends_by : (s : Session) (rest : List ℕ) (old new : World) (e : End) → IsEarl
 ends_by s rest old new end.InputEnded early p less = ends_unfinished s rest old new p less
 ends_by s rest old new end.ReadFailed early p less = ends_unread s rest old new p less
 ends_by s rest old new end.Closed early p less = absurd early
+ends_by s rest old new end.StoreRefused early p less = absurd early
 ends_by s rest old new end.WriteFailed early p less = absurd early
 ends_by s rest old new end.StoreFailed early p less = absurd early
 
@@ -84,8 +90,18 @@ open_by : (bytes : List ℕ) (exchanges : List Exchange) (e : End) → IsEarly e
 open_by bytes exchanges end.InputEnded early is = is
 open_by bytes exchanges end.ReadFailed early is = is
 open_by bytes exchanges end.Closed early is = absurd early
+open_by bytes exchanges end.StoreRefused early is = absurd early
 open_by bytes exchanges end.WriteFailed early is = absurd early
 open_by bytes exchanges end.StoreFailed early is = absurd early
+
+-- the server did not close the connection
+closed_by : (exchanges : List Exchange) (e : End) → IsEarly e → IsClosedAs exchanges e
+closed_by exchanges end.InputEnded early = tt
+closed_by exchanges end.ReadFailed early = tt
+closed_by exchanges end.Closed early = absurd early
+closed_by exchanges end.StoreRefused early = absurd early
+closed_by exchanges end.WriteFailed early = absurd early
+closed_by exchanges end.StoreFailed early = absurd early
 
 -- ---- a reply that breaks off within its content
 
@@ -212,6 +228,7 @@ module _ {S : Type 0} (g : Ghosts S) (setting : Setting) (world : World) (was : 
       kept = s.kept;
       session = ends_by (so_far (bytes ++ read) s.exchanges s.written answered) (waits ++ read) world s.kept how early now less;
       bad_head = open_by (bytes ++ read) s.exchanges how early (waits ++ read, now.leads, may);
+      closed = closed_by s.exchanges how early;
       taken = subst (λ (o : Option (List ℕ)). Appends was o s.written) (sym same) s.taken;
       leads = record { holds = still.holds; left = λ bound was. still.left (bound_of_run world (map exchanged s.exchanges) bound) (s.leads.left bound was) };
       run = leads_on s.exchanges s.kept now.run;
@@ -231,6 +248,7 @@ module _ {S : Type 0} (g : Ghosts S) (setting : Setting) (world : World) (was : 
           session = subst (λ (k : ℕ). IsSession (so_far all (s.exchanges ++ e ∷ []) s.written k) (end_seen how) world kept) counted
               (subst (λ (t : List ℕ). IsSession (so_far all (s.exchanges ++ e ∷ []) t (answered + reply_count (e ∷ []))) (end_seen how) world kept) said session);
           bad_head = open_by all (s.exchanges ++ e ∷ []) how early ([], progress.leads, none_may_become);
+          closed = closed_by (s.exchanges ++ e ∷ []) how early;
           taken = subst (λ (o : Option (List ℕ)). Appends was o s.written) (sym same) s.taken;
           leads = leads_one e kept turn;
           run = leads_on (s.exchanges ++ e ∷ []) kept progress.run;
@@ -238,17 +256,22 @@ module _ {S : Type 0} (g : Ghosts S) (setting : Setting) (world : World) (was : 
         }
 
     -- the server closes the connection
-    shuts : EndsTurn g setting (waits ++ read) next s.kept mid new is more_is (Some end.Closed)
-        → IsServed g setting (bytes ++ read) world old new was more_is (record { answered = answered + 1; end = end.Closed })
-    shuts (e, kept, turn, (rest, begins), some, shut, sent) =
+    shuts : (how : End) (refused : Bool) → end_seen how ≡ model.Closed
+        → ((exchanges : List Exchange) → LastRefused exchanges refused → HasNoBadHead (bytes ++ read) exchanges how × IsClosedAs exchanges how)
+        → ClosesTurn g setting (waits ++ read) s.kept mid new is more_is refused
+        → IsServed g setting (bytes ++ read) world old new was more_is (record { answered = answered + 1; end = how })
+    shuts how refused seen closed (e, kept, turn, (rest, begins), said, shut, sent) =
         let all = bytes ++ read in
         let session = ends_closed (so_far all s.exchanges s.written answered) (waits ++ read) rest world s.kept kept e now (next_exchange (waits ++ read) rest e kept begins turn all) shut in
+        let last : LastRefused (s.exchanges ++ e ∷ []) refused = (s.exchanges, e, refl, said) in
         record {
           exchanges = s.exchanges ++ e ∷ [];
           written = s.written ++ text_of e;
           kept = kept;
-          session = subst (λ (k : ℕ). IsSession (so_far all (s.exchanges ++ e ∷ []) (s.written ++ text_of e) (answered + k)) model.Closed world kept) (one_reply e some) session;
-          bad_head = tt;
+          session = subst (λ (m : model.End). IsSession (so_far all (s.exchanges ++ e ∷ []) (s.written ++ text_of e) (answered + 1)) m world kept) (sym seen)
+              (subst (λ (k : ℕ). IsSession (so_far all (s.exchanges ++ e ∷ []) (s.written ++ text_of e) (answered + k)) model.Closed world kept) (one_reply e (answered_by e.given ∙ ap is_some said)) session);
+          bad_head = (closed (s.exchanges ++ e ∷ []) last).0;
+          closed = (closed (s.exchanges ++ e ∷ []) last).1;
           taken = appends_both was is more_is s.written (text_of e) s.taken sent;
           leads = leads_one e kept turn;
           run = leads_on (s.exchanges ++ e ∷ []) kept session.run;
@@ -268,6 +291,7 @@ module _ {S : Type 0} (g : Ghosts S) (setting : Setting) (world : World) (was : 
           kept = kept;
           session = session;
           bad_head = tt;
+          closed = tt;
           taken = appends_both was is more_is s.written part s.taken began.taken;
           leads = leads_one e kept turn;
           run = leads_on (s.exchanges ++ e ∷ []) kept session.run;
@@ -291,6 +315,7 @@ module _ {S : Type 0} (g : Ghosts S) (setting : Setting) (world : World) (was : 
           kept = kept;
           session = record { ends = (session.ends.0, content_breaks s.exchanges e o broke.written serving broke.less all s.written answered now.written); under = session.under; run = session.run };
           bad_head = tt;
+          closed = tt;
           taken = appends_both was is more_is s.written part s.taken (subst (λ (t : List ℕ). Appends is more_is (t ++ take broke.written o.bytes)) (head_served e given o gave broke.serving) broke.taken);
           leads = leads_one e kept turn;
           run = leads_on (s.exchanges ++ e ∷ []) kept session.run;
@@ -306,7 +331,8 @@ module _ {S : Type 0} (g : Ghosts S) (setting : Setting) (world : World) (was : 
         → IsServed g setting (bytes ++ read) world old new was more_is (record { answered = answered + closing how; end = how })
     ends end.InputEnded (left, same) = none_more end.InputEnded (ends_early end.InputEnded tt left same)
     ends end.ReadFailed (left, same) = none_more end.ReadFailed (ends_early end.ReadFailed tt left same)
-    ends end.Closed turn = shuts turn
+    ends end.Closed turn = shuts end.Closed false refl (λ exchanges last. (tt, last)) turn
+    ends end.StoreRefused turn = shuts end.StoreRefused true refl (λ exchanges last. (tt, last)) turn
     ends end.WriteFailed turn = none_more end.WriteFailed (breaks turn)
     ends end.StoreFailed turn = none_more end.StoreFailed (fails turn)
 
@@ -316,6 +342,7 @@ pub unserved : {S : Type 0} (g : Ghosts S) (setting : Setting) (world : World) (
 unserved g setting world store was is served r holds = record {
   written = r.written;
   session = record { bytes = refl; exchanges = refl; same = refl; writes = r.writes setting };
+  refused = r.refused;
   taken = r.taken;
   leads = leads_none g store world holds;
 }

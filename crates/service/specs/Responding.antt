@@ -7,7 +7,7 @@ use Rattle.desk.specs.declared.outcomes.Answered.{Answered}
 use Rattle.desk.specs.declared.outcomes.AnswerFault.{AnswerFault}
 use Rattle.desk.specs.declared.outcomes.AnswerFault.TheVariants.{Store as by_store, Body as by_body}
 use Rattle.service.specs.declared.ends.End.{End}
-use Rattle.service.specs.declared.ends.End.TheVariants.{InputEnded, Closed, ReadFailed, WriteFailed, StoreFailed}
+use Rattle.service.specs.declared.ends.End.TheVariants.{InputEnded, Closed, StoreRefused, ReadFailed, WriteFailed, StoreFailed}
 use Rattle.service.specs.declared.responding.Response.{Response}
 
 -- the desk's reply, after which the connection closes if the message is the last, its body is unread, or the store
@@ -26,5 +26,6 @@ abbrev pub IsEarly : End → Type 0
 IsEarly InputEnded = ⊤
 IsEarly ReadFailed = ⊤
 IsEarly Closed = ⊥
+IsEarly StoreRefused = ⊥
 IsEarly WriteFailed = ⊥
 IsEarly StoreFailed = ⊥

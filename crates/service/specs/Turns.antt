@@ -1,12 +1,12 @@
 -- One message of a connection, and its answer.
-use Rattle.std.specs.Prelude.{◌≡◌, ℕ, Bool, true, false, List, [], ◌++◌, Option, Some, None, is_some, MatchBool, Result, Ok, Err, ⊤}
+use Rattle.std.specs.Prelude.{◌≡◌, ℕ, Bool, true, false, List, [], ◌++◌, Option, Some, None, is_some, option_map, MatchBool, Result, Ok, Err, ⊤}
 use Rattle.std.specs.Io.KnownBytes.{Appends}
 use Rattle.httparse.specs.Grammar.{MayBecomeRequest}
 use Rattle.sqlite_trees.specs.declared.store.Store.{Ghosts}
 use Rattle.names.specs.Streams.{HasGrown, IsBeginning}
 use Rattle.model.specs.World.{World}
 use Rattle.model.specs.Cases.{Setting}
-use Rattle.model.specs.Answers.{Answer}
+use Rattle.model.specs.Answers.{Answer, is_store_refusal}
 use Rattle.model.specs.Steps.{Message, Exchange, exchanged, allow, closes}
 use Rattle.model.specs.Stream.{BeginsWith, IsUnfinished}
 use Rattle.model.specs.Replies.{reply_text}
@@ -16,7 +16,7 @@ use Rattle.refinement.specs.Left.{Leads, Takes}
 use Rattle.desk.specs.Replies.{IsReplyOf, Lends}
 use Rattle.service.specs.Sending.{BreaksOff}
 use Rattle.service.specs.declared.ends.End.{End}
-use Rattle.service.specs.declared.ends.End.TheVariants.{InputEnded, Closed, ReadFailed, WriteFailed, StoreFailed}
+use Rattle.service.specs.declared.ends.End.TheVariants.{InputEnded, Closed, StoreRefused, ReadFailed, WriteFailed, StoreFailed}
 use Rattle.service.specs.declared.responding.Response.{Response}
 
 -- a message and the answer to it, under a policy and at a moment
@@ -72,20 +72,23 @@ Responds g setting bytes next world old new (Err end) = IsIncomplete g setting b
 abbrev pub IsSent : Option (List ℕ) → Option (List ℕ) → Answer → List ℕ → Bool → Option End → Type 0
 IsSent old new given allow close None = Appends old new (reply_text given allow close)
 IsSent old new given allow close (Some Closed) = Appends old new (reply_text given allow close)
+IsSent old new given allow close (Some StoreRefused) = Appends old new (reply_text given allow close)
 IsSent old new given allow close (Some WriteFailed) =
     (written : ℕ) × IsBeginning old new (reply_text given allow close) written
 IsSent old new given allow close (Some StoreFailed) = BreaksOff given allow close old new
 IsSent old new given allow close (Some InputEnded) = ⊥
 IsSent old new given allow close (Some ReadFailed) = ⊥
 
--- how a connection ends with a reply: it goes on, the server closes it if `close` is set, or a write or the store failed
-abbrev pub EndsReply : (close : Bool) → Option End → Type 0
-EndsReply close None = close ≡ false
-EndsReply close (Some Closed) = close ≡ true
-EndsReply close (Some WriteFailed) = ⊤
-EndsReply close (Some StoreFailed) = ⊤
-EndsReply close (Some InputEnded) = ⊥
-EndsReply close (Some ReadFailed) = ⊥
+-- how a connection ends with a reply: it goes on, or the server closes it if `close` is set, after a store refusal or
+-- another reply; or a write or the store failed
+abbrev pub EndsReply : (close refused : Bool) → Option End → Type 0
+EndsReply close refused None = close ≡ false
+EndsReply close refused (Some Closed) = (close ≡ true) × (refused ≡ false)
+EndsReply close refused (Some StoreRefused) = (close ≡ true) × (refused ≡ true)
+EndsReply close refused (Some WriteFailed) = ⊤
+EndsReply close refused (Some StoreFailed) = ⊤
+EndsReply close refused (Some InputEnded) = ⊥
+EndsReply close refused (Some ReadFailed) = ⊥
 
 -- a write failed exactly if the connection ended for that
 abbrev pub IsCounted : ℕ → ℕ → Option End → Type 0
@@ -93,6 +96,14 @@ IsCounted old new (Some WriteFailed) = HasGrown old new
 IsCounted old new _ = new ≡ old
 
 -- ---- a turn
+
+-- the message at the front of the bytes was answered, by a store refusal or another reply, and the connection closed
+abbrev pub ClosesTurn :
+    {S : Type 0} (g : Ghosts S) → Setting → List ℕ → World → (old new : Store S)
+    → Option (List ℕ) → Option (List ℕ) → (refused : Bool) → Type 0
+ClosesTurn g setting bytes world old new was is refused =
+    (e : Exchange) × (kept : World) × IsTurn g setting world old new e kept × ((rest : List ℕ) × BeginsWith bytes e.asked rest)
+    × (option_map is_store_refusal e.given ≡ Some refused) × (closes e ≡ true) × Appends was is (text_of e)
 
 -- the message at the front of the bytes was answered and the reply written, so that the connection goes on with the
 -- next bytes or ends; or only a part of the reply was written, since a write or the store failed; or the bytes hold no
@@ -104,8 +115,9 @@ EndsTurn g setting bytes next world old new was is None =
     (e : Exchange) × (kept : World) × IsTurn g setting world old new e kept × IsFirst bytes e next
     × (is_some e.given ≡ true) × (closes e ≡ false) × Appends was is (text_of e)
 EndsTurn g setting bytes next world old new was is (Some Closed) =
-    (e : Exchange) × (kept : World) × IsTurn g setting world old new e kept × ((rest : List ℕ) × BeginsWith bytes e.asked rest)
-    × (is_some e.given ≡ true) × (closes e ≡ true) × Appends was is (text_of e)
+    ClosesTurn g setting bytes world old new was is false
+EndsTurn g setting bytes next world old new was is (Some StoreRefused) =
+    ClosesTurn g setting bytes world old new was is true
 EndsTurn g setting bytes next world old new was is (Some WriteFailed) =
     (e : Exchange) × (kept : World) × IsTurn g setting world old new e kept × ((rest : List ℕ) × BeginsWith bytes e.asked rest)
     × ((written : ℕ) × IsBeginning was is (text_of e) written)

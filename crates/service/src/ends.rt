@@ -5,8 +5,10 @@
 pub enum End {
     /// The client's input ended, and every complete message was answered.
     InputEnded,
-    /// The server closed it after a reply.
+    /// The server closed it after a reply that is no store refusal.
     Closed,
+    /// The server closed it after a store refusal: the store refused, or memory ran out.
+    StoreRefused,
     /// A read failed, and every complete message read before was answered.
     ReadFailed,
     /// A write failed.

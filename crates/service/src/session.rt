@@ -63,7 +63,7 @@ fn closing(end: End) -> usize
     ensures { result ≡ closing end }
 {
     match end {
-        End::Closed => 1,
+        End::Closed | End::StoreRefused => 1,
         End::InputEnded | End::ReadFailed | End::WriteFailed | End::StoreFailed => 0,
     }
 }
@@ -77,7 +77,7 @@ fn refuse_all<K: Sink>(sink: &mut K) -> Served
     match send_front(sink, &Reply::store_refused(), "", true) {
         Ok(()) => Served {
             answered: 1,
-            end: End::Closed,
+            end: End::StoreRefused,
         },
         Err(_) => Served {
             answered: 0,

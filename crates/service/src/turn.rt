@@ -42,12 +42,13 @@ fn deliver<S: Alter, K: Sink>(
         → IsReplyOf response.now.reply given → Lends S.Store store.old response.now.reply.body given
         → IsSent (K.taken sink.old) (K.taken sink.new) given response.now.allow.now
         response.now.close result) }
-    ensures ends { EndsReply response.now.close result }
+    ensures ends { EndsReply response.now.close response.now.reply.is_store_refusal result }
     ensures counted { IsCounted (K.failed sink.old) (K.failed sink.new) result }
 {
     match send(store, sink, &response.reply, response.allow, response.close) {
-        Ok(()) if response.close => Some(End::Closed),
-        Ok(()) => None,
+        Ok(()) if !response.close => None,
+        Ok(()) if response.reply.is_store_refusal => Some(End::StoreRefused),
+        Ok(()) => Some(End::Closed),
         Err(SendFault::Sink) => Some(End::WriteFailed),
         Err(SendFault::Store) => Some(End::StoreFailed),
     }

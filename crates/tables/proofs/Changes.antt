@@ -2,11 +2,10 @@
 use Rattle.std.proofs.Common.{◌≡◌, ◌≤◌, ℕ, ℤ, pos, Bool, true, false, cond, List, [], ◌∷◌, ◌++◌, length, drop, map, filter, Ok, Err, Result, IfOk, IsTrue, refl, sym, ap, subst, ◌∙◌}
 use Rattle.std.specs.List.{list_all}
 use Rattle.std.specs.Ordering.{int_eq}
-use Rattle.sqlite.specs.declared.types.Value.TheVariants.{Int}
 use Rattle.sqlite.specs.Order.{Row}
 use Rattle.sqlite_trees.specs.Tree.{put_row, rowid}
 use Rattle.sqlite_sql.specs.Term.{eval_all, holds}
-use Rattle.sqlite_sql.specs.declared.ops.CompareOp.TheVariants.{Eq, Le}
+use Rattle.sqlite_sql.specs.declared.ops.CompareOp.TheVariants.{Eq, Le, Ge}
 use Rattle.sqlite_rules.specs.Edit.{next_rowid, id_in}
 use Rattle.sqlite.specs.Command.TheVariants.{Delete, Update}
 use Rattle.sqlite_rules.specs.Cast.{cast_row}
@@ -22,9 +21,9 @@ use Rattle.sqlite_keyed.proofs.RuleLemmas.{at_most_one}
 use Rattle.sqlite_typed.proofs.TestLemmas.{at_texts, at_ints, then_term, last_term}
 use Rattle.tables.specs.Layout.{custody, repos_at, tokens_at, chunks_at, locks_at}
 use Rattle.tables.specs.Rows.{Repo, Token, Chunk, Lock, Tables, Part, repos, tokens, uploads, chunks, locks, place_of, table_at, tree_of, RowOf, encode, decode, id_of, rows_of, with_rows, rows_in, tables_of, IsTyped, StayBut}
-use Rattle.tables.specs.Statements.{Write, add_lock, add_repo, set_made, remove_lock, add_token, remove_expired, add_chunk, remove_row, remove_chunks, set_done, add_used, set_used, write_text, write_params, with_lock, with_repo, with_made_at, without_lock, with_token, without_expired, with_chunk, without_row, without_chunks, with_done, with_used_row, with_used_at, has_id, has_expired, is_upload, is_of, writing}
+use Rattle.tables.specs.Statements.{Write, add_lock, add_repo, set_made, remove_lock, add_token, remove_expired, add_chunk, remove_row, remove_chunks, remove_chunks_from, set_done, add_used, set_used, write_text, write_params, with_lock, with_repo, with_made_at, without_lock, with_token, without_expired, with_chunk, without_row, without_chunks, without_chunks_from, with_done, with_used_row, with_used_at, has_id, has_expired, is_upload, is_of, is_of_from, writing}
 use Rattle.tables.specs.Runs.{IsOurs, IsKept, Steps, IsWritten, tables_in}
-use Rattle.tables.proofs.Meanings.{IsCommand, add_lock_is, lock_terms, add_repo_is, repo_terms, set_made_is, made_columns, remove_lock_is, add_token_is, token_terms, remove_expired_is, add_chunk_is, chunk_terms, remove_row_is, remove_chunks_is, set_done_is, done_columns, add_used_is, used_terms, set_used_is, used_columns}
+use Rattle.tables.proofs.Meanings.{IsCommand, add_lock_is, lock_terms, add_repo_is, repo_terms, set_made_is, remove_lock_is, add_token_is, token_terms, remove_expired_is, add_chunk_is, chunk_terms, remove_row_is, remove_chunks_is, remove_chunks_from_is, set_done_is, add_used_is, used_terms, set_used_is}
 use Rattle.typed_rows.specs.Queries.{plain_query, is_given}
 use Rattle.typed_rows.proofs.Typed.{appended, keys_rise, typed_by, retyped}
 use Rattle.typed_rows.proofs.Writes.{removes, replaces, how_many, gone, changed}
@@ -162,6 +161,12 @@ module _ (old new : State) (count : ℕ) (kept : IsKept old.now) (inside : old.i
   unfolding without_chunks writing
   chunks_removed upload h = dropped old new kept inside chunks _ _ _ (remove_chunks_is upload) (is_of upload) (λ c. last_term (at_ints false Eq c.upload upload)) count h
 
+  chunks_cut : (upload : ℤ) (n : ℕ) → Executes (write_text (remove_chunks_from upload n)) (write_params (remove_chunks_from upload n)) old new (Ok count)
+      → Steps (without_chunks_from upload (pos n)) old new × (count ≡ length (filter (is_of_from upload (pos n)) (rows_in chunks old.now.trees)))
+  unfolding without_chunks_from writing
+  chunks_cut upload n h =
+      dropped old new kept inside chunks _ _ _ (remove_chunks_from_is upload n) (is_of_from upload (pos n)) (λ c. then_term (at_ints false Eq c.upload upload) (last_term (at_ints false Ge c.n (pos n)))) count h
+
   done_set : (id : ℤ) → Executes (write_text (set_done id)) (write_params (set_done id)) old new (Ok count) → Steps (with_done id) old new
   unfolding with_done writing
   done_set id h =
@@ -191,6 +196,7 @@ module _ (old new : State) (count : ℕ) (kept : IsKept old.now) (inside : old.i
   written (add_chunk c) h = record { step = chunk_added c h; gone = tt }
   written (remove_row id) h = let it = row_removed id h in record { step = it.0; gone = it.1 }
   written (remove_chunks upload) h = let it = chunks_removed upload h in record { step = it.0; gone = it.1 }
+  written (remove_chunks_from upload n) h = let it = chunks_cut upload n h in record { step = it.0; gone = it.1 }
   written (set_done id) h = record { step = done_set id h; gone = tt }
   written (add_used name used) h = record { step = used_added name used h; gone = tt }
   written (set_used rowid used) h = record { step = used_set rowid used h; gone = tt }

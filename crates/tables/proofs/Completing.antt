@@ -5,8 +5,8 @@ use Rattle.tables.specs.declared.rows.UploadRow.{UploadRow}
 use Rattle.tables.specs.declared.rows.Completion.{Completion}
 use Rattle.tables.specs.declared.rows.Completion.TheVariants as completion
 use Rattle.tables.specs.Rows.{Upload, Tables}
-use Rattle.tables.specs.Statements.{is_object, with_chunk}
-use Rattle.tables.specs.Staging.{UploadFields, upload_fields, read_upload, begun_as, IsUploadOf, staged_with, without_upload, without_found, without_staged, asked_chunk, with_bytes, with_last, with_kept, is_as_begun, settled_as, completion_by, completion_of, after_completion, after_settling, after_found, after_complete}
+use Rattle.tables.specs.Statements.{is_object, with_chunk, without_chunks_from}
+use Rattle.tables.specs.Staging.{UploadFields, upload_fields, read_upload, begun_as, IsUploadOf, staged_with, without_upload, without_found, without_found_from, without_staged, without_staged_from, asked_chunk, with_bytes, with_last, with_kept, is_as_begun, settled_as, completion_by, completion_of, after_completion, after_settling, after_found, after_complete}
 
 -- ---- the row that was found
 
@@ -36,6 +36,13 @@ module _ (row : UploadRow) (id : ℤ) (t : Tables) (is : IsUploadOf (Some row) (
   removed =
       let it = one_found row (staged_with id t) is in
       ap (λ o. without_found o t) it.1 ∙ ap (λ (f : UploadFields). without_upload f.id t) it.2
+
+  -- the tables without some of its chunks
+  pub shortened : (n : ℤ) → without_staged_from id n t ≡ without_chunks_from (begun_as row).id n t
+  unfolding without_staged_from
+  shortened n =
+      let it = one_found row (staged_with id t) is in
+      ap (λ o. without_found_from o n t) it.1 ∙ ap (λ (f : UploadFields). without_chunks_from f.id n t) it.2
 
   pub is_there : is_some (staged_with id t) ≡ true
   is_there = let it = one_found row (staged_with id t) is in ap is_some it.1
@@ -68,6 +75,10 @@ module _ (id : ℤ) (t : Tables) (is : IsUploadOf None (staged_with id t)) where
   pub nothing_removed : without_staged id t ≡ t
   unfolding without_staged
   nothing_removed = ap (λ o. without_found o t) (none_found (staged_with id t) is)
+
+  pub nothing_shortened : (n : ℤ) → without_staged_from id n t ≡ t
+  unfolding without_staged_from
+  nothing_shortened n = ap (λ o. without_found_from o n t) (none_found (staged_with id t) is)
 
   pub is_not_there : is_some (staged_with id t) ≡ false
   is_not_there = ap is_some (none_found (staged_with id t) is)

@@ -15,7 +15,7 @@ use Rattle.sqlite.proofs.Callers.{IsPlain, command_of}
 use Rattle.typed_rows.specs.Queries.{query_of, plain_query, sorted_by, ordered_by, is_given}
 use Rattle.tables.specs.Layout.{custody}
 use Rattle.tables.specs.Rows.{Token, Chunk, Lock}
-use Rattle.tables.specs.Statements.{meta, made_by, lock_at, lock_with_id, locks_in, locks_from, token, tokens_of, used_by, staged_with, object, objects_in, objects, staged, chunk_at, read_text, add_lock, add_repo, set_made, remove_lock, add_token, remove_expired, add_chunk, remove_row, remove_chunks, set_done, add_used, set_used, write_text, reading, writing}
+use Rattle.tables.specs.Statements.{meta, made_by, lock_at, lock_with_id, locks_in, locks_from, token, tokens_of, used_by, staged_with, object, objects_in, objects, staged, chunk_at, read_text, add_lock, add_repo, set_made, remove_lock, add_token, remove_expired, add_chunk, remove_row, remove_chunks, remove_chunks_from, set_done, add_used, set_used, write_text, reading, writing}
 
 abbrev pub lock_columns : List Term
 lock_columns = col 1 2 ∷ col 1 3 ∷ col 1 4 ∷ col 1 5 ∷ col 1 6 ∷ []
@@ -159,6 +159,10 @@ remove_row_is id = record { plain = (refl, refl); is = refl }
 pub remove_chunks_is : (upload : ℤ) → IsCommand (write_text (remove_chunks upload)) (Delete 5 (record { lets = []; body = plain_query (is_given 1 0 ∷ []) (col 1 0 ∷ []) 8 }))
 unfolding writing understood everything
 remove_chunks_is upload = record { plain = (refl, refl); is = refl }
+
+pub remove_chunks_from_is : (upload : ℤ) (n : ℕ) → IsCommand (write_text (remove_chunks_from upload n)) (Delete 5 (record { lets = []; body = plain_query (is_given 1 0 ∷ op2 (Compare Ge Binary) (col 1 2) (col 0 1) ∷ []) (col 1 0 ∷ []) 8 }))
+unfolding writing understood everything
+remove_chunks_from_is upload n = record { plain = (refl, refl); is = refl }
 
 abbrev pub done_columns : List Term
 done_columns = col 1 0 ∷ col 1 0 ∷ lit Null ∷ col 1 2 ∷ col 1 3 ∷ col 1 4 ∷ lit (Int (pos 1)) ∷ []

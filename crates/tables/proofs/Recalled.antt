@@ -6,9 +6,9 @@ use Rattle.sqlite_keyed.proofs.ListLemmas.{all-filter, all_map, all_weaker}
 use Rattle.tables.specs.declared.staged.Remembered.{Remembered}
 use Rattle.tables.specs.declared.new_rows.LastChunk.{LastChunk}
 use Rattle.tables.specs.Rows.{Token, Upload, Chunk, Lock, Tables}
-use Rattle.tables.specs.Statements.{is_upload, with_chunk, without_lock, without_expired, with_lock, with_token, without_row, without_chunks, with_done}
+use Rattle.tables.specs.Statements.{is_upload, with_chunk, without_lock, without_expired, with_lock, with_token, without_row, without_chunks, without_chunks_from, with_done}
 use Rattle.tables.specs.Steps.{Outcome, held, used_up, created, outcome_of, after_outcome, after_create, with_made, with_new_lock, has_token, after_add}
-use Rattle.tables.specs.Staging.{without_upload, without_found, without_staged, staged_with, with_used, with_bytes, with_last, with_kept, completion_by, after_completion, after_found, after_complete}
+use Rattle.tables.specs.Staging.{without_upload, without_found, without_found_from, without_staged, without_staged_from, staged_with, with_used, with_bytes, with_last, with_kept, completion_by, after_completion, after_found, after_complete}
 use Rattle.tables.specs.declared.rows.Completion.{Completion}
 use Rattle.tables.specs.declared.rows.Completion.TheVariants as completion
 use Rattle.tables.specs.Remembered.{IsRemembered, KnowsStaged}
@@ -86,6 +86,15 @@ pub abandon_keeps : (id : ℤ) → KeepsKnown (without_staged id)
 unfolding without_staged
 abandon_keeps id known t h = found_keeps (staged_with id t) known t h
 
+found_leave : (u : Option Upload) (n : ℤ) (t : Tables) → (without_found_from u n t).uploads ≡ t.uploads
+unfolding without_chunks_from
+found_leave None n t = refl
+found_leave (Some u) n t = refl
+
+pub shorten_keeps : (id n : ℤ) → KeepsKnown (without_staged_from id n)
+unfolding without_staged_from
+shorten_keeps id n = leaves_uploads (without_staged_from id n) (λ t. found_leave (staged_with id t) n t)
+
 bytes_leave : (id : ℤ) (n : ℕ) (bytes : List ℕ) (t : Tables) → (with_bytes id n bytes t).uploads ≡ t.uploads
 unfolding with_chunk
 bytes_leave id n [] t = refl
@@ -101,7 +110,7 @@ kept_keeps u known t h = done_known known (is_upload u.id) t.uploads h
 
 completion_keeps : (c : Completion) (last : LastChunk) (u : Upload) → KeepsKnown (after_completion c last u)
 completion_keeps completion.Differs last u known t h = h
-completion_keeps completion.Already last u known t h = upload_keeps u.id known t h
+completion_keeps completion.Already last u known t h = h
 completion_keeps completion.New last u known t h = kept_keeps u known (with_last u.id last t) (last_keeps u.id last known t h)
 
 complete_found : (u : Option Upload) (last : LastChunk) (oid : List ℕ) (size : ℤ) → KeepsKnown (after_found u last oid size)

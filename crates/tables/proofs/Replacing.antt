@@ -63,6 +63,17 @@ module _ {X : Type 0} (p q : X → Bool) where
       go false true x z rest e = absurd (let s : true ≡ false = sym (all.0 z) ∙ x in cc)
       go false false x z rest e = rest e
 
+  -- if no element passes a stricter test but those that pass this one, and the first of these passes it, it is the first
+  found_too : (xs : List X) (x : X) → AllByRecursion (λ y. q y ≡ true → p y ≡ true) xs → find p xs ≡ Some x → q x ≡ true → find q xs ≡ Some x
+  found_too [] x all is here = absurd (let e : None ≡ Some x = is in cc)
+  found_too (y ∷ ys) x all is here = go (p y) (q y) refl refl (λ e. found_too ys x all.1 e here) is
+    where
+      go : (a b : Bool) → p y ≡ a → q y ≡ b → (find p ys ≡ Some x → find q ys ≡ Some x) → cond a (Some y) (find p ys) ≡ Some x → cond b (Some y) (find q ys) ≡ Some x
+      go true true e f rest found = found
+      go true false e f rest found = let same : y ≡ x = some_same p found in absurd (let s : true ≡ false = sym here ∙ ap q (sym same) ∙ f in cc)
+      go false true e f rest found = absurd (let s : true ≡ false = sym (all.0 f) ∙ e in cc)
+      go false false e f rest found = rest found
+
   -- if an element that one test found passes another, that one finds an element
   some_too : (xs : List X) (x : X) → find p xs ≡ Some x → q x ≡ true → (y : X) × (find q xs ≡ Some y)
   some_too [] x is here = absurd (let e : None ≡ Some x = is in cc)
@@ -94,18 +105,32 @@ module _ (repo : List ℕ) (t : Tables) where
   unfolding without_staged_in
   none_staged none = sym (ap (λ o. without_found o t) none)
 
-  pub none_last : IsLastOf None repo t → t ≡ without_staged_in repo t
-  none_last last = none_staged (go (find (is_staged_in repo) t.uploads) refl)
+  pub no_last : IsLastOf None repo t → find (is_staged_in repo) t.uploads ≡ None
+  no_last last = go (find (is_staged_in repo) t.uploads) refl
     where
       go : (o : Option Upload) → find (is_staged_in repo) t.uploads ≡ o → o ≡ None
       go None is = refl
       go (Some u) is = let it = found_has (is_staged_in repo) (λ u. IsTrue (is_staged_in repo u) → None ≡ Some u.id) t.uploads u last is in absurd (let e : None ≡ Some u.id = it.1 it.0 in cc)
 
+  pub none_last : IsLastOf None repo t → t ≡ without_staged_in repo t
+  none_last last = none_staged (no_last last)
+
   module _ (id : ℤ) (last : IsLastOf (Some id) repo t) where
+    passes_too : AllByRecursion (λ u. is_staged_in repo u ≡ true → is_staged_with id u ≡ true) t.uploads
+    passes_too = all_weaker (λ u. IsTrue (is_staged_in repo u) → Some id ≡ Some u.id) (λ u. is_staged_in repo u ≡ true → is_staged_with id u ≡ true) (λ u h. last_passes id repo u h) t.uploads last
+
+    pub none_found_last : staged_with id t ≡ None → find (is_staged_in repo) t.uploads ≡ None
+    none_found_last none = none_too (is_staged_with id) (is_staged_in repo) t.uploads passes_too none
+
+    -- the upload that is staged under the id of the last one, if it is the repository's
+    pub found_last : (u : Upload) → staged_with id t ≡ Some u → same_bytes u.repo repo ≡ true → find (is_staged_in repo) t.uploads ≡ Some u
+    found_last u found named =
+        let passes = (found_has (is_staged_with id) (λ _. Unit {0}) t.uploads u (all_of (λ _. Unit {0}) (λ _. tt) t.uploads) found).0 in
+        found_too (is_staged_with id) (is_staged_in repo) t.uploads u passes_too found (rw (named, second_of_both (is_upload id u) (is_staged u) passes) refl)
+
     -- nothing is staged under the id of the last one
     pub not_staged : staged_with id t ≡ None → t ≡ without_staged_in repo t
-    not_staged none =
-        none_staged (none_too (is_staged_with id) (is_staged_in repo) t.uploads (all_weaker (λ u. IsTrue (is_staged_in repo u) → Some id ≡ Some u.id) (λ u. is_staged_in repo u ≡ true → is_staged_with id u ≡ true) (λ u h. last_passes id repo u h) t.uploads last) none)
+    not_staged none = none_staged (none_found_last none)
 
     -- a staged upload of the repository has this id
     has_id : (w : Upload) → find (is_staged_in repo) t.uploads ≡ Some w → w.id ≡ id

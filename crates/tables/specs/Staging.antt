@@ -16,7 +16,7 @@ use Rattle.tables.specs.declared.rows.Completion.TheVariants as completion
 use Rattle.tables.specs.declared.rows.UploadRow.{UploadRow}
 use Rattle.tables.specs.declared.uploads.Total.{Total}
 use Rattle.tables.specs.Rows.{Repo, Upload, Chunk, Tables}
-use Rattle.tables.specs.Statements.{same_bytes, is_complete, is_object_in, by_name, is_staged_with, is_staged_in, is_object, with_upload, with_chunk, with_done, without_row, without_chunks}
+use Rattle.tables.specs.Statements.{same_bytes, is_complete, is_object_in, by_name, is_staged_with, is_staged_in, is_object, with_upload, with_chunk, with_done, without_row, without_chunks, without_chunks_from}
 use Rattle.tables.specs.Steps.{used_of, set_first}
 
 -- ---- one upload
@@ -117,6 +117,15 @@ without_staged_in repo t = without_found (find (is_staged_in repo) t.uploads) t
 unfoldable pub without_staged : ℤ → Tables → Tables
 without_staged id t = without_found (staged_with id t) t
 
+-- the tables without the chunks of an upload that was found, from this number on
+abbrev pub without_found_from : Option Upload → ℤ → Tables → Tables
+without_found_from None n t = t
+without_found_from (Some u) n t = without_chunks_from u.id n t
+
+-- the tables without the chunks of the staged upload with this id, from this number on
+unfoldable pub without_staged_from : ℤ → ℤ → Tables → Tables
+without_staged_from id n t = without_found_from (staged_with id t) n t
+
 -- the tables in which this upload takes the place of its repository's staged one
 unfoldable pub after_begin : Upload → Tables → Tables
 after_begin u t = with_upload u (without_staged_in u.repo t)
@@ -186,7 +195,7 @@ completion_of id oid size t = option_map (λ u. completion_by oid size u t) (sta
 -- the tables after this result for the upload, which has this last chunk
 abbrev pub after_completion : Completion → LastChunk → Upload → Tables → Tables
 after_completion completion.Differs last u t = t
-after_completion completion.Already last u t = without_upload u.id t
+after_completion completion.Already last u t = t
 after_completion completion.New last u t = with_kept u (with_last u.id last t)
 
 -- the tables after completing a staged upload whose bytes have its name and its size

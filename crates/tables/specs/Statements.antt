@@ -79,6 +79,10 @@ is_staged_in repo u = same_bytes u.repo repo && is_staged u
 abbrev pub is_of : ℤ → Chunk → Bool
 is_of upload c = int_eq c.upload upload
 
+-- the chunk is one of this upload, and has this number or a later one
+abbrev pub is_of_from : ℤ → ℤ → Chunk → Bool
+is_of_from upload n c = int_eq c.upload upload && int_le n c.n
+
 -- the chunk is the one of this upload with this number
 abbrev pub is_chunk : ℤ → ℤ → Chunk → Bool
 is_chunk upload n c = int_eq c.upload upload && int_eq c.n n
@@ -262,6 +266,7 @@ pub data Write : Type 0 where
   add_chunk : Chunk → Write
   remove_row : ℤ → Write
   remove_chunks : ℤ → Write
+  remove_chunks_from : ℤ → ℕ → Write
   set_done : ℤ → Write
   add_used : List ℕ → ℤ → Write
   set_used : ℤ → ℤ → Write
@@ -305,6 +310,10 @@ without_row id t = record t { uploads = delete_where (is_upload id) t.uploads }
 -- the tables without the chunks of this upload
 unfoldable pub without_chunks : ℤ → Tables → Tables
 without_chunks upload t = record t { chunks = delete_where (is_of upload) t.chunks }
+
+-- the tables without the chunks of this upload from this number on
+unfoldable pub without_chunks_from : ℤ → ℤ → Tables → Tables
+without_chunks_from upload n t = record t { chunks = delete_where (is_of_from upload n) t.chunks }
 
 -- the tables in which this upload is complete
 unfoldable pub with_done : ℤ → Tables → Tables
@@ -375,6 +384,14 @@ writing (remove_chunks upload) = record {
   text = codes "DELETE FROM chunks WHERE upload = ?1";
   params = Int upload ∷ [];
   meaning = record { step = without_chunks upload; removed = Some (λ t. length (filter (is_of upload) t.chunks)) };
+}
+writing (remove_chunks_from upload n) = record {
+  text = codes "DELETE FROM chunks WHERE upload = ?1 AND n >= ?2";
+  params = Int upload ∷ Int (pos n) ∷ [];
+  meaning = record {
+    step = without_chunks_from upload (pos n);
+    removed = Some (λ t. length (filter (is_of_from upload (pos n)) t.chunks));
+  };
 }
 writing (set_done id) = record {
   text = codes "UPDATE uploads SET done = 1 WHERE id = ?1";

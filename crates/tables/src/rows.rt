@@ -75,7 +75,7 @@ pub struct ObjectRow {
 pub enum Completion {
     /// The upload is an object now, and its size is counted.
     New,
-    /// The repository has an object of this name. The upload was removed.
+    /// The repository has an object of this name. The upload is still staged.
     Already,
     /// The name or the size differs from that with which the upload was begun. It is still staged.
     Differs,

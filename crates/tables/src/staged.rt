@@ -5,17 +5,19 @@ ghost use Rattle.std.specs.List.{AllByRecursion};
 ghost use Rattle.names.specs.Names.{repo_text};
 ghost use Rattle.tables.specs.Rows.{Upload};
 ghost use Rattle.tables.specs.Statements.{same_bytes, is_staged, show_upload};
-ghost use Rattle.tables.specs.Staging.{upload_number};
+ghost use Rattle.tables.specs.Staging.{upload_number, staged_with, IsUploadOf, AreUploadsOf};
+ghost use Rattle.tables.specs.Calls.{Looks};
 ghost use Rattle.tables.specs.Shown.{Reads};
 ghost use Rattle.tables.specs.Learning.{Learns};
+ghost use Rattle.tables.specs.Seeking.{Seeks, Finds};
 ghost use Rattle.tables.specs.Remembered.{is_entry_of, remembered_in, IsEntryOf, IsLast, IsFirst, IsNoted};
 
 use crate::Store;
 use crate::fault::StoreFault;
 use crate::read::read;
-use crate::rows::UploadId;
+use crate::rows::{UploadId, UploadRow, all_uploads, first_upload};
 use names::RepoName;
-use sqlite::{Alter, Row, params};
+use sqlite::{Alter, Connection, Row, params};
 use std::alloc::{AllocError, Global};
 
 /// The last upload that a repository began.
@@ -118,35 +120,77 @@ pub(crate) fn all_remembered(alloc: Global, rows: &[Row]) -> Result<Vec<Remember
     Ok(known)
 }
 
-fn all_ids(alloc: Global, rows: &[Row]) -> Result<Vec<UploadId>, StoreFault>
-    ensures value { (uploads : List Upload) → rows.now ≡ map show_upload uploads → IfOk result
-        (λ ids. map upload_number ids.items ≡ map (λ u. u.id) uploads) }
-    ensures known { result ≢ Err StoreFault.UnknownSchema }
+/// The staged upload with this id.
+fn staged_row<S: Alter>(
+    conn: &mut Connection<S>,
+    id: UploadId,
+) -> Result<Option<UploadRow>, StoreFault>
+    ensures { Looks S.Store conn.old conn.new result
+        (λ t found. IsUploadOf found (staged_with (upload_number id) t)) }
 {
-    let mut ids = Vec::with_capacity(alloc, rows.len())?;
-    for row in rows {
-        let id = id_from(row)?;
-        ids.push(id).map_err(AllocError::from)?;
+    let rows = read(
+        conn,
+        "SELECT id, repo, oid, size, done FROM uploads WHERE id = ?1 AND done = 0 ORDER BY rowid",
+        params![id.number],
+    )?;
+    first_upload(rows.as_slice())
+}
+
+/// The upload that the repository has staged, if this is the last one that it began.
+fn last_staged<S: Alter>(
+    conn: &mut Connection<S>,
+    last: Option<UploadId>,
+    repo: &RepoName,
+) -> Result<Option<UploadRow>, StoreFault>
+    ensures { Seeks S.Store conn.old conn.new last (repo_text repo.now) result }
+{
+    let Some(last) = last else {
+        return Ok(None);
+    };
+    let Some(upload) = staged_row(conn, last)? else {
+        return Ok(None);
+    };
+    if !is_same(&upload.repo, repo) {
+        return Err(StoreFault::Refused);
     }
-    Ok(ids)
+    Ok(Some(upload))
 }
 
 impl<S: Alter> Store<S> {
-    /// Returns the ids of all staged uploads, in rising order.
+    /// Returns the upload that the repository has staged, if there is one.
+    ///
+    /// # Errors
+    ///
+    /// `Refused`, also if a repository has two staged uploads, or `Memory`. The tables are unchanged in any case.
+    pub fn staged_upload(
+        &mut self,
+        alloc: Global,
+        repo: &RepoName,
+    ) -> Result<Option<UploadRow>, StoreFault>
+        ensures { Finds S.Store self.old self.new (repo_text repo.now) result }
+    {
+        let known = self.take_staged(alloc)?;
+        let last = remembered_in(known.as_slice(), repo);
+        let found = last_staged(&mut self.conn, last, repo);
+        self.staged = Some(known);
+        found
+    }
+
+    /// Returns all staged uploads, in rising ids.
     ///
     /// # Errors
     ///
     /// `Refused` or `Memory`. The tables are unchanged in any case.
-    pub fn staged_uploads(&mut self, alloc: Global) -> Result<Vec<UploadId>, StoreFault>
+    pub fn staged_uploads(&mut self, alloc: Global) -> Result<Vec<UploadRow>, StoreFault>
         ensures { Reads S.Store self.old self.new result
-            (λ t ids. map upload_number ids.items ≡ map (λ u. u.id) (filter is_staged t.uploads)) }
+            (λ t found. AreUploadsOf found.items (filter is_staged t.uploads)) }
     {
         let rows = read(
             &mut self.conn,
             "SELECT id, repo, oid, size, done FROM uploads WHERE done = 0 ORDER BY rowid",
             params![],
         )?;
-        all_ids(alloc, rows.as_slice())
+        all_uploads(alloc, rows.as_slice())
     }
 
     /// Takes what the store remembers of staged uploads, or reads it. The store then remembers nothing.

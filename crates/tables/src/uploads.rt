@@ -7,10 +7,10 @@ ghost use Rattle.sqlite.specs.Held.{state};
 ghost use Rattle.typed_rows.specs.Transactions.{Inside};
 ghost use Rattle.tables.specs.Rows.{Upload};
 ghost use Rattle.tables.specs.Runs.{tables_in};
-ghost use Rattle.tables.specs.Statements.{same_bytes, is_named, is_object, show_upload, show_used, without_row, without_chunks, with_done};
+ghost use Rattle.tables.specs.Statements.{same_bytes, is_named, is_object, show_upload, show_used, without_row, without_chunks, without_chunks_from, with_done};
 ghost use Rattle.tables.specs.Calls.{MakesStep, Says, Does, Looks, Transacts};
 ghost use Rattle.tables.specs.Steps.{used_in, used_of};
-ghost use Rattle.tables.specs.Staging.{upload_number, staged_with, upload_sized, read_object, IsObjectOf, IsUploadOf, AreUploadsOf, objects_of, repo_total, read_total, IsTotalOf, with_used, without_upload, without_staged, with_kept, is_as_begun, begun_as, settled_as, with_last, after_settling, completion_of, after_complete};
+ghost use Rattle.tables.specs.Staging.{upload_number, staged_with, upload_sized, read_object, IsObjectOf, IsUploadOf, AreUploadsOf, objects_of, repo_total, read_total, IsTotalOf, with_used, without_upload, without_staged, without_staged_from, with_kept, is_as_begun, begun_as, settled_as, with_last, after_settling, completion_of, after_complete};
 ghost use Rattle.tables.specs.Shown.{Reads, Changes};
 
 use crate::Store;
@@ -183,6 +183,23 @@ fn chunks_out<S: Alter>(tx: &mut Transaction<'_, S>, id: UploadId) -> Result<usi
     )
 }
 
+/// Removes the chunks of the upload from this number on.
+fn chunks_from_out<S: Alter>(
+    tx: &mut Transaction<'_, S>,
+    id: UploadId,
+    n: u32,
+) -> Result<usize, Error>
+    ensures same_reference { tx.new.conn.ghost_name ≡ tx.old.conn.ghost_name }
+    ensures does { Does S.Store tx.old.conn.now tx.new.conn.now result
+        (without_chunks_from (upload_number id) (pos n)) }
+{
+    change(
+        tx,
+        "DELETE FROM chunks WHERE upload = ?1 AND n >= ?2",
+        params![id.number, n],
+    )
+}
+
 fn row_out<S: Alter>(tx: &mut Transaction<'_, S>, id: UploadId) -> Result<usize, Error>
     ensures same_reference { tx.new.conn.ghost_name ≡ tx.old.conn.ghost_name }
     ensures does { Does S.Store tx.old.conn.now tx.new.conn.now result
@@ -282,7 +299,7 @@ fn keep_all_into<S: Alter>(
     keep_into(tx, upload)
 }
 
-/// Makes the upload an object with this last chunk, or removes it if its repository has an object of its name.
+/// Makes the upload an object with this last chunk, unless its repository has an object of its name.
 fn settle_into<S: Alter>(
     tx: &mut Transaction<'_, S>,
     upload: &UploadRow,
@@ -296,7 +313,6 @@ fn settle_into<S: Alter>(
     ensures known { result ≢ Err StoreFault.UnknownSchema }
 {
     if is_stored(tx, &upload.repo, &upload.oid)? {
-        upload_out(tx, upload.id)?;
         return Ok(Completion::Already);
     }
     keep_all_into(tx, upload, last)?;
@@ -356,6 +372,26 @@ fn remove_into<S: Alter>(tx: &mut Transaction<'_, S>, id: UploadId) -> Result<bo
     Ok(true)
 }
 
+/// Removes the chunks of the upload from this number on, if it is staged.
+fn shorten_into<S: Alter>(
+    tx: &mut Transaction<'_, S>,
+    id: UploadId,
+    n: u32,
+) -> Result<bool, StoreFault>
+    ensures same_reference { tx.new.conn.ghost_name ≡ tx.old.conn.ghost_name }
+    ensures value { Says S.Store tx.old.conn.now tx.new.conn.now result
+        (λ t staged. staged ≡ is_some (staged_with (upload_number id) t)) }
+    ensures does { Does S.Store tx.old.conn.now tx.new.conn.now result
+        (without_staged_from (upload_number id) (pos n)) }
+    ensures known { result ≢ Err StoreFault.UnknownSchema }
+{
+    let Some(upload) = staged_in(tx, id)? else {
+        return Ok(false);
+    };
+    chunks_from_out(tx, upload.id, n)?;
+    Ok(true)
+}
+
 // ---- one transaction
 
 #[tactic(auto, using(crate::proofs::Calls::led))]
@@ -389,6 +425,20 @@ fn remove<S: Alter>(conn: &mut Connection<S>, id: UploadId) -> Result<bool, Stor
     let mut tx = conn.transaction();
     let removed = remove_into(&mut tx, id)?;
     finish_with(tx, removed)
+}
+
+#[tactic(auto, using(crate::proofs::Calls::led))]
+fn shorten<S: Alter>(conn: &mut Connection<S>, id: UploadId, n: u32) -> Result<bool, StoreFault>
+    ensures { Transacts S.Store conn.old conn.new result
+        (without_staged_from (upload_number id) (pos n))
+        (λ t staged. staged ≡ is_some (staged_with (upload_number id) t)) }
+{
+    if !conn.is_autocommit() {
+        return Err(StoreFault::Refused);
+    }
+    let mut tx = conn.transaction();
+    let staged = shorten_into(&mut tx, id, n)?;
+    finish_with(tx, staged)
 }
 
 /// The rows of the objects of the repository, or of all repositories.
@@ -467,7 +517,7 @@ impl<S: Alter> Store<S> {
 
     /// Adds the last chunk of a staged upload, makes the upload an object and counts its size, all or nothing, if its
     /// bytes have the name and the size with which it was begun. If the repository already has an object of that name,
-    /// the upload is removed.
+    /// the upload stays staged.
     ///
     /// # Errors
     ///
@@ -486,6 +536,20 @@ impl<S: Alter> Store<S> {
             ≡ Some completion) }
     {
         complete(&mut self.conn, id, last, oid, size)
+    }
+
+    /// Removes the chunks of the upload from this number on, if it is staged, and returns whether it is. One with many
+    /// chunks is removed so in several transactions, of which none takes much memory or room in the log.
+    ///
+    /// # Errors
+    ///
+    /// `Refused` or `Memory`. The tables are unchanged, but a stop may still leave the change.
+    pub fn shorten_upload(&mut self, id: UploadId, n: u32) -> Result<bool, StoreFault>
+        ensures { Changes S.Store self.old self.new result
+            (without_staged_from (upload_number id) (pos n))
+            (λ t staged. staged ≡ is_some (staged_with (upload_number id) t)) }
+    {
+        shorten(&mut self.conn, id, n)
     }
 
     /// Removes the upload with its chunks, if it is staged, and returns whether it was.

@@ -1,7 +1,8 @@
 -- An upload that is begun is staged.
-use Rattle.std.proofs.Common.{◌≤◌, Result, Ok, Err}
+use Rattle.std.proofs.Common.{◌≤◌, ℕ, List, Option, Result, Ok, Err}
 use Rattle.sqlite_trees.specs.declared.store.Store.{Ghosts}
 use Rattle.names.specs.Texts.{largest_object}
+use Rattle.names.specs.declared.texts.RepoName.{RepoName}
 use Rattle.model.specs.World.{World}
 use Rattle.tables.specs.Shown as tables
 use Rattle.tables.specs.Shown.{IsHonest}
@@ -9,8 +10,11 @@ use Rattle.tables.specs.declared.Store.{Store}
 use Rattle.tables.specs.declared.fault.StoreFault.{StoreFault}
 use Rattle.tables.specs.declared.new_rows.NewUpload.{NewUpload}
 use Rattle.tables.specs.declared.rows.UploadId.{UploadId}
-use Rattle.refinement.specs.Left.{From}
+use Rattle.tables.specs.declared.rows.UploadRow.{UploadRow}
+use Rattle.tables.specs.Seeking.{Finds}
+use Rattle.refinement.specs.Left.{From, Keeps}
 use Rattle.refinement.specs.Representation.{Holds}
+use Rattle.refinement.proofs.Leading.{leads_still, keeps_still, keeps_then}
 use Rattle.refinement.proofs.Staged.{keeps_begun, stages_begun}
 use Rattle.uploads.specs.Beginning.{Begins}
 
@@ -26,3 +30,26 @@ module _ {S : Type 0} (g : Ghosts S) (old new : Store S) (asked : NewUpload) (in
 
   pub begun_from : (r : Result UploadId StoreFault) → tables.Begins g old new r asked → From g old new (λ world. Begins g world asked.repo.now asked.oid.now asked.size old new r)
   begun_from r e = record { honest = honest_before r e; each = begins_by r e }
+
+module _ {S : Type 0} (g : Ghosts S) where
+  -- the staged upload of a repository was sought
+  pub finds_keeps : (a b : Store S) (repo : List ℕ) (r : Result (Option UploadRow) StoreFault) → Finds g a b repo r → From g a b (Keeps g a b)
+  finds_keeps a b repo r it = record { honest = it.same.was_honest; each = λ k world h. keeps_still g a b world (leads_still g a b world it.same it.adds h) }
+
+  -- one call after another
+  pub kept_then : (a b c : Store S) → From g a b (Keeps g a b) → From g b c (Keeps g b c) → From g a c (Keeps g a c)
+  kept_then a b c p q = record {
+    honest = λ k. p.honest (q.honest k);
+    each = λ k world h. let it = p.each (q.honest k) world h in keeps_then g a b c world it (q.each k world it.holds);
+  }
+
+  -- an upload was begun after a call that kept the world
+  pub begun_then : (a b c : Store S) (repo : RepoName) (oid : List ℕ) (size : ℕ) (r : Result UploadId StoreFault) → From g a b (Keeps g a b) → From g b c (λ world. Begins g world repo oid size b c r) → From g a c (λ world. Begins g world repo oid size a c r)
+  begun_then a b c repo oid size r p q = record {
+    honest = λ k. p.honest (q.honest k);
+    each = λ k world h. let it = p.each (q.honest k) world h in more r world it (q.each k world it.holds);
+  }
+    where
+      more : (r : Result UploadId StoreFault) (world : World) → Keeps g a b world → Begins g world repo oid size b c r → Begins g world repo oid size a c r
+      more (Ok id) world keeps begun = (keeps_then g a b c world keeps begun.0, begun.1)
+      more (Err fault) world keeps begun = keeps_then g a b c world keeps begun

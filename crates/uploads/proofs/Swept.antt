@@ -1,48 +1,71 @@
 -- Staged uploads are removed one after the other.
-use Rattle.std.proofs.Common.{◌≡◌, ◌∙◌, ℕ, ℤ, List, [], ◌∷◌, map, filter, length, Result, Ok, Err, sym, ap}
+use Rattle.std.proofs.Common.{◌≡◌, ◌∙◌, ℕ, ℤ, pos, List, [], ◌∷◌, map, filter, length, Option, Some, None, Result, Ok, Err, OnOk, OnErr, refl, sym, ap}
 use Rattle.std.proofs.lemmas.List.{length-map}
 use Rattle.sqlite_trees.specs.declared.store.Store.{Ghosts}
+use Rattle.sqlite_keyed.proofs.ListLemmas.{map-map}
 use Rattle.model.specs.World.{World}
 use Rattle.tables.specs.Rows as row
 use Rattle.tables.specs.Rows.{Tables}
 use Rattle.tables.specs.Shown as tables
 use Rattle.tables.specs.Shown.{IsHonest, IsOpen, Moves, Makes, Fails, shown}
-use Rattle.tables.specs.Staging.{upload_number, without_staged}
-use Rattle.tables.specs.Statements.{is_staged}
+use Rattle.tables.specs.Staging.{UploadFields, upload_number, upload_fields, read_upload, AreUploadsOf, staged_with, without_staged, without_found_from, without_staged_from}
+use Rattle.tables.specs.Statements.{is_staged, without_chunks_from}
 use Rattle.tables.specs.declared.Store.{Store}
 use Rattle.tables.specs.declared.fault.StoreFault.{StoreFault}
+use Rattle.tables.specs.declared.fault.StoreFault.TheVariants.{Refused}
 use Rattle.tables.specs.declared.rows.UploadId.{UploadId}
+use Rattle.tables.specs.declared.rows.UploadRow.{UploadRow}
+use Rattle.refinement.specs.Representation.{Holds}
 use Rattle.refinement.specs.Left.{From, Keeps}
-use Rattle.refinement.proofs.Leading.{leads_still, keeps_still, keeps_then}
-use Rattle.refinement.proofs.Staged.{keeps_removed}
+use Rattle.refinement.specs.Staging.{StagesNone}
+use Rattle.refinement.proofs.Leading.{leads_none, leads_still, keeps_still, keeps_then}
+use Rattle.refinement.proofs.Staged.{keeps_removed, keeps_shortened, stages_none}
 use Rattle.refinement.proofs.Swept.{first_gone}
-use Rattle.uploads.specs.Removing.{HasStaged, Sweeps}
+use Rattle.uploads.specs.Removing.{HasStaged, Shortens, Sweeps}
 
 -- the ids of the staged uploads
 abbrev pub staged_ids : Tables → List ℤ
 staged_ids t = map (λ (u : row.Upload). u.id) (filter is_staged t.uploads)
 
--- as many uploads as ids
-counted : (t : Tables) (ids : List UploadId) → staged_ids t ≡ map upload_number ids → length (filter is_staged t.uploads) ≡ length ids
-counted t ids e = sym (length-map (filter is_staged t.uploads) (λ (u : row.Upload). u.id)) ∙ ap length e ∙ length-map ids upload_number
+-- the ids in rows that were read
+abbrev pub row_ids : List UploadRow → List ℤ
+row_ids rows = map (λ (r : UploadRow). upload_number r.id) rows
+
+-- as many uploads as rows
+counted : (t : Tables) (rows : List UploadRow) → staged_ids t ≡ row_ids rows → length (filter is_staged t.uploads) ≡ length rows
+counted t rows e = sym (length-map (filter is_staged t.uploads) (λ (u : row.Upload). u.id)) ∙ ap length e ∙ length-map rows (λ (r : UploadRow). upload_number r.id)
+
+-- the ids of the rows that were read
+ids_read : (rows : List UploadRow) (us : List row.Upload) → AreUploadsOf rows us → row_ids rows ≡ map (λ (u : row.Upload). u.id) us
+ids_read rows us e =
+    sym (map-map (λ (f : UploadFields). f.id) read_upload rows) ∙ ap (map (λ (f : UploadFields). f.id)) e ∙ map-map (λ (f : UploadFields). f.id) upload_fields us
+
+-- the uploads of the tables without some chunks of one
+same_uploads : (t : Tables) (id : ℤ) (n : ℕ) → (without_staged_from id (pos n) t).uploads ≡ t.uploads
+unfolding without_staged_from without_chunks_from
+same_uploads t id n = at (staged_with id t)
+  where
+    at : (o : Option row.Upload) → (without_found_from o (pos n) t).uploads ≡ t.uploads
+    at None = refl
+    at (Some u) = refl
 
 module _ {S : Type 0} (g : Ghosts S) where
   -- of n staged uploads, these are left; the world is kept
-  pub record IsSwept (world : World) (old now : Store S) (n : ℕ) (left : List UploadId) : Type 0 where
+  pub record IsSwept (world : World) (old now : Store S) (n : ℕ) (left : List UploadRow) : Type 0 where
     pub keeps : Keeps g old now world
     pub total : HasStaged g old n
-    pub ids : IsHonest g now → IsOpen g now → staged_ids (shown g now) ≡ map upload_number left
+    pub ids : IsHonest g now → IsOpen g now → staged_ids (shown g now) ≡ row_ids left
 
   -- at first all are left
-  pub swept_none : (old now : Store S) (ids : List UploadId) → Moves g (λ t. t) old now → tables.AddsNothing g old now
-      → (IsHonest g now → tables.HasTables g old → IsOpen g old × (map upload_number ids ≡ staged_ids (shown g old)))
+  pub swept_none : (old now : Store S) (ids : List UploadRow) → Moves g (λ t. t) old now → tables.AddsNothing g old now
+      → (IsHonest g now → tables.HasTables g old → IsOpen g old × AreUploadsOf ids (filter is_staged (shown g old).uploads))
       → From g old now (λ world. IsSwept world old now (length ids) ids)
   swept_none old now ids same adds said = record {
     honest = same.was_honest;
     each = λ honest world h. record {
       keeps = keeps_still g old now world (leads_still g old now world same adds h);
-      total = λ k o. counted (shown g old) ids (sym (said honest h.ready).1);
-      ids = λ k o. ap staged_ids (same.shows k h.ready o) ∙ sym (said honest h.ready).1;
+      total = λ k o. counted (shown g old) ids (sym (ids_read ids (filter is_staged (shown g old).uploads) (said honest h.ready).1));
+      ids = λ k o. ap staged_ids (same.shows k h.ready o) ∙ sym (ids_read ids (filter is_staged (shown g old).uploads) (said honest h.ready).1);
     };
   }
 
@@ -53,9 +76,86 @@ module _ {S : Type 0} (g : Ghosts S) where
     each = λ honest world h. keeps_still g old now world (leads_still g old now world same adds h);
   }
 
-  module _ (old now next : Store S) (n : ℕ) (id : UploadId) (left : List UploadId) where
+  -- ---- the last chunks of an upload are removed
+
+  -- none so far
+  pub shortens_none : (a : Store S) → From g a a (Shortens g a a)
+  shortens_none a = record {
+    honest = λ k. k;
+    each = λ k world h. (keeps_still g a a world (leads_none g a world h), λ honest o. (o, refl));
+  }
+
+  module _ (a b c : Store S) (id : ℤ) (n : ℕ) (so_far : From g a b (Shortens g a b)) where
+    -- some more
+    pub shortens_more : Makes g (without_staged_from id (pos n)) b c → From g a c (Shortens g a c)
+    shortens_more made = record {
+      honest = λ k. so_far.honest (made.moves.was_honest k);
+      each = λ k world h.
+          let it = so_far.each (made.moves.was_honest k) world h in
+          let result : Result ℕ StoreFault = Ok 0 in (
+            keeps_then g a b c world it.0 (keeps_shortened g b c id world result n made tt it.0.holds),
+            λ honest o.
+                let was = it.1 (made.moves.was_honest honest) (made.moves.was_open honest o) in
+                (was.0, ap (λ (t : Tables). t.uploads) (made.moves.shows honest it.0.holds.ready o) ∙ same_uploads (shown g b) id n ∙ was.1),
+          );
+    }
+
+    -- or the store refuses
+    pub shortens_failed : Fails g (without_staged_from id (pos n)) b c → From g a c (Shortens g a c)
+    shortens_failed fails = record {
+      honest = λ k. so_far.honest (fails.moves.was_honest k);
+      each = λ k world h.
+          let it = so_far.each (fails.moves.was_honest k) world h in
+          let result : Result ℕ StoreFault = Err Refused in (
+            keeps_then g a b c world it.0 (keeps_shortened g b c id world result n tt fails it.0.holds),
+            λ honest o.
+                let was = it.1 (fails.moves.was_honest honest) (fails.moves.was_open honest o) in
+                (was.0, ap (λ (t : Tables). t.uploads) (fails.moves.shows honest it.0.holds.ready o) ∙ was.1),
+          );
+    }
+
+  -- ---- an upload is removed
+
+  module _ (a b c : Store S) (id : UploadId) (cut : From g a b (Shortens g a b)) where
+    pub abandons : {T E : Type 0} (r : Result T E) → OnOk r (Makes g (without_staged (upload_number id)) b c) → OnErr r (Fails g (without_staged (upload_number id)) b c)
+        → (IsHonest g c → IsHonest g b) → From g a c (λ world. Keeps g a c world × OnOk r (StagesNone g c (upload_number id)))
+    abandons r made failed was = record {
+      honest = λ k. cut.honest (was k);
+      each = λ k world h.
+          let it = cut.each (was k) world h in
+          (keeps_then g a b c world it.0 (keeps_removed g b c (upload_number id) world r made failed it.0.holds), none r made it.0.holds);
+    }
+      where
+        none : {T E : Type 0} (r : Result T E) → OnOk r (Makes g (without_staged (upload_number id)) b c) → {world : World} → Holds g b world → OnOk r (StagesNone g c (upload_number id))
+        none (Ok x) made {world} holds = stages_none g b c (upload_number id) world made holds
+        none (Err e) made holds = tt
+
+  -- the chunks of the first one are removed but for some
+  pub swept_cut : (old now next : Store S) (n : ℕ) (left : List UploadRow) → From g old now (λ world. IsSwept world old now n left) → From g now next (Shortens g now next) → From g old next (λ world. IsSwept world old next n left)
+  swept_cut old now next n left so_far cut = record {
+    honest = λ k. so_far.honest (cut.honest k);
+    each = λ k world h.
+        let it = so_far.each (cut.honest k) world h in
+        let more = cut.each k world it.keeps.holds in
+        record {
+          keeps = keeps_then g old now next world it.keeps more.0;
+          total = it.total;
+          ids = λ honest o. let was = more.1 honest o in ap (λ us. map (λ (u : row.Upload). u.id) (filter is_staged us)) was.1 ∙ it.ids (cut.honest honest) was.0;
+        };
+  }
+
+  -- or the store refuses
+  pub cut_fails : (old now next : Store S) (n : ℕ) (left : List UploadRow) (fault : StoreFault) → From g old now (λ world. IsSwept world old now n left) → From g now next (Shortens g now next) → From g old next (λ world. Sweeps g world old next (Err fault))
+  cut_fails old now next n left fault so_far cut = record {
+    honest = λ k. so_far.honest (cut.honest k);
+    each = λ k world h.
+        let it = so_far.each (cut.honest k) world h in
+        keeps_then g old now next world it.keeps (cut.each k world it.keeps.holds).0;
+  }
+
+  module _ (old now next : Store S) (n : ℕ) (upload : UploadRow) (left : List UploadRow) where
     -- one upload is removed
-    pub swept_more : From g old now (λ world. IsSwept world old now n (id ∷ left)) → Makes g (without_staged (upload_number id)) now next → From g old next (λ world. IsSwept world old next n left)
+    pub swept_more : From g old now (λ world. IsSwept world old now n (upload ∷ left)) → Makes g (without_staged (upload_number upload.id)) now next → From g old next (λ world. IsSwept world old next n left)
     swept_more so_far made = record {
       honest = λ k. so_far.honest (made.moves.was_honest k);
       each = λ k world h.
@@ -63,25 +163,25 @@ module _ {S : Type 0} (g : Ghosts S) where
           let holds = it.keeps.holds in
           let result : Result ℕ StoreFault = Ok 0 in
           record {
-            keeps = keeps_then g old now next world it.keeps (keeps_removed g now next (upload_number id) world result made tt holds);
+            keeps = keeps_then g old now next world it.keeps (keeps_removed g now next (upload_number upload.id) world result made tt holds);
             total = it.total;
             ids = λ honest o.
                 let was = made.moves.was_honest honest in
                 let open_then = made.moves.was_open honest o in
                 ap staged_ids (made.moves.shows honest holds.ready o)
-                ∙ first_gone (shown g now) (upload_number id) (map upload_number left) (holds.shows was open_then).objects.rise (it.ids was open_then);
+                ∙ first_gone (shown g now) (upload_number upload.id) (row_ids left) (holds.shows was open_then).objects.rise (it.ids was open_then);
           };
     }
 
     -- or the store refuses
-    pub sweep_fails : (fault : StoreFault) → From g old now (λ world. IsSwept world old now n (id ∷ left)) → Fails g (without_staged (upload_number id)) now next
+    pub sweep_fails : (fault : StoreFault) → From g old now (λ world. IsSwept world old now n (upload ∷ left)) → Fails g (without_staged (upload_number upload.id)) now next
         → From g old next (λ world. Sweeps g world old next (Err fault))
     sweep_fails fault so_far fails = record {
       honest = λ k. so_far.honest (fails.moves.was_honest k);
       each = λ k world h.
           let it = so_far.each (fails.moves.was_honest k) world h in
           let result : Result ℕ StoreFault = Err fault in
-          keeps_then g old now next world it.keeps (keeps_removed g now next (upload_number id) world result tt fails it.keeps.holds);
+          keeps_then g old now next world it.keeps (keeps_removed g now next (upload_number upload.id) world result tt fails it.keeps.holds);
     }
 
   -- at last none is left

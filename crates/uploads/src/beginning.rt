@@ -1,12 +1,32 @@
 //! Begins uploads.
 
 ghost use Rattle.std.specs.Prelude.{◌≢◌, Err};
-ghost use Rattle.refinement.specs.Left.{From};
+ghost use Rattle.refinement.specs.Left.{From, Keeps};
 ghost use Rattle.uploads.specs.Beginning.{Begins};
 
+use crate::removing::shorten;
 use names::{Oid, RepoName, Size};
 use std::alloc::Global;
 use tables::{Alter, NewUpload, Store, StoreFault, UploadId};
+
+/// Removes all chunks but the first part of those of the upload that the repository has staged, if it has one.
+///
+/// # Errors
+///
+/// `Refused` or `Memory`. Some of the chunks may be removed.
+fn shorten_staged<S: Alter>(
+    alloc: Global,
+    store: &mut Store<S>,
+    repo: &RepoName,
+) -> Result<(), StoreFault>
+    ensures known { result ≢ Err StoreFault.UnknownSchema }
+    ensures world { From S.Store store.old store.new (Keeps S.Store store.old store.new) }
+{
+    let Some(staged) = store.staged_upload(alloc, repo)? else {
+        return Ok(());
+    };
+    shorten(store, staged.id, staged.size)
+}
 
 /// Begins an upload of an object of this name and this size, and returns its id. It is staged, with no bytes yet, and
 /// takes the place of any upload that the repository had staged.
@@ -26,5 +46,6 @@ pub fn begin<S: Alter>(
     ensures world { From S.Store store.old store.new (λ world.
         Begins S.Store world repo.now oid.now size store.old store.new result) }
 {
+    shorten_staged(alloc, store, repo)?;
     store.begin_upload(alloc, &NewUpload { repo, oid, size })
 }

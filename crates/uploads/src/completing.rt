@@ -5,6 +5,7 @@ ghost use Rattle.refinement.specs.Left.{From};
 ghost use Rattle.uploads.specs.Completing.{Staged, Arrives, Completes};
 ghost use Rattle.uploads.specs.declared.completing.UploadFault.TheVariants.{Store as by_store};
 
+use crate::removing::abandon;
 use names::{Oid, Size};
 use tables::{Alter, Completion, LastChunk, Store, StoreFault, UploadId};
 
@@ -13,7 +14,7 @@ use tables::{Alter, Completion, LastChunk, Store, StoreFault, UploadId};
 pub enum Kept {
     /// The upload is an object of its repository now.
     New,
-    /// The repository already has an object of this name. The upload was removed.
+    /// The repository already has an object of this name. The upload was removed, if the store allowed it.
     Already,
 }
 
@@ -59,7 +60,10 @@ pub fn complete<S: Alter>(
 {
     match store.complete_upload(id, last, oid, size)? {
         Completion::New => Ok(Kept::New),
-        Completion::Already => Ok(Kept::Already),
+        Completion::Already => {
+            let _ = abandon(store, id, size);
+            Ok(Kept::Already)
+        }
         Completion::Differs => Err(UploadFault::Differs),
     }
 }

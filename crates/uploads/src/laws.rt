@@ -9,7 +9,7 @@ ghost use Rattle.uploads.specs.Bounds.{StoresWithin};
 use tables::{Alter, Store};
 
 /// If the sizes of a repository's objects add up to at most `most`, the repository has at most `most` bytes and
-/// one largest object (268,435,456 bytes) in the database, those of a staged upload included.
+/// one largest object in the database, those of a staged upload included.
 pub fn bound_law<S: Alter>(store: &Store<S>)
     ensures { (world : World) (repo : List ℕ) (most : ℕ) → Holds S.Store store.now world
         → total repo world ≤ most → StoresWithin S.Store store.now repo (most + largest_object) }

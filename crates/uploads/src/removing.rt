@@ -4,22 +4,53 @@ ghost use Rattle.std.specs.Prelude.{◌≢◌, Err, OnOk};
 ghost use Rattle.tables.specs.Staging.{upload_number};
 ghost use Rattle.refinement.specs.Left.{From, Keeps};
 ghost use Rattle.refinement.specs.Staging.{StagesNone};
-ghost use Rattle.uploads.specs.Removing.{Sweeps};
+ghost use Rattle.uploads.specs.Removing.{Shortens, Sweeps};
 
+use names::Size;
 use std::alloc::Global;
 use tables::{Alter, Store, StoreFault, UploadId};
 
-/// Removes the upload with its bytes, if it is staged. An object is never removed.
+/// The number of chunks that are removed in one transaction, so that none takes much memory or room in the log.
+const PART: u64 = 256;
+
+/// The number of bytes of these chunks.
+const PART_BYTES: u64 = 16_777_216;
+
+/// Removes the chunks of a staged upload of this size, the last ones first, in transactions of [`PART`] chunks. The first
+/// [`PART`] chunks are left.
 ///
 /// # Errors
 ///
-/// `Refused` or `Memory`. The upload may still be staged. No object is changed in any case.
-pub fn abandon<S: Alter>(store: &mut Store<S>, id: UploadId) -> Result<(), StoreFault>
+/// `Refused` or `Memory`. Some of the chunks may be removed.
+pub(crate) fn shorten<S: Alter>(
+    store: &mut Store<S>,
+    id: UploadId,
+    size: Size,
+) -> Result<(), StoreFault>
+    ensures known { result ≢ Err StoreFault.UnknownSchema }
+    ensures world { From S.Store store.old store.new (Shortens S.Store store.old store.new) }
+{
+    let mut left = size.get() / PART_BYTES;
+    'parts: while left > 0 {
+        store.shorten_upload(id, (left * PART) as u32)?;
+        left -= 1;
+    }
+    Ok(())
+}
+
+/// Removes an upload of this size with its bytes, if it is staged. An object is never removed. One with many bytes is
+/// removed in several transactions.
+///
+/// # Errors
+///
+/// `Refused` or `Memory`. The upload may still be staged, without some of its bytes. No object is changed in any case.
+pub fn abandon<S: Alter>(store: &mut Store<S>, id: UploadId, size: Size) -> Result<(), StoreFault>
     ensures known { result ≢ Err StoreFault.UnknownSchema }
     ensures world { From S.Store store.old store.new (λ world.
         Keeps S.Store store.old store.new world
         × OnOk result (StagesNone S.Store store.new (upload_number id))) }
 {
+    shorten(store, id, size)?;
     store.remove_upload(id)?;
     Ok(())
 }
@@ -35,8 +66,9 @@ pub fn sweep<S: Alter>(alloc: Global, store: &mut Store<S>) -> Result<u64, Store
         Sweeps S.Store world store.old store.new result) }
 {
     let staged = store.staged_uploads(alloc)?;
-    for id in staged.as_slice() {
-        store.remove_upload(*id)?;
+    for upload in staged.as_slice() {
+        shorten(store, upload.id, upload.size)?;
+        store.remove_upload(upload.id)?;
     }
     Ok(staged.len() as u64)
 }

@@ -294,7 +294,7 @@ const REFUSED_HEADS: &[(&str, &[&str], &str)] = &[
     ("POST /nowhere HTTP/1.1", &[ANN, LENGTH], "H6"),
     (
         "PUT /studio/film.git/info/lfs/locks HTTP/1.1",
-        &[ANN, "Content-Length: 268435456"],
+        &[ANN, "Content-Length: 4294967296"],
         "H7",
     ),
     (LOCKS, &[ANN, LENGTH, "Accept: text/html"], "H8"),

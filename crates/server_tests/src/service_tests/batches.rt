@@ -182,10 +182,10 @@ const REFUSED: &[(Ask, Want)] = &[
     (
         Batch(
             ANN,
-            r#"{"operation":"upload","objects":[{"oid":"HELLO","size":-1},{"oid":"HELLO","size":268435457},{"oid":"HELLO","size":5.0}]}"#,
+            r#"{"operation":"upload","objects":[{"oid":"HELLO","size":-1},{"oid":"HELLO","size":4294967297},{"oid":"HELLO","size":5.0}]}"#,
         ),
         Objects(
-            r#"{"error":{"code":422,"message":"B2: the object name or size is not valid"},"oid":"HELLO","size":0},{"error":{"code":422,"message":"B2: the object name or size is not valid"},"oid":"HELLO","size":268435457},{"error":{"code":422,"message":"B2: the object name or size is not valid"},"oid":"HELLO","size":0}"#,
+            r#"{"error":{"code":422,"message":"B2: the object name or size is not valid"},"oid":"HELLO","size":0},{"error":{"code":422,"message":"B2: the object name or size is not valid"},"oid":"HELLO","size":4294967297},{"error":{"code":422,"message":"B2: the object name or size is not valid"},"oid":"HELLO","size":0}"#,
         ),
     ),
     // The name and the size are judged before the hash, and the hash before what is stored.
@@ -326,14 +326,14 @@ fn the_policy_decides_on_batches(rt: HostRuntime) {
 }
 
 #[test]
-fn a_batch_has_at_most_100_objects(rt: HostRuntime) {
+fn a_batch_has_at_most_1000_objects(rt: HostRuntime) {
     let object = r#"{"oid":"xyz","size":5},"#;
     let answer =
         r#"{"error":{"code":422,"message":"B2: the object name or size is not valid"},"oid":"xyz","size":5},"#;
     let front = r#"{"operation":"download","objects":["#;
     let open = r#"{"hash_algo":"sha256","objects":["#;
     for most in MOSTS {
-        for (count, is_answered) in &[(99, true), (100, false)] {
+        for (count, is_answered) in &[(100, true), (999, true), (1_000, false)] {
             let body = repeated(
                 &rt,
                 &[

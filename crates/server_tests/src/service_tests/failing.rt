@@ -20,10 +20,6 @@ const DONE: &str = "HTTP/1.1 200 OK\r\nContent-Length: 0\r\n\r\n";
 const FRONT: &str =
     "HTTP/1.1 200 OK\r\nContent-Type: application/octet-stream\r\nContent-Length: 200000\r\n\r\n";
 
-/// The reply if the store refuses.
-const STORE_REFUSED: &str =
-    "HTTP/1.1 500 Internal Server Error\r\nContent-Type: application/vnd.git-lfs+json\r\nContent-Length: 35\r\nConnection: close\r\n\r\n{\"message\":\"S1: the store refused\"}";
-
 /// The file whose calls are counted.
 #[derive(Clone, Copy, Debug)]
 enum Counted {
@@ -137,13 +133,13 @@ enum Became {
 fn outcome_of(sent: &Sent, content: &str) -> Became {
     let Some(second) = sent.text.as_str().strip_prefix(DONE) else {
         return match (sent.served.answered, sent.served.end) {
-            (1, End::Closed) if sent.text.as_str() == STORE_REFUSED => Became::UploadRefused,
+            (1, End::StoreRefused) if sent.text.as_str() == STORE_REFUSED => Became::UploadRefused,
             _ => Became::Other,
         };
     };
     let back = second.strip_prefix(FRONT);
     match (sent.served.answered, sent.served.end, back) {
-        (2, End::Closed, None) if second == STORE_REFUSED => Became::DownloadRefused,
+        (2, End::StoreRefused, None) if second == STORE_REFUSED => Became::DownloadRefused,
         (2, End::InputEnded, Some(back)) if back == content => Became::Answered,
         (1, End::StoreFailed, Some(back))
             if back.len() < content.len() && content.starts_with(back) => { Became::ContentCut }
@@ -248,7 +244,7 @@ fn a_store_that_loses_chunks_fails_within_a_content(rt: HostRuntime) {
         &mut store,
         twice.as_str(),
         STORE_REFUSED,
-        served(1, true),
+        STORE_REFUSAL,
     );
     assert_eq!(rt; unwrap(&rt, store.used(&repo(&rt, "studio/film"))), 200_000);
     assert_eq!(rt; unwrap(&rt, store.made(&repo(&rt, "studio/film"))), 0);
@@ -272,13 +268,7 @@ fn a_refusal_within_an_upload_removes_what_is_staged(rt: HostRuntime) {
     assert_eq!(rt; unwrap(&rt, store.staged_uploads(rt.alloc())).len(), 2);
     let content = repeated(&rt, &[("x", 200_000)]);
     let put = put_text(&rt, content.as_str());
-    expect_over(
-        &rt,
-        &mut store,
-        put.as_str(),
-        STORE_REFUSED,
-        served(1, true),
-    );
+    expect_over(&rt, &mut store, put.as_str(), STORE_REFUSED, STORE_REFUSAL);
     assert!(rt; unwrap(&rt, store.staged_uploads(rt.alloc())).is_empty());
     assert_eq!(rt; unwrap(&rt, store.used(&repo(&rt, "studio/film"))), 0);
     expect_over(&rt, &mut store, put.as_str(), DONE, served(1, false));

@@ -69,7 +69,7 @@ const FRAMING: &[(&str, &[&str], &str)] = &[
     ),
     (
         "PUT /nowhere HTTP/1.1",
-        &["Content-Length: 268435457"],
+        &["Content-Length: 4294967297"],
         "H5",
     ),
 ];
@@ -225,7 +225,7 @@ const METHODS: &[(&str, &str)] = &[
     ("PATCH", LENGTH),
     ("TRACE", "A: b"),
     ("PUT", LENGTH),
-    ("PUT", "Content-Length: 268435456"),
+    ("PUT", "Content-Length: 4294967296"),
     ("post", LENGTH),
     ("post", "A: b"),
     // Only POST has the size limit of a form.

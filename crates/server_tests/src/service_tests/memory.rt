@@ -130,9 +130,9 @@ fn seen(text: &[u8], served: Served, locks: (bool, u32)) -> Outcome {
     let last = after(second, HELD);
     match (served.answered, served.end, locks) {
         (2, End::InputEnded, (true, 1)) if second == HELD => Outcome::Answered,
-        (1, End::Closed, (false, 0)) if text == REFUSED => Outcome::FirstRefused,
-        (2, End::Closed, (true, 1)) if second == REFUSED => Outcome::SecondRefused,
-        (3, End::Closed, (true, 1)) if last == REFUSED => Outcome::LastRefused,
+        (1, End::StoreRefused, (false, 0)) if text == REFUSED => Outcome::FirstRefused,
+        (2, End::StoreRefused, (true, 1)) if second == REFUSED => Outcome::SecondRefused,
+        (3, End::StoreRefused, (true, 1)) if last == REFUSED => Outcome::LastRefused,
         _ => Outcome::Neither,
     }
 }

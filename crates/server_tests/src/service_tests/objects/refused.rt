@@ -91,11 +91,12 @@ const UNREAD: &[(&str, &[&str], &str)] = &[
     (NO_NAME, &["Authorization: Bearer a", WHOLE], "A2"),
     (NO_NAME, &[STRANGER, WHOLE], "A4"),
     (NO_NAME, &[READER, WHOLE], "J2"),
-    (NO_NAME, &[ANN, "Content-Length: 268435456"], "J2"),
-    (AT_HELLO, &[READER, "Content-Length: 268435456"], "A5"),
+    (NO_NAME, &[ANN, "Content-Length: 4294967296"], "J2"),
+    (AT_HELLO, &[READER, "Content-Length: 4294967296"], "A5"),
     // The quota has 1,000,000 bytes.
     (AT_HELLO, &[ANN, "Content-Length: 1000001"], "X3"),
-    (AT_HELLO, &[ANN, "Content-Length: 268435456"], "X3"),
+    (AT_HELLO, &[ANN, "Content-Length: 268435457"], "X3"),
+    (AT_HELLO, &[ANN, "Content-Length: 4294967296"], "X3"),
     // An upload accepts any type: its reply has no JSON route.
     (
         AT_HELLO,
@@ -106,7 +107,7 @@ const UNREAD: &[(&str, &[&str], &str)] = &[
     (AT_HELLO, &[ANN, WHOLE, "Transfer-Encoding: chunked"], "H2"),
     (AT_HELLO, &[ANN], "H3"),
     (AT_HELLO, &[ANN, WHOLE, WHOLE], "H4"),
-    (AT_HELLO, &[ANN, "Content-Length: 268435457"], "H5"),
+    (AT_HELLO, &[ANN, "Content-Length: 4294967297"], "H5"),
     (
         "PUT /studio/film.git/info/lfs/content HTTP/1.1",
         &[ANN, WHOLE],
@@ -224,12 +225,12 @@ const CHECKS: &[(&str, &str, &str)] = &[
     ),
     (
         "",
-        "{\"oid\":\"2cf24dba5fb0a30e26e83b2ac5b9e29e1b161e5c1fa7425e73043362938b9824\",\"size\":268435457}",
+        "{\"oid\":\"2cf24dba5fb0a30e26e83b2ac5b9e29e1b161e5c1fa7425e73043362938b9824\",\"size\":4294967297}",
         "J2",
     ),
     (
         "",
-        "{\"oid\":\"2cf24dba5fb0a30e26e83b2ac5b9e29e1b161e5c1fa7425e73043362938b9824\",\"size\":268435456}",
+        "{\"oid\":\"2cf24dba5fb0a30e26e83b2ac5b9e29e1b161e5c1fa7425e73043362938b9824\",\"size\":4294967296}",
         "V1",
     ),
 ];

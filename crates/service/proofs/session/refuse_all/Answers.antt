@@ -8,6 +8,7 @@ pub returns-in-Ok-clause-refusal : goal.returns-in-Ok-clause-refusal
 returns-in-Ok-clause-refusal g c = record {
   written = refusal_text;
   writes = λ setting. (refl, refl);
+  refused = λ e. cc;
   taken = c.in-Ok.ensures.ok store_refusal c.store_refused.ensures;
 }
 
@@ -17,5 +18,6 @@ returns-clause-refusal g c =
     record {
       written = take c.in-Err.field-0.written refusal_text;
       writes = λ setting. (is_part refusal_text c.in-Err.field-0.written began.less, refl);
+      refused = λ e. cc;
       taken = began.taken;
     }

@@ -2,7 +2,7 @@ use Rattle.std.proofs.Common.{true, false, sym, ◌∙◌}
 use Rattle.sqlite.specs.Held.{state}
 use Rattle.tables.specs.Rows.{Tables}
 use Rattle.tables.specs.Runs.{tables_in}
-use Rattle.tables.specs.Staging.{begun_as, without_upload, with_last, with_kept, after_settling}
+use Rattle.tables.specs.Staging.{begun_as, with_last, with_kept, after_settling}
 use Rattle.typed_rows.proofs.Transactions.{clean_before}
 use Rattle.tables.proofs.Calls.{does_on, does_then, does_as}
 use Rattle.tables.proofs.Completing.{settled, after_settled}
@@ -12,21 +12,19 @@ pub returns-then-branch-clause-value : goal.returns-then-branch-clause-value
 returns-then-branch-clause-value g c clean inside ready =
     let u = begun_as c.args.upload.now in
     let t = tables_in (state g.S.Store c.args.tx.now.conn.now) in
-    let found = c.in_ok-is_stored.ensures.value (clean_before g.S.Store c.is_stored.new.tx.conn.now c.upload_out.new.tx.conn.now _ c.in_ok-upload_out.ensures.does.within clean) inside ready in
+    let found = c.in_ok-is_stored.ensures.value clean inside ready in
     (found.0, sym (settled u t true (found.1 ∙ c.if-branch.true)))
 
 pub returns-then-branch-clause-does : goal.returns-then-branch-clause-does
 returns-then-branch-clause-does g c =
     let u = begun_as c.args.upload.now in
     let begun = c.args.tx.now.conn.now in
-    let mid = c.is_stored.new.tx.conn.now in
-    let end = c.upload_out.new.tx.conn.now in
-    let out = c.in_ok-upload_out.ensures.does in
-    does_as g.S.Store begun end _ (without_upload u.id) (after_settling c.args.last.now u)
+    let end = c.is_stored.new.tx.conn.now in
+    does_as g.S.Store begun end _ (λ t. t) (after_settling c.args.last.now u)
     (λ clean inside ready.
-    let found = c.in_ok-is_stored.ensures.value (clean_before g.S.Store mid end _ out.within clean) inside ready in
+    let found = c.in_ok-is_stored.ensures.value clean inside ready in
     sym (after_settled u (tables_in (state g.S.Store begun)) true (found.1 ∙ c.if-branch.true) c.args.last.now))
-    (does_then g.S.Store begun mid end _ (λ t. t) (without_upload u.id) c.in_ok-is_stored.ensures.does (does_on g.S.Store mid end _ (without_upload u.id) out))
+    (does_on g.S.Store begun end _ (λ t. t) c.in_ok-is_stored.ensures.does)
 
 pub returns-clause-value : goal.returns-clause-value
 returns-clause-value g c clean inside ready =

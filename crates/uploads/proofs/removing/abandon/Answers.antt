@@ -1,21 +1,22 @@
+use Rattle.std.proofs.Common.{Result, Ok, Err}
 use Rattle.std.proofs.lemmas.Result.{err_from_is_err_and}
-use Rattle.tables.specs.Staging.{upload_number}
-use Rattle.refinement.proofs.Staged.{keeps_removed, stages_none}
+use Rattle.tables.specs.declared.fault.StoreFault.{StoreFault}
+use Rattle.uploads.proofs.Swept.{abandons}
+use Rattle.refinement.proofs.Leading.{from_weaker}
 use Rattle.uploads.proofs.removing.abandon.Goals as goal
 
+pub returns-in_err-shorten-clause-world : goal.returns-in_err-shorten-clause-world
+returns-in_err-shorten-clause-world g c =
+    let p = err_from_is_err_and c.from_residual.result c.from_residual.ensures.1 in
+    rw p.1 (from_weaker g.S.Store c.args.store.now c.shorten.new.store _ _ (λ world it. (it.0, tt)) c.in_err-shorten.ensures.world)
+
 pub returns-in_err-remove_upload-clause-world : goal.returns-in_err-remove_upload-clause-world
-returns-in_err-remove_upload-clause-world g c = record {
-  honest = λ k. c.in_err-remove_upload.ensures.failed.moves.was_honest k;
-  each = λ honest world h.
-      let p = err_from_is_err_and c.from_residual.result c.from_residual.ensures.1 in
-      rw p.1 (keeps_removed g.S.Store c.args.store.now c.remove_upload.new.self (upload_number c.args.id) world c.remove_upload.result c.remove_upload.ensures.made c.remove_upload.ensures.failed h, tt);
-}
+returns-in_err-remove_upload-clause-world g c =
+    let p = err_from_is_err_and c.from_residual-in_err-remove_upload.result c.from_residual-in_err-remove_upload.ensures.1 in
+    let failed : Result Unit StoreFault = Err p.0 in
+    rw p.1 (abandons g.S.Store c.args.store.now c.shorten.new.store c.remove_upload.new.self c.args.id c.in_ok-shorten.ensures.world failed tt c.in_err-remove_upload.ensures.failed c.in_err-remove_upload.ensures.failed.moves.was_honest)
 
 pub returns-clause-world : goal.returns-clause-world
-returns-clause-world g c = record {
-  honest = λ k. c.in_ok-remove_upload.ensures.made.moves.was_honest k;
-  each = λ honest world h. (
-    keeps_removed g.S.Store c.args.store.now c.remove_upload.new.self (upload_number c.args.id) world c.remove_upload.result c.remove_upload.ensures.made c.remove_upload.ensures.failed h,
-    stages_none g.S.Store c.args.store.now c.remove_upload.new.self (upload_number c.args.id) world c.in_ok-remove_upload.ensures.made h,
-  );
-}
+returns-clause-world g c =
+    let removed : Result Unit StoreFault = Ok tt in
+    abandons g.S.Store c.args.store.now c.shorten.new.store c.remove_upload.new.self c.args.id c.in_ok-shorten.ensures.world removed c.in_ok-remove_upload.ensures.made tt c.in_ok-remove_upload.ensures.made.moves.was_honest

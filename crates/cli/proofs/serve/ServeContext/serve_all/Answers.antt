@@ -9,8 +9,8 @@ connections-preserved g c = record {
       from_then g.S.Store c.args.store.now c.connections.store c.serve_next.new.store c.connections.invariant.world c.serve_next.ensures;
 }
 
-pub connections-preserved-then-not-is_good : goal.connections-preserved-then-not-is_good
-connections-preserved-then-not-is_good g c = record {
+pub connections-preserved-then-is_reported : goal.connections-preserved-then-is_reported
+connections-preserved-then-is_reported g c = record {
   count = omega arith;
   world =
       from_then g.S.Store c.args.store.now c.connections.store c.serve_next.new.store c.connections.invariant.world c.serve_next.ensures;

@@ -1,0 +1,12 @@
+use Rattle.std.proofs.Common.{◌≡◌, pos, is_some, refl, rules}
+use Rattle.tables.specs.Staging.{staged_with, without_staged_from}
+use Rattle.tables.proofs.Calls.{transacts_from}
+use Rattle.tables.proofs.uploads.shorten.Goals as goal
+
+pub returns : goal.returns
+returns g c =
+    let it = transacts_from g.S.Store c.args.conn.now c.transaction-tx.result.conn.now c.shorten_into.new.tx.conn.now c.finish_with.new.tx.0 c.finish_with.result c.in_ok-staged.staged c.transaction-tx.ensures.begun c.finish_with.ensures.finishes
+    (without_staged_from c.args.id.number (pos c.args.n)) (λ t staged. staged ≡ is_some (staged_with c.args.id.number t))
+    (c.if-not-is_autocommit.ensures.settled refl) (g.met.S.Store.settled c.finish_with.new.tx.0.store)
+    c.in_ok-staged.ensures.value c.in_ok-staged.ensures.does c.finish_with.ensures.answer in
+    search (rules, it)

@@ -1,0 +1,15 @@
+use Rattle.names.specs.Names.{repo_text}
+use Rattle.refinement.proofs.Leading.{from_weaker}
+use Rattle.uploads.proofs.Begun.{finds_keeps, kept_then}
+use Rattle.uploads.proofs.beginning.shorten_staged.Goals as goal
+
+pub returns-in_err-staged-clause-world : goal.returns-in_err-staged-clause-world
+returns-in_err-staged-clause-world g c = finds_keeps g.S.Store c.args.store.now c.staged_upload.new.self (repo_text c.args.repo.now) c.staged_upload.result c.staged_upload.ensures
+
+pub returns-in_default-clause-world : goal.returns-in_default-clause-world
+returns-in_default-clause-world g c = finds_keeps g.S.Store c.args.store.now c.staged_upload.new.self (repo_text c.args.repo.now) c.staged_upload.result c.staged_upload.ensures
+
+pub returns-clause-world : goal.returns-clause-world
+returns-clause-world g c =
+    kept_then g.S.Store c.args.store.now c.staged_upload.new.self c.shorten.new.store (finds_keeps g.S.Store c.args.store.now c.staged_upload.new.self (repo_text c.args.repo.now) c.staged_upload.result c.staged_upload.ensures)
+    (from_weaker g.S.Store c.staged_upload.new.self c.shorten.new.store _ _ (λ world it. it.0) c.shorten.ensures.world)

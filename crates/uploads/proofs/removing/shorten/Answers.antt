@@ -1,0 +1,19 @@
+use Rattle.std.proofs.Common.{rules}
+use Rattle.uploads.proofs.Swept.{shortens_none, shortens_more, shortens_failed}
+use Rattle.uploads.proofs.removing.shorten.Goals as goal
+
+pub parts-init : goal.parts-init
+parts-init g c = record { most = search rules; so_far = shortens_none g.S.Store c.args.store.now }
+
+pub parts-preserved : goal.parts-preserved
+parts-preserved g c = record {
+  most = search rules;
+  so_far = shortens_more g.S.Store c.args.store.now c.parts.store c.shorten_upload.new.self c.args.id.number _ c.parts.invariant.so_far c.in_ok-shorten_upload.ensures.made;
+}
+
+pub returns-in_err-shorten_upload-clause-world : goal.returns-in_err-shorten_upload-clause-world
+returns-in_err-shorten_upload-clause-world g c =
+    shortens_failed g.S.Store c.args.store.now c.parts.store c.shorten_upload.new.self c.args.id.number _ c.parts.invariant.so_far c.in_err-shorten_upload.ensures.failed
+
+pub returns-clause-world : goal.returns-clause-world
+returns-clause-world g c = c.parts.invariant.so_far
