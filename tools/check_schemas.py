@@ -42,7 +42,7 @@ EXCHANGES = [
     ("POST", "/objects/batch", batch("upload", (HELLO, 5), (HELLO, 6)), "batch", "batch"),
     ("POST", "/objects/batch", batch("download", (HELLO, 5), (ABC, 3), ("xyz", 0), **REF), "batch", "batch"),
     ("POST", "/objects/batch", batch("download", (HELLO, 5), hash_algo="sha512"), None, "batch"),
-    ("POST", "/objects/batch", batch("upload", (ABC, 268435456), transfers=[]), "batch", "batch"),
+    ("POST", "/objects/batch", batch("upload", (ABC, 4294967296), transfers=[]), "batch", "batch"),
     ("POST", "/objects/batch", batch("upload"), "batch", "batch"),
     ("POST", "/locks", {"path": "art/hero.psd", **REF}, "lock-create", "lock-create"),
     ("POST", "/locks", {"path": "art/hero.psd"}, "lock-create", "lock-create"),

@@ -202,7 +202,7 @@ class Maker:
                 f"Content-Length: +{length}",
                 "Content-Length:",
                 "Content-Length: 1048577",
-                "Content-Length: 268435457",
+                "Content-Length: 4294967297",
                 f"Content-Length: {length}, {length}",
             ),
         ]
@@ -244,7 +244,7 @@ class Maker:
         return bytes_, self.one(name, hashlib.sha256(b"abc").hexdigest(), name.upper(), "x", name + "0")
 
     def size(self, length):
-        return self.one(str(length), "0", "5", "-1", "5.0", "5e0", "268435457", "18446744073709551616", '"5"', "null")
+        return self.one(str(length), "0", "5", "-1", "5.0", "5e0", "4294967297", "18446744073709551616", '"5"', "null")
 
     def query(self, *keys):
         """A query of some of the keys."""

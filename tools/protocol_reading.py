@@ -11,7 +11,8 @@ import time
 from urllib.parse import parse_qsl, quote
 
 HEAD_LIMIT, FIELD_LIMIT = 16384, 64
-LARGEST_OBJECT, LARGEST_FORM, LAST_ID = 268435456, 1048576, 4294967295
+OBJECT_LIMIT, LONGEST_PAGE, USUAL_PAGE = 1000, 500, 100
+LARGEST_OBJECT, LARGEST_FORM, LAST_ID = 4294967296, 1048576, 4294967295
 JSON_TYPE = "application/vnd.git-lfs+json"
 PHRASES = {
     200: "OK",
@@ -235,7 +236,7 @@ def read_batch(parameter, query, body):
     ref, hash_algo = optional_ref(value), optional(value, "hash_algo", str)
     objects = [(needed(it, "oid", str), needed(it, "size", Number)) for it in needed(value, "objects", [dict])]
     in_range(operation in ("download", "upload"), good_ref(ref))
-    if len(objects) > 100:
+    if len(objects) > OBJECT_LIMIT:
         raise Refused("J3")
     if transfers and "basic" not in transfers:
         raise Refused("J4")
@@ -396,7 +397,7 @@ def cut_page(locks, cursor, limit):
         if not first:
             raise Refused("L4")
     rest = sorted((it for it in locks if it["id"] >= first), key=lambda it: it["id"])
-    size = 100 if limit is None else max(1, min(limit, 100))
+    size = USUAL_PAGE if limit is None else max(1, min(limit, LONGEST_PAGE))
     following = f'"next_cursor":"{rest[size]["id"]}"' if len(rest) > size else ""
     return rest[:size], following
 

@@ -794,6 +794,21 @@ def measure_growth():
     measured(f"{20 / (time.monotonic() - began):.1f} a second over SSH, one connection after the other")
 
 
+def try_more_room(folder, size):
+    """The disk is filled once more, and then has this many MiB."""
+    text = token()
+    while put(text, 40_000_000, plain=True).status == 200:
+        pass
+    _, out = run("custody", "sweep", "--via", CONTROL)
+    check("store G2" in out, "an upload that fills the disk once more is kept, since removing it needs room", out)
+    must("mount", "-o", f"remount,size={size}m", folder)
+    reply = ask("GET", f"{API}/locks", bearer(text), plain=True)
+    _, out = run("custody", "sweep", "--via", CONTROL)
+    check(reply.status == 200 and out.strip() == "swept 0 uploads", "with more room, it is removed before the next connection", out)
+    _, lines = run("journalctl", "-u", "custody", "-o", "cat")
+    check(any(line.endswith(" StoreRefused") for line in lines.splitlines()), "and the journal has a line for each S1")
+
+
 def try_full_disk(size=400):
     """A disk of this many MiB is filled by an upload, and is cleared again."""
     folder = database().parent
@@ -826,6 +841,7 @@ def try_full_disk(size=400):
     check(status == 0 and ask("POST", f"{API}/locks", bearer(text), body, plain=True).status == 201, "and lock paths")
     status, out = run("custody", "check", "--via", CONTROL)
     check(status == 0 and out.strip() == f"checked {len(stored) - 1} objects", "and each object that was stored is whole", out)
+    try_more_room(folder, size + 20)
     stop()
     must("umount", folder)
     start()

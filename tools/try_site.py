@@ -1,11 +1,12 @@
 #!/usr/bin/env python3
 """Sets up a site on this machine, and uses it with the real clients: tools/try_site.sh runs it.
 
-    try_site.py PROGRAM
+    try_site.py PROGRAM [GIB]
 
 In a temporary folder: nginx with examples/nginx-site and a certificate, sshd with examples/forced-command, `custody serve`
-with a control socket, a repository of Git, and two users with keys of their own. It prints a line for each check, and ends
-with `N passed, M failed`, and with status 1 if a check failed.
+with a control socket, a repository of Git, and two users with keys of their own. The largest files have GIB GiB: 1 if it is
+omitted, and at most 4. It prints a line for each check, and ends with `N passed, M failed`, and with status 1 if a check
+failed.
 """
 import getpass
 import os
@@ -128,7 +129,7 @@ class Site:
         return self.run("git", *words, folder=f"{self.room}/{user}", may_fail=may_fail)
 
     def write_policy(self, seconds):
-        repo = '[[repo]]\nname = "studio/film"\ndefault_ref = "refs/heads/main"\nquota = 4000000000\n'
+        repo = '[[repo]]\nname = "studio/film"\ndefault_ref = "refs/heads/main"\nquota = 100000000000\n'
         self.write("policy.toml", f'base = "{self.base}"\ntoken_seconds = {seconds}\n\n{repo}{ROWS}')
 
     def start_server(self):
@@ -204,7 +205,7 @@ class Site:
     def configure(self, user):
         for name, value in [("user.name", user), ("user.email", f"{user}@studio.example"),
                             ("core.sshCommand", self.ssh_command(user)), ("lfs.concurrenttransfers", "8"),
-                            ("lfs.activitytimeout", "300"), ("lfs.locksverify", "true")]:
+                            ("lfs.activitytimeout", "1800"), ("lfs.locksverify", "true")]:
             self.git(user, "config", name, value)
 
     def clone(self, user, folder):
@@ -222,6 +223,15 @@ class Site:
         Path(self.room, folder, name).mkdir(parents=True)
         for number in range(count):
             Path(self.room, folder, name, f"{number}.psd").write_bytes(random_bytes.randbytes(size + number))
+        self.git(folder, "add", name)
+        self.git(folder, "commit", "-q", "-m", f"Adds {name}")
+
+    def add_large(self, folder, name, size):
+        """Commits a new file of this size."""
+        path = Path(self.room, folder, name)
+        with open(path, "wb") as file:
+            for at in range(0, size, 1 << 24):
+                file.write(os.urandom(min(1 << 24, size - at)))
         self.git(folder, "add", name)
         self.git(folder, "commit", "-q", "-m", f"Adds {name}")
 
@@ -353,20 +363,45 @@ def try_other_requests(site):
     site.check(status != 0 and "only git-lfs-authenticate" in text, "and serves no other folder", text)
     large = f"{site.room}/large"
     with open(large, "wb") as file:
-        file.truncate((256 << 20) + 1)
+        file.truncate((4 << 30) + 1)
     status, text = site.run("curl", "-sS", "--cacert", f"{site.room}/tls.pem", "-T", large, "-w", "\n%{http_code}",
                             "-H", f"Authorization: Bearer {'0' * 64}",
                             f"{site.base}/studio/film.git/info/lfs/content/{'0' * 64}", may_fail=True)
-    site.check("413" in text and '"message"' in text, "nginx refuses an object of more than 256 MiB", text)
+    site.check("413" in text and '"message"' in text, "nginx refuses an object of more than 4 GiB", text)
+
+
+def pass_on(site, name, size, way):
+    """A new file of this size is pushed by one user, and pulled by the other."""
+    site.add_large("ann", name, size)
+    began = time.monotonic()
+    status, text = site.git("ann", "push", "-q", "origin", "main", may_fail=True)
+    site.check(status == 0, f"a file of {size >> 20} MiB is pushed {way}, in {time.monotonic() - began:.1f} s", text)
+    began = time.monotonic()
+    status, text = site.git("bob", "pull", "-q", may_fail=True)
+    taken = time.monotonic() - began
+    site.check(status == 0 and same_files(site, "ann", "bob", name), f"and pulled, in {taken:.1f} s", text)
+
+
+def try_large_files(site, size):
+    site.git("bob", "reset", "-q", "--hard", "origin/main")
+    pass_on(site, "through.psd", size, "through nginx")
+    # The server's address in the policy is where clients go.
+    site.base = f"http://127.0.0.1:{site.http}"
+    site.write_policy(3600)
+    site.end_server()
+    site.start_server()
+    pass_on(site, "direct.psd", size, "to the server itself")
 
 
 def main():
+    gibibytes = int(sys.argv[2]) if len(sys.argv) > 2 else 1
     with tempfile.TemporaryDirectory() as room:
         site = Site(sys.argv[1], room)
         try:
             site.set_up()
             for part in (try_push_and_clone, try_locks, try_transfers, try_tokens, try_restart, try_other_requests):
                 part(site)
+            try_large_files(site, gibibytes << 30)
         finally:
             site.end()
     print(f"{site.passed} passed, {site.failed} failed")

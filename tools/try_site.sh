@@ -1,7 +1,7 @@
 #!/bin/sh
 # Tries a whole site on this machine: nginx with TLS, sshd, custody and the Git LFS client, as docs/OPERATING.md sets them
 # up. It needs Debian's nginx, openssh-server, openssl, git, git-lfs and python3, and a program that bin/custody has built.
-# usage: tools/try_site.sh [PROGRAM]
+# usage: tools/try_site.sh [PROGRAM [GIB]]: the largest files have GIB GiB, 1 if it is omitted.
 set -eu
 unset CDPATH
 top=$(cd -- "$(dirname -- "$0")/.." && pwd)
@@ -18,4 +18,4 @@ if ! [ -x "$program" ]; then
     echo "try_site.sh: there is no program $program: bin/custody builds it" >&2
     exit 2
 fi
-exec "$top/tools/try_site.py" "$program"
+exec "$top/tools/try_site.py" "$program" "${2:-1}"
