@@ -9,16 +9,16 @@ use Rattle.std.proofs.KnownBytes.{Appends-nil, Appends-trans}
 use Rattle.std.proofs.Math.Seq.{take-append-add}
 use Rattle.std.proofs.lemmas.List.{take-append-le}
 use Rattle.sqlite_trees.specs.declared.store.Store.{Ghosts}
-use Rattle.model.proofs.Lists.{find_filter, find_map}
 use Rattle.tables.specs.Rows.{Chunk, Tables}
 use Rattle.tables.specs.declared.Store.{Store}
 use Rattle.tables.specs.declared.chunks.ChunkRow.{ChunkRow}
 use Rattle.tables.specs.declared.fault.StoreFault.{StoreFault}
 use Rattle.tables.specs.Shown.{IsHonest, IsOpen, HasTables, shown, Moves}
-use Rattle.tables.specs.Statements.{is_of, is_chunk}
+use Rattle.tables.specs.Statements.{is_chunk}
 use Rattle.tables.specs.Staging.{chunk_bytes, IsChunkOf}
-use Rattle.refinement.specs.Objects.{chunk_kept, chunks_of, piece_rows, HasPieces}
+use Rattle.refinement.specs.Objects.{chunk_kept, piece_rows, HasPieces}
 use Rattle.refinement.specs.Staging.{Stores}
+use Rattle.refinement.proofs.Pieces.{chunk_found}
 use Rattle.chunks.specs.declared.pouring.PourCause.{PourCause}
 use Rattle.chunks.specs.declared.pouring.PourCause.TheVariants.{Store as ByStore, Device as ByDevice}
 use Rattle.chunks.specs.Pouring.{IsWithin, TookFront, TookAll}
@@ -57,8 +57,7 @@ kept_bytes (Some c) = refl
 pub piece_at : (id : ℤ) (pieces : List (List ℕ)) (chunks : List Chunk) (n : ℕ) → HasPieces id pieces chunks → option_map (λ (c : Chunk). c.bytes) (find (is_chunk id (pos n)) chunks) ≡ slice_get pieces n
 unfolding numbered bytes_in
 piece_at id pieces chunks n has =
-    ap bytes_in (sym (find_filter (numbered n) (is_of id) chunks)) ∙ sym (kept_bytes (find (numbered n) (chunks_of id chunks)))
-    ∙ ap bytes_in (sym (find_map (numbered n) chunk_kept (chunks_of id chunks))) ∙ ap (λ cs. bytes_in (find (numbered n) cs)) has
+    sym (kept_bytes (find (is_chunk id (pos n)) chunks)) ∙ ap bytes_in (chunk_found id (pos n) pieces chunks has)
     ∙ (let none : 0 + n ≡ n = omega arith in subst (λ m. bytes_in (find (numbered m) (piece_rows id 0 pieces)) ≡ slice_get pieces n) none (piece_row id 0 n pieces))
 
 -- ---- so far

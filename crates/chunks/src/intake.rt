@@ -1,9 +1,7 @@
 //! Takes the bytes of an upload, and writes its chunks.
 
-ghost use Rattle.std.specs.Prelude.{◌≡◌, ◌≢◌, ◌+◌, ◌<◌, ◌≤◌, ◌++◌, ℕ, List, true, false, [], length, take, drop, Err, IfOk, OnOk, OnErr};
+ghost use Rattle.std.specs.Prelude.{◌≡◌, ◌+◌, ◌<◌, ◌≤◌, ◌++◌, ℕ, List, true, false, [], length, take, drop, Err, IfOk, OnOk, OnErr};
 ghost use Rattle.sha2.specs.Hashers.{Holds256};
-ghost use Rattle.sha2.specs.Sha256.{sha256};
-ghost use Rattle.hex.specs.Hex.{encode_lower};
 ghost use Rattle.model.specs.World.{name_of};
 ghost use Rattle.tables.specs.Shown.{HasTables};
 ghost use Rattle.refinement.specs.Left.{From, Keeps};
@@ -77,7 +75,6 @@ impl Intake {
         ensures advances { length self.old.last.items ≡ CHUNK
             → OnOk result (Advances S.Store store.old self.old store.new self.new []) }
         ensures keeps { KeepsWithin S.Store store.old self.old store.new 0 }
-        ensures known { result ≢ Err StoreFault.UnknownSchema }
     {
         let Some(next) = self.written.checked_add(1) else {
             return Err(StoreFault::Refused);
@@ -97,7 +94,6 @@ impl Intake {
         ensures advances { IfOk result
             (λ n. Advances S.Store store.old self.old store.new self.new (take n rest.now)) }
         ensures keeps { KeepsWithin S.Store store.old self.old store.new (length rest.now) }
-        ensures known { result ≢ Err StoreFault.UnknownSchema }
     {
         let size = rest.len().min(CHUNK - self.last.len());
         self.last.extend_from_slice(&rest[..size])?;
@@ -113,7 +109,6 @@ impl Intake {
         ensures advances { OnOk result
             (Advances S.Store store.old self.old store.new self.new piece.now) }
         ensures keeps { KeepsWithin S.Store store.old self.old store.new (length piece.now) }
-        ensures known { result ≢ Err StoreFault.UnknownSchema }
     {
         if self.last.len() >= CHUNK {
             return Err(StoreFault::Refused);
@@ -142,7 +137,6 @@ impl Intake {
         ensures spent { OnErr result (self.new.is_spent ≡ true) }
         ensures refused { self.old.is_spent ≡ true
             → (result ≡ Err StoreFault.Refused) × (store.new ≡ store.old) }
-        ensures known { result ≢ Err StoreFault.UnknownSchema }
     {
         if self.is_spent {
             return Err(StoreFault::Refused);
@@ -158,9 +152,8 @@ impl Intake {
 
     /// The number of bytes taken, with this piece. A piece beyond the size of the upload is refused.
     fn taken_with(&self, piece: &[u8]) -> Result<u64, StoreFault>
-        ensures value { IfOk result (λ taken. (taken ≡ self.now.taken + length piece.now)
+        ensures { IfOk result (λ taken. (taken ≡ self.now.taken + length piece.now)
             × (taken ≤ self.now.size)) }
-        ensures known { result ≢ Err StoreFault.UnknownSchema }
     {
         match self.taken.checked_add(piece.len() as u64) {
             Some(taken) if taken <= self.size.get() => Ok(taken),
@@ -180,7 +173,6 @@ impl Intake {
             → IsCut self.written self.last.items pieces bytes → IfOk result
             (λ arrival. IsWhole pieces arrival.last bytes) }
         ensures refused { self.is_spent ≡ true → result ≡ Err StoreFault.Refused }
-        ensures known { result ≢ Err StoreFault.UnknownSchema }
     {
         if self.is_spent {
             return Err(StoreFault::Refused);
@@ -207,9 +199,8 @@ fn rest_of(bytes: &[u8], at: usize) -> &[u8]
 
 /// The name of the bytes that the hasher has.
 fn name_of(hasher: Sha256) -> Result<Oid, StoreFault>
-    ensures value { (bytes : List ℕ) → Holds256 hasher bytes → IfOk result
+    ensures { (bytes : List ℕ) → Holds256 hasher bytes → IfOk result
         (λ name. name ≡ name_of bytes) }
-    ensures known { result ≢ Err StoreFault.UnknownSchema }
 {
     let mut digits = [0u8; 64];
     if hex::encode_to_slice(hasher.finalize().as_slice(), &mut digits).is_err() {

@@ -28,9 +28,9 @@ bound_taken world (event ∷ events) bound = bound_taken (next_world world event
 
 module _ {S : Type 0} (g : Ghosts S) where
   -- a connection leads the store by the steps of its exchanges, or by none
-  pub works_served : (C : List ℕ → Type 0) (F : Type 0) (setting : Setting) (was is : Option (List ℕ)) (a b : Store S) (world : World) (served : Served)
-      → ((bytes : List ℕ) × C bytes × IsServed g setting bytes world a b was is served) ⊎ (F × IsUnserved g setting world a b was is served) → Works g a b world
-  works_served C F setting was is a b world served (inl (bytes, _, s)) =
+  pub works_served : (C : List ℕ → Type 0) (F R : Type 0) (setting : Setting) (was is : Option (List ℕ)) (a b : Store S) (world : World) (served : Served)
+      → ((bytes : List ℕ) × C bytes × IsServed g setting bytes world a b was is served) ⊎ (F × R × IsUnserved g setting world a b was is served) → Works g a b world
+  works_served C F R setting was is a b world served (inl (bytes, _, s)) =
       let events = map exchanged s.exchanges in
       record {
         works = map takes events;
@@ -41,7 +41,7 @@ module _ {S : Type 0} (g : Ghosts S) where
           left = λ bound was. subst (IsBoundedBy g b) (sym (bound_taken world events bound)) (s.leads.left bound was);
         };
       }
-  works_served C F setting was is a b world served (inr (_, u)) = works_still g a b world u.leads
+  works_served C F R setting was is a b world served (inr (_, _, u)) = works_still g a b world u.leads
 
   -- a token is issued, or not
   pub from_issued : {E : Type 0} (a b : Store S) (r : Result ⊤ E)

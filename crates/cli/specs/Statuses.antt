@@ -6,6 +6,8 @@ use Rattle.command_line.specs.declared.faults.ArgsFault.{ArgsFault}
 use Rattle.command_line.specs.declared.faults.ArgsFault.TheVariants as args
 use Rattle.tables.specs.declared.fault.StoreFault.{StoreFault}
 use Rattle.tables.specs.declared.fault.StoreFault.TheVariants as tables
+use Rattle.tables.specs.declared.fault.OpenFault.{OpenFault}
+use Rattle.tables.specs.declared.fault.OpenFault.TheVariants as opening
 use Rattle.policy.specs.declared.faults.PolicyFault.{PolicyFault}
 use Rattle.policy.specs.declared.faults.PolicyFault.TheVariants as policy
 use Rattle.operator.specs.declared.faults.TaskFault.{TaskFault}
@@ -15,7 +17,7 @@ use Rattle.operator.specs.declared.paths.PathsFault.TheVariants as paths
 use Rattle.control.specs.declared.status.Status.{Status}
 use Rattle.control.specs.declared.status.Status.TheVariants.{Good, Refused, Invalid}
 use Rattle.cli.specs.declared.faults.Fault.{Fault}
-use Rattle.cli.specs.declared.faults.Fault.TheVariants.{Arguments, Value, BadPath, TooManyPaths, Clock, PolicyFile, Policy, PolicyDescribed, Repository, Random, Network, Store, Token, Memory, Output, Session, Control, Operator, Request, Reported}
+use Rattle.cli.specs.declared.faults.Fault.TheVariants.{Arguments, Value, BadPath, TooManyPaths, Clock, PolicyFile, Policy, PolicyDescribed, Repository, Random, Network, UnknownSchema, Store, Token, Memory, Output, Session, Control, Operator, Request, Reported}
 
 -- invalid for a fault of the arguments, of the paths or of a request, the status that was reported, else refused
 abbrev pub status_of : Fault → Status
@@ -31,6 +33,7 @@ status_of (PolicyDescribed _) = Refused
 status_of Repository = Refused
 status_of Random = Refused
 status_of Network = Refused
+status_of UnknownSchema = Refused
 status_of (Store _) = Refused
 status_of (Token _) = Refused
 status_of Memory = Refused
@@ -54,9 +57,13 @@ of_args args.Memory = Memory
 
 -- a refusal by the database, or memory ran out
 abbrev pub of_store : StoreFault → Fault
-of_store tables.UnknownSchema = Store tables.UnknownSchema
 of_store tables.Refused = Store tables.Refused
 of_store tables.Memory = Memory
+
+-- another schema, or a refusal by the database, or memory ran out
+abbrev pub of_open : OpenFault → Fault
+of_open opening.UnknownSchema = UnknownSchema
+of_open (opening.Store refused) = of_store refused
 
 -- a text that is not a policy, or memory ran out
 abbrev pub of_policy : PolicyFault → Fault

@@ -9,7 +9,7 @@ use operator::{PathsFault, TaskFault};
 use policy::{PolicyFault, Sentence};
 use service::End;
 use std::alloc::AllocError;
-use tables::StoreFault;
+use tables::{OpenFault, StoreFault};
 use thiserror::Error;
 use tokens::TokenFault;
 
@@ -50,6 +50,9 @@ pub enum Fault {
     /// The address could not be bound, or no connection could be accepted.
     #[error("custody: network")]
     Network,
+    /// The database has tables, and they are not this program's.
+    #[error("custody: store G1")]
+    UnknownSchema,
     /// The database refused.
     #[error("custody: {0}")]
     Store(StoreFault),
@@ -95,6 +98,7 @@ impl Fault {
             Fault::Repository => Status::Refused,
             Fault::Random => Status::Refused,
             Fault::Network => Status::Refused,
+            Fault::UnknownSchema => Status::Refused,
             Fault::Store(_) => Status::Refused,
             Fault::Token(_) => Status::Refused,
             Fault::Memory => Status::Refused,
@@ -143,7 +147,20 @@ impl From<StoreFault> for Fault {
     fn from(fault: StoreFault) -> Fault {
         match fault {
             StoreFault::Memory => Fault::Memory,
-            _ => Fault::Store(fault),
+            StoreFault::Refused => Fault::Store(fault),
+        }
+    }
+}
+
+impl From<OpenFault> for Fault {
+    ghost use Rattle.cli.specs.Statuses.{of_open};
+
+    ghost from_gives = { λ fault gives. gives ≡ of_open fault };
+
+    fn from(fault: OpenFault) -> Fault {
+        match fault {
+            OpenFault::UnknownSchema => Fault::UnknownSchema,
+            OpenFault::Store(fault) => Fault::from(fault),
         }
     }
 }

@@ -7,8 +7,8 @@ ghost use Rattle.model.specs.Locks.{meets};
 ghost use Rattle.locks.specs.Finding.{lock_seen};
 ghost use Rattle.cursor.specs.Wanted.{form_of_filter};
 
+use locks::Lock;
 use names::{LockId, LockPath, RefName};
-use tables::LockRow;
 
 /// Which locks are wanted: those that have each part that is given (Git LFS API, File Locking,
 /// "List Locks"). With no part, every lock is.
@@ -22,7 +22,7 @@ pub struct Filter<'a> {
     pub ref_name: Option<&'a RefName>,
 }
 
-fn has_path(wanted: Option<&LockPath>, row: &LockRow) -> bool
+fn has_path(wanted: Option<&LockPath>, row: &Lock) -> bool
     ensures { result ≡ is_if_given (λ path. bytes_eq (path_text row.now.path) path)
         (option_map (λ path. path_text path.now) wanted.entry) }
 {
@@ -32,7 +32,7 @@ fn has_path(wanted: Option<&LockPath>, row: &LockRow) -> bool
     }
 }
 
-fn has_id(wanted: Option<LockId>, row: &LockRow) -> bool
+fn has_id(wanted: Option<LockId>, row: &Lock) -> bool
     ensures { result ≡ is_if_given (λ id. row.now.id == id) wanted }
 {
     match wanted {
@@ -41,7 +41,7 @@ fn has_id(wanted: Option<LockId>, row: &LockRow) -> bool
     }
 }
 
-fn has_ref(wanted: Option<&RefName>, row: &LockRow) -> bool
+fn has_ref(wanted: Option<&RefName>, row: &Lock) -> bool
     ensures { result ≡ is_if_given (λ name. bytes_eq (ref_text row.now.ref_name) name)
         (option_map (λ name. ref_text name.now) wanted.entry) }
 {
@@ -53,7 +53,7 @@ fn has_ref(wanted: Option<&RefName>, row: &LockRow) -> bool
 
 impl Filter<'_> {
     /// Whether the lock has each part that is given.
-    pub(crate) fn meets(&self, row: &LockRow) -> bool
+    pub(crate) fn meets(&self, row: &Lock) -> bool
         ensures { (repo : List ℕ) →
             result ≡ meets (form_of_filter self.entry.now) (lock_seen repo row.now) }
     {

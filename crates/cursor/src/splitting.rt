@@ -5,10 +5,10 @@ ghost use Rattle.names.specs.Names.{user_text};
 ghost use Rattle.cursor.specs.Owners.{is_owned, is_other};
 
 use crate::pages::Page;
+use locks::Lock;
 use names::UserName;
-use tables::LockRow;
 
-fn is_owned(row: &LockRow, user: &UserName) -> bool
+fn is_owned(row: &Lock, user: &UserName) -> bool
     ensures { result ≡ is_owned (user_text user.now) row.now }
 {
     row.owner.as_str() == user.as_str()
@@ -16,7 +16,7 @@ fn is_owned(row: &LockRow, user: &UserName) -> bool
 
 /// Moves the user's locks to the front, and returns how many there are. They stay in their order, and
 /// so do the others.
-fn part(rows: &mut [LockRow], user: &UserName) -> usize
+fn part(rows: &mut [Lock], user: &UserName) -> usize
     ensures parted { rows.new
         ≡ filter (is_owned (user_text user.now)) rows.old
         ++ filter (is_other (user_text user.now)) rows.old }
@@ -35,7 +35,7 @@ fn part(rows: &mut [LockRow], user: &UserName) -> usize
 /// Returns the locks of the page that are the user's, and the others, each in the order of the page
 /// (Git LFS API, File Locking, "List Locks for Verification"). They are moved within the page, and
 /// no memory is taken.
-pub fn split<'a>(page: &'a mut Page, user: &UserName) -> (&'a [LockRow], &'a [LockRow])
+pub fn split<'a>(page: &'a mut Page, user: &UserName) -> (&'a [Lock], &'a [Lock])
     ensures ours { result.0.now
         ≡ filter (is_owned (user_text user.now)) page.old.locks.items }
     ensures theirs { result.1.now

@@ -1,6 +1,6 @@
 //! A page, put together from windows of 64 rows.
 
-ghost use Rattle.std.specs.Prelude.{◌≡◌, ◌≢◌, ◌++◌, ◌<◌, ◌≤◌, Err, List, ℕ, Some, map, filter, IfOk, IfSome};
+ghost use Rattle.std.specs.Prelude.{◌≡◌, ◌++◌, ◌<◌, ◌≤◌, Err, List, ℕ, Some, map, filter, IfOk, IfSome};
 ghost use Rattle.names.specs.Names.{repo_text};
 ghost use Rattle.names.specs.Texts.{last_lock_id};
 ghost use Rattle.model.specs.Pages.{page_of};
@@ -11,15 +11,15 @@ ghost use Rattle.cursor.specs.Paging.{page_seen, cursor_or_first, left, id_after
 
 use crate::filters::Filter;
 use crate::pages::{Page, cut};
-use locks::window;
+use locks::{Lock, window};
 use names::{LockId, RepoName};
 use std::alloc::Global;
-use tables::{Alter, LockRow, Store, StoreFault};
+use tables::{Alter, Store, StoreFault};
 
 /// The wanted locks of a window, and the id at which the next window begins.
 #[derive(Drop)]
 struct Window {
-    locks: Vec<LockRow>,
+    locks: Vec<Lock>,
     next: Option<LockId>,
 }
 
@@ -41,7 +41,7 @@ fn id_after(id: LockId) -> Option<LockId>
 }
 
 /// The id at which the window after these rows begins; `None` if they are the last.
-fn next_start(rows: &[LockRow]) -> Option<LockId>
+fn next_start(rows: &[Lock]) -> Option<LockId>
     ensures { result ≡ next_start rows.now }
 {
     match rows.get(63) {
@@ -52,11 +52,10 @@ fn next_start(rows: &[LockRow]) -> Option<LockId>
 
 /// The id at which the next window begins, which has to be above `start`. Else it is `Refused`: the
 /// disk did not return what was written, and reading would not end.
-fn later_start(start: LockId, rows: &[LockRow]) -> Result<Option<LockId>, StoreFault>
+fn later_start(start: LockId, rows: &[Lock]) -> Result<Option<LockId>, StoreFault>
     ensures next { IfOk result (λ next. next ≡ next_start rows.now) }
     ensures later { IfOk result (λ next. IfSome next
         (λ id. (start < id) × (id ≤ last_lock_id))) }
-    ensures known { result ≢ Err StoreFault.UnknownSchema }
 {
     match next_start(rows) {
         None => Ok(None),
@@ -66,7 +65,7 @@ fn later_start(start: LockId, rows: &[LockRow]) -> Result<Option<LockId>, StoreF
 }
 
 /// Whether the lock meets the filters and is accepted.
-fn is_wanted<V: Fn(&LockRow) -> bool>(row: &LockRow, wanted: &Filter<'_>, visible: &V) -> bool
+fn is_wanted<V: Fn(&Lock) -> bool>(row: &Lock, wanted: &Filter<'_>, visible: &V) -> bool
     requires { V.IsAlwaysCallable visible.now }
     ensures { (repo : List ℕ) (sees : Test) → Sees V.Fn visible.now repo sees
         → result ≡ is_wanted wanted.entry.now sees (lock_seen repo row.now) }
@@ -78,7 +77,7 @@ fn is_wanted<V: Fn(&LockRow) -> bool>(row: &LockRow, wanted: &Filter<'_>, visibl
 }
 
 /// Keeps the locks that meet the filters and are accepted.
-fn keep_wanted<V: Fn(&LockRow) -> bool>(rows: &mut Vec<LockRow>, wanted: &Filter<'_>, visible: &V)
+fn keep_wanted<V: Fn(&Lock) -> bool>(rows: &mut Vec<Lock>, wanted: &Filter<'_>, visible: &V)
     requires { V.IsAlwaysCallable visible.now }
     ensures { (repo : List ℕ) (sees : Test) → Sees V.Fn visible.now repo sees
         → map (lock_seen repo) rows.new.items
@@ -88,7 +87,7 @@ fn keep_wanted<V: Fn(&LockRow) -> bool>(rows: &mut Vec<LockRow>, wanted: &Filter
 }
 
 /// Reads the window that begins at this id, and keeps the wanted locks.
-fn read_window<S: Alter, V: Fn(&LockRow) -> bool>(
+fn read_window<S: Alter, V: Fn(&Lock) -> bool>(
     alloc: Global,
     store: &mut Store<S>,
     repo: &RepoName,
@@ -97,7 +96,6 @@ fn read_window<S: Alter, V: Fn(&LockRow) -> bool>(
     start: LockId,
 ) -> Result<Window, StoreFault>
     requires { V.IsAlwaysCallable visible.now }
-    ensures known { result ≢ Err StoreFault.UnknownSchema }
     ensures later { IfOk result (λ window. IfSome window.next
         (λ id. (start < id) × (id ≤ last_lock_id))) }
     ensures world { Reads S.Store store.old store.new (λ world.
@@ -113,7 +111,7 @@ fn read_window<S: Alter, V: Fn(&LockRow) -> bool>(
 }
 
 /// The id to read on at; `None` if more locks are found than a page has.
-fn unless_full(limit: u32, found: &[LockRow], next: Option<LockId>) -> Option<LockId>
+fn unless_full(limit: u32, found: &[Lock], next: Option<LockId>) -> Option<LockId>
     ensures { result ≡ unless_full limit found.now next }
 {
     if found.len() > limit as usize {
@@ -133,7 +131,7 @@ fn unless_full(limit: u32, found: &[LockRow], next: Option<LockId>) -> Option<Lo
 /// # Errors
 ///
 /// `Refused` or `Memory`. The contents of the store are unchanged in any case.
-pub fn page<S: Alter, V: Fn(&LockRow) -> bool>(
+pub fn page<S: Alter, V: Fn(&Lock) -> bool>(
     alloc: Global,
     store: &mut Store<S>,
     repo: &RepoName,
@@ -143,8 +141,7 @@ pub fn page<S: Alter, V: Fn(&LockRow) -> bool>(
     limit: u32,
 ) -> Result<Page, StoreFault>
     requires { V.IsAlwaysCallable visible }
-    ensures known { result ≢ Err StoreFault.UnknownSchema }
-    ensures world { Reads S.Store store.old store.new (λ world.
+    ensures { Reads S.Store store.old store.new (λ world.
         (sees : Test) → Sees V.Fn visible (repo_text repo.now) sees → IfOk result (λ page.
         page_seen (repo_text repo.now) page ≡ page_of (cursor_or_first cursor) limit
         (wanted_locks (repo_text repo.now) world wanted.entry.now sees))) }

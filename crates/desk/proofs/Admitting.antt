@@ -1,6 +1,5 @@
 -- Which of the checks a request passes.
-use Rattle.std.proofs.Common.{◌≡◌, ℕ, Bool, true, false, not, ◌||◌, List, Option, Some, None, Result, Ok, Err, bytes_eq, refl, sym, ap, subst, ◌∙◌, Bor}
-use Rattle.std.specs.Prelude.{IsErrAnd}
+use Rattle.std.proofs.Common.{◌≡◌, ℕ, Bool, true, false, not, ◌||◌, List, Option, Some, None, Result, Ok, Err, bytes_eq, refl, sym, ap, subst, ◌∙◌}
 use Rattle.std.specs.Bool.{⊤}
 use Rattle.names.specs.declared.rules.Rule.{Rule}
 use Rattle.names.specs.declared.rules.Rule.TheVariants.{A4, A5, R1}
@@ -11,25 +10,13 @@ use Rattle.model.specs.declared.Form.{Form}
 use Rattle.model.specs.declared.Form.TheVariants as asks
 use Rattle.model.proofs.Lists.{found_passes}
 use Rattle.refinement.proofs.Lookups.{same_is}
-use Rattle.forms.specs.declared.refusal.Refusal.{Refusal}
-use Rattle.forms.specs.declared.refusal.Refusal.TheVariants as refusal
-use Rattle.forms.specs.declared.request.Request as form
-use Rattle.forms.specs.Given.{IsRefusedBy, Reads}
-use Rattle.policy.specs.declared.repos.Repo as policy_repo
-use Rattle.desk.specs.Admission.{admission_result, admission_view}
+use Rattle.desk.specs.Admission.{admission_result}
 use Rattle.desk.specs.Asking.{is_put, uploads}
 
 -- a request whose form is refused is not admitted
-pub refused_form : (policy : Policy) (own : List ℕ) (covers : Bool) (repo_asked : List ℕ) (asked : Result Request Rule) (r : Repo) (e : Refusal)
-    → bytes_eq own repo_asked ≡ true → repo_named repo_asked policy ≡ Some r → IsRefusedBy e asked → IsRefusedBy e (admission_result policy own covers repo_asked asked)
-refused_form policy own covers repo_asked asked r (refusal.Rule rule) own_is there is = rw (own_is, there, is) refl
-refused_form policy own covers repo_asked asked r refusal.Memory own_is there is = tt
-
--- a refusal that a `?` returns
-pub passed_on : (e : Refusal) (r : Result (Bor policy_repo.Repo × form.Request) Refusal) (given : Result (Repo × Request) Rule) → IsErrAnd r (λ f. f ≡ e) → IsRefusedBy e given
-    → Reads admission_view r given
-passed_on e (Ok x) given is by = absurd is
-passed_on e (Err f) given is by = subst (λ (x : Refusal). IsRefusedBy x given) (sym is) by
+pub refused_form : (policy : Policy) (own : List ℕ) (covers : Bool) (repo_asked : List ℕ) (asked : Result Request Rule) (r : Repo) (rule : Rule)
+    → bytes_eq own repo_asked ≡ true → repo_named repo_asked policy ≡ Some r → asked ≡ Err rule → admission_result policy own covers repo_asked asked ≡ Err rule
+refused_form policy own covers repo_asked asked r rule own_is there is = rw (own_is, there, is) refl
 
 pub uncovered : (policy : Policy) (own : List ℕ) (covers : Bool) (repo_asked : List ℕ) (asked : Result Request Rule) (r : Repo) (q : Request)
     → bytes_eq own repo_asked ≡ true → repo_named repo_asked policy ≡ Some r → asked ≡ Ok q → (not (needs_upload q) || covers) ≡ false → admission_result policy own covers repo_asked asked ≡ Err A5

@@ -124,7 +124,7 @@ module _ {S : Type 0} (g : Ghosts S) where
     carried_other : (o : Object) → bytes_eq o.name (name_of o.bytes) ≡ false → Keeps g old new world → Carries g old new world o (Ok Differs)
     carried_other o off keeps = (lacks_name o off, subst (λ (v : Answer). Gives g old new world v v) (sym (lacks_name o off)) keeps)
 
-    module _ (upload : Staged) (all : upload.size ≡ length (bytes_in upload)) where
+    module _ (id : UploadId) (upload : Staged) (all : upload.size ≡ length (bytes_in upload)) where
       abbrev object : Object
       object = object_from upload.repo upload.name (bytes_in upload)
 
@@ -137,11 +137,11 @@ module _ {S : Type 0} (g : Ghosts S) where
       not_begun : bytes_eq upload.name (name_of (bytes_in upload)) ≡ false → IsAsBegun upload → ⊥
       not_begun off begun = true≢false (sym ((bytes_eq-Decides upload.name (name_of (bytes_in upload))).1 (sym begun.0)) ∙ off)
 
-      differs : (b : Bool) → bytes_eq upload.name (name_of (bytes_in upload)) ≡ b → Completes g world upload old new (Err upload_fault.Differs) → Carries g old new world object (Ok Differs)
+      differs : (b : Bool) → bytes_eq upload.name (name_of (bytes_in upload)) ≡ b → Completes g world id upload old new (Err upload_fault.Differs) → Carries g old new world object (Ok Differs)
       differs true is done = absurd (done.0 (as_begun is))
       differs false is done = carried_other object is done.1
 
-      refused : (b : Bool) (f : StoreFault) → bytes_eq upload.name (name_of (bytes_in upload)) ≡ b → Completes g world upload old new (Err (upload_fault.Store f)) → Carries g old new world object (Err f)
+      refused : (b : Bool) (f : StoreFault) → bytes_eq upload.name (name_of (bytes_in upload)) ≡ b → Completes g world id upload old new (Err (upload_fault.Store f)) → Carries g old new world object (Err f)
       refused true f is done =
           let begun = as_begun is in
           subst (λ (v : Answer). Gives g old new world v store_refusal) (sym (has_name object (sym begun.0)))
@@ -149,7 +149,7 @@ module _ {S : Type 0} (g : Ghosts S) where
       refused false f is done = kept_refused (content_verdict object) (done.1 (not_begun is))
 
       -- a completion is carried out as its receipt reports
-      pub completed : (r : Result Kept UploadFault) → Completes g world upload old new r → Carries g old new world object (receipt_of r)
+      pub completed : (r : Result Kept UploadFault) → Completes g world id upload old new r → Carries g old new world object (receipt_of r)
       completed (Ok New) done =
           carried_new object (has_name object (sym done.0.0)) done.1 (subst (λ (o : Object). Ends g old new changed world (with_object o world) (with_object o world)) (same_object done.0) done.2)
       completed (Ok Already) done = carried_again object (has_name object (sym done.0.0)) done.1 done.2
@@ -157,7 +157,7 @@ module _ {S : Type 0} (g : Ghosts S) where
       completed (Err (upload_fault.Store f)) done = refused (bytes_eq upload.name (name_of (bytes_in upload))) f refl done
 
   pub settled : (old new : Store S) (id : UploadId) (arrival : Arrival) (r : Result Kept UploadFault)
-      → From g old new (λ world. (upload : Staged) → Arrives g old id upload arrival.last arrival.name arrival.size → Completes g world upload old new r)
+      → From g old new (λ world. (upload : Staged) → Arrives g old id upload arrival.last arrival.name arrival.size → Completes g world id upload old new r)
       → From g old new (Settles g old new id arrival (receipt_of r))
   settled old new id arrival r done = record {
     honest = done.honest;
@@ -173,7 +173,7 @@ module _ {S : Type 0} (g : Ghosts S) where
           length = all.counted ∙ ap length (sym it.whole.all);
         } in
         subst (λ (b : List ℕ). Carries g old new world (object_from repo name b) (receipt_of r)) it.whole.all
-        (completed old new world upload arrives.length r (done.each honest world h upload arrives));
+        (completed old new world id upload arrives.length r (done.each honest world h upload arrives));
   }
 
   -- the same after a call that kept the world

@@ -1,5 +1,5 @@
 -- An answer before its content is read, after calls that only read, and of a request without content.
-use Rattle.std.proofs.Common.{◌≡◌, ◌∙◌, ◌<◌, ℕ, Bool, true, false, MatchBool, List, [], ◌∷◌, Result, Ok, Err, is_err, refl, sym, ap, subst}
+use Rattle.std.proofs.Common.{◌≡◌, ◌∙◌, ◌<◌, ℕ, Bool, true, false, MatchBool, List, [], ◌∷◌, ◌++◌, Some, Result, Ok, Err, is_err, refl, sym, ap, subst}
 use Rattle.std.specs.Prelude.{IsErrAnd}
 use Rattle.std.specs.Result.{IfErr}
 use Rattle.std.proofs.lemmas.Bool.{true≢false}
@@ -7,10 +7,11 @@ use Rattle.sqlite_trees.specs.declared.store.Store.{Ghosts}
 use Rattle.names.specs.declared.bodies.Body.{Ghosts as BodyGhosts}
 use Rattle.model.specs.World.{World}
 use Rattle.model.specs.Answers.{Answer, Denial, Plan, receives}
+use Rattle.model.specs.Bounds.{answer_ending}
 use Rattle.tables.specs.declared.Store.{Store}
 use Rattle.tables.specs.declared.fault.StoreFault.{StoreFault}
-use Rattle.refinement.specs.Left.{From, Leads, Keeps, Reads}
-use Rattle.refinement.proofs.Leading.{keeps_still, reads_lead, still_then}
+use Rattle.refinement.specs.Left.{From, Leads, Keeps, KeepsTables, Reads}
+use Rattle.refinement.proofs.Leading.{keeps_still, leaves_kept, leaves_then, reads_lead, still_then}
 use Rattle.desk.specs.declared.outcomes.Answered.{Answered}
 use Rattle.desk.specs.declared.outcomes.AnswerFault.{AnswerFault}
 use Rattle.desk.specs.declared.outcomes.AnswerFault.TheVariants as fault
@@ -21,18 +22,20 @@ use Rattle.forms.specs.declared.request.Request as code
 use Rattle.forms.specs.declared.request.Request.TheVariants as form
 use Rattle.desk.specs.Asking.{uploads}
 use Rattle.desk.specs.Replies.{IsReplyOf}
-use Rattle.desk.specs.Done.{Answers, AnswersIf, AnswersRequest, IsAnsweredAs, verdict_by}
+use Rattle.desk.specs.Done.{AnswersIf, AnswersRequest, IsAnsweredAs, given_with, verdict_by}
 use Rattle.desk.proofs.Arriving.{read_none}
+use Rattle.desk.proofs.Unchanged.{Replies}
 use Rattle.desk.proofs.Verdicts.{denied_done, refused_done, done_then}
 
 module _ {S : Type 0} (g : Ghosts S) (is_upload : Bool) (world : World) (repo : List ℕ) (plan : Result Plan Denial) where
-  module _ (old new : Store S) (lead : Leads g old new world (λ bound. bound)) (left : ℕ) where
+  module _ (old new : Store S) (lead : Leads g old new world (λ bound. bound)) (same : KeepsTables g old new) (left : ℕ) where
     -- the store refused, or memory ran out, before anything was tried
     pub failed_early : (f : StoreFault) → IsAnsweredAs g is_upload old new world repo plan [] left (Err (fault.Store f))
     failed_early f = record {
       answers = λ more is. refused_done g old new world _ f lead;
       in_time = λ put. tt;
       kept = λ put some. keeps_still g old new world lead;
+      tables = λ more denied. same;
     }
 
     -- the plan refuses
@@ -42,13 +45,14 @@ module _ {S : Type 0} (g : Ghosts S) (is_upload : Bool) (world : World) (repo : 
       answers = λ more len. denied_done g old new world _ denial answered.reply (ap (λ p. verdict_by world repo p more) is) shows lead;
       in_time = λ put. left_early answered.leaves_body (leaves ∙ put);
       kept = λ put. tt;
+      tables = λ more denied. leaves_kept g old new (answer_ending world (Some (verdict_by world repo plan more))) same;
     }
       where
         left_early : (v : Bool) → v ≡ true → MatchBool v (is_err plan ≡ true) ((name : List ℕ) × (plan ≡ Ok (receives name)) × (left ≡ 0))
         left_early true e = ap is_err is
         left_early false e = absurd (true≢false (sym e))
 
-  module _ (old mid new : Store S) (lead : Leads g old mid world (λ bound. bound)) (bytes : List ℕ) (left : ℕ) where
+  module _ (old mid new : Store S) (lead : Leads g old mid world (λ bound. bound)) (same : KeepsTables g old mid) (bytes : List ℕ) (left : ℕ) where
     if_then : (verdict : Answer) (r : Result Answered AnswerFault) → AnswersIf g mid new world verdict r → AnswersIf g old new world verdict r
     if_then verdict (Ok answered) done = done_then g old mid new world verdict (Ok answered.reply) lead done
     if_then verdict (Err (fault.Store f)) done = done_then g old mid new world verdict (Err f) lead done
@@ -64,6 +68,7 @@ module _ {S : Type 0} (g : Ghosts S) (is_upload : Bool) (world : World) (repo : 
       answers = λ more len. if_then _ r (done.answers more len);
       in_time = done.in_time;
       kept = λ put. kept_then r (done.kept put);
+      tables = λ more denied. leaves_then g old mid new (answer_ending world (given_with (verdict_by world repo plan (bytes ++ more)) r)) same (done.tables more denied);
     }
 
 -- ---- the answer to a request, whoever asks
@@ -78,7 +83,7 @@ module _ {S B W : Type 0} {g : Ghosts S} {b : BodyGhosts B} {is_upload : Bool} {
     read = read_none b content content unread refl;
     answered = record {
       honest = reads.same.was_honest;
-      each = λ honest world h who asks size sized. failed_early g is_upload world repo (plan world who size) old new (reads_lead g old new _ world reads h) (b.size content) f;
+      each = λ honest world h who asks size sized. failed_early g is_upload world repo (plan world who size) old new (reads_lead g old new _ world reads h) reads.same (b.size content) f;
     };
     settled = λ none. (tt, refl);
     leaves = tt;
@@ -97,7 +102,7 @@ module _ {S B W : Type 0} {g : Ghosts S} {b : BodyGhosts B} {is_upload : Bool} {
     answered = record {
       honest = reads.same.was_honest;
       each = λ honest world h who asks size sized.
-          denied_early g is_upload world repo (plan world who size) old new (reads_lead g old new _ world reads h) (b.size content) denial answered (is world (reads.each honest world h) who asks size sized) shows leaves;
+          denied_early g is_upload world repo (plan world who size) old new (reads_lead g old new _ world reads h) reads.same (b.size content) denial answered (is world (reads.each honest world h) who asks size sized) shows leaves;
     };
     settled = λ none. (leaves ∙ none, refl);
     leaves = λ stays. refl;
@@ -109,7 +114,7 @@ module _ {S B W : Type 0} {g : Ghosts S} {b : BodyGhosts B} {is_upload : Bool} {
   -- the body was read before
   module _ (none : is_upload ≡ false) where
     pub replied_before : (reply : Reply)
-        → ((size : ℕ) (body : List ℕ) → From g old new (λ world. (who : W) → IsAsking who → Answers g old new world (verdict_by world repo (plan world who size) body) (Ok reply)))
+        → ((size : ℕ) (body : List ℕ) → From g old new (λ world. (who : W) → IsAsking who → Replies g old new world (verdict_by world repo (plan world who size) body) (Ok reply)))
         → AnswersRequest g b is_upload repo IsAsking plan old new content content (Ok (record { reply = reply; leaves_body = false }))
     replied_before reply answers = record {
       bytes = [];
@@ -117,9 +122,10 @@ module _ {S B W : Type 0} {g : Ghosts S} {b : BodyGhosts B} {is_upload : Bool} {
       answered = record {
         honest = (answers 0 []).honest;
         each = λ honest world h who asks size sized. record {
-          answers = λ more len. (answers size more).each honest world h who asks;
+          answers = λ more len. ((answers size more).each honest world h who asks).0;
           in_time = λ put. absurd (true≢false (sym put ∙ none));
           kept = λ put. tt;
+          tables = λ more denied. ((answers size more).each honest world h who asks).1;
         };
       };
       settled = λ off. (refl, refl);
@@ -130,7 +136,7 @@ module _ {S B W : Type 0} {g : Ghosts S} {b : BodyGhosts B} {is_upload : Bool} {
     }
 
     pub refused_before : (f : StoreFault) (r : Result Answered AnswerFault) → IsErrAnd r (λ e. e ≡ fault.Store f)
-        → ((size : ℕ) (body : List ℕ) → From g old new (λ world. (who : W) → IsAsking who → Answers g old new world (verdict_by world repo (plan world who size) body) (Err f)))
+        → ((size : ℕ) (body : List ℕ) → From g old new (λ world. (who : W) → IsAsking who → Replies g old new world (verdict_by world repo (plan world who size) body) (Err f)))
         → AnswersRequest g b is_upload repo IsAsking plan old new content content r
     refused_before f (Ok answered) is answers = absurd is
     refused_before f (Err e) is answers = subst (λ (x : AnswerFault). AnswersRequest g b is_upload repo IsAsking plan old new content content (Err x)) (sym is) (record {
@@ -139,9 +145,10 @@ module _ {S B W : Type 0} {g : Ghosts S} {b : BodyGhosts B} {is_upload : Bool} {
       answered = record {
         honest = (answers 0 []).honest;
         each = λ honest world h who asks size sized. record {
-          answers = λ more len. (answers size more).each honest world h who asks;
+          answers = λ more len. ((answers size more).each honest world h who asks).0;
           in_time = λ put. tt;
           kept = λ put. absurd (true≢false (sym put ∙ none));
+          tables = λ more denied. ((answers size more).each honest world h who asks).1;
         };
       };
       settled = λ off. (tt, refl);
@@ -168,7 +175,7 @@ module _ {S B W V : Type 0} {g : Ghosts S} {b : BodyGhosts B} {is_upload other :
               let lead = reads_lead g old mid _ world reads h in
               let asks = same world (reads.each (done.answered.honest honest) world h) v calls size sized in
               subst (λ (p : Result Plan Denial). IsAnsweredAs g is_upload old new world repo p done.bytes (b.size after) r) asks.2
-              (answered_then g is_upload world repo (plan world asks.0 size) old mid new lead done.bytes (b.size after) r (done.answered.each honest world lead.holds asks.0 asks.1 size sized));
+              (answered_then g is_upload world repo (plan world asks.0 size) old mid new lead reads.same done.bytes (b.size after) r (done.answered.each honest world lead.holds asks.0 asks.1 size sized));
         };
         settled = done.settled;
         leaves = done.leaves;

@@ -1,7 +1,6 @@
 pub mod Making
 pub mod Admitting
 pub mod Verdicts
-pub mod Apart
 pub mod Releasing
 pub mod Unchanged
 pub mod Showing

@@ -1,5 +1,5 @@
 -- From the result of a request for a lock to the reply.
-use Rattle.std.proofs.Common.{◌≡◌, ◌∙◌, ◌<◌, ◌+◌, ℕ, true, nat_lt, Some, None, Option, Ok, Err, refl, sym, ap, subst, arith, false}
+use Rattle.std.proofs.Common.{◌≡◌, ◌∙◌, ◌<◌, ◌+◌, ℕ, true, nat_lt, Some, None, Option, Result, Ok, Err, refl, sym, ap, subst, arith, false}
 use Rattle.std.proofs.lemmas.Bool.Decides.{nat_tests}
 use Rattle.sqlite_trees.specs.declared.store.Store.{Ghosts}
 use Rattle.names.specs.Names.{repo_text, ref_text, path_text}
@@ -10,17 +10,18 @@ use Rattle.model.specs.RepoState.{lock_at}
 use Rattle.model.specs.Answers.{Answer, makes_lock, by_lock, by_rule, store_refusal}
 use Rattle.tables.specs.declared.Store.{Store}
 use Rattle.tables.specs.declared.new_rows.NewLock.{NewLock}
-use Rattle.tables.specs.declared.rows.Creation.{Creation}
-use Rattle.tables.specs.declared.rows.Creation.TheVariants.{Created, Held, UsedUp}
+use Rattle.tables.specs.declared.rows.LockRow.{LockRow}
+use Rattle.locks.specs.declared.creating.LockFault.TheVariants as fault
 use Rattle.refinement.specs.Left.{Gives}
 use Rattle.refinement.proofs.Leading.{ends_reported}
 use Rattle.locks.specs.Finding.{lock_seen}
-use Rattle.locks.specs.Creating.{state_of, lock_wanted, placed_verdict, answer_of, Creates}
+use Rattle.locks.specs.Creating.{state_of, lock_wanted, placed_verdict, Creates}
+use Rattle.desk.specs.declared.outcomes.NotGranted.{NotGranted}
 use Rattle.desk.specs.declared.replies.Reply.{Reply}
-use Rattle.desk.specs.Replies.{IsReplyOf, Lends}
+use Rattle.desk.specs.Replies.{IsReplyOf}
 use Rattle.desk.proofs.Lent.{serves_object, none_lent}
-use Rattle.desk.specs.Done.{Answers}
-use Rattle.desk.specs.Locking.{free_verdict, IsReadyAfter, ReportsCreation, MadeNothing}
+use Rattle.desk.specs.Done.{Answers, AnswersAlone}
+use Rattle.desk.specs.Locking.{free_verdict, IsReadyAfter, ReportsHeld}
 
 less : (a b : ℕ) → a < b → nat_lt a b ≡ true
 less a b h = grind (arith, nat_tests)
@@ -47,35 +48,32 @@ module _ {S : Type 0} (g : Ghosts S) (mid new : Store S) (world : World) (w : Ne
   free_reply : (v : Answer) → free_verdict (world.made (repo_text w.repo.now)) (lock_wanted world w) ≡ v → IsReplyOf ready v
   free_reply v is = subst (IsReplyOf ready) (ap (λ n. free_verdict n (lock_wanted world w)) counted ∙ is) (is_ready (lock_wanted world w) (ap (λ n. n + 1) (sym counted)) refl refl refl)
 
-  shows : (creation : Creation) (reply : Reply) → placed_verdict world w ≡ answer_of world w creation → ReportsCreation creation ready reply → IsReplyOf reply (answer_of world w creation)
-  shows (Created id) reply is same = subst (λ (r : Reply). IsReplyOf r (answer_of world w (Created id))) same (free_reply _ (on_free world w _ (λ k e. absurd (cc)) is))
-  shows (Held row) reply is reports = reports (lock_seen (repo_text w.repo.now) row) (record { id = refl; at = refl; owner = refl; path = refl })
-  shows UsedUp reply is same = subst (λ (r : Reply). IsReplyOf r (answer_of world w UsedUp)) same (free_reply _ (on_free world w _ (λ k e. absurd (cc)) is))
+  -- the reply for a free path, which makes the lock or reports that no id is left
+  free_done : (v : Answer) → ((k : Lock) → Err (by_lock k) ≡ v → ⊥) → serves_object v ≡ false → placed_verdict world w ≡ v → Gives g mid new world v v → Answers g mid new world v (Ok ready)
+  free_done v names_none plain is gives =
+      let shows = free_reply v (on_free world w v names_none is) in
+      record { shows = shows; lends = none_lent g new ready.body v plain shows.body; gives = gives }
 
-  -- if no lock was made, the store may be reported as refusing
-  refuses : (creation : Creation) → MadeNothing creation → placed_verdict world w ≡ answer_of world w creation → Gives g mid new world (placed_verdict world w) (placed_verdict world w)
-      → Gives g mid new world (placed_verdict world w) store_refusal
-  refuses (Created id) none is gives = absurd none
-  refuses (Held row) none is gives =
-      let v = answer_of world w (Held row) in
-      subst (λ (a : Answer). Gives g mid new world a store_refusal) (sym is) (ends_reported g mid new world world (subst (λ (a : Answer). Gives g mid new world a a) is gives))
-  refuses UsedUp none is gives =
-      subst (λ (a : Answer). Gives g mid new world a store_refusal) (sym is) (ends_reported g mid new world world (subst (λ (a : Answer). Gives g mid new world a a) is gives))
+  as_placed : (v : Answer) (r : Result Reply NotGranted) → placed_verdict world w ≡ v → AnswersAlone g mid new world v r → AnswersAlone g mid new world (placed_verdict world w) r
+  as_placed v r is done = subst (λ (a : Answer). AnswersAlone g mid new world a r) (sym is) done
 
-  creates_plainly : (creation : Creation) → serves_object (answer_of world w creation) ≡ false
-  creates_plainly (Created id) = refl
-  creates_plainly (Held row) = refl
-  creates_plainly UsedUp = refl
+  pub made_done : (row : LockRow) → Creates g world w mid new (Ok row) → AnswersAlone g mid new world (placed_verdict world w) (Ok ready)
+  made_done row done =
+      let v : Answer = Ok (makes_lock (lock_wanted world w)) in as_placed v (Ok ready) done.0.0 (free_done v (λ k e. absurd (cc)) refl done.0.0 done.0.1, tt)
 
-  module _ (creation : Creation) (done : Creates g world w mid new (Ok creation)) where
-    -- the reply reports what the call did
-    pub reported_by : (reply : Reply) → ReportsCreation creation ready reply → Answers g mid new world (placed_verdict world w) (Ok reply)
-    reported_by reply reports = record {
-      shows = subst (IsReplyOf reply) (sym done.0) (shows creation reply done.0 reports);
-      lends = subst (Lends g new reply.body) (sym done.0) (none_lent g new reply.body (answer_of world w creation) (creates_plainly creation) (shows creation reply done.0 reports).body);
-      gives = done.2;
-    }
+  pub used_done : Creates g world w mid new (Err fault.UsedUp) → AnswersAlone g mid new world (placed_verdict world w) (Ok ready)
+  used_done done = let v : Answer = Err (by_rule L5) in as_placed v (Ok ready) done.0.0 (free_done v (λ k e. absurd (cc)) refl done.0.0 done.0.1, done.1)
 
-    -- memory ran out for the reply; no lock was made
-    pub unreported : MadeNothing creation → Gives g mid new world (placed_verdict world w) store_refusal
-    unreported none = refuses creation none done.0 done.2
+module _ {S : Type 0} (g : Ghosts S) (mid new : Store S) (world : World) (w : NewLock) (row : LockRow) (done : Creates g world w mid new (Err (fault.Held row))) where
+  abbrev held : Answer
+  held = Err (by_lock (lock_seen (repo_text w.repo.now) row))
+
+  -- the reply reports the lock that holds the path
+  pub held_done : (reply : Reply) → ReportsHeld row reply → AnswersAlone g mid new world (placed_verdict world w) (Ok reply)
+  held_done reply reports =
+      let shows = reports (lock_seen (repo_text w.repo.now) row) (record { id = refl; at = refl; owner = refl; path = refl }) in
+      subst (λ (a : Answer). AnswersAlone g mid new world a (Ok reply)) (sym done.0.0) (record { shows = shows; lends = none_lent g new reply.body held refl shows.body; gives = done.0.1 }, done.1)
+
+  -- memory ran out for the reply
+  pub unreported : Gives g mid new world (placed_verdict world w) store_refusal
+  unreported = subst (λ (a : Answer). Gives g mid new world a store_refusal) (sym done.0.0) (ends_reported g mid new world world done.0.1)

@@ -1,5 +1,5 @@
 -- Requests to upload an object: denied before its content is read, or answered by all of it.
-use Rattle.std.proofs.Common.{◌≡◌, ◌∙◌, ℕ, false, true, List, ◌++◌, length, Result, Ok, Err, is_ok, refl, sym, ap, subst, append-nil, arith}
+use Rattle.std.proofs.Common.{◌≡◌, ◌∙◌, ℕ, false, true, List, ◌++◌, length, Result, Ok, Err, is_ok, is_err, refl, sym, ap, subst, append-nil, arith}
 use Rattle.std.specs.Prelude.{IfOk, OnOk, IfErr}
 use Rattle.std.specs.declared.alloc.AllocError.{AllocError}
 use Rattle.std.proofs.lemmas.Bool.{true≢false}
@@ -40,6 +40,10 @@ plain o Differs = refl
 all_bytes : (bytes more : List ℕ) (left : ℕ) → length more ≡ left → left ≡ 0 → bytes ≡ bytes ++ more
 all_bytes bytes more left is none = sym (ap (λ (rest : List ℕ). bytes ++ rest) (nil_from_length more (is ∙ none)) ∙ append-nil bytes)
 
+-- a plan to receive an upload is no denial
+granted_not : {plan : Result Plan Denial} {name : List ℕ} → plan ≡ Ok (receives name) → is_err plan ≡ true → ⊥
+granted_not is refused = true≢false (sym refused ∙ ap is_err is)
+
 -- ---- an upload whose plan is to receive these bytes
 
 module _ {S : Type 0} {g : Ghosts S} {old new : Store S} {world : World} {repo name bytes : List ℕ} {left : ℕ} {plan : Result Plan Denial} (is : plan ≡ Ok (receives name)) where
@@ -50,8 +54,9 @@ module _ {S : Type 0} {g : Ghosts S} {old new : Store S} {world : World} {repo n
         subst (λ p. AnswersIf g old new world (verdict_by world repo p (bytes ++ more)) (Err (fault.Store f))) (sym is) (record { shows = tt; lends = tt; gives = received.0 more (len refl) });
     in_time = λ put. tt;
     kept = λ put. received.1;
+    tables = λ more denied. absurd (granted_not is (denied refl));
   }
-  put_failed (fault.Body cut) received = record { answers = λ more len. received; in_time = λ put. ap is_ok is; kept = λ put some. received }
+  put_failed (fault.Body cut) received = record { answers = λ more len. received; in_time = λ put. ap is_ok is; kept = λ put some. received; tables = λ more denied. absurd (granted_not is (denied refl)) }
 
   -- all of the content was read, and the reply is given
   pub put_done : (receipt : Receipt) (reply : Reply) → left ≡ 0 → Receives g old new world repo name bytes left (Ok receipt) → RepliesReceived receipt (Ok reply)
@@ -70,6 +75,7 @@ module _ {S : Type 0} {g : Ghosts S} {old new : Store S} {world : World} {repo n
             (subst (λ (b : List ℕ). Answers g old new world (content_verdict (object_from repo name b)) (Ok reply)) (all_bytes bytes more left (len refl) none) done);
         in_time = λ put. (name, is, none);
         kept = λ put. tt;
+        tables = λ more denied. absurd (granted_not is (denied refl));
       }
 
   -- memory ran out for the reply to other bytes; that to a stored object needs none
@@ -100,7 +106,7 @@ module _ {S B : Type 0} {g : Ghosts S} {b : BodyGhosts B} {old mid new : Store S
       each = λ k world h who user n upto.
           let lead = reads_lead g old mid _ world may h in
           let is = ap (λ m. put_verdict (case_seen world case who) m asked) (upto refl ∙ sym sized) ∙ may.each (received.honest k) world h who user in
-          answered_then g true world (case_repo case).name (put_verdict (case_seen world case who) n asked) old mid new lead bytes (b.size after) r
+          answered_then g true world (case_repo case).name (put_verdict (case_seen world case who) n asked) old mid new lead may.same bytes (b.size after) r
           (answered world _ is (subst (λ (name : List ℕ). Receives g mid new world name asked.name bytes (b.size after) receipt) named (received.each k world lead.holds)));
     };
     settled = λ off. absurd (true≢false off);

@@ -16,7 +16,7 @@ use Rattle.desk.proofs.Lent.{none_lent}
 use Rattle.desk.specs.declared.cases.Denial as code
 use Rattle.desk.specs.declared.replies.Reply.{Reply}
 use Rattle.desk.specs.Replies.{IsReplyOf}
-use Rattle.desk.specs.Done.{Answers, AnswersOrDenies}
+use Rattle.desk.specs.Done.{AnswersAlone}
 use Rattle.desk.specs.declared.outcomes.NotGranted.{NotGranted}
 use Rattle.std.specs.List.{AllByRecursion}
 use Rattle.std.proofs.lemmas.Bool.Decides.{nat_tests}
@@ -139,16 +139,19 @@ id_found repo id world l there =
     subst (λ n. lock_with repo n world ≡ Some l) (sym (number_is l.id id (found_passes (λ (k : Lock). k.id == id) (locks_of repo world) l there))) there
 
 module _ {S : Type 0} (g : Ghosts S) (old new : Store S) (world : World) (repo : List ℕ) (id : ℕ) (l : Lock) (there : lock_with repo id world ≡ Some l) where
-  pub removed : (reply : Reply) → IsReplyOf reply (Ok (releases l)) → Removes g world repo id old new (Ok true) → Answers g old new world (Ok (releases l)) (Ok reply)
-  removed reply shows done = record {
-    shows = shows;
-    lends = none_lent g new reply.body (Ok (releases l)) refl shows.body;
-    gives = subst (λ (o : Option Lock). Ends g old new changed world (without_found o world) (without_found o world)) there done.1;
-  }
+  pub removed : (reply : Reply) → IsReplyOf reply (Ok (releases l)) → Removes g world repo id old new (Ok true) → AnswersAlone g old new world (Ok (releases l)) (Ok reply)
+  removed reply shows done = (
+    record {
+      shows = shows;
+      lends = none_lent g new reply.body (Ok (releases l)) refl shows.body;
+      gives = subst (λ (o : Option Lock). Ends g old new changed world (without_found o world) (without_found o world)) there done.1;
+    },
+    tt,
+  )
 
   -- the lock is there, so it is removed
-  pub not_removed : (r : Result Reply NotGranted) → Removes g world repo id old new (Ok false) → AnswersOrDenies g old new world (Ok (releases l)) r
+  pub not_removed : (r : Result Reply NotGranted) → Removes g world repo id old new (Ok false) → AnswersAlone g old new world (Ok (releases l)) r
   not_removed r done = absurd (true≢false (sym (ap is_some there) ∙ done.0))
 
   pub removal_refused : (fault : StoreFault) → Removes g world repo id old new (Err fault) → Gives g old new world (Ok (releases l)) store_refusal
-  removal_refused fault done = subst (λ (o : Option Lock). Ends g old new failed world (without_found o world) world) there done
+  removal_refused fault done = subst (λ (o : Option Lock). Ends g old new failed world (without_found o world) world) there done.0

@@ -1,23 +1,23 @@
 -- Requests that only read the store: their replies, and what a stop leaves.
-use Rattle.std.proofs.Common.{◌≡◌, ◌∙◌, ℕ, false, List, Some, Result, Ok, Err, refl, sym, ap, subst}
+use Rattle.std.proofs.Common.{◌≡◌, ◌∙◌, ℕ, Bool, true, false, cond, List, Some, Result, Ok, Err, refl, sym, ap, subst}
 use Rattle.std.specs.Prelude.{IsErrAnd, ⊤}
 use Rattle.sqlite_trees.specs.declared.store.Store.{Ghosts}
 use Rattle.model.specs.World.{World, Object, IsWorld}
 use Rattle.model.specs.Callers.{Caller}
 use Rattle.model.specs.Forms.{Request}
 use Rattle.model.specs.Cases as cases
-use Rattle.model.specs.Answers.{Answer, serves}
+use Rattle.model.specs.Answers.{Answer, Denial, serves, is_store_refusal}
 use Rattle.model.specs.Verdict.{plan_to, plan_for}
 use Rattle.model.specs.Steps.{after}
-use Rattle.model.specs.Bounds.{is_changed, answer_ending}
+use Rattle.model.specs.Bounds.{failed, unchanged, is_changed, answer_ending}
 use Rattle.tables.specs.declared.Store.{Store}
 use Rattle.refinement.specs.Representation.{Holds}
 use Rattle.tables.specs.declared.fault.StoreFault.{StoreFault}
-use Rattle.refinement.specs.Left.{From, Reads, Ends}
-use Rattle.refinement.proofs.Leading.{reads_lead, reads_none, ends_still}
+use Rattle.refinement.specs.Left.{From, KeepsTables, LeavesTables, Reads, Ends}
+use Rattle.refinement.proofs.Leading.{reads_lead, reads_none, ends_still, leaves_kept}
 use Rattle.desk.specs.declared.replies.Reply.{Reply}
 use Rattle.desk.specs.Replies.{IsReplyOf, Lends}
-use Rattle.desk.specs.Done.{Answers, AnswersCaller, AnswersEach, AnswersOrDenies, AnswersUser, RepliesOrDenies, verdict_by}
+use Rattle.desk.specs.Done.{Answers, AnswersAlone, AnswersCaller, AnswersEach, AnswersUser, RepliesOrDenies, given_by, verdict_by}
 use Rattle.desk.specs.Rights.{IsCallerOf, case_repo, case_seen, denial_view}
 use Rattle.desk.specs.declared.cases.Case.{Case}
 use Rattle.desk.specs.declared.cases.Denial as code
@@ -50,7 +50,7 @@ module _ {S : Type 0} {g : Ghosts S} {old new : Store S} {IsAsking : Caller → 
   refused_after fault (Ok reply) reads is = absurd is
   refused_after fault (Err e) reads is = subst (λ (x : NotGranted). AnswersEach g IsAsking old new verdict (Err x)) (sym is) (record {
     honest = reads.same.was_honest;
-    each = λ honest world h who asks. refused_done g old new world (verdict world who) fault (reads_lead g old new P world reads h);
+    each = λ honest world h who asks. (refused_done g old new world (verdict world who) fault (reads_lead g old new P world reads h), reads.same);
   })
 
   -- the request is denied after calls that only read
@@ -59,7 +59,10 @@ module _ {S : Type 0} {g : Ghosts S} {old new : Store S} {IsAsking : Caller → 
   denied_after denial (Ok reply) reads is given = absurd is
   denied_after denial (Err e) reads is given = subst (λ (x : NotGranted). AnswersEach g IsAsking old new verdict (Err x)) (sym is) (record {
     honest = reads.same.was_honest;
-    each = λ honest world h who asks. (given world h.laws (reads.each honest world h) who asks, reads_lead g old new P world reads h);
+    each = λ honest world h who asks. (
+      (given world h.laws (reads.each honest world h) who asks, reads_lead g old new P world reads h),
+      leaves_kept g old new (answer_ending world (Some (verdict world who))) reads.same,
+    );
   })
 
   -- the reply is the content of an object
@@ -69,8 +72,10 @@ module _ {S : Type 0} {g : Ghosts S} {old new : Store S} {IsAsking : Caller → 
   served_after reply reads is = record {
     honest = reads.same.was_honest;
     each = λ honest world h who asks.
-        let served = is world h.laws (reads.each honest world h) who asks in
-        replied_with g old new P (verdict world who) (Ok (serves served.0)) reply reads (λ w. refl) (λ w. refl) served.2 world h served.1 served.3;
+        let served = is world h.laws (reads.each honest world h) who asks in (
+          replied_with g old new P (verdict world who) (Ok (serves served.0)) reply reads (λ w. refl) (λ w. refl) served.2 world h served.1 served.3,
+          leaves_kept g old new (answer_ending world (Some (verdict world who))) reads.same,
+        );
   }
 
   -- the reply is another one that changes nothing
@@ -78,8 +83,10 @@ module _ {S : Type 0} {g : Ghosts S} {old new : Store S} {IsAsking : Caller → 
       → ((world : World) → IsWorld world → P world → (who : Caller) → IsAsking who → verdict world who ≡ given) → AnswersEach g IsAsking old new verdict (Ok reply)
   replied_after given reply reads quiet shows is = record {
     honest = reads.same.was_honest;
-    each = λ honest world h who asks.
-        replied_with g old new P (verdict world who) given reply reads quiet.ending quiet.after shows world h (is world h.laws (reads.each honest world h) who asks) (none_lent g new reply.body given quiet.plain shows.body);
+    each = λ honest world h who asks. (
+      replied_with g old new P (verdict world who) given reply reads quiet.ending quiet.after shows world h (is world h.laws (reads.each honest world h) who asks) (none_lent g new reply.body given quiet.plain shows.body),
+      leaves_kept g old new (answer_ending world (Some (verdict world who))) reads.same,
+    );
   }
 
 -- the request is denied before any call
@@ -99,7 +106,7 @@ module _ {S : Type 0} {g : Ghosts S} {old new : Store S} {IsAsking IsCalling : C
     honest = done.honest;
     each = λ honest world h who calls.
         let same = alike world who calls in
-        subst (λ (v : Answer). AnswersOrDenies g old new world v r) same.1 (done.each honest world h who same.0);
+        subst (λ (v : Answer). AnswersAlone g old new world v r) same.1 (done.each honest world h who same.0);
   }
 
 -- ---- requests without a content
@@ -124,12 +131,24 @@ module _ (case : Case) (verdict : cases.Case → Answer) (asked : Request) (left
 -- ---- the reply to a request, or to its denial
 
 module _ {S : Type 0} (g : Ghosts S) (old new : Store S) where
-  reply_of : (world : World) (given : Answer) (done : Result Reply NotGranted) (r : Result Reply StoreFault) → AnswersOrDenies g old new world given done → RepliesOrDenies done r → Answers g old new world given r
-  reply_of world given (Ok reply) r done is = subst (Answers g old new world given) (sym is) done
-  reply_of world given (Err (not_granted.Store fault)) r done is = subst (Answers g old new world given) (sym is) done
-  reply_of world given (Err (not_granted.Denied denial)) (Ok reply) done is = denied_done g old new world given (denial_view denial) reply done.0 is done.1
-  reply_of world given (Err (not_granted.Denied denial)) (Err fault) done is = refused_done g old new world given fault done.1
+  -- the answer, and what is left of the tables
+  abbrev pub Replies : World → Answer → Result Reply StoreFault → Type 0
+  Replies world given r = Answers g old new world given r × LeavesTables g (answer_ending world (Some (given_by given r))) old new
+
+  -- a denial leaves the tables as they were
+  denial_keeps : (world : World) (given : Answer) (denial : Denial) → given ≡ Err denial → LeavesTables g (answer_ending world (Some given)) old new → KeepsTables g old new
+  denial_keeps world given denial is leaves = at (is_store_refusal (Err denial)) (subst (λ (v : Answer). LeavesTables g (answer_ending world (Some v)) old new) is leaves)
+    where
+      at : (v : Bool) → LeavesTables g (cond v failed unchanged) old new → KeepsTables g old new
+      at true same = same
+      at false same = same
+
+  reply_of : (world : World) (given : Answer) (done : Result Reply NotGranted) (r : Result Reply StoreFault) → AnswersAlone g old new world given done → RepliesOrDenies done r → Replies world given r
+  reply_of world given (Ok reply) r done is = subst (Replies world given) (sym is) done
+  reply_of world given (Err (not_granted.Store fault)) r done is = subst (Replies world given) (sym is) done
+  reply_of world given (Err (not_granted.Denied denial)) (Ok reply) done is = (denied_done g old new world given (denial_view denial) reply done.0.0 is done.0.1, done.1)
+  reply_of world given (Err (not_granted.Denied denial)) (Err fault) done is = (refused_done g old new world given fault done.0.1, denial_keeps world given (denial_view denial) done.0.0 done.1)
 
   pub replied : {IsAsking : Caller → Type 0} {verdict : World → Caller → Answer} {done : Result Reply NotGranted} {r : Result Reply StoreFault} → AnswersEach g IsAsking old new verdict done → RepliesOrDenies done r
-      → From g old new (λ world. (who : Caller) → IsAsking who → Answers g old new world (verdict world who) r)
+      → From g old new (λ world. (who : Caller) → IsAsking who → Replies world (verdict world who) r)
   replied answers is = record { honest = answers.honest; each = λ honest world h who asks. reply_of world _ _ _ (answers.each honest world h who asks) is }

@@ -25,11 +25,12 @@ use Rattle.forms.specs.Requests.{lock_asked}
 use Rattle.forms.specs.declared.lock.LockRequest.{LockRequest}
 use Rattle.tables.specs.declared.Store.{Store}
 use Rattle.tables.specs.declared.fault.StoreFault.{StoreFault}
-use Rattle.refinement.specs.Left.{Leads, Gives}
-use Rattle.refinement.proofs.Leading.{ends_still, denial_changes_none, still_then}
+use Rattle.refinement.specs.Representation.{Holds}
+use Rattle.refinement.specs.Left.{Leads, Gives, KeepsTables, Reads}
+use Rattle.refinement.proofs.Leading.{ends_still, denial_changes_none, leaves_then, reads_lead, still_then}
 use Rattle.tokens.specs.Callers.{IsHolder}
 use Rattle.tokens.specs.declared.callers.Caller.{Caller}
-use Rattle.desk.specs.Done.{Answers, AnswersOrDenies, given_by}
+use Rattle.desk.specs.Done.{Answers, AnswersAlone, AnswersOrDenies, given_by, given_or}
 use Rattle.desk.specs.declared.outcomes.NotGranted.{NotGranted}
 use Rattle.desk.specs.declared.outcomes.NotGranted.TheVariants as not_granted
 use Rattle.desk.proofs.Lent.{none_lent}
@@ -113,16 +114,16 @@ module _ {S : Type 0} (g : Ghosts S) (old new : Store S) (world : World) (given 
   })
 
   -- a refusal of the inner call is passed on as a refusal
-  pub passed_on : (fault : StoreFault) (r : Result Reply NotGranted) → IsErrAnd r (λ e. e ≡ not_granted.Store fault) → Gives g old new world given store_refusal → AnswersOrDenies g old new world given r
-  passed_on fault (Ok reply) is p = absurd is
-  passed_on fault (Err e) is p = subst (λ (x : NotGranted). AnswersOrDenies g old new world given (Err x)) (sym is) (record { shows = tt; lends = tt; gives = p })
+  pub passed_on : (fault : StoreFault) (r : Result Reply NotGranted) → IsErrAnd r (λ e. e ≡ not_granted.Store fault) → Gives g old new world given store_refusal → KeepsTables g old new → AnswersAlone g old new world given r
+  passed_on fault (Ok reply) is p same = absurd is
+  passed_on fault (Err e) is p same = subst (λ (x : NotGranted). AnswersAlone g old new world given (Err x)) (sym is) (record { shows = tt; lends = tt; gives = p }, same)
 
   -- the store refused or memory ran out before anything was tried
   pub refused_done : (fault : StoreFault) → Leads g old new world (λ bound. bound) → Answers g old new world given (Err fault)
   refused_done fault p = record { shows = tt; lends = tt; gives = ends_still g old new failed world (after world (Some given)) refl p }
 
-  pub refused_early : (fault : StoreFault) (r : Result Reply NotGranted) → IsErrAnd r (λ e. e ≡ not_granted.Store fault) → Leads g old new world (λ bound. bound) → AnswersOrDenies g old new world given r
-  refused_early fault r is p = passed_on fault r is (ends_still g old new failed world (after world (Some given)) refl p)
+  pub refused_early : (fault : StoreFault) (r : Result Reply NotGranted) → IsErrAnd r (λ e. e ≡ not_granted.Store fault) → Leads g old new world (λ bound. bound) → KeepsTables g old new → AnswersAlone g old new world given r
+  refused_early fault r is p same = passed_on fault r is (ends_still g old new failed world (after world (Some given)) refl p) same
 
 module _ {S : Type 0} (g : Ghosts S) (old mid new : Store S) (world : World) (given : Answer) where
   -- the result after calls that only read
@@ -133,7 +134,10 @@ module _ {S : Type 0} (g : Ghosts S) (old mid new : Store S) (world : World) (gi
     gives = still_then g old mid new world (after world (Some (given_by given r))) (left_by (answer_ending world (Some (given_by given r))) world (after world (Some given))) p done.gives;
   }
 
-  pub granted_then : (r : Result Reply NotGranted) → Leads g old mid world (λ bound. bound) → AnswersOrDenies g mid new world given r → AnswersOrDenies g old new world given r
-  granted_then (Ok reply) p done = done_then (Ok reply) p done
-  granted_then (Err (not_granted.Store fault)) p done = done_then (Err fault) p done
-  granted_then (Err (not_granted.Denied denial)) p done = (done.0, still_then g old mid new world world (λ bound. bound) p done.1)
+  granted_or_denied : (r : Result Reply NotGranted) → Leads g old mid world (λ bound. bound) → AnswersOrDenies g mid new world given r → AnswersOrDenies g old new world given r
+  granted_or_denied (Ok reply) p done = done_then (Ok reply) p done
+  granted_or_denied (Err (not_granted.Store fault)) p done = done_then (Err fault) p done
+  granted_or_denied (Err (not_granted.Denied denial)) p done = (done.0, still_then g old mid new world world (λ bound. bound) p done.1)
+
+  pub granted_then : {P : World → Type 0} (r : Result Reply NotGranted) → Reads g old mid P → Holds g old world → AnswersAlone g mid new world given r → AnswersAlone g old new world given r
+  granted_then r reads h done = (granted_or_denied r (reads_lead g old mid _ world reads h) done.0, leaves_then g old mid new (answer_ending world (Some (given_or given r))) reads.same done.1)

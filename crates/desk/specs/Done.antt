@@ -11,13 +11,14 @@ use Rattle.model.specs.World.{World, total}
 use Rattle.model.specs.Answers.{Answer, Denial, Plan, receives, store_refusal}
 use Rattle.model.specs.Objects.{finish}
 use Rattle.model.specs.Views.{SameViews}
+use Rattle.model.specs.Bounds.{Bound, answer_ending}
 use Rattle.model.specs.Laws.{quota_of}
 use Rattle.tables.specs.declared.Store.{Store}
 use Rattle.tables.specs.declared.fault.StoreFault.{StoreFault}
 use Rattle.tables.specs.Shown.{IsHonest}
 use Rattle.refinement.specs.Representation.{Holds}
-use Rattle.refinement.specs.Left.{From, Gives, Keeps, Leads}
-use Rattle.uploads.specs.Bounds.{StoresWithin}
+use Rattle.refinement.specs.Left.{From, Gives, IsBoundedBy, Keeps, Leads, LeavesTables}
+use Rattle.uploads.specs.Bounds.{AreWithin, StoresWithin, LeavesWithin}
 use Rattle.desk.specs.declared.replies.Reply.{Reply}
 use Rattle.desk.specs.declared.outcomes.Answered.{Answered}
 use Rattle.desk.specs.declared.outcomes.AnswerFault.{AnswerFault}
@@ -33,6 +34,12 @@ use Rattle.desk.specs.Rights.{IsUserOf, IsCallerOf, case_seen, denial_view}
 abbrev pub given_by : Answer → Result Reply StoreFault → Answer
 given_by verdict (Ok reply) = verdict
 given_by verdict (Err fault) = store_refusal
+
+-- the same for a request without a content, which may also be denied
+abbrev pub given_or : Answer → Result Reply NotGranted → Answer
+given_or verdict (Ok reply) = verdict
+given_or verdict (Err (not_granted.Store fault)) = store_refusal
+given_or verdict (Err (not_granted.Denied denial)) = verdict
 
 -- every user's view of any other repository is unchanged
 abbrev pub LeavesOthers : List ℕ → World → World → Type 0
@@ -52,12 +59,17 @@ module _ {S : Type 0} (g : Ghosts S) where
   AnswersOrDenies old new world verdict (Err (not_granted.Denied denial)) =
       (verdict ≡ Err (denial_view denial)) × Leads g old new world (λ bound. bound)
 
+  -- the same, and unless the answer makes a change the tables are as before
+  abbrev pub AnswersAlone : Store S → Store S → World → Answer → Result Reply NotGranted → Type 0
+  AnswersAlone old new world verdict r =
+      AnswersOrDenies old new world verdict r × LeavesTables g (answer_ending world (Some (given_or verdict r))) old new
+
   -- each such caller is answered or denied: the verdict is that on the world that the store held
   pub record AnswersEach
       (IsAsking : Caller → Type 0) (old new : Store S) (verdict : World → Caller → Answer) (r : Result Reply NotGranted) : Type 0 where
     pub honest : IsHonest g new → IsHonest g old
     pub each : IsHonest g new → (world : World) → Holds g old world → (who : Caller) → IsAsking who
-        → AnswersOrDenies old new world (verdict world who) r
+        → AnswersAlone old new world (verdict world who) r
 
   -- the user of the case is answered or denied, by the verdict on the case
   abbrev pub AnswersUser : Case → Store S → Store S → (model.Case → Answer) → Result Reply NotGranted → Type 0
@@ -109,7 +121,8 @@ module _ {S : Type 0} (g : Ghosts S) where
 
   -- these bytes of the content were read, and `left` more were not. The answer is that to any content that begins with
   -- them; that of an upload, to any of its whole length. An upload is denied before its content is read, or answered by
-  -- all of it; after a fault the world is kept unless all of it was read
+  -- all of it; after a fault the world is kept unless all of it was read. Unless a content may have been begun, the tables
+  -- are as before if the answer makes no change
   pub record IsAnsweredAs
       (is_upload : Bool) (old new : Store S) (world : World) (repo : List ℕ) (plan : Result Plan Denial) (bytes : List ℕ)
       (left : ℕ) (r : Result Answered AnswerFault) : Type 0 where
@@ -117,6 +130,8 @@ module _ {S : Type 0} (g : Ghosts S) where
         → AnswersIf old new world (verdict_by world repo plan (bytes ++ more)) r
     pub in_time : is_upload ≡ true → IsInTime plan left r
     pub kept : is_upload ≡ true → IfErr r (λ fault. 0 < left → Keeps g old new world)
+    pub tables : (more : List ℕ) → (is_upload ≡ true → is_err plan ≡ true)
+        → LeavesTables g (answer_ending world (given_with (verdict_by world repo plan (bytes ++ more)) r)) old new
 
 -- whoever asks, the request is answered by the plan, and these bytes of its content were read: of an upload all of them,
 -- unless the answer is a fault or the reply leaves the content unread; of any other request none
@@ -134,9 +149,18 @@ pub record AnswersRequest
   pub fault : IfErr r (IsLeftBy b before after)
 
 module _ {S : Type 0} (g : Ghosts S) where
-  -- a repository whose total was at most a bound, under a policy whose quota for it is, now has at most this bound and one
-  -- largest object in the database
-  abbrev pub StaysWithin : Store S → Policy → World → Type 0
-  StaysWithin new policy world =
+  -- the world that the store holds after a request in a repository: other repositories are unchanged, and a total that was
+  -- at most a bound, as the policy's quota for it is, still is
+  pub record LeavesWorld (new : Store S) (policy : Policy) (repo : List ℕ) (world : World) : Type 0 where
+    pub kept : World
+    pub holds : Holds g new kept
+    pub apart : LeavesOthers repo world kept
+    pub within : (name : List ℕ) (most : ℕ) → total name world ≤ most → quota_of name policy ≤ most → total name kept ≤ most
+
+  -- a repository whose total was at most a bound, as the policy's quota for it is, has at most this bound and one largest
+  -- object in the database; and in whatever a stop leaves, if its total was in each world that a stop might have left
+  abbrev pub StaysWithin : Store S → Store S → Policy → World → Type 0
+  StaysWithin old new policy world =
       (repo : List ℕ) (most : ℕ) → total repo world ≤ most → quota_of repo policy ≤ most
       → StoresWithin g new repo (most + largest_object)
+      × ((bound : Bound) → IsBoundedBy g old bound → AreWithin repo most bound → LeavesWithin g new repo (most + largest_object))

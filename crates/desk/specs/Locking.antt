@@ -1,5 +1,5 @@
 -- A request for a lock.
-use Rattle.std.specs.Prelude.{◌≡◌, ◌+◌, ℕ, nat_lt, [], Some, Ok, Err, ⊤}
+use Rattle.std.specs.Prelude.{◌≡◌, ◌+◌, ℕ, nat_lt, [], Some, Ok, Err}
 use Rattle.names.specs.Names.{repo_text, ref_text, path_text, user_text}
 use Rattle.names.specs.Texts.{last_lock_id}
 use Rattle.names.specs.declared.rules.Rule.TheVariants.{L5}
@@ -15,8 +15,6 @@ use Rattle.forms.specs.declared.shown_lock.ShownLock.{ShownLock}
 use Rattle.forms.specs.declared.lock.LockRequest.{LockRequest}
 use Rattle.tables.specs.declared.rows.LockRow.{LockRow}
 use Rattle.tables.specs.declared.new_rows.NewLock.{NewLock}
-use Rattle.tables.specs.declared.rows.Creation.{Creation}
-use Rattle.tables.specs.declared.rows.Creation.TheVariants.{Created, Held, UsedUp}
 use Rattle.locks.specs.Creating.{placed_verdict}
 use Rattle.desk.specs.declared.replies.Reply.{Reply}
 use Rattle.desk.specs.declared.cases.Case.{Case}
@@ -58,18 +56,6 @@ IsReadyAfter made w reply =
 -- the reply reports the lock of this row as the one that holds the path
 abbrev pub ReportsHeld : LockRow → Reply → Type 0
 ReportsHeld row reply = (l : Lock) → IsOfRow row l → IsReplyOf reply (Err (by_lock l))
-
--- the reply reports the lock that holds the path, or is the one for a free path
-abbrev pub ReportsCreation : Creation → Reply → Reply → Type 0
-ReportsCreation (Held row) ready reply = ReportsHeld row reply
-ReportsCreation (Created id) ready reply = ready ≡ reply
-ReportsCreation UsedUp ready reply = ready ≡ reply
-
--- no lock was made
-abbrev pub MadeNothing : Creation → Type 0
-MadeNothing (Created id) = ⊥
-MadeNothing (Held row) = ⊤
-MadeNothing UsedUp = ⊤
 
 -- the attempt is what the request asks, in this repository and for this user
 pub record IsWantedBy (case : Case) (asked : LockRequest) (w : NewLock) : Type 0 where

@@ -1,19 +1,19 @@
 //! Which requests are admitted: by a token for the repository, in a repository that exists.
 
-ghost use Rattle.std.specs.Prelude.{◌≡◌};
+ghost use Rattle.std.specs.Prelude.{◌≡◌, IfOk};
 ghost use Rattle.names.specs.Names.{repo_text};
 ghost use Rattle.model.specs.Forms.{needs_upload, is_upload};
 ghost use Rattle.policy.specs.Values.{policy_view};
-ghost use Rattle.forms.specs.Given.{Reads};
+ghost use Rattle.forms.specs.Given.{Gives};
 ghost use Rattle.forms.specs.Requests.{request_asked};
 ghost use Rattle.desk.specs.Asking.{request_read, is_put};
 ghost use Rattle.desk.specs.Admission.{admission_result, admission_view};
 
-use forms::{Refusal, Request, read_form};
+use forms::{Request, read_form};
 use model::Form;
 use names::{Operation, Rule};
 use policy::{Policy, Repo};
-use std::alloc::Global;
+use std::alloc::{AllocError, Global};
 use tokens::Caller;
 
 /// A request in a repository, from its head and its body. The content of an upload is not part of it.
@@ -60,30 +60,35 @@ fn is_for_upload(operation: Operation) -> bool
     }
 }
 
-/// Returns the repository and the request.
+/// Returns the repository and the request, or the first rule that refuses it: A4, R1, the J rules, A5.
 ///
 /// # Errors
 ///
-/// The first rule that refuses the request: A4, R1, the J rules, A5; or `Memory`.
+/// An [`AllocError`] if memory runs out.
 pub(crate) fn admit<'a>(
     alloc: Global,
     policy: &'a Policy,
     caller: &Caller<'_>,
     asked: &RepoRequest<'_>,
-) -> Result<(&'a Repo, Request), Refusal>
-    ensures { Reads admission_view result (admission_result (policy_view policy.entry.now)
-        (repo_text caller.entry.now.repo) (is_upload caller.entry.now.operation)
-        asked.entry.now.repo.now (request_read asked.entry.now)) }
+) -> Result<Result<(&'a Repo, Request), Rule>, AllocError>
+    ensures { IfOk result (λ admitted. Gives admission_view admitted (admission_result
+        (policy_view policy.entry.now) (repo_text caller.entry.now.repo)
+        (is_upload caller.entry.now.operation) asked.entry.now.repo.now
+        (request_read asked.entry.now))) }
 {
     if caller.repo.as_str() != asked.repo {
-        return Err(Rule::A4.into());
+        return Ok(Err(Rule::A4));
     }
     let Some(repo) = policy.repo(asked.repo) else {
-        return Err(Rule::R1.into());
+        return Ok(Err(Rule::R1));
     };
-    let request = read_form(alloc, asked.form, asked.parameter, asked.query, asked.body)?;
+    let read = read_form(alloc, asked.form, asked.parameter, asked.query, asked.body)?;
+    let request = match read {
+        Ok(request) => request,
+        Err(rule) => return Ok(Err(rule)),
+    };
     if needs_upload(&request) && !is_for_upload(caller.operation) {
-        return Err(Rule::A5.into());
+        return Ok(Err(Rule::A5));
     }
-    Ok((repo, request))
+    Ok(Ok((repo, request)))
 }

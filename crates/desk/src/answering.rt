@@ -1,9 +1,7 @@
 //! The way of a request: identify the caller, admit the request, carry it out.
 
 ghost use Rattle.std.specs.Prelude.{◌≡◌, ℕ, List, true, false, IfOk, IfErr, OnOk, Err};
-ghost use Rattle.model.specs.World.{World};
 ghost use Rattle.model.specs.Answers.{by_rule};
-ghost use Rattle.model.specs.Steps.{after};
 ghost use Rattle.model.specs.Verdict.{caller_plan, plan_for};
 ghost use Rattle.policy.specs.Values.{policy_view};
 ghost use Rattle.forms.specs.Requests.{request_asked};
@@ -11,7 +9,7 @@ ghost use Rattle.refinement.specs.Left.{From};
 ghost use Rattle.tokens.specs.Callers.{IsHolder};
 ghost use Rattle.desk.specs.Replies.{IsReplyOf};
 ghost use Rattle.desk.specs.Contents.{HasRead, IsLeftBy};
-ghost use Rattle.desk.specs.Done.{AnswersEach, AnswersRequest, LeavesOthers, IsAnsweredAs, IsSettled, StaysWithin, given_with, verdict_by};
+ghost use Rattle.desk.specs.Done.{AnswersEach, AnswersRequest, LeavesWorld, IsAnsweredAs, IsSettled, StaysWithin, verdict_by};
 ghost use Rattle.desk.specs.Rights.{IsCallerOf, case_repo, case_seen};
 ghost use Rattle.desk.specs.Asking.{is_put, uploads, plan_seen, request_seen, setting_of};
 
@@ -27,13 +25,13 @@ use crate::replies::Reply;
 use crate::unlocking::unlock;
 use crate::uploading::put;
 use crate::verifying::verify_locks;
-use forms::{Answer, Refusal, Request};
+use forms::{Answer, Request};
 use model::Form;
 use names::{Body, Moment, Rule};
 use policy::Policy;
 use std::alloc::{AllocError, Global};
 use tables::{Alter, Store, StoreFault};
-use tokens::Caller;
+use tokens::{Caller, CallerFault};
 
 /// Answers a request in a repository, and makes the change that the answer reports.
 ///
@@ -42,14 +40,17 @@ use tokens::Caller;
 /// what was done. The bytes of an upload are read from `content` once no rule refuses it; of any other
 /// request `content` is not read.
 ///
-/// A repository within its quota then has at most its quota and one largest object in the database.
+/// A denied request leaves the tables as they were, unless X2 denies it. The views of other repositories do not change. A
+/// repository within its quota then has at most its quota and one largest object in the database, also in what a
+/// stop leaves.
 ///
 /// # Errors
 ///
 /// - `Store` if the store refused or memory ran out.
 /// - `Body` if the input ended or a read failed within the bytes of an upload.
 ///
-/// The locks, the objects and the tokens of the store are then unchanged.
+/// The locks, the objects and the tokens of the store are then unchanged, and if it is no upload whose content was begun,
+/// the tables.
 pub fn answer<S: Alter, B: Body>(
     alloc: Global,
     store: &mut Store<S>,
@@ -71,16 +72,15 @@ pub fn answer<S: Alter, B: Body>(
         → B.size content.new ≡ 0) }
     ensures good { OnOk result (B.failed content.new ≡ B.failed content.old) }
     ensures fault { IfErr result (IsLeftBy B.Body content.old content.new) }
-    ensures apart { (world : World) (size : ℕ) (bytes : List ℕ)
-        → LeavesOthers asked.entry.now.repo.now world (after world (given_with
-        (verdict_by world asked.entry.now.repo.now
-        (plan_seen world policy.entry.now now asked.entry.now size) bytes) result)) }
+    ensures world { From S.Store store.old store.new
+        (LeavesWorld S.Store store.new (policy_view policy.entry.now) asked.entry.now.repo.now) }
     ensures bounded { From S.Store store.old store.new
-        (StaysWithin S.Store store.new (policy_view policy.entry.now)) }
+        (StaysWithin S.Store store.old store.new (policy_view policy.entry.now)) }
 {
-    match tokens::caller(store, asked.authorization, now)? {
+    match tokens::caller(store, asked.authorization, now) {
         Ok(caller) => answer_caller(alloc, store, policy, now, &caller, asked, content),
-        Err(rule) => Ok(refusal(alloc, asked.form, rule)?),
+        Err(CallerFault::Rule(rule)) => Ok(refusal(alloc, asked.form, rule)?),
+        Err(CallerFault::Store(fault)) => Err(fault.into()),
     }
 }
 
@@ -115,7 +115,8 @@ fn answer_caller<S: Alter, B: Body>(
         (setting_of policy.entry.now now) who (request_seen asked.entry.now size))
         store.old store.new content.old content.new result }
 {
-    match admit(alloc, policy, caller, asked) {
+    let admitted = admit(alloc, policy, caller, asked)?;
+    match admitted {
         Ok((repo, request)) => {
             let case = Case {
                 policy,
@@ -127,8 +128,7 @@ fn answer_caller<S: Alter, B: Body>(
             };
             answer_request(alloc, store, &case, &request, content)
         }
-        Err(Refusal::Rule(rule)) => Ok(refusal(alloc, asked.form, rule)?),
-        Err(Refusal::Memory) => Err(AnswerFault::Store(StoreFault::Memory)),
+        Err(rule) => Ok(refusal(alloc, asked.form, rule)?),
     }
 }
 
@@ -166,7 +166,7 @@ fn answer_request<S: Alter, B: Body>(
 ///
 /// # Errors
 ///
-/// `Denied`, and `Store`, which is `Refused` for an upload. Both leave the contents of the store unchanged.
+/// `Denied`, and `Store`, which is `Refused` for an upload. Both leave the tables unchanged.
 fn answer_whole<S: Alter>(
     alloc: Global,
     store: &mut Store<S>,

@@ -1,6 +1,6 @@
 //! A batch: what a client can do with each of its objects (Git LFS API, Batch).
 
-ghost use Rattle.std.specs.Prelude.{◌≡◌, ◌≢◌, ◌++◌, ◌∷◌, [], IfOk, OnOk, Err, Ok, map, option_map, string_bytes};
+ghost use Rattle.std.specs.Prelude.{◌≡◌, ◌++◌, ◌∷◌, [], IfOk, OnOk, Err, Ok, map, option_map, string_bytes};
 ghost use Rattle.names.specs.Names.{ref_text};
 ghost use Rattle.model.specs.World.{total};
 ghost use Rattle.model.specs.RepoState.{has_room, repo_state};
@@ -78,7 +78,7 @@ fn actions_for(
 ///
 /// # Errors
 ///
-/// A [`StoreFault`], which leaves the contents of the store unchanged.
+/// A [`StoreFault`], which leaves the tables unchanged.
 fn judge<S: Alter>(
     store: &mut Store<S>,
     repo: &Repo,
@@ -86,8 +86,7 @@ fn judge<S: Alter>(
     asked: &BatchRequest,
     object: &BatchObject,
 ) -> Result<Result<Actions, Rule>, StoreFault>
-    ensures known { result ≢ Err StoreFault.UnknownSchema }
-    ensures world { Reads S.Store store.old store.new (λ world.
+    ensures { Reads S.Store store.old store.new (λ world.
         used ≡ total (repo_view repo.now).name world
         → IfOk result (λ actions. actions ≡ actions_on (repo_state (repo_view repo.now) world)
         (batch_asked asked.now) (object_asked object.now))) }
@@ -125,15 +124,14 @@ fn add_offer<'a>(
 ///
 /// # Errors
 ///
-/// A [`StoreFault`], which leaves the contents of the store unchanged.
+/// A [`StoreFault`], which leaves the tables unchanged.
 pub fn batch_objects<'a, S: Alter>(
     alloc: Global,
     store: &mut Store<S>,
     repo: &Repo,
     asked: &'a BatchRequest,
 ) -> Result<Vec<Offer<'a>>, StoreFault>
-    ensures known { result ≢ Err StoreFault.UnknownSchema }
-    ensures world { Reads S.Store store.old store.new (λ world. IfOk result (λ offers.
+    ensures { Reads S.Store store.old store.new (λ world. IfOk result (λ offers.
         map judged_by offers.items ≡ map (judged_on (repo_state (repo_view repo.now) world)
         (batch_asked asked.now)) (batch_asked asked.now).objects)) }
 {
@@ -186,7 +184,7 @@ fn batch_reply(alloc: Global, links: &Links<'_>, objects: &[Offer<'_>]) -> Resul
 ///
 /// # Errors
 ///
-/// `Denied` by the policy, and `Store`. Both leave the contents of the store unchanged.
+/// `Denied` by the policy, and `Store`. Both leave the tables unchanged.
 pub(crate) fn batch<S: Alter>(
     store: &mut Store<S>,
     alloc: Global,

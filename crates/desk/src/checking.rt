@@ -30,7 +30,7 @@ fn check_size(found: Option<ObjectRow>, size: Size) -> Result<(), Denial>
 ///
 /// # Errors
 ///
-/// `Denied` by the policy, V1 or V2, and `Store`. Both leave the contents of the store unchanged.
+/// `Denied` by the policy, V1 or V2, and `Store`. Both leave the tables unchanged.
 pub(crate) fn verify<S: Alter>(
     store: &mut Store<S>,
     case: &Case<'_>,

@@ -18,7 +18,7 @@ use tables::{Alter, Store};
 ///
 /// # Errors
 ///
-/// `Denied` by the policy or X1, and `Store`. Both leave the contents of the store unchanged.
+/// `Denied` by the policy or X1, and `Store`. Both leave the tables unchanged.
 pub(crate) fn get<S: Alter>(
     store: &mut Store<S>,
     case: &Case<'_>,

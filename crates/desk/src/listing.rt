@@ -58,7 +58,7 @@ fn page_reply(alloc: Global, page: &Page) -> Result<Reply, AllocError>
 ///
 /// # Errors
 ///
-/// `Denied` by the policy or L4, and `Store`. Both leave the contents of the store unchanged.
+/// `Denied` by the policy or L4, and `Store`. Both leave the tables unchanged.
 pub(crate) fn list<S: Alter>(
     store: &mut Store<S>,
     alloc: Global,

@@ -1,6 +1,6 @@
 //! The request for a lock (Git LFS API, File Locking, "Create Lock").
 
-ghost use Rattle.std.specs.Prelude.{◌≡◌, ◌+◌, ◌<◌, IfOk, OnErr, MatchOption};
+ghost use Rattle.std.specs.Prelude.{◌≡◌, ◌+◌, ◌<◌, IfOk, MatchOption};
 ghost use Rattle.names.specs.Texts.{last_lock_id};
 ghost use Rattle.model.specs.Locks.{lock_verdict};
 ghost use Rattle.policy.specs.Values.{question_view};
@@ -8,22 +8,23 @@ ghost use Rattle.forms.specs.Requests.{lock_asked};
 ghost use Rattle.forms.specs.ShownLocks.{lock_shown};
 ghost use Rattle.refinement.specs.Left.{From};
 ghost use Rattle.locks.specs.Creating.{placed_verdict};
-ghost use Rattle.desk.specs.Locking.{ShowsRow, lock_part, IsReadyAfter, ReportsHeld, ReportsCreation, MadeNothing, IsWantedBy, question_on};
-ghost use Rattle.desk.specs.Done.{AnswersOrDenies, AnswersUser};
+ghost use Rattle.desk.specs.Locking.{ShowsRow, lock_part, IsReadyAfter, ReportsHeld, IsWantedBy, question_on};
+ghost use Rattle.desk.specs.Done.{AnswersAlone, AnswersUser};
 
 use crate::cases::Case;
 use crate::outcomes::NotGranted;
 use crate::replies::Reply;
 use crate::rights::{permit, ref_or_default};
 use forms::{Answer, DenialStatus, LockRequest, ShownLock};
+use locks::{Lock, LockFault};
 use model::Right;
 use names::{LockId, Rule};
 use policy::Question;
 use std::alloc::{AllocError, Global};
-use tables::{Alter, Creation, LockRow, NewLock, Store};
+use tables::{Alter, NewLock, Store};
 
 /// The part of a row that a client sees.
-pub(crate) fn shown(row: &LockRow) -> ShownLock<'_>
+pub(crate) fn shown(row: &Lock) -> ShownLock<'_>
     ensures row { ShowsRow row.now result }
     ensures parts { lock_shown result ≡ lock_part row.now }
 {
@@ -60,21 +61,10 @@ fn free_reply(alloc: Global, made: u32, wanted: &NewLock<'_>) -> Result<Reply, A
 }
 
 /// The reply for a path that is already locked: 409 with the lock that holds it.
-fn held_reply(alloc: Global, row: &LockRow) -> Result<Reply, AllocError>
+fn held_reply(alloc: Global, row: &Lock) -> Result<Reply, AllocError>
     ensures { IfOk result (ReportsHeld row.now) }
 {
     Reply::telling(alloc, &Answer::Held(&shown(row)))
-}
-
-/// The reply for a `Creation`; `ready` is the one for a free path.
-fn reply_to(alloc: Global, creation: &Creation, ready: Reply) -> Result<Reply, AllocError>
-    ensures reports { IfOk result (ReportsCreation creation.entry.now ready) }
-    ensures refused { OnErr result (MadeNothing creation.entry.now) }
-{
-    match creation {
-        Creation::Held(row) => held_reply(alloc, row),
-        Creation::Created(_) | Creation::UsedUp => Ok(ready),
-    }
 }
 
 /// Makes the lock if its path is free and an id is left for it, and returns the reply.
@@ -83,20 +73,24 @@ fn reply_to(alloc: Global, creation: &Creation, ready: Reply) -> Result<Reply, A
 ///
 /// # Errors
 ///
-/// `Store`, which leaves the contents of the store unchanged.
+/// `Store`, which leaves the tables unchanged.
 fn make_lock<S: Alter>(
     store: &mut Store<S>,
     alloc: Global,
     wanted: &NewLock<'_>,
 ) -> Result<Reply, NotGranted>
     ensures { From S.Store store.old store.new (λ world.
-        AnswersOrDenies S.Store store.old store.new world
+        AnswersAlone S.Store store.old store.new world
         (placed_verdict world wanted.entry.now) result) }
 {
     let made = locks::made(store, wanted.repo)?;
     let ready = free_reply(alloc, made, wanted)?;
-    let creation = locks::create(store, wanted)?;
-    Ok(reply_to(alloc, &creation, ready)?)
+    match locks::create(alloc, store, wanted) {
+        Ok(_) => Ok(ready),
+        Err(LockFault::Held(lock)) => Ok(held_reply(alloc, &lock)?),
+        Err(LockFault::UsedUp) => Ok(ready),
+        Err(LockFault::Store(fault)) => Err(fault.into()),
+    }
 }
 
 /// The lock that the request asks for.
@@ -129,7 +123,7 @@ fn question_on<'a>(wanted: &NewLock<'a>) -> Question<'a>
 ///
 /// # Errors
 ///
-/// `Denied` by the policy, and `Store`. Both leave the contents of the store unchanged.
+/// `Denied` by the policy, and `Store`. Both leave the tables unchanged.
 pub(crate) fn lock<S: Alter>(
     store: &mut Store<S>,
     alloc: Global,

@@ -1,6 +1,6 @@
 //! What the requests for pages of locks share: where a page begins, and the locks that a client sees.
 
-ghost use Rattle.std.specs.Prelude.{◌≡◌, ℕ, List, IfOk, map, option_map, string_bytes};
+ghost use Rattle.std.specs.Prelude.{ℕ, List, IfOk, map, option_map, string_bytes};
 ghost use Rattle.model.specs.Answers.{by_rules};
 ghost use Rattle.model.specs.Pages.{cursor_in};
 ghost use Rattle.forms.specs.ShownLocks.{AreOf};
@@ -12,9 +12,9 @@ use crate::cases::Denial;
 use crate::locking::shown;
 use cursor::read_cursor;
 use forms::ShownLock;
+use locks::Lock;
 use names::LockId;
 use std::alloc::{AllocError, Global};
-use tables::LockRow;
 
 /// The id at which the page begins; `None` if no cursor is given.
 pub(crate) fn start_at(cursor: Option<&String>) -> Result<Option<LockId>, Denial>
@@ -33,7 +33,7 @@ pub(crate) fn start_at(cursor: Option<&String>) -> Result<Option<LockId>, Denial
 /// The locks of the rows, as a client sees them.
 pub(crate) fn shown_locks<'a>(
     alloc: Global,
-    rows: &'a [LockRow],
+    rows: &'a [Lock],
 ) -> Result<Vec<ShownLock<'a>>, AllocError>
     ensures { IfOk result (λ locks. (repo : List ℕ)
         → AreOf locks.items (map (lock_seen repo) rows.entry.now)) }

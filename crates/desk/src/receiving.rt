@@ -1,6 +1,6 @@
 //! Receives the bytes of an upload (Git LFS API, Basic Transfers, "Uploads").
 
-ghost use Rattle.std.specs.Prelude.{◌≡◌, ◌≢◌, ◌<◌, ◌≤◌, ℕ, List, length, take, Err, OnOk, IfErr};
+ghost use Rattle.std.specs.Prelude.{◌≡◌, ◌<◌, ◌≤◌, ℕ, List, length, take, Err, OnOk, IfErr};
 ghost use Rattle.names.specs.Names.{repo_text};
 ghost use Rattle.refinement.specs.Left.{From, Keeps};
 ghost use Rattle.desk.specs.Contents.{HasRead, IsReadOut, IsLeftBy};
@@ -59,7 +59,6 @@ fn take_all<S: Alter, B: Body>(
     ensures upload { intake.new.upload ≡ intake.old.upload }
     ensures whole { OnOk result (IsReadOut B.Body content.old content.new) }
     ensures fault { IfErr result (IsLeftBy B.Body content.old content.new) }
-    ensures known { result ≢ Err (AnswerFault.Store StoreFault.UnknownSchema) }
 {
     'pieces: while content.left() > 0 {
         let count = content.piece(buffer)?;
@@ -87,7 +86,6 @@ fn fill<S: Alter, B: Body>(
         Fills S.Store store.old store.new upload size bytes result world) }
     ensures whole { OnOk result (IsReadOut B.Body content.old content.new) }
     ensures fault { IfErr result (IsLeftBy B.Body content.old content.new) }
-    ensures known { result ≢ Err (AnswerFault.Store StoreFault.UnknownSchema) }
 {
     let mut intake = Intake::begin(alloc, upload, size)?;
     let mut buffer = vec![in alloc; 0u8; piece_of(size)]?;
@@ -99,15 +97,14 @@ fn fill<S: Alter, B: Body>(
 ///
 /// # Errors
 ///
-/// The errors of [`uploads::complete`], which leave the contents of the store unchanged.
+/// The errors of [`uploads::complete`], which leave the objects of the store unchanged.
 fn settle<S: Alter>(
     store: &mut Store<S>,
     upload: UploadId,
     arrival: &Arrival,
 ) -> Result<Receipt, StoreFault>
-    ensures world { From S.Store store.old store.new (λ world.
+    ensures { From S.Store store.old store.new (λ world.
         Settles S.Store store.old store.new upload arrival.now result world) }
-    ensures known { result ≢ Err StoreFault.UnknownSchema }
 {
     match uploads::complete(store, upload, &arrival.last, &arrival.name, arrival.size) {
         Ok(_) => Ok(Receipt::Stored),
@@ -134,7 +131,6 @@ fn receive_staged<S: Alter, B: Body>(
         upload size bytes (B.size content.new) result world) }
     ensures whole { OnOk result (IsReadOut B.Body content.old content.new) }
     ensures fault { IfErr result (IsLeftBy B.Body content.old content.new) }
-    ensures known { result ≢ Err (AnswerFault.Store StoreFault.UnknownSchema) }
 {
     let arrival = fill(alloc, store, upload, size, content)?;
     Ok(settle(store, upload, &arrival)?)
@@ -186,7 +182,6 @@ pub(crate) fn receive<S: Alter, B: Body>(
         (repo_text repo.now) name.now bytes (B.size content.new) result) }
     ensures whole { OnOk result (IsReadOut B.Body content.old content.new) }
     ensures fault { IfErr result (IsLeftBy B.Body content.old content.new) }
-    ensures known { result ≢ Err (AnswerFault.Store StoreFault.UnknownSchema) }
 {
     let Some(size) = Size::read(content.left()) else {
         return Err(AnswerFault::Store(StoreFault::Refused));

@@ -15,11 +15,11 @@ ghost use Rattle.desk.specs.Replies.{IsReplyOf};
 use crate::cases::{Case, Denial};
 use crate::replies::Reply;
 use forms::{Answer, DenialStatus};
+use locks::Lock;
 use model::Right;
 use names::RefName;
 use policy::{ApplicableRows, Policy, Question, Verdict, decide};
 use std::alloc::{AllocError, Global};
-use tables::LockRow;
 
 /// The ref that is named, or the repository's default.
 pub(crate) fn ref_or_default<'a>(case: &Case<'a>, named: Option<&'a RefName>) -> &'a RefName
@@ -59,7 +59,7 @@ fn is_allowed(policy: &Policy, question: &Question<'_>) -> bool
 }
 
 /// The question whether the caller has the right on the ref and the path of the lock.
-pub(crate) fn lock_question<'a>(case: &Case<'a>, right: Right, row: &'a LockRow) -> Question<'a>
+pub(crate) fn lock_question<'a>(case: &Case<'a>, right: Right, row: &'a Lock) -> Question<'a>
     ensures { question_view result ≡ lock_question right (case_user case.entry.now)
         (lock_seen (case_repo case.entry.now).name row.now) }
 {
@@ -143,7 +143,7 @@ pub(crate) fn list_rows<'a>(
 }
 
 /// Whether the policy allows what the rows were chosen for on the ref and the path of the lock.
-pub(crate) fn allow_on(rows: &ApplicableRows<'_>, row: &LockRow) -> bool
+pub(crate) fn allow_on(rows: &ApplicableRows<'_>, row: &Lock) -> bool
     ensures { result ≡ allow_on (policy_view rows.now.policy.now) (question_view rows.now.question) row.now }
 {
     let verdict = rows.decide(Some(&row.ref_name), Some(&row.path));
@@ -151,7 +151,7 @@ pub(crate) fn allow_on(rows: &ApplicableRows<'_>, row: &LockRow) -> bool
 }
 
 /// Whether the caller has the right on the ref and the path of the lock.
-fn has_right(case: &Case<'_>, right: Right, row: &LockRow) -> bool
+fn has_right(case: &Case<'_>, right: Right, row: &Lock) -> bool
     ensures { result
         ≡ has_right case.entry.now right (lock_seen (case_repo case.entry.now).name row.now) }
 {
@@ -159,7 +159,7 @@ fn has_right(case: &Case<'_>, right: Right, row: &LockRow) -> bool
 }
 
 /// Whether the caller may list the lock.
-fn may_list(case: &Case<'_>, row: &LockRow) -> bool
+fn may_list(case: &Case<'_>, row: &Lock) -> bool
     ensures { result ≡ may_list (case_policy case.entry.now) (case_user case.entry.now)
         (lock_seen (case_repo case.entry.now).name row.now) }
 {
@@ -167,7 +167,7 @@ fn may_list(case: &Case<'_>, row: &LockRow) -> bool
 }
 
 /// Whether the lock is the caller's own.
-pub(crate) fn is_own(case: &Case<'_>, row: &LockRow) -> bool
+pub(crate) fn is_own(case: &Case<'_>, row: &Lock) -> bool
     ensures { result
         ≡ is_own (case_user case.entry.now) (lock_seen (case_repo case.entry.now).name row.now) }
 {
@@ -175,7 +175,7 @@ pub(crate) fn is_own(case: &Case<'_>, row: &LockRow) -> bool
 }
 
 /// Whether the lock is the caller's own, or the caller may list or lock it.
-fn may_list_or_lock(case: &Case<'_>, row: &LockRow) -> bool
+fn may_list_or_lock(case: &Case<'_>, row: &Lock) -> bool
     ensures { result ≡ may_list_or_lock case.entry.now
         (lock_seen (case_repo case.entry.now).name row.now) }
 {
@@ -184,7 +184,7 @@ fn may_list_or_lock(case: &Case<'_>, row: &LockRow) -> bool
 
 /// Whether the caller sees the lock: it is the caller's own, or the caller may list, lock or force it, or
 /// push to its ref.
-pub(crate) fn sees(case: &Case<'_>, row: &LockRow) -> bool
+pub(crate) fn sees(case: &Case<'_>, row: &Lock) -> bool
     ensures { result ≡ sees (case_policy case.entry.now) (case_user case.entry.now)
         (lock_seen (case_repo case.entry.now).name row.now) }
 {

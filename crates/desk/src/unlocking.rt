@@ -8,7 +8,7 @@ ghost use Rattle.forms.specs.Requests.{unlock_asked};
 ghost use Rattle.refinement.specs.Left.{From};
 ghost use Rattle.locks.specs.Finding.{lock_seen, lock_with};
 ghost use Rattle.desk.specs.Replies.{IsReplyOf};
-ghost use Rattle.desk.specs.Done.{AnswersOrDenies, AnswersUser};
+ghost use Rattle.desk.specs.Done.{AnswersAlone, AnswersUser};
 ghost use Rattle.desk.specs.Rights.{Judges, case_repo, case_user};
 ghost use Rattle.desk.specs.Unlocking.{found_verdict, lock_verdict, right_to_release};
 
@@ -18,13 +18,14 @@ use crate::outcomes::NotGranted;
 use crate::replies::Reply;
 use crate::rights::{is_own, lock_question, permit, sees};
 use forms::{Answer, DenialStatus, UnlockRequest};
+use locks::Lock;
 use model::Right;
 use names::{RepoName, Rule};
 use std::alloc::{AllocError, Global};
-use tables::{Alter, LockRow, Store, StoreFault};
+use tables::{Alter, Store, StoreFault};
 
 /// The right that releasing the lock asks of the caller: lock for one's own, and force for another's.
-fn right_for(case: &Case<'_>, force: bool, row: &LockRow) -> Result<Right, Denial>
+fn right_for(case: &Case<'_>, force: bool, row: &Lock) -> Result<Right, Denial>
     ensures { Judges (λ right. right) result (right_to_release (case_user case.entry.now) force
         (lock_seen (case_repo case.entry.now).name row.now)) }
 {
@@ -38,7 +39,7 @@ fn right_for(case: &Case<'_>, force: bool, row: &LockRow) -> Result<Right, Denia
 }
 
 /// Whether the caller may release the lock.
-fn may_release(case: &Case<'_>, force: bool, row: &LockRow) -> Result<(), Denial>
+fn may_release(case: &Case<'_>, force: bool, row: &Lock) -> Result<(), Denial>
     ensures { Judges (λ _. releases (lock_seen (case_repo case.entry.now).name row.now)) result
         (lock_verdict case.entry.now force (lock_seen (case_repo case.entry.now).name row.now)) }
 {
@@ -54,8 +55,8 @@ fn may_release(case: &Case<'_>, force: bool, row: &LockRow) -> Result<(), Denial
 fn lock_to_release<'a>(
     case: &Case<'_>,
     force: bool,
-    found: Option<&'a LockRow>,
-) -> Result<&'a LockRow, Denial>
+    found: Option<&'a Lock>,
+) -> Result<&'a Lock, Denial>
     ensures verdict { Judges
         (λ row. releases (lock_seen (case_repo case.entry.now).name row.now)) result
         (found_verdict case.entry.now force
@@ -73,7 +74,7 @@ fn lock_to_release<'a>(
 }
 
 /// The reply to a lock that was released.
-fn released_reply(alloc: Global, row: &LockRow) -> Result<Reply, AllocError>
+fn released_reply(alloc: Global, row: &Lock) -> Result<Reply, AllocError>
     ensures { IfOk result (λ reply. (repo : List ℕ)
         → IsReplyOf reply (Ok (releases (lock_seen repo row.now)))) }
 {
@@ -86,17 +87,17 @@ fn released_reply(alloc: Global, row: &LockRow) -> Result<Reply, AllocError>
 ///
 /// # Errors
 ///
-/// `Store`, which leaves the contents of the store unchanged.
+/// `Store`, which leaves the tables unchanged.
 fn release<S: Alter>(
     store: &mut Store<S>,
     alloc: Global,
     repo: &RepoName,
-    row: &LockRow,
+    row: &Lock,
 ) -> Result<Reply, NotGranted>
     ensures { From S.Store store.old store.new (λ world.
         lock_with (repo_text repo.now) row.now.id world
         ≡ Some (lock_seen (repo_text repo.now) row.now)
-        → AnswersOrDenies S.Store store.old store.new world
+        → AnswersAlone S.Store store.old store.new world
         (Ok (releases (lock_seen (repo_text repo.now) row.now))) result) }
 {
     let reply = released_reply(alloc, row)?;
@@ -111,7 +112,7 @@ fn release<S: Alter>(
 ///
 /// # Errors
 ///
-/// `Denied` by L2, L3 or the policy, and `Store`. Both leave the contents of the store unchanged.
+/// `Denied` by L2, L3 or the policy, and `Store`. Both leave the tables unchanged.
 pub(crate) fn unlock<S: Alter>(
     store: &mut Store<S>,
     alloc: Global,

@@ -73,7 +73,7 @@ fn split_reply(alloc: Global, page: &mut Page, user: &UserName) -> Result<Reply,
 ///
 /// # Errors
 ///
-/// `Denied` by the policy or L4, and `Store`. Both leave the contents of the store unchanged.
+/// `Denied` by the policy or L4, and `Store`. Both leave the tables unchanged.
 pub(crate) fn verify_locks<S: Alter>(
     store: &mut Store<S>,
     alloc: Global,

@@ -1,20 +1,17 @@
-//! Why a request is refused before the store is asked.
+//! Why a request is not read.
 
 ghost use Rattle.std.specs.Prelude.{◌≡◌};
 ghost use Rattle.forms.specs.declared.refusal.Refusal.TheVariants as refusal;
 
 use names::Rule;
 use std::alloc::AllocError;
-use thiserror::Error;
 
-/// Why a request is refused.
-#[derive(Clone, Copy, Debug, PartialEq, Eq, Error)]
-pub enum Refusal {
+/// Why a request is not read.
+#[derive(Clone, Copy, Debug)]
+pub(crate) enum Refusal {
     /// This rule refuses it.
-    #[error("{0}")]
     Rule(Rule),
     /// Memory ran out.
-    #[error("no memory")]
     Memory,
 }
 

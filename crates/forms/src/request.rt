@@ -1,7 +1,8 @@
 //! Requests of any form, read from the route's parameter, the query and the body.
 
+ghost use Rattle.std.specs.Prelude.{IfOk};
 ghost use Rattle.model.specs.Forms.{request_of};
-ghost use Rattle.forms.specs.Given.{Reads};
+ghost use Rattle.forms.specs.Given.{Gives, Reads};
 ghost use Rattle.forms.specs.Requests.{request_asked};
 
 use crate::batch::{BatchRequest, read_batch};
@@ -12,7 +13,8 @@ use crate::refusal::Refusal;
 use crate::unlock::{UnlockRequest, read_unlock};
 use crate::verify_locks::{VerifyLocksRequest, read_verify_locks};
 use model::Form;
-use std::alloc::Global;
+use names::Rule;
+use std::alloc::{AllocError, Global};
 
 /// A client's request.
 #[derive(Debug, Drop)]
@@ -36,7 +38,7 @@ pub enum Request {
     Unlock(UnlockRequest),
 }
 
-/// Reads a request of the form.
+/// Reads a request of the form, or returns the first of the J rules that refuses it.
 ///
 /// `parameter` is the value of the route's parameter in the path, empty if the route has none;
 /// `query` is the part of the target after its first question mark. If a form does not read one of
@@ -45,8 +47,30 @@ pub enum Request {
 ///
 /// # Errors
 ///
-/// The first of the J rules that refuses it, or `Memory`.
+/// An [`AllocError`] if memory runs out.
 pub fn read_form(
+    alloc: Global,
+    form: Form,
+    parameter: &str,
+    query: &str,
+    body: &[u8],
+) -> Result<Result<Request, Rule>, AllocError>
+    ensures { IfOk result (λ read. Gives request_asked read
+        (request_of form parameter.now query.now body.now)) }
+{
+    match request_in(alloc, form, parameter, query, body) {
+        Ok(request) => Ok(Ok(request)),
+        Err(Refusal::Rule(rule)) => Ok(Err(rule)),
+        Err(Refusal::Memory) => Err(AllocError),
+    }
+}
+
+/// The request of the form.
+///
+/// # Errors
+///
+/// The first of the J rules that refuses it, or `Memory`.
+fn request_in(
     alloc: Global,
     form: Form,
     parameter: &str,

@@ -3,7 +3,7 @@
 use crate::batches::batch_text;
 use crate::harness::{Tester, unwrap};
 use forms::{
-    ListRequest, LockRequest, PutRequest, Refusal, Request, UnlockRequest, VerifyLocksRequest,
+    ListRequest, LockRequest, PutRequest, Request, UnlockRequest, VerifyLocksRequest,
     VerifyRequest, read_form,
 };
 use model::Form;
@@ -107,7 +107,7 @@ pub(crate) fn asked(
     query: &str,
     body: &[u8],
 ) -> Result<String, AllocError> {
-    match read_form(alloc, form, parameter, query, body) {
+    match read_form(alloc, form, parameter, query, body)? {
         Ok(Request::Batch(batch)) => batch_text(alloc, &batch),
         Ok(Request::Get(get)) => get_text(alloc, get.name),
         Ok(Request::Put(put)) => put_text(alloc, &put),
@@ -116,8 +116,7 @@ pub(crate) fn asked(
         Ok(Request::List(list)) => list_text(alloc, &list),
         Ok(Request::VerifyLocks(asked)) => verify_locks_text(alloc, &asked),
         Ok(Request::Unlock(unlock)) => unlock_text(alloc, &unlock),
-        Err(Refusal::Rule(rule)) => rule.to_string(alloc),
-        Err(Refusal::Memory) => Err(AllocError),
+        Err(rule) => rule.to_string(alloc),
     }
 }
 

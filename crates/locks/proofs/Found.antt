@@ -1,21 +1,10 @@
 -- The rows that are found are locks of the world.
-use Rattle.std.proofs.Common.{◌≡◌, ◌∙◌, ℕ, pos, List, Option, Some, None, option_map, IfSome, find, map, filter, take, zero, suc, nat_le, [], ◌∷◌, refl, sym, ap, ap₂}
-use Rattle.model.specs.World.{World, IsWorld, Lock}
+use Rattle.locks.proofs.Prelude.{◌≡◌, ◌∙◌, ℕ, pos, List, Option, Some, None, option_map, IfSome, find, map, filter, take, zero, suc, nat_le, [], ◌∷◌, refl, sym, ap, ap₂, World, IsWorld, Lock, Tables, is_at, has_id, LockFields, lock_fields, read_lock, IsLockOf, LockRow, Represents, lock_kept, lock_row, locks_of, is_in, is_from, by_id, AreLocksOf, lock_found, number_found, found_own, lock_seen, lock_on, lock_with}
 use Rattle.tables.specs.Rows as row
-use Rattle.tables.specs.Rows.{Tables}
-use Rattle.tables.specs.Statements.{is_at, has_id}
-use Rattle.tables.specs.Steps.{LockFields, lock_fields, read_lock, IsLockOf}
-use Rattle.tables.specs.declared.rows.LockRow.{LockRow}
-use Rattle.refinement.specs.Representation.{Represents, lock_kept, lock_row}
 use Rattle.std.specs.List.{AllByRecursion}
-use Rattle.model.specs.RepoState.{locks_of}
 use Rattle.model.proofs.Lists.{each_of, each_filter, into}
 use Rattle.model.proofs.Ordered.{locks_are_those}
-use Rattle.tables.specs.Statements.{is_in, is_from, by_id}
-use Rattle.tables.specs.Steps.{AreLocksOf}
-use Rattle.refinement.proofs.Lookups.{lock_found, number_found, found_own}
 use Rattle.refinement.proofs.Rising.{all_rows, rows_from}
-use Rattle.locks.specs.Finding.{lock_seen, lock_on, lock_with}
 
 pub same_number : (a b : ℕ) → pos a ≡ pos b → a ≡ b
 same_number a b e = cc

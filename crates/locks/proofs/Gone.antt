@@ -1,17 +1,7 @@
 -- From the result of removing a lock in the tables to the world without it.
-use Rattle.std.proofs.Common.{◌≡◌, ◌∙◌, ℕ, pos, Bool, true, false, nat_lt, length, filter, List, Option, Some, None, is_some, Ok, Err, refl, sym, subst}
-use Rattle.sqlite_trees.specs.declared.store.Store.{Ghosts}
-use Rattle.model.specs.World.{World, Lock}
-use Rattle.model.specs.Bounds.{changed, unchanged}
-use Rattle.tables.specs.Statements.{has_id, without_lock}
-use Rattle.tables.specs.Shown.{IsHonest, IsOpen, shown, Makes, Fails}
-use Rattle.tables.specs.declared.fault.StoreFault.{StoreFault}
-use Rattle.tables.specs.declared.Store.{Store}
-use Rattle.refinement.specs.Representation.{Holds}
+use Rattle.locks.proofs.Prelude.{◌≡◌, ◌∙◌, ℕ, pos, Bool, true, false, nat_lt, length, filter, List, Option, Some, None, is_some, Ok, Err, refl, sym, subst, Ghosts, World, Lock, changed, unchanged, has_id, without_lock, IsHonest, IsOpen, shown, Makes, Fails, StoreFault, Store, Holds, ends_made, ends_failed, lock_with}
 use Rattle.refinement.specs.Removal.{without_found}
-use Rattle.refinement.proofs.Leading.{ends_made, ends_failed}
-use Rattle.refinement.proofs.Removing.{holds_removed, would_remove, removed_any}
-use Rattle.locks.specs.Finding.{lock_with}
+use Rattle.refinement.proofs.Removing.{holds_removed, still_if_none, would_remove, removed_any}
 use Rattle.locks.specs.Removing.{Removes}
 
 module _ {S : Type 0} (g : Ghosts S) (old new : Store S) (world : World) (repo : List ℕ) (id : ℕ) (honest : IsHonest g new) (h : Holds g old world) where
@@ -33,8 +23,9 @@ module _ {S : Type 0} (g : Ghosts S) (old new : Store S) (world : World) (repo :
         none,
         ends_made g old new unchanged world world (without_lock repo (pos id)) h.ready makes
             (subst (Holds g new) (none_there (lock_with repo id world) none) (holds_removed g old new world repo id makes.moves h)),
+        still_if_none g old new repo id n makes.moves said.1 is,
       )
 
   pub refused_by : (fault : StoreFault) → Fails g (without_lock repo (pos id)) old new → Removes g world repo id old new (Err fault)
   refused_by fault fails =
-      ends_failed g old new world (without_found (lock_with repo id world) world) (without_lock repo (pos id)) fails (λ s. would_remove (shown g old) world repo id s h.laws) h
+      (ends_failed g old new world (without_found (lock_with repo id world) world) (without_lock repo (pos id)) fails (λ s. would_remove (shown g old) world repo id s h.laws) h, fails.moves)

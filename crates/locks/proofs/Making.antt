@@ -1,33 +1,23 @@
 -- From the result of making a lock in the tables to the verdict on its place.
-use Rattle.std.proofs.Common.{◌≡◌, ◌∙◌, ◌<◌, ◌+◌, ℕ, pos, true, false, nat_lt, Some, None, Option, Result, Ok, Err, IfOk, OnOk, OnErr, IfSome, refl, sym, ap, subst, arith}
+use Rattle.locks.proofs.Prelude.{◌≡◌, ◌∙◌, ◌<◌, ◌+◌, ℕ, pos, true, false, nat_lt, Some, None, Option, Result, Ok, Err, IfSome, refl, sym, ap, subst, arith, Ghosts, repo_text, ref_text, path_text, user_text, World, IsWorld, Lock, with_lock, changed, unchanged, failed, Tables, IsHonest, IsOpen, shown, Moves, Makes, Fails, asked_lock, Outcome, held, used_up, created, outcome_of, read_lock, after_outcome, with_new_lock, StoreFault, Store, LockRow, Holds, Represents, lock_kept, found_own, ends_made, ends_failed, ends_still, leads_none, lock_on}
+use Rattle.std.specs.Prelude.{IsErrAnd}
 use Rattle.std.proofs.lemmas.Bool.Decides.{nat_tests}
-use Rattle.sqlite_trees.specs.declared.store.Store.{Ghosts}
-use Rattle.names.specs.Names.{repo_text, ref_text, path_text}
 use Rattle.names.specs.Texts.{last_lock_id}
 use Rattle.names.specs.declared.rules.Rule.TheVariants.{L5}
-use Rattle.model.specs.World.{World, IsWorld, Lock, with_lock}
 use Rattle.model.specs.Answers.{Answer, makes_lock, by_lock, by_rule}
 use Rattle.model.specs.Steps.{after}
-use Rattle.model.specs.Bounds.{changed, unchanged}
 use Rattle.model.proofs.Keeping.{IsNewLock, counted_itself, keeps_with_lock}
-use Rattle.tables.specs.Rows.{Tables}
 use Rattle.tables.specs.Rows as row
-use Rattle.tables.specs.Shown.{IsHonest, IsOpen, shown, Makes, Fails}
-use Rattle.tables.specs.Steps.{asked_lock, Outcome, held, used_up, created, outcome_of, read_creation, read_lock, after_outcome, after_create, with_new_lock}
-use Rattle.tables.specs.declared.fault.StoreFault.{StoreFault}
-use Rattle.tables.specs.declared.Store.{Store}
+use Rattle.tables.specs.Steps.{after_create}
 use Rattle.tables.specs.declared.new_rows.NewLock.{NewLock}
-use Rattle.tables.specs.declared.rows.Creation.{Creation}
-use Rattle.tables.specs.declared.rows.Creation.TheVariants.{Created, Held, UsedUp}
-use Rattle.refinement.specs.Representation.{Holds, Represents, lock_kept}
-use Rattle.refinement.specs.Left.{Gives}
-use Rattle.refinement.proofs.Lookups.{found_own}
+use Rattle.tables.proofs.Moved.{moves_none}
+use Rattle.refinement.specs.Left.{Ends, From}
 use Rattle.refinement.proofs.Changes.{new_lock_represented}
 use Rattle.refinement.proofs.Outcomes.{outcome_number, outcome_created, outcome_held, outcome_used}
-use Rattle.refinement.proofs.Leading.{ends_made, ends_failed}
-use Rattle.refinement.proofs.Holding.{holds_if_held, holds_if_used, holds_created}
-use Rattle.locks.specs.Finding.{lock_seen, lock_on}
+use Rattle.refinement.proofs.Holding.{holds_created, holds_still, still_if_held, still_if_used}
 use Rattle.locks.specs.Creating.{lock_wanted, placed_verdict, Creates}
+use Rattle.locks.specs.declared.creating.LockFault.{LockFault}
+use Rattle.locks.specs.declared.creating.LockFault.TheVariants as fault
 use Rattle.locks.proofs.Found.{seen_is}
 
 less : (a b : ℕ) → a < b → nat_lt a b ≡ true
@@ -99,44 +89,51 @@ would_make t world w s laws = at (outcome_of (asked_lock w) t) refl
         (keeps_with_lock world l (is_new world w o.0 o.1) laws, new_lock_represented t world asked (pos next) l s refl refl refl)
 
 module _ {S : Type 0} (g : Ghosts S) (old new : Store S) (world : World) (w : NewLock) (honest : IsHonest g new) (h : Holds g old world) where
-  -- the verdict is this one, and it was carried out
-  by : (given : Answer) → placed_verdict world w ≡ given → Gives g old new world given given → Gives g old new world (placed_verdict world w) (placed_verdict world w)
-  by given is gives = subst (λ (v : Answer). Gives g old new world v v) (sym is) gives
+  -- the outcome in the tables, while they are open
+  abbrev Comes : Outcome → Type 0
+  Comes o = IsOpen g old × (o ≡ outcome_of (asked_lock w) (shown g old))
 
-  placed : (creation : Creation) → IsOpen g old × (read_creation creation ≡ outcome_of (asked_lock w) (shown g old)) → Makes g (after_create (asked_lock w)) old new
-      → Creates g world w old new (Ok creation)
-  placed (Created id) said makes =
+  pub made_by : (row : LockRow) → Comes (created (pos row.id)) → ref_text row.ref_name ≡ ref_text w.ref_name.now → path_text row.path ≡ path_text w.path.now → user_text row.owner ≡ user_text w.owner.now → row.moment ≡ w.moment
+      → Makes g (after_create (asked_lock w)) old new → Creates g world w old new (Ok row)
+  made_by row said ref path owner at makes =
       let l = lock_wanted world w in
       let s = h.shows (makes.moves.was_honest honest) said.0 in
-      let o = outcome_created (shown g old) world (asked_lock w) id s h.laws said.1 in
-      let is = granted world w o.0 (less _ _ o.1) in (
-        is,
-        o.2,
-        by (Ok (makes_lock l)) is (ends_made g old new changed world (with_lock l world) (after_create (asked_lock w)) h.ready makes
-            (holds_created g old new world (asked_lock w) id l makes.moves said.1 (ap (λ (n : ℕ). lock_kept (record (asked_lock w) { id = pos n })) o.2) refl o.2 (is_new world w o.0 o.1) h)),
+      let o = outcome_created (shown g old) world (asked_lock w) row.id s h.laws said.1 in (
+        (
+          granted world w o.0 (less _ _ o.1),
+          ends_made g old new changed world (with_lock l world) (after_create (asked_lock w)) h.ready makes
+              (holds_created g old new world (asked_lock w) row.id l makes.moves said.1 (ap (λ (n : ℕ). lock_kept (record (asked_lock w) { id = pos n })) o.2) refl o.2 (is_new world w o.0 o.1) h),
+        ),
+        rw (o.2, ref, path, owner, at) refl,
       )
-  placed (Held found) said makes =
+
+  -- nothing was changed, and the world is as before
+  still : Moves g (λ t. t) old new → Makes g (after_create (asked_lock w)) old new → Ends g old new unchanged world world world
+  still same makes = ends_made g old new unchanged world world (after_create (asked_lock w)) h.ready makes (holds_still g old new world same h)
+
+  pub held_by : (found : LockRow) → Comes (held (read_lock found)) → Makes g (after_create (asked_lock w)) old new → Creates g world w old new (Err (fault.Held found))
+  held_by found said makes =
       let s = h.shows (makes.moves.was_honest honest) said.0 in
       let o = outcome_held (shown g old) world (asked_lock w) (read_lock found) s h.laws said.1 in
       let own = subst (λ (p : Option Lock). IfSome p (λ k. k.repo ≡ repo_text w.repo.now)) o.1 (found_own world (repo_text w.repo.now) _) in
-      let is = path_held world w o.0 o.1 ∙ ap (λ (k : Lock). Err (by_lock k)) (sym (seen_is (repo_text w.repo.now) found o.0 o.2 own)) in (
-        is,
-        tt,
-        by (Err (by_lock (lock_seen (repo_text w.repo.now) found))) is (ends_made g old new unchanged world world (after_create (asked_lock w)) h.ready makes
-            (holds_if_held g old new world (asked_lock w) (read_lock found) makes.moves (λ _. said.1) h)),
-      )
-  placed UsedUp said makes =
+      let same = still_if_held g old new (asked_lock w) (read_lock found) makes.moves said.1 in
+      ((path_held world w o.0 o.1 ∙ ap (λ (k : Lock). Err (by_lock k)) (sym (seen_is (repo_text w.repo.now) found o.0 o.2 own)), still same makes), same)
+
+  pub used_by : Comes used_up → Makes g (after_create (asked_lock w)) old new → Creates g world w old new (Err fault.UsedUp)
+  used_by said makes =
       let s = h.shows (makes.moves.was_honest honest) said.0 in
       let o = outcome_used (shown g old) world (asked_lock w) s h.laws said.1 in
-      let is = no_id world w o.0 o.1 in (
-        is,
-        tt,
-        by (Err (by_rule L5)) is (ends_made g old new unchanged world world (after_create (asked_lock w)) h.ready makes
-            (holds_if_used g old new world (asked_lock w) makes.moves (λ _. said.1) h)),
-      )
+      let same = still_if_used g old new (asked_lock w) makes.moves said.1 in
+      ((no_id world w o.0 o.1, still same makes), same)
 
-  pub creates_by : (r : Result Creation StoreFault) → IfOk r (λ creation. IsOpen g old × (read_creation creation ≡ outcome_of (asked_lock w) (shown g old)))
-      → OnOk r (Makes g (after_create (asked_lock w)) old new) → OnErr r (Fails g (after_create (asked_lock w)) old new) → Creates g world w old new r
-  creates_by (Ok creation) said makes fails = placed creation said makes
-  creates_by (Err fault) said makes fails =
-      ends_failed g old new world (after world (Some (placed_verdict world w))) (after_create (asked_lock w)) fails (λ s. would_make (shown g old) world w s h.laws) h
+  pub refused_by : (f : StoreFault) → Fails g (after_create (asked_lock w)) old new → Creates g world w old new (Err (fault.Store f))
+  refused_by f fails =
+      (ends_failed g old new world (after world (Some (placed_verdict world w))) (after_create (asked_lock w)) fails (λ s. would_make (shown g old) world w s h.laws) h, fails.moves)
+
+-- memory ran out before anything was tried
+pub refused_early : {S : Type 0} (g : Ghosts S) (s : Store S) (w : NewLock) (f : StoreFault) (r : Result LockRow LockFault) → IsErrAnd r (λ e. e ≡ fault.Store f) → From g s s (λ world. Creates g world w s s r)
+refused_early g s w f (Ok row) is = absurd is
+refused_early g s w f (Err e) is = subst (λ (x : LockFault). From g s s (λ world. Creates g world w s s (Err x))) (sym is) (record {
+  honest = λ k. k;
+  each = λ honest world h. (ends_still g s s failed world (after world (Some (placed_verdict world w))) refl (leads_none g s world h), moves_none g s);
+})

@@ -1,5 +1,5 @@
 -- Locks that are made.
-use Rattle.std.specs.Prelude.{◌≡◌, ◌+◌, ℕ, List, [], Result, Ok, Err, ⊤}
+use Rattle.std.specs.Prelude.{◌≡◌, ◌+◌, ℕ, List, [], Result, Ok, Err}
 use Rattle.sqlite_trees.specs.declared.store.Store.{Ghosts}
 use Rattle.names.specs.Names.{repo_text, ref_text, path_text, user_text}
 use Rattle.names.specs.declared.rules.Rule.TheVariants.{L5}
@@ -8,12 +8,12 @@ use Rattle.model.specs.RepoState.{RepoState, repo_state}
 use Rattle.model.specs.Answers.{Answer, makes_lock, by_lock, by_rule, store_refusal}
 use Rattle.model.specs.Locks.{place_verdict}
 use Rattle.tables.specs.declared.Store.{Store}
-use Rattle.tables.specs.declared.fault.StoreFault.{StoreFault}
 use Rattle.tables.specs.declared.new_rows.NewLock.{NewLock}
-use Rattle.tables.specs.declared.rows.Creation.{Creation}
-use Rattle.tables.specs.declared.rows.Creation.TheVariants.{Created, Held, UsedUp}
-use Rattle.refinement.specs.Left.{Gives}
+use Rattle.tables.specs.declared.rows.LockRow.{LockRow}
+use Rattle.refinement.specs.Left.{Gives, KeepsTables}
 use Rattle.locks.specs.Finding.{lock_seen}
+use Rattle.locks.specs.declared.creating.LockFault.{LockFault}
+use Rattle.locks.specs.declared.creating.LockFault.TheVariants as fault
 
 -- the state of the repository of this name; its locks do not depend on its quota or default ref
 abbrev pub state_of : List ℕ → World → RepoState
@@ -34,21 +34,17 @@ lock_wanted world w = record {
 abbrev pub placed_verdict : World → NewLock → Answer
 placed_verdict world w = place_verdict (state_of (repo_text w.repo.now) world) (lock_wanted world w)
 
--- the answer that a result of the attempt represents
-abbrev pub answer_of : World → NewLock → Creation → Answer
-answer_of world w (Created id) = Ok (makes_lock (lock_wanted world w))
-answer_of world w (Held row) = Err (by_lock (lock_seen (repo_text w.repo.now) row))
-answer_of world w UsedUp = Err (by_rule L5)
-
--- a lock that was made has the repository's next id
-abbrev pub HasNextId : World → NewLock → Creation → Type 0
-HasNextId world w (Created id) = id ≡ world.made (repo_text w.repo.now) + 1
-HasNextId world w creation = ⊤
-
 module _ {S : Type 0} (g : Ghosts S) where
-  -- the result is the verdict on the place, which was carried out; or the store refused
-  abbrev pub Creates : World → NewLock → Store S → Store S → Result Creation StoreFault → Type 0
-  Creates world w old new (Ok creation) =
-      (placed_verdict world w ≡ answer_of world w creation) × HasNextId world w creation
-      × Gives g old new world (placed_verdict world w) (placed_verdict world w)
-  Creates world w old new (Err fault) = Gives g old new world (placed_verdict world w) store_refusal
+  -- the verdict on the place is this one, and it was carried out
+  abbrev pub Carries : World → NewLock → Store S → Store S → Answer → Type 0
+  Carries world w old new given = (placed_verdict world w ≡ given) × Gives g old new world given given
+
+  -- the verdict on the place was carried out: the lock was made as it was wanted, or the place denies it; or the store
+  -- refused. If no lock was made, the tables are as before
+  abbrev pub Creates : World → NewLock → Store S → Store S → Result LockRow LockFault → Type 0
+  Creates world w old new (Ok row) =
+      Carries world w old new (Ok (makes_lock (lock_wanted world w))) × (lock_seen (repo_text w.repo.now) row ≡ lock_wanted world w)
+  Creates world w old new (Err (fault.Held row)) =
+      Carries world w old new (Err (by_lock (lock_seen (repo_text w.repo.now) row))) × KeepsTables g old new
+  Creates world w old new (Err fault.UsedUp) = Carries world w old new (Err (by_rule L5)) × KeepsTables g old new
+  Creates world w old new (Err (fault.Store f)) = Gives g old new world (placed_verdict world w) store_refusal × KeepsTables g old new

@@ -1,6 +1,6 @@
 //! Finds locks.
 
-ghost use Rattle.std.specs.Prelude.{◌≡◌, ◌≢◌, Err, IfOk, nat_le, map, filter, take, option_map};
+ghost use Rattle.std.specs.Prelude.{◌≡◌, IfOk, nat_le, map, filter, take, option_map};
 ghost use Rattle.names.specs.Names.{repo_text, ref_text, path_text};
 ghost use Rattle.model.specs.RepoState.{locks_of};
 ghost use Rattle.refinement.specs.Left.{Reads};
@@ -16,8 +16,7 @@ use tables::{Alter, LockRow, Store, StoreFault};
 ///
 /// `Refused` or `Memory`. The contents of the store are unchanged in any case.
 pub fn made<S: Alter>(store: &mut Store<S>, repo: &RepoName) -> Result<u32, StoreFault>
-    ensures known { result ≢ Err StoreFault.UnknownSchema }
-    ensures world { Reads S.Store store.old store.new (λ world.
+    ensures { Reads S.Store store.old store.new (λ world.
         IfOk result (λ n. n ≡ world.made (repo_text repo.now))) }
 {
     store.made(repo)
@@ -34,8 +33,7 @@ pub fn at<S: Alter>(
     ref_name: &RefName,
     path: &LockPath,
 ) -> Result<Option<LockRow>, StoreFault>
-    ensures known { result ≢ Err StoreFault.UnknownSchema }
-    ensures world { Reads S.Store store.old store.new (λ world.
+    ensures { Reads S.Store store.old store.new (λ world.
         IfOk result (λ found. option_map (lock_seen (repo_text repo.now)) found
         ≡ lock_on (repo_text repo.now) (ref_text ref_name.now) (path_text path.now) world)) }
 {
@@ -52,8 +50,7 @@ pub fn get<S: Alter>(
     repo: &RepoName,
     id: LockId,
 ) -> Result<Option<LockRow>, StoreFault>
-    ensures known { result ≢ Err StoreFault.UnknownSchema }
-    ensures world { Reads S.Store store.old store.new (λ world.
+    ensures { Reads S.Store store.old store.new (λ world.
         IfOk result (λ found. option_map (lock_seen (repo_text repo.now)) found
         ≡ lock_with (repo_text repo.now) id world)) }
 {
@@ -70,8 +67,7 @@ pub fn all<S: Alter>(
     store: &mut Store<S>,
     repo: &RepoName,
 ) -> Result<Vec<LockRow>, StoreFault>
-    ensures known { result ≢ Err StoreFault.UnknownSchema }
-    ensures world { Reads S.Store store.old store.new (λ world.
+    ensures { Reads S.Store store.old store.new (λ world.
         IfOk result (λ found. map (lock_seen (repo_text repo.now)) found.items
         ≡ locks_of (repo_text repo.now) world)) }
 {
@@ -89,8 +85,7 @@ pub fn window<S: Alter>(
     repo: &RepoName,
     id: LockId,
 ) -> Result<Vec<LockRow>, StoreFault>
-    ensures known { result ≢ Err StoreFault.UnknownSchema }
-    ensures world { Reads S.Store store.old store.new (λ world.
+    ensures { Reads S.Store store.old store.new (λ world.
         IfOk result (λ found. map (lock_seen (repo_text repo.now)) found.items
         ≡ take 64 (filter (λ l. nat_le id l.id) (locks_of (repo_text repo.now) world)))) }
 {

@@ -9,6 +9,7 @@ mod creating;
 mod finding;
 mod removing;
 
-pub use creating::create;
+pub use creating::{LockFault, create};
 pub use finding::{all, at, get, made, window};
 pub use removing::remove;
+pub use tables::LockRow as Lock;

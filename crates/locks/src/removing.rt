@@ -1,6 +1,5 @@
 //! Removes locks.
 
-ghost use Rattle.std.specs.Prelude.{◌≢◌, Err};
 ghost use Rattle.names.specs.Names.{repo_text};
 ghost use Rattle.refinement.specs.Left.{From};
 ghost use Rattle.locks.specs.Removing.{Removes};
@@ -19,8 +18,7 @@ pub fn remove<S: Alter>(
     repo: &RepoName,
     id: LockId,
 ) -> Result<bool, StoreFault>
-    ensures known { result ≢ Err StoreFault.UnknownSchema }
-    ensures world { From S.Store store.old store.new (λ world.
+    ensures { From S.Store store.old store.new (λ world.
         Removes S.Store world (repo_text repo.now) id store.old store.new result) }
 {
     Ok(store.remove_lock(repo, id)? > 0)

@@ -42,7 +42,7 @@ token_counts old (Err d) repo = refl
 step_counts : (old : World) (event : Event) (new : World) (repo : List ℕ) → IsStep old event new → old.made repo ≤ new.made repo
 step_counts old (exchanged e) new repo step = exchange_counts old e new repo step.carries
 step_counts old (issues asked given) new repo step = report_counts given (issue_outcome old asked) old new repo step.1 (token_counts old (token_verdict old asked) repo)
-step_counts old (prunes now given) new repo step = report_counts given (prune_outcome old now) old new repo step refl
+step_counts old (prunes now given) new repo step = report_counts given (prune_outcome old now) old new repo step.1 refl
 
 pub counts_on : CountsOn
 counts_on old [] new run repo = omega (arith, ap (λ (w : World). w.made repo) run)

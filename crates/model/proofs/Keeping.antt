@@ -439,7 +439,7 @@ keeps_report given outcome old new (by_fault t is) w d = subst IsWorld (sym is) 
 
 pub keeps_step : StepsKeepWorlds
 keeps_step old (issues asked given) new step w = keeps_report given (issue_outcome old asked) old new step.1 w (keeps_token old asked step.0 w)
-keeps_step old (prunes now given) new step w = keeps_report given (prune_outcome old now) old new step w (keeps_without_expired now old w)
+keeps_step old (prunes now given) new step w = keeps_report given (prune_outcome old now) old new step.1 w (keeps_without_expired now old w)
 keeps_step old (exchanged e) new step w = keeps_exchange old e new step step.carries w
 
 pub keeps_run : RunsKeepWorlds

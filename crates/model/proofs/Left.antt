@@ -7,7 +7,7 @@ use Rattle.std.proofs.lemmas.List.Elements.{All-from_recursion, recursion_from_A
 use Rattle.model.specs.World.{World, Object, Token, object_named, with_object, without_expired, expired_count}
 use Rattle.model.specs.Answers.{stores, makes_lock, offers, serves, confirms, lists, splits, releases, Answer, Grant, is_store_refusal}
 use Rattle.model.specs.Operator.{TokenRequest, TokenDenial, token_verdict, after_token, issue_outcome, prune_outcome, Reports, by_success, by_fault}
-use Rattle.model.specs.Steps.{Exchange, judgement, Carries, by_verdict, by_refusal, after, after_grant, Event, exchanged, issues, prunes, Run}
+use Rattle.model.specs.Steps.{Exchange, judgement, Carries, by_verdict, by_refusal, after, after_grant, Event, exchanged, issues, prunes, IsStep, Run}
 use Rattle.model.specs.Bounds.{SameWorld, Bound, IsWithin, Ending, changed, unchanged, failed, is_changed, left_by, is_change, answer_ending, ending_of, intended_world, world_by, next_world, bound_after, bound_of_run}
 use Rattle.model.specs.Laws.{ReportsAreTrue, OnlyReportedChanges, IsHalfDone, LeavesOneChange}
 
@@ -85,7 +85,24 @@ prune_true old now (Some n) new (by_success e is) = is ∙ pruned_true now n old
 pub reports_are_true : ReportsAreTrue
 reports_are_true old (exchanged e) new step = exchange_true old e new step.carries
 reports_are_true old (issues asked given) new step = issue_true old asked given new step.1
-reports_are_true old (prunes now given) new step = prune_true old now given new step
+reports_are_true old (prunes now given) new step = prune_true old now given new step.1
+
+-- ---- the worlds of a bound
+
+-- the world that a step was to make is that of a step, whether the store made it or not
+abbrev pub can_make : (world mid : World) (event : Event) → IsStep world event mid → (other : Event) × IsStep world other (intended_world world event)
+can_make world mid (exchanged e) step = (
+  exchanged (record e { given = judgement world e }),
+  record { policy = step.policy; now = step.now; asked = step.asked; carries = by_verdict refl refl },
+)
+can_make world mid (issues asked given) step = (issues asked (Some (issue_outcome world asked).answer), (step.0, by_success refl refl))
+can_make world mid (prunes now given) step = (prunes now (Some (prune_outcome world now).answer), (step.0, by_success refl refl))
+
+-- what holds of the world before a call, of the one that it was to make, and of a bound, holds of the next bound
+pub all_left : (P : World → Type 0) (ending : Ending) (old made : World) (bound : Bound) → P old → P made → AllByRecursion P bound → AllByRecursion P (left_by ending old made bound)
+all_left P changed old made bound before after all = (after, tt)
+all_left P unchanged old made bound before after all = (before, all)
+all_left P failed old made bound before after all = (after, (before, all))
 
 -- the worlds left by a run with one more event
 pub bound_one : (old : World) (events : List Event) (mid : World) (event : Event) (bound : Bound) → Run old events mid

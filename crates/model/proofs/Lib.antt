@@ -20,6 +20,7 @@ pub mod OnLiterals
 pub mod Computed
 pub mod Streamed
 pub mod Quota
+pub mod Uploads
 pub mod Digests
 pub mod Ordered
 pub mod Foreseen

@@ -25,9 +25,11 @@ use Rattle.model.specs.Objects.{finish, verify_verdict}
 use Rattle.model.specs.Verdict.{plan_to, plan_for, is_covered, desk_plan, desk_request, verdict, early_verdict, desk_verdict}
 use Rattle.model.specs.Operator.{TokenDenial, token_verdict, after_token, Outcome, issue_outcome, prune_outcome, Reports, by_success, by_fault}
 use Rattle.model.specs.Steps.{verdict_on, denial_alone, after, after_grant, Message, message, bad_head, IsMessage, Exchange, Carries, by_verdict, by_refusal, Event, exchanged, issues, prunes, IsStep, Run}
+use Rattle.model.specs.Bounds.{Bound, ending_of, intended_world, bound_after, bound_of_run}
 use Rattle.model.specs.Laws.{quota_of, HasQuotaWithin, StaysInQuota}
 use Rattle.model.proofs.Checks.{passed, then_any, by_rules_ok, found_ok, rules_check_ok}
 use Rattle.model.proofs.Keeping.{keeps_step}
+use Rattle.model.proofs.Left.{all_left, can_make, reports_are_true}
 use Rattle.model.proofs.Refusals.{verdict_at, verdict_refused}
 use Rattle.model.proofs.Rooms.{room_is_quota}
 use Rattle.model.proofs.Serving.{IsPlain, IsFrom, IsAsked, desk_from, request_asked}
@@ -135,7 +137,7 @@ answer_fits world setting asked f parameter query given body is =
 -- ---- the total
 
 -- the total of a repository with one more object
-total_with : (old : World) (o : Object) (n : List ℕ) (v : Bool) → bytes_eq o.repo n ≡ v
+pub total_with : (old : World) (o : Object) (n : List ℕ) (v : Bool) → bytes_eq o.repo n ≡ v
     → total n (record old { objects = o ∷ old.objects }) ≡ cond v (length o.bytes + total n old) (total n old)
 total_with old o n true e =
     ap (λ (b : Bool). sum_by (λ (p : Object). length p.bytes) (cond b (o ∷ filter (λ p. bytes_eq p.repo n) old.objects) (filter (λ p. bytes_eq p.repo n) old.objects))) e
@@ -240,7 +242,7 @@ step_stays : (old : World) (event : Event) (new : World) (n : List ℕ) (most : 
     → total n old ≤ most → total n new ≤ most
 step_stays old (exchanged e) new n most w step quota within = exchange_stays old e new n most w step.asked step.carries within quota
 step_stays old (issues asked given) new n most w step quota within = report_stays given (issue_outcome old asked) old new n most step.1 (token_total old (token_verdict old asked) n) within
-step_stays old (prunes now given) new n most w step quota within = report_stays given (prune_outcome old now) old new n most step refl within
+step_stays old (prunes now given) new n most w step quota within = report_stays given (prune_outcome old now) old new n most step.1 refl within
 
 run_stays : (n : List ℕ) (most : ℕ) (old : World) (events : List Event) (new : World) → IsWorld old → Run old events new → AllByRecursion (HasQuotaWithin n most) events
     → total n old ≤ most → total n new ≤ most
@@ -251,3 +253,21 @@ run_stays n most old (event ∷ events) new w run quotas within =
 pub stays_in_quota : StaysInQuota
 stays_in_quota repo most old events new w run quotas within =
     run_stays repo most old events new w run (recursion_from_All (HasQuotaWithin repo most) events quotas) within
+
+same_quota : (repo : List ℕ) (most : ℕ) (old mid : World) (event : Event) (step : IsStep old event mid) → HasQuotaWithin repo most event → HasQuotaWithin repo most (can_make old mid event step).0
+same_quota repo most old mid (exchanged e) step quota = quota
+same_quota repo most old mid (issues asked given) step quota = tt
+same_quota repo most old mid (prunes now given) step quota = tt
+
+-- so do the totals of all worlds that a stop may leave, if they were within the bound before
+pub bound_in_quota : (repo : List ℕ) (most : ℕ) (old : World) (events : List Event) (new : World) → IsWorld old → Run old events new → AllByRecursion (HasQuotaWithin repo most) events → total repo old ≤ most
+    → (bound : Bound) → AllByRecursion (λ w. total repo w ≤ most) bound → AllByRecursion (λ w. total repo w ≤ most) (bound_of_run old events bound)
+bound_in_quota repo most old [] new w run quotas within bound all = all
+bound_in_quota repo most old (event ∷ events) new w run quotas within bound all =
+    let small : World → Type 0 = λ v. total repo v ≤ most in
+    let made = can_make old run.0 event run.1 in
+    let mid_small = step_stays old event run.0 repo most w run.1 quotas.0 within in
+    let made_small = step_stays old made.0 (intended_world old event) repo most w made.1 (same_quota repo most old run.0 event run.1 quotas.0) within in
+    let next = bound_after old event bound in
+    subst (λ (v : World). AllByRecursion small (bound_of_run v events next)) (reports_are_true old event run.0 run.1)
+    (bound_in_quota repo most run.0 events new (keeps_step old event run.0 run.1 w) run.2 quotas.1 mid_small next (all_left small (ending_of old event) old (intended_world old event) bound within made_small all))

@@ -307,14 +307,14 @@ report_old : {A : Type 0} (given : Option A) (outcome : Outcome A) (old new : Wo
 report_old given outcome old new o (by_success t is) same there = subst (λ (os : List Object). In os o) (ap (λ (w : World). w.objects) is ∙ same) there
 report_old given outcome old new o (by_fault t is) same there = subst (λ (w : World). In w.objects o) is there
 
-token_same : (old : World) (v : Result Token TokenDenial) → (after_token old v).objects ≡ old.objects
+pub token_same : (old : World) (v : Result Token TokenDenial) → (after_token old v).objects ≡ old.objects
 token_same old (Ok i) = refl
 token_same old (Err d) = refl
 
 step_old : (old : World) (event : Event) (new : World) (o : Object) → IsStep old event new → In new.objects o → IsOldOrPut old event o
 step_old old (exchanged e) new o step there = exchange_old old e new o step.carries there
 step_old old (issues asked given) new o step there = inl (report_old given (issue_outcome old asked) old new o step.1 (token_same old (token_verdict old asked)) there)
-step_old old (prunes now given) new o step there = inl (report_old given (prune_outcome old now) old new o step refl there)
+step_old old (prunes now given) new o step there = inl (report_old given (prune_outcome old now) old new o step.1 refl there)
 
 later : (event : Event) (events : List Event) (o : Object) → WasPut events o → WasPut (event ∷ events) o
 later event events o p = record { put = p.put; among = (suc p.among.0, omega (arith, p.among.1), p.among.2); is = p.is }

@@ -1,5 +1,5 @@
 -- Laws of the definitions.
-use Rattle.std.specs.Prelude.{◌≡◌, ◌≢◌, ◌<◌, ◌≤◌, ◌+◌, ℕ, true, false, List, [], ◌∷◌, ◌++◌, length, map, All, AllPairs, Contains, Some, None, Ok, Err, ◌⊎◌, ◌↔◌, option_map, ⊤, Bool}
+use Rattle.std.specs.Prelude.{◌≡◌, ◌≢◌, ◌<◌, ◌≤◌, ◌+◌, ℕ, true, false, List, [], ◌∷◌, ◌++◌, length, map, All, AllPairs, Contains, Option, Some, None, Ok, Err, ◌⊎◌, ◌↔◌, option_map, ⊤, Bool, ◌&&◌, not, is_some, bytes_eq, if◌then◌else◌}
 use Rattle.httparse.specs.Grammar.{RequestHead}
 use Rattle.sha2.specs.Sha256.{sha256}
 use Rattle.names.specs.Texts.{last_moment}
@@ -7,7 +7,7 @@ use Rattle.names.specs.Moments.{IsMomentText}
 use Rattle.model.specs.declared.Form.TheVariants as form
 use Rattle.model.specs.Reading.{or_default}
 use Rattle.model.specs.Policy.{Policy, Repo, repo_named}
-use Rattle.model.specs.World.{World, Object, Lock, IsWorld, DiffersInPlace, name_of, nothing, total}
+use Rattle.model.specs.World.{World, Object, Lock, IsWorld, DiffersInPlace, name_of, nothing, object_named, total, with_object}
 use Rattle.model.specs.Heads.{Target, head_verdict}
 use Rattle.model.specs.RepoState.{RepoState, repo_state, has_room, locks_of}
 use Rattle.model.specs.Callers.{Caller, caller_by, sees}
@@ -204,7 +204,40 @@ ServedWasPut =
     (events : List Event) (old : World) (e : Exchange) (o : Object) (new : World)
     → Run nothing events old → IsExchange old e new → e.given ≡ Some (Ok (serves o)) → WasPut events o
 
+-- the object that an answer says is stored
+abbrev pub stored_by : Option Answer → Option Object
+stored_by (Some (Ok (stores o))) = Some o
+stored_by _ = None
+
+-- the object that an event says is stored; only the answer to a message does
+abbrev pub object_stored : Event → Option Object
+object_stored (exchanged e) = stored_by e.given
+object_stored _ = None
+
+-- the objects of a world with this one, if there is one
+abbrev pub objects_with : Option Object → World → List Object
+objects_with (Some o) world = (with_object o world).objects
+objects_with None world = world.objects
+
+-- no step changes the objects, but an upload that is answered as stored, which adds its object
+abbrev pub OnlyUploadsAddObjects : Type 0
+OnlyUploadsAddObjects =
+    (old : World) (event : Event) (new : World) → IsStep old event new
+    → new.objects ≡ objects_with (object_stored event) old
+
 -- ---- the quota
+
+-- the size that this object adds to the repository's total: none if it is of another one, or its name is stored there
+abbrev pub size_added : List ℕ → World → Option Object → ℕ
+size_added repo world (Some o) =
+    if bytes_eq o.repo repo && not (is_some (object_named o.repo o.name world)) then length o.bytes else 0
+size_added repo world None = 0
+
+-- a repository's total changes by no step but such an upload of a new object, and grows by its size
+abbrev pub TotalsGrowByUploads : Type 0
+TotalsGrowByUploads =
+    (old : World) (event : Event) (new : World) (repo : List ℕ) → IsStep old event new
+    → total repo new ≡ total repo old + size_added repo old (object_stored event)
 
 -- an object fits exactly if the stored total and its size are within the quota
 abbrev pub RoomIsQuota : Type 0

@@ -1,5 +1,5 @@
 -- What one connection is sent, how it ends, and the world after it.
-use Rattle.std.specs.Prelude.{◌≡◌, ℕ, ◌+◌, true, List, [], ◌∷◌, ◌++◌, All, map, flat_map, count_by, is_some, Option, Some, None, Ok}
+use Rattle.std.specs.Prelude.{◌≡◌, ℕ, true, List, [], ◌∷◌, ◌++◌, All, map, flat_map, count_by, is_some, Option, Some, None, Ok}
 use Rattle.model.specs.World.{World, Object}
 use Rattle.model.specs.Cases.{Setting}
 use Rattle.model.specs.Answers.{Answer, serves, store_refusal}
@@ -62,24 +62,17 @@ pub record BreaksInLast (s : Session) : Type 0 where
   pub written : s.written ≡ session_text before ++ part
   pub answered : s.answered ≡ reply_count before
 
--- how many replies are written whole: the last one too, if nothing of it is missing
-abbrev pub whole_count : List Exchange → (missing : List ℕ) → ℕ
-whole_count before [] = reply_count before + 1
-whole_count before (byte ∷ missing) = reply_count before
-
--- all replies but the last are written whole, and of the last its head and a beginning of the object, which may be all
--- of it: the store can also fail after the last byte
+-- all replies but the last are written whole, and of the last its head and a beginning of the object, not all of it
 pub record BreaksInContent (s : Session) : Type 0 where
   pub before : List Exchange
   pub last : Exchange
   pub object : Object
   pub part : List ℕ
-  pub rest : List ℕ
   pub order : s.exchanges ≡ before ++ last ∷ []
   pub serving : last.given ≡ Some (Ok (serves object))
-  pub beginning : object.bytes ≡ part ++ rest
+  pub partial : IsPartOf part object.bytes
   pub written : s.written ≡ session_text before ++ head_text (reply_of (Ok (serves object))) [] (closes last) ++ part
-  pub answered : s.answered ≡ whole_count before rest
+  pub answered : s.answered ≡ reply_count before
 
 -- all exchanges are under this policy and at this moment
 abbrev pub AreUnder : Setting → List Exchange → Type 0

@@ -117,7 +117,7 @@ pub data Event : Type 0 where
 abbrev pub IsStep : World → Event → World → Type 0
 IsStep old (exchanged e) new = IsExchange old e new
 IsStep old (issues asked given) new = IsTokenRequest asked × Reports given (issue_outcome old asked) old new
-IsStep old (prunes now given) new = Reports given (prune_outcome old now) old new
+IsStep old (prunes now given) new = (now ≤ last_moment) × Reports given (prune_outcome old now) old new
 
 -- the events lead from the old world to the new one, step by step
 abbrev pub Run : World → List Event → World → Type 0

@@ -3,6 +3,7 @@
 ghost use Rattle.model.specs.Laws.{HasOneFirst, BeginsWithMessage, CutIsLast, ChoosesOnlyThere, MessageIsFinished, HeadDecides, TargetDecides};
 ghost use Rattle.model.specs.Laws.{StepsKeepWorlds, RunsKeepWorlds, RunsMakeWorlds, ServesWhatIsAsked, ServesWhatIsKept, ServedHasItsName, ServedWasPut};
 ghost use Rattle.model.specs.Laws.{DenialsChangeNothing, SilenceChangesNothing, OnlyReportedChanges, OnlyCutIsSilent, NeverLocksTwice, CountsOn, NewIdIsNext, NoIdComesAgain};
+ghost use Rattle.model.specs.Laws.{OnlyUploadsAddObjects, TotalsGrowByUploads};
 ghost use Rattle.model.specs.Laws.{RoomIsQuota, StaysInQuota, PageIsLeast, LocksRise, LocksAreThose, LocksIgnoreOrder, WalksAreWhole, ViewsForetell, OnlyCallersAreForeseen, ViewsServeOneDigest, ViewsShowWhatIsSeen, OthersLeaveViews, SessionsLeaveViews};
 ghost use Rattle.model.specs.Laws.{ReportsAreTrue, LeavesOneChange, MomentIsText, MomentHasText};
 
@@ -53,6 +54,14 @@ pub fn denial_law()
     ensures silence { SilenceChangesNothing }
     ensures reported { OnlyReportedChanges }
     ensures cut { OnlyCutIsSilent }
+{}
+
+/// No step changes the objects, but an upload that is answered as stored: it adds its object, if the
+/// repository has none of that name. So a repository's total changes by no other step, and grows by the size
+/// of a new object.
+pub fn upload_law()
+    ensures objects { OnlyUploadsAddObjects }
+    ensures totals { TotalsGrowByUploads }
 {}
 
 /// No path of a repository's ref is ever locked twice.

@@ -6,7 +6,7 @@ ghost use Rattle.names.specs.Streams.{cap_known, most_counted, most_handed_out};
 
 use crate::streams::one_more;
 use crate::{DeviceFault, Sink, Source};
-use std::io::{Read, Write};
+use std::io::{self, Read, Write};
 
 /// The most bytes that a source returns in its life.
 const MOST: u64 = 1_099_511_627_776;
@@ -25,7 +25,7 @@ pub struct Counted<T> {
 }
 
 impl<T> Counted<T> {
-    ghost use Rattle.names.specs.Counted.{device, handed_out, failures};
+    ghost use Rattle.names.specs.Counted.{device, handed_out, failures, Counts, read_of, write_of};
 
     /// Wraps `inner`. No bytes are returned yet, and no failure is counted.
     pub fn new(inner: T) -> Self
@@ -47,6 +47,43 @@ impl<T> Counted<T> {
         let Counted { inner, .. } = self;
         inner
     }
+
+    /// The result of a read for which the reader reported this. An error counts as one failure, and
+    /// nothing else does.
+    fn count_read(&mut self, reported: io::Result<usize>) -> Result<usize, DeviceFault>
+        ensures result { result ≡ read_of reported }
+        ensures failures { Counts (failures self.old) (failures self.new) result }
+        ensures device { device self.new ≡ device self.old }
+        ensures handed_out { handed_out self.new ≡ handed_out self.old }
+    {
+        match reported {
+            Ok(n) => Ok(n),
+            Err(_) => {
+                self.failures = one_more(self.failures);
+                Err(DeviceFault)
+            }
+        }
+    }
+
+    /// The result of a write of `offered` bytes for which the writer reported this. An error counts as one
+    /// failure, and so does 0 bytes of some; nothing else does.
+    fn count_write(
+        &mut self,
+        reported: io::Result<usize>,
+        offered: usize,
+    ) -> Result<usize, DeviceFault>
+        ensures result { result ≡ write_of offered reported }
+        ensures failures { Counts (failures self.old) (failures self.new) result }
+        ensures device { device self.new ≡ device self.old }
+    {
+        match reported {
+            Ok(n) if n > 0 || offered == 0 => Ok(n),
+            _ => {
+                self.failures = one_more(self.failures);
+                Err(DeviceFault)
+            }
+        }
+    }
 }
 
 impl<R: Read> Source for Counted<R> {
@@ -66,20 +103,11 @@ impl<R: Read> Source for Counted<R> {
             return Ok(0);
         }
         let size = (piece.len() as u64).min(room) as usize;
-        match self.inner.read(&mut piece[..size]) {
-            Ok(n) => {
-                self.handed_out += n as u64;
-                Ok(n)
-            }
-            Err(_) => {
-                self.failures = one_more(self.failures);
-                Err(DeviceFault)
-            }
-        }
+        let reported = self.inner.read(&mut piece[..size]);
+        let n = self.count_read(reported)?;
+        self.handed_out += n as u64;
+        Ok(n)
     }
-
-    /// A reader does not learn of messages.
-    fn expect_message(&mut self, _has_begun: bool) {}
 
     fn failures(&self) -> u64 {
         self.failures
@@ -94,13 +122,8 @@ impl<W: Write> Sink for Counted<W> {
     ghost failed = { λ s. failures s };
 
     fn write(&mut self, piece: &[u8]) -> Result<usize, DeviceFault> {
-        match self.inner.write(piece) {
-            Ok(n) if n > 0 || piece.is_empty() => Ok(n),
-            _ => {
-                self.failures = one_more(self.failures);
-                Err(DeviceFault)
-            }
-        }
+        let reported = self.inner.write(piece);
+        self.count_write(reported, piece.len())
     }
 
     fn failures(&self) -> u64 {

@@ -76,8 +76,6 @@ impl Source for SliceSource<'_> {
         Ok(size)
     }
 
-    fn expect_message(&mut self, _has_begun: bool) {}
-
     fn failures(&self) -> u64 {
         0
     }

@@ -49,12 +49,16 @@ pub trait Source {
     /// Announces that the next read is the first one for a message, of which `has_begun` says whether a
     /// part was read already. Nothing is read.
     ///
-    /// A source that waits for its bytes may wait for another time between messages than within one.
+    /// A source that waits for its bytes may wait for another time between messages than within one. Any
+    /// other ignores this, as it does by default.
     fn expect_message(&mut self, has_begun: bool)
         ensures bytes { left self.new ≡ left self.old }
         ensures same_reference { reference self.new ≡ reference self.old }
         ensures budget { budget self.new ≡ budget self.old }
-        ensures good { failed self.new ≡ failed self.old };
+        ensures good { failed self.new ≡ failed self.old }
+    {
+        let _ = has_begun;
+    }
 
     /// The number of failed reads so far. At its maximum the count stays.
     fn failures(&self) -> u64

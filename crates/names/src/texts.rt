@@ -3,10 +3,11 @@
 //! A value of such a type owns a text in range, so its holder has nothing left to test. Two names are
 //! equal if their bytes are.
 
-ghost use Rattle.std.specs.Prelude.{◌≡◌, ◌↔◌, IsTrue, IsSome, IfSome, Some, codes, not, string_bytes};
+ghost use Rattle.std.specs.Prelude.{◌≡◌, ◌↔◌, IsTrue, IsSome, IfOk, IfSome, Some, codes, not, string_bytes};
 ghost use Rattle.std.specs.List.{list_all};
 ghost use Rattle.names.specs.Texts.{is_name_byte, is_ref_byte, is_path_byte, is_path_part, is_empty, has_two_dots, begins, parts, is_user, is_repo, is_ref, is_lock_path};
 
+use std::alloc::{AllocError, Global};
 use std::fmt;
 
 /// Whether the byte is one of `a-z 0-9 _ -`.
@@ -139,6 +140,14 @@ impl UserName {
         }
     }
 
+    /// Returns a copy, unless memory runs out.
+    pub fn to_owned(&self, alloc: Global) -> Result<Self, AllocError>
+        ensures { IfOk result (λ copy. user_text copy ≡ user_text self.now) }
+    {
+        let user = self.user.as_str().to_owned(alloc)?;
+        Ok(UserName { user })
+    }
+
     /// The text, which is in range.
     pub fn as_str(&self) -> &str
         ensures value { result.now ≡ user_text self.now }
@@ -186,6 +195,14 @@ impl RepoName {
         } else {
             None
         }
+    }
+
+    /// Returns a copy, unless memory runs out.
+    pub fn to_owned(&self, alloc: Global) -> Result<Self, AllocError>
+        ensures { IfOk result (λ copy. repo_text copy ≡ repo_text self.now) }
+    {
+        let repo = self.repo.as_str().to_owned(alloc)?;
+        Ok(RepoName { repo })
     }
 
     /// The text, which is in range.
@@ -238,6 +255,14 @@ impl RefName {
         }
     }
 
+    /// Returns a copy, unless memory runs out.
+    pub fn to_owned(&self, alloc: Global) -> Result<Self, AllocError>
+        ensures { IfOk result (λ copy. ref_text copy ≡ ref_text self.now) }
+    {
+        let name = self.name.as_str().to_owned(alloc)?;
+        Ok(RefName { name })
+    }
+
     /// The text, which is in range.
     pub fn as_str(&self) -> &str
         ensures value { result.now ≡ ref_text self.now }
@@ -286,6 +311,14 @@ impl LockPath {
         } else {
             None
         }
+    }
+
+    /// Returns a copy, unless memory runs out.
+    pub fn to_owned(&self, alloc: Global) -> Result<Self, AllocError>
+        ensures { IfOk result (λ copy. path_text copy ≡ path_text self.now) }
+    {
+        let path = self.path.as_str().to_owned(alloc)?;
+        Ok(LockPath { path })
     }
 
     /// The text, which is in range.

@@ -1,13 +1,15 @@
 -- The worlds that a stop may leave after steps from the world of a run are worlds of runs.
 use Rattle.std.specs.Prelude.{⊤}
-use Rattle.std.proofs.Common.{inl, inr, List, [], ◌∷◌, ◌++◌, Some, refl, subst}
+use Rattle.std.specs.List.{AllByRecursion}
+use Rattle.std.proofs.Common.{◌⊎◌, inl, inr, List, [], ◌∷◌, ◌++◌, Some, refl, subst}
 use Rattle.std.proofs.Math.Logic.{∥∥₁_elim}
 use Rattle.sqlite_wal.specs.Recovery.{Image}
 use Rattle.model.specs.World.{World, IsWorld, nothing}
 use Rattle.model.specs.Operator.{issue_outcome, prune_outcome, by_success}
 use Rattle.model.specs.Steps.{Event, exchanged, issues, prunes, IsStep, Run, judgement, by_verdict}
-use Rattle.model.specs.Bounds.{Bound, Ending, changed, unchanged, failed, left_by, ending_of, intended_world, bound_after}
-use Rattle.model.proofs.Left.{reports_are_true}
+use Rattle.model.specs.Bounds.{Bound, SameWorld, IsWithin, Ending, changed, unchanged, failed, left_by, ending_of, intended_world, world_by, next_world, bound_after, bound_of_run}
+use Rattle.model.specs.Laws.{IsHalfDone}
+use Rattle.model.proofs.Left.{all_left, can_make, leaves_one_change, reports_are_true}
 use Rattle.model.proofs.Progress.{run_append}
 use Rattle.tables.specs.Rows.{Tables}
 use Rattle.refinement.specs.Representation.{Represents}
@@ -18,31 +20,16 @@ use Rattle.operator.specs.Reached.{IsReached, HoldsReached}
 
 -- each world of the bound is one of a run
 abbrev pub AreReached : Bound → Type 0
-AreReached [] = ⊤
-AreReached (world ∷ bound) = IsReached world × AreReached bound
+AreReached = AllByRecursion IsReached
 
 -- a run, and more steps
 pub reached_then : (world kept : World) (events : List Event) → IsReached world → Run world events kept → IsReached kept
 reached_then world kept events reached run = (reached.0 ++ events, run_append nothing world kept reached.0 events reached.1 run)
 
--- the world that a step was to make is that of a step, whether the store made it or not
-can_make : (world mid : World) (event : Event) → IsStep world event mid → (other : Event) × IsStep world other (intended_world world event)
-can_make world mid (exchanged e) step = (
-  exchanged (record e { given = judgement world e }),
-  record { policy = step.policy; now = step.now; asked = step.asked; carries = by_verdict refl refl },
-)
-can_make world mid (issues asked given) step = (issues asked (Some (issue_outcome world asked).answer), (step.0, by_success refl refl))
-can_make world mid (prunes now given) step = (prunes now (Some (prune_outcome world now).answer), by_success refl refl)
-
 intended_reached : (world mid : World) (event : Event) → IsReached world → IsStep world event mid → IsReached (intended_world world event)
 intended_reached world mid event reached step =
     let made = can_make world mid event step in
     reached_then world (intended_world world event) (made.0 ∷ []) reached (intended_world world event, made.1, refl)
-
-left_reached : (v : Ending) (old made : World) (bound : Bound) → IsReached old → IsReached made → AreReached bound → AreReached (left_by v old made bound)
-left_reached changed old made bound before after all = (after, tt)
-left_reached unchanged old made bound before after all = (before, all)
-left_reached failed old made bound before after all = (after, (before, all))
 
 -- the steps of calls from the world of a run
 pub works_reached : (world kept : World) (works : List Work) (bound : Bound) → IsReached world → AreReached bound → Run world (steps_of works) kept
@@ -52,7 +39,7 @@ works_reached world kept (takes event ∷ works) bound reached all run =
     subst (λ (w : World). AreReached (bound_of_works w works (bound_after world event bound))) (reports_are_true world event run.0 run.1)
     (works_reached run.0 kept works (bound_after world event bound)
     (reached_then world run.0 (event ∷ []) reached (run.0, run.1, refl))
-    (left_reached (ending_of world event) world (intended_world world event) bound reached (intended_reached world run.0 event reached run.1) all)
+    (all_left IsReached (ending_of world event) world (intended_world world event) bound reached (intended_reached world run.0 event reached run.1) all)
     run.2)
 works_reached world kept (keeps ∷ works) bound reached all run = works_reached world kept works (world ∷ bound) reached (reached, all) run
 
@@ -66,3 +53,38 @@ pub reached_held : (image : Image) (bound : Bound) → AreReached bound → Hold
 reached_held image bound all held =
     ∥∥₁_elim held squash₁ (λ found. let one = one_of _ bound all found.2.1 in
     ∣ (one.0, one.1, ∣ (found.0, found.1, (found.2.0, inl one.2)) ∣₁) ∣₁)
+
+-- ---- the bound of calls, and that of their steps
+
+-- the one bound has no world that does not count as one of the other
+abbrev IsSmaller : Bound → Bound → Type 0
+IsSmaller one other = (world : World) → IsWithin one world → IsWithin other world
+
+left_smaller : (ending : Ending) (old made : World) (one other : Bound) → IsSmaller one other → IsSmaller (left_by ending old made one) (left_by ending old made other)
+left_smaller changed old made one other smaller w within = within
+left_smaller unchanged old made one other smaller w (inl same) = inl same
+left_smaller unchanged old made one other smaller w (inr within) = inr (smaller w within)
+left_smaller failed old made one other smaller w (inl same) = inl same
+left_smaller failed old made one other smaller w (inr (inl same)) = inr (inl same)
+left_smaller failed old made one other smaller w (inr (inr within)) = inr (inr (smaller w within))
+
+-- the world after a call is in the bound
+last_within : (ending : Ending) (old made : World) (bound : Bound) (w : World) → SameWorld (world_by ending old made) w → IsWithin (left_by ending old made bound) w
+last_within changed old made bound w same = inl same
+last_within unchanged old made bound w same = inl same
+last_within failed old made bound w same = inr (inl same)
+
+-- calls that keep the world add no other one
+steps_alone : (world : World) (works : List Work) (one other : Bound) → IsSmaller one other → ((w : World) → SameWorld world w → IsWithin other w) → IsSmaller (bound_of_works world works one) (bound_of_run world (steps_of works) other)
+steps_alone world [] one other smaller here = smaller
+steps_alone world (takes event ∷ works) one other smaller here =
+    let ending = ending_of world event in
+    let made = intended_world world event in
+    steps_alone (next_world world event) works (bound_after world event one) (bound_after world event other) (left_smaller ending world made one other smaller) (last_within ending world made other)
+steps_alone world (keeps ∷ works) one other smaller here =
+    steps_alone world works (world ∷ one) other (λ w within. elim within [ inl same ↦ here w same | inr rest ↦ smaller w rest ]) here
+
+-- a stop leaves the last world of calls, or that world with one change that the store refused after the last change
+pub works_leave_one : (world kept left : World) (works : List Work) → Run world (steps_of works) kept → IsWithin (bound_of_works world works (world ∷ [])) left → SameWorld kept left ⊎ IsHalfDone (steps_of works) kept left
+works_leave_one world kept left works run within =
+    leaves_one_change world (steps_of works) kept run left (steps_alone world works (world ∷ []) (world ∷ []) (λ w is. is) (λ w same. inl same) left within)

@@ -99,7 +99,7 @@ module _ {S : Type 0} (g : Ghosts S) where
   -- expired tokens are removed, or the store refused
   pub prunes_work : (a b : Store S) (now : ℕ) (r : Result ℕ StoreFault) (world : World) → Prunes g world now a b r → Works g a b world
   prunes_work a b now (Ok n) world t = works_takes a b world _ _ t
-  prunes_work a b now (Err f) world t = works_takes a b world _ _ t
+  prunes_work a b now (Err f) world t = works_takes a b world _ _ t.0
 
   -- staged uploads are removed, or the store refused
   pub sweeps_work : (a b : Store S) (r : Result ℕ StoreFault) (world : World) → Sweeps g world a b r → Works g a b world

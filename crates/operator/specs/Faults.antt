@@ -8,7 +8,6 @@ use Rattle.operator.specs.declared.faults.TaskFault.TheVariants.{Store, Token, M
 
 -- a refusal by the database, or memory ran out
 abbrev pub of_store : StoreFault → TaskFault
-of_store tables.UnknownSchema = Store tables.UnknownSchema
 of_store tables.Refused = Store tables.Refused
 of_store tables.Memory = Memory
 

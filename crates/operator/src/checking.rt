@@ -10,7 +10,8 @@ use names::{DeviceFault, Oid, Sink};
 use sha2::{Digest, Sha256};
 use std::alloc::Global;
 use std::io::{self, Stderr, Write};
-use tables::{Alter, Store, StoreFault, UploadRow};
+use tables::{Alter, Store, StoreFault};
+use uploads::Stored;
 
 /// Hashes the bytes that it takes. It never fails.
 #[derive(Drop)]
@@ -44,7 +45,7 @@ fn has_name(hasher: Sha256, oid: &Oid) -> bool {
 }
 
 /// Whether the stored bytes of the object are not as many as its size says, or do not have its name.
-fn is_damaged<S: Alter>(store: &mut Store<S>, row: &UploadRow) -> Result<bool, StoreFault>
+fn is_damaged<S: Alter>(store: &mut Store<S>, row: &Stored) -> Result<bool, StoreFault>
     ensures { Reads S.Store store.old store.new (λ _. ⊤) }
 {
     let mut sink = Hashing {
@@ -94,7 +95,7 @@ fn write_line<W: Write>(output: &mut W, line: &str) -> io::Result<()> {
 fn check_all<S: Alter, W: Write>(
     alloc: Global,
     store: &mut Store<S>,
-    rows: &[UploadRow],
+    rows: &[Stored],
     progress: &Progress<'_>,
     output: &mut W,
 ) -> Result<usize, TaskFault>

@@ -35,7 +35,7 @@ impl From<StoreFault> for TaskFault {
     fn from(fault: StoreFault) -> TaskFault {
         match fault {
             StoreFault::Memory => TaskFault::Memory,
-            _ => TaskFault::Store(fault),
+            StoreFault::Refused => TaskFault::Store(fault),
         }
     }
 }

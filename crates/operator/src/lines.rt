@@ -9,10 +9,11 @@ ghost use Rattle.operator.specs.Lines.{damage_line, lock_line, object_line, verd
 ghost use Rattle.operator.specs.Escapes.{shown};
 
 use crate::escapes::{Destination, shown};
+use locks::Lock;
 use names::{LockPath, moment_text};
 use pushcheck::PushVerdict;
 use std::alloc::{AllocError, Global};
-use tables::{LockRow, UploadRow};
+use uploads::Stored;
 
 /// The line with the verdict on a path of a push.
 fn verdict_line(alloc: Global, path: &LockPath, verdict: &PushVerdict) -> Result<String, AllocError>
@@ -45,7 +46,7 @@ pub(crate) fn shown_verdict(
 }
 
 /// The line of a lock.
-fn lock_line(alloc: Global, row: &LockRow) -> Result<String, AllocError>
+fn lock_line(alloc: Global, row: &Lock) -> Result<String, AllocError>
     ensures { IfOk result (λ text. (moment : List ℕ) × IsMomentText row.now.moment moment
         × ((repo : List ℕ) → string_bytes text ≡ lock_line (lock_seen repo row.now) moment)) }
 {
@@ -58,7 +59,7 @@ fn lock_line(alloc: Global, row: &LockRow) -> Result<String, AllocError>
 /// The same, as it is written.
 pub(crate) fn shown_lock(
     alloc: Global,
-    row: &LockRow,
+    row: &Lock,
     destination: Destination,
 ) -> Result<Vec<u8>, AllocError>
     ensures { IfOk result (λ bytes. (moment : List ℕ) × IsMomentText row.now.moment moment
@@ -70,7 +71,7 @@ pub(crate) fn shown_lock(
 }
 
 /// The line of an object. Its name is of digits, so it is the same on a terminal.
-pub(crate) fn object_line(alloc: Global, row: &UploadRow) -> Result<String, AllocError>
+pub(crate) fn object_line(alloc: Global, row: &Stored) -> Result<String, AllocError>
     ensures { IfOk result (λ text. string_bytes text ≡ object_line row.now.oid row.now.size) }
 {
     let (name, size) = (row.oid.text(), row.size.get());
@@ -78,7 +79,7 @@ pub(crate) fn object_line(alloc: Global, row: &UploadRow) -> Result<String, Allo
 }
 
 /// The line of a damaged object.
-pub(crate) fn damage_line(alloc: Global, row: &UploadRow) -> Result<String, AllocError>
+pub(crate) fn damage_line(alloc: Global, row: &Stored) -> Result<String, AllocError>
     ensures { IfOk result (λ text. string_bytes text
         ≡ damage_line (repo_text row.now.repo) row.now.oid) }
 {

@@ -7,15 +7,16 @@ use crate::escapes::Destination;
 use crate::faults::TaskFault;
 use crate::lines::shown_lock;
 use crate::output::Lines;
+use locks::Lock;
 use names::RepoName;
 use std::alloc::Global;
 use std::io::Write;
-use tables::{Alter, LockRow, Store};
+use tables::{Alter, Store};
 
 /// Writes a line for each lock.
 fn write_locks<W: Write>(
     alloc: Global,
-    rows: &[LockRow],
+    rows: &[Lock],
     destination: Destination,
     output: &mut W,
 ) -> Result<(), TaskFault> {

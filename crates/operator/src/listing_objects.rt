@@ -9,12 +9,13 @@ use crate::output::Lines;
 use names::RepoName;
 use std::alloc::Global;
 use std::io::Write;
-use tables::{Alter, Store, UploadRow};
+use tables::{Alter, Store};
+use uploads::Stored;
 
 /// Writes a line for each object.
 fn write_objects<W: Write>(
     alloc: Global,
-    rows: &[UploadRow],
+    rows: &[Stored],
     output: &mut W,
 ) -> Result<(), TaskFault> {
     let mut lines = Lines::new(alloc, output)?;

@@ -11,7 +11,7 @@ use std::io::{self, Write};
 use tables::{Alter, Store};
 
 /// Writes the number of removed tokens.
-fn write_count<W: Write>(output: &mut W, count: usize) -> io::Result<()> {
+fn write_count<W: Write>(output: &mut W, count: u64) -> io::Result<()> {
     writeln!(output, "pruned {count} tokens")?;
     output.flush()
 }

@@ -1,33 +1,53 @@
 //! What a stop of the program leaves in a file.
 
-ghost use Rattle.std.specs.Prelude.{IsTrue};
+ghost use Rattle.std.specs.Prelude.{◌⊎◌, List, [], ◌∷◌};
+ghost use Rattle.sqlite_trees.specs.View.{IsClean};
 ghost use Rattle.sqlite_wal.specs.Recovery.{Image};
 ghost use Rattle.sqlite_store.specs.FileStore.{state, view};
 ghost use Rattle.sqlite.specs.Files.{over_files};
 ghost use Rattle.model.specs.World.{World};
+ghost use Rattle.model.specs.Bounds.{IsWithin, SameWorld};
+ghost use Rattle.model.specs.Laws.{IsHalfDone};
+ghost use Rattle.model.specs.Steps.{Run};
 ghost use Rattle.tables.specs.Shown.{connection, IsHonest};
 ghost use Rattle.refinement.specs.Representation.{Holds};
 ghost use Rattle.refinement.specs.Left.{From};
-ghost use Rattle.refinement.specs.Opening.{IsAt};
-ghost use Rattle.operator.specs.Works.{Works};
+ghost use Rattle.refinement.specs.Opening.{HoldsAmong, IsAt};
+ghost use Rattle.operator.specs.Works.{Work, Works, steps_of, bound_of_works};
 ghost use Rattle.operator.specs.Reached.{IsReached, HoldsReached};
 
+use refinement::stop_law;
 use sqlite::FileStore;
 use sqlite_disk::Disk;
 use tables::Store;
 
 /// The program over a file, from its opening to a stop: `opened` is the store as it was opened, and `store` as it was
-/// when the process or the machine stopped. If it was opened in the world of a run from the empty world, and worked by
-/// the steps of a run, then it held the world of such a run, and the files hold one.
-pub fn reopening_law<D: Disk>(opened: &Store<FileStore<D>>, store: &Store<FileStore<D>>)
-    ensures held { (world : World) → IsReached world → IsHonest over_files store.now
+/// when the process or the machine stopped. The call closes `store`, and the disk has to be honest to its end.
+///
+/// The files hold one of the worlds that the calls made between the two leave of the opened world; so
+/// [`refinement::open_from`] then finds one of them. Such a world is the last one, or that world with one change that the
+/// store refused after the last change. If the program was opened in the world of a run from the empty world, `store` held
+/// the world of such a run, and the files hold one.
+pub fn reopening_law<D: Disk + Drop>(
+    opened: &Store<FileStore<D>>,
+    store: Store<FileStore<D>>,
+) -> FileStore<D>
+    ensures stop { (world : World) → IsClean (view result) → IsAt over_files opened.now world
+        → (done : Works over_files opened.now store world)
+        → (image : Image) → (state (connection store).store).may_leave image
+        → HoldsAmong image (bound_of_works world done.works (world ∷ [])) }
+    ensures last { (world kept left : World) (works : List Work) → Run world (steps_of works) kept
+        → IsWithin (bound_of_works world works (world ∷ [])) left
+        → SameWorld kept left ⊎ IsHalfDone (steps_of works) kept left }
+    ensures held { (world : World) → IsReached world → IsHonest over_files store
         → IsAt over_files opened.now world
-        → From over_files opened.now store.now (Works over_files opened.now store.now)
-        → (kept : World) × IsReached kept × Holds over_files store.now kept }
-    ensures stop { (world : World) → IsReached world → IsHonest over_files store.now
+        → From over_files opened.now store (Works over_files opened.now store)
+        → (kept : World) × IsReached kept × Holds over_files store kept }
+    ensures reached { (world : World) → IsReached world → IsClean (view result)
         → IsAt over_files opened.now world
-        → From over_files opened.now store.now (Works over_files opened.now store.now)
-        → IsTrue (view (connection store.now).store).is_numbered
-        → (image : Image) → (state (connection store.now).store).may_leave image
+        → (done : Works over_files opened.now store world)
+        → (image : Image) → (state (connection store).store).may_leave image
         → HoldsReached image }
-{}
+{
+    stop_law(store)
+}

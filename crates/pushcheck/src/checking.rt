@@ -1,6 +1,6 @@
 //! Checks the paths of a push.
 
-ghost use Rattle.std.specs.Prelude.{◌≡◌, ◌≢◌, Err, IfOk, map};
+ghost use Rattle.std.specs.Prelude.{◌≡◌, IfOk, map};
 ghost use Rattle.names.specs.Names.{path_text};
 ghost use Rattle.model.specs.PushChecks.{path_verdict, push_verdicts};
 ghost use Rattle.policy.specs.Values.{policy_view};
@@ -49,8 +49,7 @@ fn verdict_on<S: Alter>(
     push: &Push<'_>,
     path: &LockPath,
 ) -> Result<PushVerdict, StoreFault>
-    ensures known { result ≢ Err StoreFault.UnknownSchema }
-    ensures world { Reads S.Store store.old store.new (λ world. IfOk result (λ verdict.
+    ensures { Reads S.Store store.old store.new (λ world. IfOk result (λ verdict.
         verdict_view verdict
         ≡ path_verdict (policy_view push.now.rows.policy.now) world (push_view push.now) (path_text path.now))) }
 {
@@ -78,8 +77,7 @@ pub fn check<S: Alter>(
     ref_name: &RefName,
     paths: &[LockPath],
 ) -> Result<Vec<PushVerdict>, StoreFault>
-    ensures known { result ≢ Err StoreFault.UnknownSchema }
-    ensures world { Reads S.Store store.old store.new (λ world. IfOk result (λ verdicts.
+    ensures { Reads S.Store store.old store.new (λ world. IfOk result (λ verdicts.
         map verdict_view verdicts.items ≡ push_verdicts (policy_view policy.now) world
         (push_by user.now repo.now ref_name.now) (map path_text paths.now))) }
 {

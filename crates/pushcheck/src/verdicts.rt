@@ -6,8 +6,8 @@ ghost use Rattle.model.specs.PushChecks.{verdict_by_lock};
 ghost use Rattle.locks.specs.Finding.{lock_seen};
 ghost use Rattle.pushcheck.specs.Verdicts.{verdict_view};
 
+use locks::Lock;
 use names::{LockId, UserName};
-use tables::LockRow;
 
 /// Whether a user may push a path.
 #[derive(Debug, Drop)]
@@ -21,7 +21,7 @@ pub enum PushVerdict {
 }
 
 /// The verdict of the lock on the path, if there is one: it is in the way of every user but its owner.
-pub(crate) fn verdict_by_lock(user: &UserName, found: Option<LockRow>) -> PushVerdict
+pub(crate) fn verdict_by_lock(user: &UserName, found: Option<Lock>) -> PushVerdict
     ensures { (repo : List ℕ) → verdict_view result
         ≡ verdict_by_lock (user_text user.now) (option_map (lock_seen repo) found) }
 {

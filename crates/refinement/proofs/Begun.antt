@@ -8,7 +8,7 @@ use Rattle.std.proofs.lemmas.List.{append-nil}
 use Rattle.std.proofs.lemmas.List.Elements.{filter-append, All-from_recursion}
 use Rattle.std.proofs.lemmas.List.Folds.{find-append}
 use Rattle.std.proofs.lemmas.List.Quantifiers.{all_pairs_push}
-use Rattle.sqlite_keyed.specs.Lists.{delete_where}
+use Rattle.sqlite_keyed.specs.Lists.{sort_by, delete_where}
 use Rattle.sqlite_keyed.proofs.ListLemmas.{all_weaker, all-append, all-filter, all_kept, ascending-append, filter_none}
 use Rattle.names.specs.Texts.{largest_object}
 use Rattle.model.specs.World.{World, Object}
@@ -17,7 +17,7 @@ use Rattle.tables.specs.Rows as row
 use Rattle.tables.specs.Rows.{Tables}
 use Rattle.tables.specs.Statements.{same_bytes, is_upload, is_complete, is_staged, is_staged_in, is_of, with_upload, without_row, without_chunks}
 use Rattle.tables.specs.Staging.{IsAbove, without_upload, without_found, without_staged_in, after_begin}
-use Rattle.refinement.specs.Objects.{chunk_kept, bytes_of, HasPieces, object_in, HasSize, DiffersInRepo, RepresentObjects}
+use Rattle.refinement.specs.Objects.{chunk_kept, number_cmp, bytes_of, HasPieces, object_in, HasSize, DiffersInRepo, RepresentObjects}
 use Rattle.refinement.specs.Representation.{Represents}
 use Rattle.refinement.specs.Staging.{staged_row, IsStaged}
 use Rattle.refinement.proofs.Counts.{named_itself, same_text}
@@ -125,7 +125,7 @@ module _ (us : List row.Upload) (cs : List row.Chunk) (objects : List Object) (i
       at true e = absurd (true≢false (sym there ∙ ap (λ n. is_some (find (is_upload n) us)) (same_number c.upload id e) ∙ ap is_some (none_with us id above)))
 
   pub no_chunks : HasPieces id [] cs
-  no_chunks = ap (map chunk_kept) (filter_none (is_of id) cs (all_weaker (λ (c : row.Chunk). IsTrue (is_some (find (is_upload c.upload) us))) (λ c. is_of id c ≡ false) not_its cs r.owned))
+  no_chunks = ap (λ own. map chunk_kept (sort_by number_cmp own)) (filter_none (is_of id) cs (all_weaker (λ (c : row.Chunk). IsTrue (is_some (find (is_upload c.upload) us))) (λ c. is_of id c ≡ false) not_its cs r.owned))
 
   size_of : HasSize (length (bytes_of id cs)) s
   size_of =

@@ -58,8 +58,8 @@ module _ (t : Tables) (world : World) (id : ℤ) (repo name : List ℕ) (staged 
   abbrev pub Completed : Completion → Type 0
   Completed New =
       (name ≡ oid) × (staged ≡ size) × (is_some (object_named repo oid world) ≡ false) × Represents (after_complete id last oid (pos size) t) (with_object received world)
-  Completed Already = (name ≡ oid) × (staged ≡ size) × (is_some (object_named repo oid world) ≡ true) × Represents (after_complete id last oid (pos size) t) world
-  Completed Differs = (name ≡ oid → staged ≡ size → ⊥) × Represents (after_complete id last oid (pos size) t) world
+  Completed Already = (name ≡ oid) × (staged ≡ size) × (is_some (object_named repo oid world) ≡ true) × (after_complete id last oid (pos size) t ≡ t)
+  Completed Differs = (name ≡ oid → staged ≡ size → ⊥) × (after_complete id last oid (pos size) t ≡ t)
 
   found : staged_with id t ≡ Some s
   found = found_staged t.uploads id s h.upload refl
@@ -104,12 +104,12 @@ module _ (t : Tables) (world : World) (id : ℤ) (repo name : List ℕ) (staged 
   completed_as : (begun known : Bool) → is_as_begun oid (pos size) s ≡ begun → is_some (find (is_object repo name) t.uploads) ≡ known → Completed (cond begun (cond known Already New) Differs)
   completed_as true true e f =
       let both = as_begun e in
-      (both.0, both.1, known_named true both.0 f, subst (λ (u : Tables). Represents u world) (sym (is_after Already (by_test true true e f))) r)
+      (both.0, both.1, known_named true both.0 f, is_after Already (by_test true true e f))
   completed_as true false e f =
       let both = as_begun e in
       let none = known_named false both.0 f in
       (both.0, both.1, none, subst (λ (u : Tables). Represents u (with_object received world)) (sym (is_after New (by_test true false e f))) (new_world both.0 none both.1))
-  completed_as false known e f = (not_begun e, subst (λ (u : Tables). Represents u world) (sym (is_after Differs (by_test false known e f))) r)
+  completed_as false known e f = (not_begun e, is_after Differs (by_test false known e f))
 
   -- the result, whatever it is
   pub completed_by : Completed (completion_by oid (pos size) s t)

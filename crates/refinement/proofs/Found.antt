@@ -1,5 +1,5 @@
 -- Lookups in a list, whatever its order.
-use Rattle.std.proofs.Common.{◌≡◌, suc, Bool, true, false, List, [], ◌∷◌, map, find, cond, Option, Some, None, option_map, IfSome, refl, sym, ap, ◌∙◌, All, AllPairs, IsPermutation, arith}
+use Rattle.std.proofs.Common.{◌≡◌, suc, Bool, true, false, List, [], ◌∷◌, map, find, cond, Option, Some, None, option_map, IfSome, refl, sym, ap, subst, ◌∙◌, All, AllPairs, IsPermutation, arith}
 use Rattle.std.specs.List.{AllByRecursion}
 use Rattle.std.proofs.lemmas.Bool.{true≢false, cond_both}
 use Rattle.std.proofs.lemmas.Option.{none-some}
@@ -101,3 +101,17 @@ pub same_found : {A B C : Type 0} (f : A → C) (g : B → C) (p : C → Bool) (
     → option_map f (find (λ x. p (f x)) xs) ≡ option_map g (find (λ y. p (g y)) ys)
 same_found f g p R xs ys same excludes all =
     found_as f g p xs ys (find (λ y. p (g y)) ys) same refl (only_first (λ y. p (g y)) R ys excludes all)
+
+pub map_itself : {A : Type 0} (xs : List A) → map (λ x. x) xs ≡ xs
+map_itself [] = refl
+map_itself (x ∷ xs) = ap (λ ys. x ∷ ys) (map_itself xs)
+
+map_none : {A : Type 0} (o : Option A) → option_map (λ x. x) o ≡ o
+map_none None = refl
+map_none (Some x) = refl
+
+-- the same, if only the first list is mapped
+pub found_of : {A C : Type 0} (f : A → C) (p : C → Bool) (R : C → C → Type 0) (xs : List A) (ys : List C)
+    → IsPermutation (map f xs) ys → Excludes p R → AllPairs R ys → option_map f (find (λ x. p (f x)) xs) ≡ find p ys
+found_of f p R xs ys same excludes all =
+    same_found f (λ y. y) p R xs ys (subst (IsPermutation (map f xs)) (sym (map_itself ys)) same) excludes all ∙ map_none (find p ys)

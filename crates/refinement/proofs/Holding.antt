@@ -5,9 +5,10 @@ use Rattle.model.specs.World.{World, Lock, with_lock}
 use Rattle.model.proofs.Keeping.{IsNewLock, keeps_with_lock}
 use Rattle.tables.specs.Rows as row
 use Rattle.tables.specs.Rows.{Tables}
-use Rattle.tables.specs.Shown.{IsHonest, shown, Moves}
+use Rattle.tables.specs.Shown.{shown, Moves}
 use Rattle.tables.specs.Steps.{outcome_of, created, held, used_up, Outcome, after_outcome, after_create, with_new_lock, LockFields}
 use Rattle.tables.specs.declared.Store.{Store}
+use Rattle.tables.proofs.Moved.{moves_still}
 use Rattle.refinement.specs.Representation.{Represents, Holds, lock_kept, lock_row}
 use Rattle.refinement.proofs.Changes.{new_lock_represented}
 
@@ -25,26 +26,13 @@ module _ {S : Type 0} (g : Ghosts S) (old new : Store S) where
   unfolding after_create
   unchanged asked t o e same = ap (λ p. after_outcome asked p t) (sym e) ∙ same
 
-  -- a lock request on a locked path leaves the world unchanged
-  pub holds_if_held : (world : World) (asked : row.Lock) (f : LockFields) → Moves g (after_create asked) old new
-      → (IsHonest g new → held f ≡ outcome_of asked (shown g old)) → Holds g old world → Holds g new world
-  holds_if_held world asked f moves e h = record {
-    ready = moves.ready h.ready;
-    laws = h.laws;
-    shows = λ honest open_now. subst (λ (t : Tables). Represents t world)
-        (sym (moves.shows honest h.ready open_now ∙ unchanged asked (shown g old) (held f) (e honest) refl))
-        (h.shows (moves.was_honest honest) (moves.was_open honest open_now));
-  }
+  -- a lock request on a locked path leaves the tables as they were
+  pub still_if_held : (asked : row.Lock) (f : LockFields) → Moves g (after_create asked) old new → held f ≡ outcome_of asked (shown g old) → Moves g (λ t. t) old new
+  still_if_held asked f moves e = moves_still g old new (after_create asked) moves (λ _. unchanged asked (shown g old) (held f) e refl)
 
-  pub holds_if_used : (world : World) (asked : row.Lock) → Moves g (after_create asked) old new
-      → (IsHonest g new → used_up ≡ outcome_of asked (shown g old)) → Holds g old world → Holds g new world
-  holds_if_used world asked moves e h = record {
-    ready = moves.ready h.ready;
-    laws = h.laws;
-    shows = λ honest open_now. subst (λ (t : Tables). Represents t world)
-        (sym (moves.shows honest h.ready open_now ∙ unchanged asked (shown g old) used_up (e honest) refl))
-        (h.shows (moves.was_honest honest) (moves.was_open honest open_now));
-  }
+  -- as does one for which no id is left
+  pub still_if_used : (asked : row.Lock) → Moves g (after_create asked) old new → used_up ≡ outcome_of asked (shown g old) → Moves g (λ t. t) old new
+  still_if_used asked moves e = moves_still g old new (after_create asked) moves (λ _. unchanged asked (shown g old) used_up e refl)
 
   as_created : (asked : row.Lock) (t : Tables) (n : ℕ) → created (pos n) ≡ outcome_of asked t → after_create asked t ≡ with_new_lock asked (pos n) t
   unfolding after_create

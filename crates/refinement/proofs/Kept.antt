@@ -1,5 +1,5 @@
 -- The objects of a world, and the complete uploads that are found.
-use Rattle.std.proofs.Common.{◌≡◌, ◌∙◌, ℕ, pos, Bool, true, false, ◌&&◌, List, map, filter, find, length, Option, Some, None, option_map, is_some, bytes_eq, refl, sym, ap, subst, IsPermutation}
+use Rattle.std.proofs.Common.{◌≡◌, ◌∙◌, ℕ, pos, Bool, true, false, ◌&&◌, List, filter, find, length, Option, Some, None, option_map, is_some, bytes_eq, refl, sym, ap}
 use Rattle.std.proofs.lemmas.Map.Text.{is_eq-slice_cmp}
 use Rattle.model.specs.World.{World, IsWorld, Object, DiffersInName, object_named}
 use Rattle.model.proofs.Lists.{find_filter, in_found, each_in, found_passes}
@@ -9,9 +9,8 @@ use Rattle.tables.specs.Rows.{Tables}
 use Rattle.tables.specs.Statements.{is_complete, is_object}
 use Rattle.refinement.specs.Objects.{bytes_of, object_in, HasSize}
 use Rattle.refinement.specs.Representation.{Represents}
-use Rattle.refinement.proofs.Found.{same_found, Excludes}
+use Rattle.refinement.proofs.Found.{found_of, Excludes}
 use Rattle.refinement.proofs.Lookups.{find_alike, same_is}
-use Rattle.refinement.proofs.Same.{map_itself}
 
 is_named : List ℕ → List ℕ → Object → Bool
 is_named repo name o = bytes_eq o.repo repo && bytes_eq o.name name
@@ -27,24 +26,18 @@ three false true false = refl
 three false false true = refl
 three false false false = refl
 
-map_none : {A : Type 0} (o : Option A) → option_map (λ x. x) o ≡ o
-map_none None = refl
-map_none (Some x) = refl
-
 -- the complete upload that is found is the world's object of the name
 pub object_found : (t : Tables) (world : World) (repo name : List ℕ) → Represents t world → IsWorld world
     → option_map (object_in t.chunks) (find (is_object repo name) t.uploads) ≡ object_named repo name world
 object_found t world repo name s w =
     let is : Object → Bool = λ o. bytes_eq o.repo repo && bytes_eq o.name name in
-    let same = subst (λ (os : List Object). IsPermutation (map (object_in t.chunks) (filter is_complete t.uploads)) os) (sym (map_itself world.objects)) s.objects.complete in
     let one : Excludes is DiffersInName = λ x y differ a b.
     let p = both_true _ _ a in let q = both_true _ _ b in
     differ (same_is x.repo repo p.0 ∙ sym (same_is y.repo repo q.0)) (same_is x.name name p.1 ∙ sym (same_is y.name name q.1)) in
     ap (option_map (object_in t.chunks)) (sym (find_filter (λ u. is (object_in t.chunks u)) is_complete t.uploads
     ∙ find_alike (λ u. is_complete u && is (object_in t.chunks u)) (is_object repo name) t.uploads
     (λ u. rw (is_eq-slice_cmp u.repo repo, is_eq-slice_cmp u.oid name) (three (bytes_eq u.repo repo) (bytes_eq u.oid name) (is_complete u)))))
-    ∙ same_found (object_in t.chunks) (λ (o : Object). o) is DiffersInName (filter is_complete t.uploads) world.objects same one w.names
-    ∙ map_none (object_named repo name world)
+    ∙ found_of (object_in t.chunks) is DiffersInName (filter is_complete t.uploads) world.objects s.objects.complete one w.names
 
 -- a complete upload is found exactly if the world has the object
 pub object_known : (t : Tables) (world : World) (repo name : List ℕ) → Represents t world → IsWorld world

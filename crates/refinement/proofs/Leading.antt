@@ -10,9 +10,9 @@ use Rattle.model.proofs.Left.{reports_are_true}
 use Rattle.tables.specs.Rows.{Tables}
 use Rattle.tables.specs.Shown.{IsHonest, IsOpen, IsDurable, HasTables, Moves, AddsNothing, Makes, Fails, FailsAny, shown}
 use Rattle.tables.specs.declared.Store.{Store}
-use Rattle.tables.proofs.Moved.{moves_none, nothing_none}
+use Rattle.tables.proofs.Moved.{moves_none, moves_then, nothing_none}
 use Rattle.refinement.specs.Representation.{Represents, Holds}
-use Rattle.refinement.specs.Left.{IsAmong, IsBoundedBy, Leads, Keeps, Ends, Gives, Takes, From, Reads}
+use Rattle.refinement.specs.Left.{IsAmong, IsBoundedBy, Leads, Keeps, Ends, KeepsTables, LeavesTables, Gives, Takes, From, Reads}
 use Rattle.refinement.proofs.Holding.{holds_still}
 
 -- the bound of a run, with one more event
@@ -193,6 +193,20 @@ module _ {S : Type 0} (g : Ghosts S) where
   ends_made a b changed world made f s m h = record { holds = h; left = λ bound was. first b made [] m.is_open (m.durable s) h }
   ends_made a b unchanged world made f s m h = record { holds = h; left = λ bound was. first b world bound m.is_open (m.durable s) h }
   ends_made a b failed world made f s m h = record { holds = h; left = λ bound was. more b made (world ∷ bound) (first b world bound m.is_open (m.durable s) h) }
+
+  -- ---- the tables
+
+  -- the tables are as before, whatever was reported
+  pub leaves_kept : (a b : Store S) (ending : Ending) → KeepsTables g a b → LeavesTables g ending a b
+  leaves_kept a b changed same = tt
+  leaves_kept a b unchanged same = same
+  leaves_kept a b failed same = same
+
+  -- after calls that only read
+  pub leaves_then : (a b c : Store S) (ending : Ending) → KeepsTables g a b → LeavesTables g ending b c → LeavesTables g ending a c
+  leaves_then a b c changed same leaves = tt
+  leaves_then a b c unchanged same leaves = moves_then g a b c same leaves
+  leaves_then a b c failed same leaves = moves_then g a b c same leaves
 
   -- a denial makes no change
   pub denial_changes_none : (world : World) (denial : Denial) → is_changed (answer_ending world (Some (Err denial))) ≡ false

@@ -1,4 +1,5 @@
 pub mod Found
+pub mod Sorting
 pub mod Pieces
 pub mod Uploads
 pub mod Staging

@@ -1,15 +1,24 @@
 -- The chunks of an upload, and their bytes.
-use Rattle.std.proofs.Common.{◌≡◌, ◌∙◌, ℕ, suc, ◌+◌, ℤ, true, false, List, [], ◌∷◌, ◌++◌, map, cond, length, refl, sym, ap, ap₂, subst, arith}
-use Rattle.std.specs.List.{concat}
-use Rattle.std.specs.Ordering.{int_eq}
+use Rattle.std.proofs.Common.{◌≡◌, ◌∙◌, ◌<◌, ℕ, suc, ◌+◌, ℤ, pos, Bool, true, false, List, [], ◌∷◌, ◌++◌, map, filter, find, cond, length, option_map, refl, sym, ap, subst, arith, Less, IsPermutation}
+use Rattle.std.specs.List.{AllByRecursion, concat}
+use Rattle.std.specs.Ordering.{int_cmp, int_eq}
+use Rattle.std.specs.Cmp.{IsTotalOrder}
+use Rattle.std.proofs.lemmas.Cmp.{int_cmp_total, on_total}
 use Rattle.std.proofs.lemmas.Int.{ints}
 use Rattle.std.proofs.lemmas.List.{map-append, append-nil, length-append}
 use Rattle.std.proofs.lemmas.List.Elements.{filter-append}
 use Rattle.std.proofs.lemmas.List.Folds.{concat-append}
+use Rattle.std.proofs.lemmas.List.Sorted.{IsPermutation-map, IsPermutation-trans, IsPermutation-sym, IsPermutation-append_left}
+use Rattle.sqlite_trees.specs.Tree.{IsAscending}
+use Rattle.sqlite_keyed.specs.Lists.{sort_by}
+use Rattle.sqlite_keyed.proofs.SortLemmas.{IsPermutation-sort_by, sort_by-map}
+use Rattle.model.proofs.Lists.{find_filter}
 use Rattle.tables.specs.Rows as row
-use Rattle.tables.specs.Statements.{is_of}
+use Rattle.tables.specs.Statements.{is_of, is_chunk}
 use Rattle.tables.specs.Staging.{asked_chunk}
-use Rattle.refinement.specs.Objects.{chunk_kept, chunks_of, pieces_of, bytes_of, piece_rows, HasPieces}
+use Rattle.refinement.specs.Objects.{chunk_kept, number_cmp, chunks_of, pieces_of, bytes_of, piece_rows, HasPieces}
+use Rattle.refinement.proofs.Found.{found_of}
+use Rattle.refinement.proofs.Sorting.{less, into_pairs, sorted_rises, one_order}
 
 -- ---- numbered rows
 
@@ -41,6 +50,51 @@ row_bytes : (id : ℤ) (n : ℕ) (pieces : List (List ℕ)) → map (λ (c : row
 row_bytes id n [] = refl
 row_bytes id n (piece ∷ pieces) = ap (λ ps. piece ∷ ps) (row_bytes id (suc n) pieces)
 
+-- ---- in the order of the numbers
+
+number_total : IsTotalOrder number_cmp
+number_total = on_total (λ (c : row.Chunk). c.n) int_cmp_total
+
+all_later : (id : ℤ) (a n : ℕ) (pieces : List (List ℕ)) → a < n → AllByRecursion (λ (c : row.Chunk). int_cmp (pos a) c.n ≡ Less) (piece_rows id n pieces)
+all_later id a n [] below = tt
+all_later id a n (piece ∷ pieces) below = (less a n below, all_later id a (suc n) pieces (omega (arith, below)))
+
+rows_rise : (id : ℤ) (n : ℕ) (pieces : List (List ℕ)) → IsAscending (λ a b. number_cmp a b ≡ Less) (piece_rows id n pieces)
+rows_rise id n [] = tt
+rows_rise id n (piece ∷ pieces) = (all_later id n (suc n) pieces (omega arith), rows_rise id (suc n) pieces)
+
+-- the rows of an upload in the order of the table, without their places
+abbrev pub own_rows : ℤ → List row.Chunk → List row.Chunk
+own_rows id chunks = map chunk_kept (filter (is_of id) chunks)
+
+-- if these are the rows of some pieces, in any order, the upload has those pieces
+pub ordered : (id : ℤ) (pieces : List (List ℕ)) (chunks : List row.Chunk) → IsPermutation (piece_rows id 0 pieces) (own_rows id chunks) → HasPieces id pieces chunks
+ordered id pieces chunks same =
+    let own = own_rows id chunks in
+    sym (sort_by-map number_cmp chunk_kept (filter (is_of id) chunks))
+    ∙ one_order number_cmp number_total (piece_rows id 0 pieces) (sort_by number_cmp own) (rows_rise id 0 pieces)
+    (IsPermutation-trans (piece_rows id 0 pieces) own (sort_by number_cmp own) same (IsPermutation-sym (sort_by number_cmp own) own (IsPermutation-sort_by number_cmp number_total own))) (sorted_rises number_cmp number_total own)
+
+-- and the other way round
+pub in_any_order : (id : ℤ) (pieces : List (List ℕ)) (chunks : List row.Chunk) → HasPieces id pieces chunks → IsPermutation (piece_rows id 0 pieces) (own_rows id chunks)
+in_any_order id pieces chunks h =
+    subst (λ (rows : List row.Chunk). IsPermutation rows (own_rows id chunks)) h
+    (IsPermutation-map chunk_kept (chunks_of id chunks) (filter (is_of id) chunks) (IsPermutation-sort_by number_cmp number_total (filter (is_of id) chunks)))
+
+-- the chunk with a number is the row of that piece
+pub chunk_found : (id n : ℤ) (pieces : List (List ℕ)) (chunks : List row.Chunk) → HasPieces id pieces chunks
+    → option_map chunk_kept (find (is_chunk id n) chunks) ≡ find (λ c. int_eq c.n n) (piece_rows id 0 pieces)
+chunk_found id n pieces chunks h =
+    let numbered : row.Chunk → Bool = λ c. int_eq c.n n in
+    ap (option_map chunk_kept) (sym (find_filter numbered (is_of id) chunks))
+    ∙ found_of chunk_kept numbered (λ a b. number_cmp a b ≡ Less) (filter (is_of id) chunks) (piece_rows id 0 pieces) (IsPermutation-sym (piece_rows id 0 pieces) (own_rows id chunks) (in_any_order id pieces chunks h))
+    (λ a b below p q. apart a.n b.n n below p q) (into_pairs (λ a b. number_cmp a b ≡ Less) (piece_rows id 0 pieces) (rows_rise id 0 pieces))
+  where
+    apart : (a b n : ℤ) → int_cmp a b ≡ Less → int_eq a n ≡ true → int_eq b n ≡ true → ⊥
+    apart a b n below p q = absurd (grind (arith, ints))
+
+-- ---- the bytes
+
 -- the bytes of a row do not depend on its place
 kept_bytes : (chunks : List row.Chunk) → map (λ (c : row.Chunk). c.bytes) (map chunk_kept chunks) ≡ map (λ (c : row.Chunk). c.bytes) chunks
 kept_bytes [] = refl
@@ -63,20 +117,24 @@ own_pieces id pieces chunks h = subst (λ (ps : List (List ℕ)). HasPieces id p
 
 -- ---- one more chunk
 
-pub other_chunks : (id : ℤ) (chunks : List row.Chunk) (c : row.Chunk) → is_of id c ≡ false → chunks_of id (chunks ++ c ∷ []) ≡ chunks_of id chunks
-other_chunks id chunks c not_its =
-    filter-append (is_of id) chunks (c ∷ []) ∙ ap (λ b. chunks_of id chunks ++ cond b (c ∷ []) []) not_its ∙ append-nil (chunks_of id chunks)
+-- the chunks of the upload, with one more row in the table
+own_with : (id : ℤ) (chunks : List row.Chunk) (c : row.Chunk) (its : Bool) → is_of id c ≡ its → filter (is_of id) (chunks ++ c ∷ []) ≡ filter (is_of id) chunks ++ cond its (c ∷ []) []
+own_with id chunks c its is = filter-append (is_of id) chunks (c ∷ []) ∙ ap (λ b. filter (is_of id) chunks ++ cond b (c ∷ []) []) is
 
-its_chunks : (id : ℤ) (chunks : List row.Chunk) (c : row.Chunk) → is_of id c ≡ true → chunks_of id (chunks ++ c ∷ []) ≡ chunks_of id chunks ++ c ∷ []
-its_chunks id chunks c its = filter-append (is_of id) chunks (c ∷ []) ∙ ap (λ b. chunks_of id chunks ++ cond b (c ∷ []) []) its
+pub other_chunks : (id : ℤ) (chunks : List row.Chunk) (c : row.Chunk) → is_of id c ≡ false → chunks_of id (chunks ++ c ∷ []) ≡ chunks_of id chunks
+other_chunks id chunks c not_its = ap (sort_by number_cmp) (own_with id chunks c false not_its ∙ append-nil (filter (is_of id) chunks))
 
 pub pieces_more : (id : ℤ) (pieces : List (List ℕ)) (bytes : List ℕ) (chunks : List row.Chunk) (c : row.Chunk) → HasPieces id pieces chunks → chunk_kept c ≡ asked_chunk id (length pieces) bytes
     → HasPieces id (pieces ++ bytes ∷ []) (chunks ++ c ∷ [])
 pieces_more id pieces bytes chunks c h is =
-    ap (map chunk_kept) (its_chunks id chunks c (ap (λ (k : row.Chunk). int_eq k.upload id) is ∙ own_number id))
-    ∙ map-append chunk_kept (chunks_of id chunks) (c ∷ [])
-    ∙ ap₂ (λ ks k. ks ++ k ∷ []) h is
-    ∙ sym (first_more id pieces bytes)
+    let last = asked_chunk id (length pieces) bytes ∷ [] in
+    let own : own_rows id (chunks ++ c ∷ []) ≡ own_rows id chunks ++ last =
+    ap (map chunk_kept) (own_with id chunks c true (ap (λ (k : row.Chunk). int_eq k.upload id) is ∙ own_number id))
+    ∙ map-append chunk_kept (filter (is_of id) chunks) (c ∷ []) ∙ ap (λ k. own_rows id chunks ++ k ∷ []) is in
+    ordered id (pieces ++ bytes ∷ []) (chunks ++ c ∷ [])
+    (subst (IsPermutation (piece_rows id 0 (pieces ++ bytes ∷ []))) (sym own)
+    (subst (λ (rows : List row.Chunk). IsPermutation rows (own_rows id chunks ++ last)) (sym (first_more id pieces bytes))
+    (IsPermutation-append_left last (piece_rows id 0 pieces) (own_rows id chunks) (in_any_order id pieces chunks h))))
 
 concat_one : (piece : List ℕ) → concat (piece ∷ []) ≡ piece
 concat_one piece = append-nil piece

@@ -13,11 +13,12 @@ use Rattle.tables.specs.Rows.{Tables}
 use Rattle.tables.specs.Statements.{has_id, without_lock}
 use Rattle.tables.specs.Shown.{shown, Moves}
 use Rattle.tables.specs.declared.Store.{Store}
+use Rattle.tables.proofs.Moved.{moves_still}
 use Rattle.refinement.specs.Removal.{without_found}
 use Rattle.refinement.specs.Representation.{Represents, Holds, lock_kept, lock_row}
 use Rattle.refinement.specs.Lookup.{lock_with}
 use Rattle.refinement.proofs.Lookups.{numbered_in, number_found, found_own, row_numbered}
-use Rattle.refinement.proofs.Tokens.{filter_alike, some_alike}
+use Rattle.refinement.proofs.Tokens.{filter_alike, none_is, some_alike}
 
 -- the world without the locks of the repository that have the id
 abbrev dropped : List ℕ → ℕ → World → World
@@ -90,6 +91,15 @@ pub removed_any : (t : Tables) (world : World) (repo : List ℕ) (id n : ℕ) �
 removed_any t world repo id n s w e =
     ap (nat_lt 0) e ∙ some_pass (has_id repo (pos id)) t.locks
     ∙ some_alike lock_kept lock_row (find (has_id repo (pos id)) t.locks) (lock_with repo id world) (number_found t world repo id s w)
+
+-- if no row is removed, the tables are as before
+pub still_if_none : {S : Type 0} (g : Ghosts S) (old new : Store S) (repo : List ℕ) (id n : ℕ) → Moves g (without_lock repo (pos id)) old new → n ≡ length (filter (has_id repo (pos id)) (shown g old).locks) → nat_lt 0 n ≡ false
+    → Moves g (λ t. t) old new
+unfolding without_lock
+still_if_none g old new repo id n moves counted none =
+    let t = shown g old in
+    let free = none_is (find (has_id repo (pos id)) t.locks) (sym (some_pass (has_id repo (pos id)) t.locks) ∙ ap (nat_lt 0) (sym counted) ∙ none) in
+    moves_still g old new (without_lock repo (pos id)) moves (λ _. ap (λ (ls : List row.Lock). record t { locks = ls }) (all_stay (has_id repo (pos id)) t.locks free))
 
 -- the lock with the id is removed
 pub holds_removed : {S : Type 0} (g : Ghosts S) (old new : Store S) (world : World) (repo : List ℕ) (id : ℕ) → Moves g (without_lock repo (pos id)) old new → Holds g old world

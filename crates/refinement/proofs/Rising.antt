@@ -1,19 +1,17 @@
 -- The rows of a repository's locks in the order of their ids, and the locks of the world.
-use Rattle.std.proofs.Common.{◌≡◌, ◌∙◌, ◌<◌, ℕ, zero, suc, ℤ, pos, ◌≤ℤ◌, Bool, true, false, ◌&&◌, nat_le, nat_lt, cond, List, [], ◌∷◌, map, filter, bytes_eq, refl, ap, subst, IsPermutation, arith, Ordering, Less, is_lt, is_gt, IsSorted, add-one}
+use Rattle.std.proofs.Common.{◌≡◌, ◌∙◌, ℕ, pos, Bool, true, false, ◌&&◌, nat_le, nat_lt, cond, List, [], ◌∷◌, map, filter, bytes_eq, refl, ap, subst, IsPermutation, arith, Ordering, Less, Equal, Greater, is_gt}
 use Rattle.std.specs.Prelude.{int_le}
-use Rattle.std.specs.Bool.{⊤}
 use Rattle.std.specs.List.{AllByRecursion}
 use Rattle.std.specs.Ordering.{int_cmp, ordering_then}
 use Rattle.std.specs.Cmp.{IsTotalOrder}
 use Rattle.std.proofs.lemmas.Bool.Decides.{nat_tests}
-use Rattle.std.proofs.lemmas.Int.{ints}
-use Rattle.std.proofs.lemmas.Cmp.{int_cmp_total, on_total}
+use Rattle.std.proofs.lemmas.Cmp.{int_cmp_total, on_total, then_total}
 use Rattle.std.proofs.lemmas.List.Sorted.{IsPermutation-map, IsPermutation-trans, IsPermutation-sym, IsPermutation-refl, IsPermutation-cons, IsPermutation-middle}
 use Rattle.std.proofs.lemmas.Map.Text.{is_eq-slice_cmp}
 use Rattle.sqlite_trees.specs.Tree.{IsAscending}
 use Rattle.sqlite_trees.proofs.ListLemmas.{IsPermutation-filter, filter-map}
-use Rattle.sqlite_keyed.specs.Lists.{insert_sorted}
-use Rattle.sqlite_keyed.proofs.SortLemmas.{sorted_unique}
+use Rattle.sqlite_keyed.proofs.ListLemmas.{ascending-map, ascending_weaker}
+use Rattle.sqlite_keyed.proofs.SortLemmas.{IsPermutation-sort_by}
 use Rattle.model.specs.Orders.{insert_by, sort_by}
 use Rattle.model.specs.World.{World, IsWorld, Lock}
 use Rattle.model.specs.RepoState.{locks_of}
@@ -24,6 +22,7 @@ use Rattle.tables.specs.Rows as row
 use Rattle.tables.specs.Rows.{Tables}
 use Rattle.tables.specs.Statements.{is_in, is_from, id_cmp, by_id}
 use Rattle.refinement.specs.Representation.{lock_kept, lock_row, Represents}
+use Rattle.refinement.proofs.Sorting.{less, NotAfter, sorted_rises, one_order}
 use Rattle.refinement.proofs.Tokens.{filter_alike}
 
 -- ---- the order of the definitions only moves elements
@@ -40,57 +39,6 @@ was_sorted : {A : Type 0} (before : A → A → Bool) (xs : List A) → IsPermut
 was_sorted before [] = IsPermutation-refl _
 was_sorted before (x ∷ xs) = IsPermutation-trans _ _ _ (inserted before x (sort_by before xs)) (IsPermutation-cons x _ _ (was_sorted before xs))
 
--- ---- the rows rise by their ids
-
-abbrev AreRising : List row.Lock → Type 0
-AreRising [] = ⊤
-AreRising (x ∷ xs) = AllByRecursion (λ y. x.id ≤ℤ y.id) xs × AreRising xs
-
-all_inserted : (P : row.Lock → Type 0) (new : row.Lock) (xs : List row.Lock) → P new → AllByRecursion P xs → AllByRecursion P (insert_sorted id_cmp new xs)
-all_inserted P new [] h all = (h, tt)
-all_inserted P new (x ∷ xs) h all = at (is_gt (id_cmp new x)) (all_inserted P new xs h all.1)
-  where
-    at : (v : Bool) → AllByRecursion P (insert_sorted id_cmp new xs) → AllByRecursion P (cond v (x ∷ insert_sorted id_cmp new xs) (new ∷ x ∷ xs))
-    at true rest = (all.0, rest)
-    at false rest = (h, all)
-
-after_by : (a b c d : ℤ) → is_gt (ordering_then (int_cmp a b) (int_cmp c d)) ≡ true → b ≤ℤ a
-after_by a b c d h = grind (arith, ints)
-
-before_by : (a b c d : ℤ) → is_gt (ordering_then (int_cmp a b) (int_cmp c d)) ≡ false → a ≤ℤ b
-before_by a b c d h = grind (arith, ints)
-
-up_to : (a b c : ℤ) → a ≤ℤ b → b ≤ℤ c → a ≤ℤ c
-up_to a b c p q = omega (arith, ints, p, q)
-
-all_above : (a b : ℤ) (xs : List row.Lock) → a ≤ℤ b → AllByRecursion (λ y. b ≤ℤ y.id) xs → AllByRecursion (λ y. a ≤ℤ y.id) xs
-all_above a b [] p all = tt
-all_above a b (x ∷ xs) p all = (up_to a b x.id p all.0, all_above a b xs p all.1)
-
-insert_rises : (new : row.Lock) (xs : List row.Lock) → AreRising xs → AreRising (insert_sorted id_cmp new xs)
-insert_rises new [] up = (tt, tt)
-insert_rises new (x ∷ xs) up = at (is_gt (id_cmp new x)) refl (insert_rises new xs up.1)
-  where
-    at : (v : Bool) → is_gt (id_cmp new x) ≡ v → AreRising (insert_sorted id_cmp new xs) → AreRising (cond v (x ∷ insert_sorted id_cmp new xs) (new ∷ x ∷ xs))
-    at true e rest = (all_inserted (λ y. x.id ≤ℤ y.id) new xs (after_by new.id x.id new.rowid x.rowid e) up.0, rest)
-    at false e rest = let low = before_by new.id x.id new.rowid x.rowid e in ((low, all_above new.id x.id xs low up.0), up)
-
-by_id_rises : (xs : List row.Lock) → AreRising (by_id xs)
-by_id_rises [] = tt
-by_id_rises (x ∷ xs) = insert_rises x (by_id xs) (by_id_rises xs)
-
-placed_row : (new : row.Lock) (xs : List row.Lock) → IsPermutation (insert_sorted id_cmp new xs) (new ∷ xs)
-placed_row new [] = IsPermutation-refl _
-placed_row new (x ∷ xs) = at (is_gt (id_cmp new x)) (placed_row new xs)
-  where
-    at : (v : Bool) → IsPermutation (insert_sorted id_cmp new xs) (new ∷ xs) → IsPermutation (cond v (x ∷ insert_sorted id_cmp new xs) (new ∷ x ∷ xs)) (new ∷ x ∷ xs)
-    at true rest = IsPermutation-trans _ _ _ (IsPermutation-cons x _ _ rest) (IsPermutation-middle (x ∷ []) new xs)
-    at false rest = IsPermutation-refl _
-
-by_id_moves : (xs : List row.Lock) → IsPermutation (by_id xs) xs
-by_id_moves [] = IsPermutation-refl _
-by_id_moves (x ∷ xs) = IsPermutation-trans _ _ _ (placed_row x (by_id xs)) (IsPermutation-cons x _ _ (by_id_moves xs))
-
 -- ---- one order
 
 abbrev row_cmp : row.Lock → row.Lock → Ordering
@@ -98,9 +46,6 @@ row_cmp a b = int_cmp a.id b.id
 
 row_total : IsTotalOrder row_cmp
 row_total = on_total (λ (l : row.Lock). l.id) int_cmp_total
-
-less : (a b : ℕ) → a < b → int_cmp (pos a) (pos b) ≡ Less
-less a b h = grind (arith, ints)
 
 all_less : (x : Lock) (ls : List Lock) → AllByRecursion (IsBelow x) ls → AllByRecursion (λ r. row_cmp (lock_row x) r ≡ Less) (map lock_row ls)
 all_less x [] all = tt
@@ -110,15 +55,18 @@ strict : (ls : List Lock) → Rise ls → IsAscending (λ a b. row_cmp a b ≡ L
 strict [] up = tt
 strict (x ∷ xs) up = (all_less x xs up.0, strict xs up.1)
 
-not_less : (a b : ℤ) → a ≤ℤ b → is_lt (int_cmp b a) ≡ false
-not_less a b h = grind (arith, ints)
+id_total : IsTotalOrder id_cmp
+id_total = then_total row_total (on_total (λ (l : row.Lock). l.rowid) int_cmp_total)
 
-sorted_kept : (ls : List row.Lock) → AreRising ls → IsSorted row_cmp (map lock_kept ls)
-sorted_kept [] up k d p q = absurd (omega (arith, q))
-sorted_kept (x ∷ []) up zero d p q = absurd (omega (arith, q))
-sorted_kept (x ∷ []) up (suc k) d p q = absurd (omega (arith, q))
-sorted_kept (x ∷ y ∷ ys) up zero d p q = not_less x.id y.id up.0.0
-sorted_kept (x ∷ y ∷ ys) up (suc k) d p q = rw add-one (rw add-one at (sorted_kept (y ∷ ys) up.1 k d (omega arith) (omega arith)))
+not_after : (a b : Ordering) → is_gt (ordering_then a b) ≡ false → is_gt a ≡ false
+not_after Less b e = refl
+not_after Equal b e = refl
+not_after Greater b e = e
+
+kept_rises : (ls : List row.Lock) → IsAscending (NotAfter row_cmp row_total) (map lock_kept (by_id ls))
+kept_rises ls =
+    ascending-map (NotAfter row_cmp row_total) lock_kept (by_id ls)
+    (ascending_weaker (NotAfter id_cmp id_total) (NotAfter row_cmp row_total) (λ a b. not_after (row_cmp a b) (int_cmp a.rowid b.rowid)) (by_id ls) (sorted_rises id_cmp id_total ls))
 
 -- ---- the locks of a repository
 
@@ -137,11 +85,11 @@ module _ (P : row.Lock → Bool) (Q : Lock → Bool) (alike : (l : Lock) → P (
   rows_rise t world locks s rise same =
       let rows = filter P t.locks in
       let some = filter Q world.locks in
-      sorted_unique row_cmp row_total (map lock_row locks) (map lock_kept (by_id rows)) (strict locks rise)
+      one_order row_cmp row_total (map lock_row locks) (map lock_kept (by_id rows)) (strict locks rise)
       (IsPermutation-trans (map lock_row locks) (map lock_row some) (map lock_kept (by_id rows)) (IsPermutation-map lock_row locks some same)
       (IsPermutation-trans (map lock_row some) (map lock_kept rows) (map lock_kept (by_id rows)) (same_rows t world s)
-      (IsPermutation-map lock_kept rows (by_id rows) (IsPermutation-sym (by_id rows) rows (by_id_moves rows)))))
-      (sorted_kept (by_id rows) (by_id_rises rows))
+      (IsPermutation-map lock_kept rows (by_id rows) (IsPermutation-sym (by_id rows) rows (IsPermutation-sort_by id_cmp id_total rows)))))
+      (kept_rises rows)
 
 in_alike : (repo : List ℕ) (l : Lock) → is_in repo (lock_row l) ≡ bytes_eq l.repo repo
 in_alike repo l = is_eq-slice_cmp l.repo repo

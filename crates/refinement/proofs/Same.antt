@@ -14,6 +14,7 @@ use Rattle.tables.specs.Steps.{code_of}
 use Rattle.refinement.specs.Objects.{object_in, RepresentObjects}
 use Rattle.refinement.specs.Representation.{Represents, lock_kept, lock_row, token_kept, token_row}
 use Rattle.refinement.specs.Left.{IsAmong}
+use Rattle.refinement.proofs.Found.{map_itself}
 
 nat_of : ℤ → ℕ
 nat_of (pos n) = n
@@ -56,10 +57,6 @@ same_lists {C = C} f g h rows xs ys back p q =
     let both = IsPermutation-map f (map g xs) (map g ys) (IsPermutation-trans (map g xs) rows (map g ys) (IsPermutation-sym rows (map g xs) p) q) in
     subst (λ (zs : List C). IsPermutation zs (map h ys)) (map_back f g h xs back)
     (subst (λ (zs : List C). IsPermutation (map f (map g xs)) zs) (map_back f g h ys back) both)
-
-pub map_itself : {A : Type 0} (xs : List A) → map (λ x. x) xs ≡ xs
-map_itself [] = refl
-map_itself (x ∷ xs) = ap (λ ys. x ∷ ys) (map_itself xs)
 
 pub same_pos : (a b : ℕ) → pos a ≡ pos b → a ≡ b
 unfolding nat_of

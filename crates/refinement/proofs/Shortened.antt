@@ -5,7 +5,8 @@ use Rattle.std.specs.List.{AllByRecursion, concat}
 use Rattle.std.specs.Ordering.{int_eq}
 use Rattle.std.proofs.lemmas.Int.{ints}
 use Rattle.std.proofs.lemmas.List.{length-append}
-use Rattle.sqlite_keyed.specs.Lists.{delete_where}
+use Rattle.sqlite_trees.proofs.ListLemmas.{IsPermutation-filter}
+use Rattle.sqlite_keyed.specs.Lists.{sort_by, delete_where}
 use Rattle.sqlite_keyed.proofs.ListLemmas.{all_weaker, all_of, all_both, all-filter}
 use Rattle.model.specs.World.{World, Object}
 use Rattle.model.proofs.Lists.{filter_weaker, in_found, found_passes}
@@ -14,9 +15,9 @@ use Rattle.tables.specs.Rows as row
 use Rattle.tables.specs.Rows.{Tables}
 use Rattle.tables.specs.Statements.{is_upload, is_complete, is_staged_with, is_of, is_of_from, without_chunks_from}
 use Rattle.tables.specs.Staging.{asked_chunk, staged_with, without_found_from, without_staged_from}
-use Rattle.refinement.specs.Objects.{chunk_kept, chunks_of, pieces_of, bytes_of, piece_rows, HasPieces, object_in, HasSize, RepresentObjects}
+use Rattle.refinement.specs.Objects.{chunk_kept, number_cmp, chunks_of, pieces_of, bytes_of, piece_rows, HasPieces, object_in, HasSize, RepresentObjects}
 use Rattle.refinement.specs.Representation.{Represents}
-use Rattle.refinement.proofs.Pieces.{same_number, same_pieces, own_pieces, bytes_are}
+use Rattle.refinement.proofs.Pieces.{same_number, own_rows, ordered, in_any_order, same_pieces, own_pieces, bytes_are}
 use Rattle.refinement.proofs.Uploads.{found_itself, not_complete, map_alike, same_object, same_size}
 use Rattle.refinement.proofs.Withdrawn.{alone, complete_apart}
 
@@ -66,13 +67,13 @@ module _ (us : List row.Upload) (cs : List row.Chunk) (objects : List Object) (s
 
   -- the chunks of any other upload are the same
   others : (other : ℤ) → int_eq other s.id ≡ false → chunks_of other rest ≡ chunks_of other cs
-  others other apart = filter_weaker (is_of other) (λ c. not (is_of_from s.id (pos n) c)) cs (all_of (λ (c : row.Chunk). is_of other c ≡ true → not (is_of_from s.id (pos n) c) ≡ true) also cs)
+  others other apart = ap (sort_by number_cmp) (filter_weaker (is_of other) (λ c. not (is_of_from s.id (pos n) c)) cs (all_of (λ (c : row.Chunk). is_of other c ≡ true → not (is_of_from s.id (pos n) c) ≡ true) also cs))
     where
       also : (c : row.Chunk) → is_of other c ≡ true → not (is_of_from s.id (pos n) c) ≡ true
       also c is = ap (λ v. not (v && int_le (pos n) c.n)) (ap (λ k. int_eq k s.id) (same_number c.upload other is) ∙ apart)
 
   -- the upload's own, without their places
-  own_below : (ks : List row.Chunk) → map chunk_kept (filter (is_of s.id) (filter (λ c. not (is_of_from s.id (pos n) c)) ks)) ≡ filter (below n) (map chunk_kept (filter (is_of s.id) ks))
+  own_below : (ks : List row.Chunk) → own_rows s.id (delete_where (is_of_from s.id (pos n)) ks) ≡ filter (below n) (own_rows s.id ks)
   own_below [] = refl
   own_below (c ∷ ks) = by_tests (is_of s.id c) (int_le (pos n) c.n) refl refl (own_below ks)
     where
@@ -88,7 +89,11 @@ module _ (us : List row.Upload) (cs : List row.Chunk) (objects : List Object) (s
   own_left = pieces_below s.id n 0 (pieces_of s.id cs)
 
   own_kept : HasPieces s.id own_left.0 rest
-  own_kept = own_below cs ∙ ap (filter (below n)) (r.numbered s.id) ∙ own_left.1.rows
+  own_kept =
+      ordered s.id own_left.0 rest
+      (subst (IsPermutation (piece_rows s.id 0 own_left.0)) (sym (own_below cs))
+      (subst (λ (rows : List row.Chunk). IsPermutation rows (filter (below n) (own_rows s.id cs))) own_left.1.rows
+      (IsPermutation-filter (below n) (piece_rows s.id 0 (pieces_of s.id cs)) (own_rows s.id cs) (in_any_order s.id (pieces_of s.id cs) cs (r.numbered s.id)))))
 
   fewer_bytes : length (bytes_of s.id rest) ≤ length (bytes_of s.id cs)
   fewer_bytes = subst (λ (b : List ℕ). length b ≤ length (bytes_of s.id cs)) (sym (bytes_are s.id own_left.0 rest own_kept)) own_left.1.fewer

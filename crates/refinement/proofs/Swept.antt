@@ -1,7 +1,6 @@
 -- Staged uploads that are removed one after the other.
-use Rattle.std.proofs.Common.{◌≡◌, ◌∙◌, inl, ℤ, ◌<ℤ◌, Bool, true, false, not, List, [], ◌∷◌, map, filter, find, cond, Option, Some, refl, sym, ap, subst}
+use Rattle.std.proofs.Common.{◌≡◌, ◌∙◌, inl, ℤ, ◌<ℤ◌, true, not, List, [], ◌∷◌, map, filter, cond, Some, refl, sym, ap, subst}
 use Rattle.std.specs.List.{AllByRecursion}
-use Rattle.std.proofs.lemmas.Int.{ints}
 use Rattle.sqlite_trees.specs.Tree.{IsAscending}
 use Rattle.sqlite_keyed.specs.Keyed.{IsKeyedBy}
 use Rattle.sqlite_keyed.proofs.ListLemmas.{all_weaker, ascending-filter, filter_all}

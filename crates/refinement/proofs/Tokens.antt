@@ -16,6 +16,7 @@ use Rattle.tables.specs.Statements as tables
 use Rattle.tables.specs.Steps.{has_token, after_add}
 use Rattle.tables.specs.Shown.{shown, Moves}
 use Rattle.tables.specs.declared.Store.{Store}
+use Rattle.tables.proofs.Moved.{moves_still}
 use Rattle.refinement.specs.Representation.{token_kept, token_row, Represents, Holds}
 use Rattle.refinement.proofs.Changes.{one_item_more}
 use Rattle.refinement.proofs.Lookups.{token_found}
@@ -128,14 +129,8 @@ module _ {S : Type 0} (g : Ghosts S) (old new : Store S) (world : World) where
   }
 
   -- a token that is already stored changes nothing
-  pub holds_if_known : (k : row.Token) → Moves g (after_add k) old new → has_token k.digest (shown g old) ≡ true → Holds g old world → Holds g new world
-  holds_if_known k moves there h = record {
-    ready = moves.ready h.ready;
-    laws = h.laws;
-    shows = λ honest open_now. subst (λ (t : Tables). Represents t world)
-        (sym (moves.shows honest h.ready open_now ∙ not_added k (shown g old) there))
-        (h.shows (moves.was_honest honest) (moves.was_open honest open_now));
-  }
+  pub still_if_known : (k : row.Token) → Moves g (after_add k) old new → has_token k.digest (shown g old) ≡ true → Moves g (λ t. t) old new
+  still_if_known k moves there = moves_still g old new (after_add k) moves (λ _. not_added k (shown g old) there)
 
   -- expired tokens are removed
   pub holds_pruned : (now : ℕ) → Moves g (tables.without_expired (pos now)) old new → Holds g old world → Holds g new (without_expired now world)

@@ -4,7 +4,7 @@ use Rattle.std.specs.List.{AllByRecursion}
 use Rattle.std.specs.Ordering.{int_eq}
 use Rattle.std.proofs.lemmas.Bool.{true≢false}
 use Rattle.std.proofs.lemmas.List.Kept.{AllPairs-filter}
-use Rattle.sqlite_keyed.specs.Lists.{delete_where}
+use Rattle.sqlite_keyed.specs.Lists.{sort_by, delete_where}
 use Rattle.sqlite_keyed.proofs.KeyedLemmas.{IsKeyedBy-delete_where, has_key-delete_where}
 use Rattle.sqlite_keyed.proofs.ListLemmas.{all_weaker, all_of}
 use Rattle.model.specs.World.{World, Object}
@@ -14,7 +14,7 @@ use Rattle.tables.specs.Rows as row
 use Rattle.tables.specs.Rows.{Tables}
 use Rattle.tables.specs.Statements.{is_upload, is_complete, is_staged, is_staged_with, is_staged_in, is_of, without_row, without_chunks}
 use Rattle.tables.specs.Staging.{staged_with, without_upload, without_found, without_staged, without_staged_in}
-use Rattle.refinement.specs.Objects.{chunk_kept, chunks_of, pieces_of, bytes_of, HasPieces, object_in, HasSize, DiffersInRepo, RepresentObjects}
+use Rattle.refinement.specs.Objects.{chunk_kept, number_cmp, chunks_of, pieces_of, bytes_of, HasPieces, object_in, HasSize, DiffersInRepo, RepresentObjects}
 use Rattle.refinement.specs.Representation.{Represents}
 use Rattle.refinement.proofs.Pieces.{numbers_meet, same_number, same_pieces, own_pieces}
 use Rattle.refinement.proofs.Uploads.{IsAlone, found_alone, found_itself, not_complete, map_alike, same_object, same_size}
@@ -67,7 +67,7 @@ module _ (us : List row.Upload) (cs : List row.Chunk) (objects : List Object) (s
   alone = found_alone us s.id s r.rise there
 
   others : (other : ℤ) → int_eq other s.id ≡ false → chunks_of other rest ≡ chunks_of other cs
-  others other apart = filter_weaker (is_of other) (λ c. not (is_of s.id c)) cs (all_of (λ (c : row.Chunk). is_of other c ≡ true → not (is_of s.id c) ≡ true) also cs)
+  others other apart = ap (sort_by number_cmp) (filter_weaker (is_of other) (λ c. not (is_of s.id c)) cs (all_of (λ (c : row.Chunk). is_of other c ≡ true → not (is_of s.id c) ≡ true) also cs))
     where
       also : (c : row.Chunk) → is_of other c ≡ true → not (is_of s.id c) ≡ true
       also c is = ap not (ap (λ n. int_eq n s.id) (same_number c.upload other is) ∙ apart)
@@ -102,7 +102,7 @@ module _ (us : List row.Upload) (cs : List row.Chunk) (objects : List Object) (s
   numbered_left other = at (int_eq other s.id) refl
     where
       none : HasPieces s.id [] rest
-      none = ap (map chunk_kept) (none_left (is_of s.id) cs)
+      none = ap (λ own. map chunk_kept (sort_by number_cmp own)) (none_left (is_of s.id) cs)
 
       at : (v : Bool) → int_eq other s.id ≡ v → HasPieces other (pieces_of other rest) rest
       at true e = subst (λ n. HasPieces n (pieces_of n rest) rest) (sym (same_number other s.id e)) (own_pieces s.id [] rest none)

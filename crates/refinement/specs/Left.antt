@@ -1,10 +1,10 @@
 -- The effect of a call on a store that held a world, and what a stop leaves of it.
-use Rattle.std.specs.Prelude.{◌⊎◌, [], ◌∷◌, Some}
+use Rattle.std.specs.Prelude.{◌⊎◌, [], ◌∷◌, Some, ⊤}
 use Rattle.sqlite_trees.specs.declared.store.Store.{Ghosts}
 use Rattle.model.specs.World.{World, IsWorld}
 use Rattle.model.specs.Answers.{Answer}
 use Rattle.model.specs.Steps.{Event, IsStep, after}
-use Rattle.model.specs.Bounds.{Bound, Ending, left_by, answer_ending, bound_after}
+use Rattle.model.specs.Bounds.{Bound, Ending, changed, unchanged, failed, left_by, answer_ending, bound_after}
 use Rattle.tables.specs.Rows.{Tables}
 use Rattle.tables.specs.Shown.{IsHonest, IsSafe, Leaves, Moves, AddsNothing}
 use Rattle.tables.specs.declared.Store.{Store}
@@ -37,6 +37,16 @@ module _ {S : Type 0} (g : Ghosts S) where
   -- a call to change `world` to another world ended this way, and the store holds the resulting world
   abbrev pub Ends : Store S → Store S → Ending → World → World → World → Type 0
   Ends old new ending world made kept = Leads old new kept (left_by ending world made)
+
+  -- the tables are as before: while the store is open, it shows what it showed
+  abbrev pub KeepsTables : Store S → Store S → Type 0
+  KeepsTables = Moves g (λ t. t)
+
+  -- unless the call made a change, the tables are as before
+  abbrev pub LeavesTables : Ending → Store S → Store S → Type 0
+  LeavesTables changed old new = ⊤
+  LeavesTables unchanged old new = KeepsTables old new
+  LeavesTables failed old new = KeepsTables old new
 
   -- a request with this verdict was given this answer, and the answer was carried out
   abbrev pub Gives : Store S → Store S → World → Answer → Answer → Type 0

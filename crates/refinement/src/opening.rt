@@ -1,7 +1,8 @@
 //! Opens a store: in the world of a new server, or in the one that its database holds.
 
-ghost use Rattle.std.specs.Prelude.{◌≡◌, [], IfOk, OnOk, IsTrue};
+ghost use Rattle.std.specs.Prelude.{◌≡◌, [], IfOk, OnErr, OnOk};
 ghost use Rattle.sqlite_trees.specs.Objects.{catalog_tree};
+ghost use Rattle.sqlite_trees.specs.View.{IsClean};
 ghost use Rattle.sqlite_wal.specs.Files.{image_at};
 ghost use Rattle.sqlite_wal.specs.Recovery.{Image};
 ghost use Rattle.sqlite_store.specs.FileStore.{state, view};
@@ -9,7 +10,7 @@ ghost use Rattle.sqlite.specs.Files.{over_files, IsNothing};
 ghost use Rattle.model.specs.World.{World, IsWorld, nothing};
 ghost use Rattle.model.specs.Bounds.{Bound, IsWithin, SameWorld};
 ghost use Rattle.tables.specs.Rows.{Tables};
-ghost use Rattle.tables.specs.Shown.{connection, committed, IsHonest, HasNoTable, HasOurs, shown};
+ghost use Rattle.tables.specs.Shown.{connection, committed, IsHonest, HasNoTable, HasOurs, Rests, AddsFresh, shown};
 ghost use Rattle.refinement.specs.Representation.{Represents};
 ghost use Rattle.refinement.specs.Left.{IsBoundedBy, IsLeft};
 ghost use Rattle.refinement.specs.Opening.{AreAmong, HoldsAmong, IsAt, IsAtOne};
@@ -18,15 +19,16 @@ use sqlite::{FileFrom, FileStore, Start};
 use sqlite_disk::Disk;
 use std::alloc::Global;
 use std::rt::HostRuntime;
-use tables::{Alter, Storage, Store, StoreFault};
+use tables::{Alter, OpenFault, Storage, Store};
 
 /// Creates the tables of a database that has none, and accepts one that has them. The store then holds
 /// the world of a new server, or the one that the tables represent, and a stop leaves only that world.
 ///
 /// # Errors
 ///
-/// Those of `Store::create_or_check`, which leave the database unchanged.
-pub fn start<S: Storage>(alloc: Global, store: &mut Store<S>) -> Result<(), StoreFault>
+/// Those of `Store::create_or_check`, which leave the database unchanged; if it had no table, a stop may still leave
+/// the tables of a new server.
+pub fn start<S: Storage>(alloc: Global, store: &mut Store<S>) -> Result<(), OpenFault>
     ensures honest { IsHonest S.Store store.new → IsHonest S.Store store.old }
     ensures fresh { HasNoTable S.Store store.old → OnOk result (IsAt S.Store store.new nothing) }
     ensures empty { IsHonest S.Store store.new → committed S.Store store.old catalog_tree ≡ []
@@ -38,6 +40,8 @@ pub fn start<S: Storage>(alloc: Global, store: &mut Store<S>) -> Result<(), Stor
     ensures again { IsHonest S.Store store.new → (bound : Bound)
         → AreAmong (committed S.Store store.old) bound
         → OnOk result (IsAtOne S.Store store.new bound) }
+    ensures err { IsHonest S.Store store.new → OnErr result (Rests S.Store store.old store.new) }
+    ensures stop { AddsFresh S.Store store.old store.new }
 {
     store.create_or_check(alloc)
 }
@@ -53,7 +57,7 @@ pub fn open_from<S: Start>(
     rt: &HostRuntime,
     path: &str,
     first: S,
-) -> Result<Store<FileStore<FileFrom<S>>>, StoreFault>
+) -> Result<Store<FileStore<FileFrom<S>>>, OpenFault>
     ensures blank { IsNothing (image_at S.Start)
         → IfOk result (λ store. IsHonest over_files store → IsAt over_files store nothing) }
     ensures empty { (image_at S.Start).db ≡ []
@@ -67,14 +71,15 @@ pub fn open_from<S: Start>(
 }
 
 /// A stop leaves of a store over files a database whose tables represent one of the worlds of the
-/// store's bound.
-pub fn stop_law<D: Disk>(store: &Store<FileStore<D>>)
-    ensures { (bound : Bound) → IsHonest over_files store.now
-        → IsBoundedBy over_files store.now bound
-        → IsTrue (view (connection store.now).store).is_numbered
-        → (image : Image) → (state (connection store.now).store).may_leave image
+/// store's bound. The call closes the store, and is about a stop before that; the disk has to be honest
+/// to its end.
+pub fn stop_law<D: Disk + Drop>(store: Store<FileStore<D>>) -> FileStore<D>
+    ensures { (bound : Bound) → IsClean (view result) → IsBoundedBy over_files store bound
+        → (image : Image) → (state (connection store).store).may_leave image
         → HoldsAmong image bound }
-{}
+{
+    store.into_connection().into_store()
+}
 
 /// Each world that a stop may leave of a store is within the store's bound.
 pub fn bound_law<S: Alter>(store: &Store<S>)

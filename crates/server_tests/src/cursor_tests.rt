@@ -2,10 +2,11 @@
 
 use crate::harness::{Tester, in_memory, lock_path, moment, ref_name, repo, unwrap, user};
 use cursor::{Filter, Page};
+use locks::Lock;
 use names::{LockId, Rule};
 use sqlite::MemStore;
 use std::cell::Cell;
-use tables::{Creation, LockRow, NewLock, Store};
+use tables::{NewLock, Store};
 
 /// A request for a page: a number, the cursor, which is 0 if there is none, and the limit. The locks whose
 /// ids are multiples of the number are accepted.
@@ -36,7 +37,8 @@ const OF_64: &[(Asked, Seen)] = &[((1, 0, 64), (64, 1, 64, 0)), ((1, 0, 63), (63
 
 /// Makes a lock on the path for the owner.
 fn create(rt: &impl Tester, store: &mut Store<MemStore>, path: &str, owner: &str) {
-    let creation = locks::create(
+    let made = locks::create(
+        rt.alloc(),
         store,
         &NewLock {
             repo: &repo(rt, "studio/film"),
@@ -46,7 +48,7 @@ fn create(rt: &impl Tester, store: &mut Store<MemStore>, path: &str, owner: &str
             moment: moment(rt, 1_463_500_146),
         },
     );
-    assert!(rt; matches!(&unwrap(rt, creation), Creation::Created(_)));
+    assert!(rt; made.is_ok());
 }
 
 /// A store with this many locks, with the ids from 1 on.
@@ -60,7 +62,7 @@ fn with_locks(rt: &impl Tester, count: u32) -> Store<MemStore> {
 }
 
 /// The number of the rows, the id of the first, and of the last.
-fn ends(rows: &[LockRow]) -> (usize, u32, u32) {
+fn ends(rows: &[Lock]) -> (usize, u32, u32) {
     let first = rows.first().map_or(0, |row| row.id.get());
     let last = rows.last().map_or(0, |row| row.id.get());
     (rows.len(), first, last)
@@ -72,7 +74,7 @@ fn seen(page: &Page) -> Seen {
 }
 
 /// The page, without a filter.
-fn page<V: Fn(&LockRow) -> bool>(
+fn page<V: Fn(&Lock) -> bool>(
     rt: &impl Tester,
     store: &mut Store<MemStore>,
     visible: V,
@@ -97,7 +99,7 @@ fn pages_of(rt: &impl Tester, count: u32, cases: &[(Asked, Seen)]) {
     let mut store = with_locks(rt, count);
     for case in cases {
         let &((every, cursor, limit), want) = case;
-        let visible = |row: &LockRow| row.id.get().is_multiple_of(every);
+        let visible = |row: &Lock| row.id.get().is_multiple_of(every);
         let page = page(rt, &mut store, visible, cursor, limit);
         assert_eq!(rt; seen(&page), want);
     }
@@ -114,7 +116,7 @@ fn a_page_has_the_first_accepted_locks_and_the_next_id(rt: HostRuntime) {
 fn reading_stops_once_the_page_and_its_next_are_found(rt: HostRuntime) {
     let mut store = with_locks(&rt, 200);
     let asked = Cell::new(0u32);
-    let visible = |row: &LockRow| {
+    let visible = |row: &Lock| {
         asked.set(asked.get().wrapping_add(1));
         row.id.get() >= 1
     };
@@ -148,7 +150,7 @@ fn filtered(rt: &impl Tester, store: &mut Store<MemStore>, wanted: &Wanted) -> P
         ref_name: name.as_ref(),
     };
     let film = repo(rt, "studio/film");
-    let every = |row: &LockRow| row.id.get() >= 1;
+    let every = |row: &Lock| row.id.get() >= 1;
     let answer = cursor::page(rt.alloc(), store, &film, &filter, every, None, 100);
     unwrap(rt, answer)
 }
@@ -175,7 +177,7 @@ fn a_page_is_split_by_owner(rt: HostRuntime) {
     create(&rt, &mut store, "art/sky.psd", "ben");
     create(&rt, &mut store, "art/sea.psd", "ann");
     for (owner, want_ours, want_theirs) in OWNERS {
-        let mut page = page(&rt, &mut store, |row: &LockRow| row.id.get() >= 1, 0, 100);
+        let mut page = page(&rt, &mut store, |row: &Lock| row.id.get() >= 1, 0, 100);
         let (ours, theirs) = cursor::split(&mut page, &user(&rt, owner));
         assert_eq!(rt; ends(ours), *want_ours);
         assert_eq!(rt; ends(theirs), *want_theirs);
@@ -220,7 +222,7 @@ fn a_cursor_is_the_text_of_an_id(rt: HostRuntime) {
 }
 
 #[test]
-fn a_page_has_1_to_100_locks(rt: HostRuntime) {
+fn a_page_has_1_to_500_locks(rt: HostRuntime) {
     for (limit, want) in LIMITS {
         assert_eq!(rt; cursor::read_limit(*limit), *want);
     }

@@ -1,9 +1,10 @@
 //! Locks: made, found, in each other's way, and removed.
 
 use crate::harness::{Tester, in_memory, lock_path, moment, ref_name, repo, unwrap, user};
+use locks::{Lock, LockFault};
 use names::LockId;
 use sqlite::MemStore;
-use tables::{Creation, LockRow, NewLock, Store};
+use tables::{NewLock, Store};
 
 /// A call on one repository, and the number that it returns: of an id, 0 if there is none.
 enum Step {
@@ -54,7 +55,8 @@ const STEPS: &[(Step, u32)] = &[
 
 /// Makes a lock on the path, and returns the id of the lock that then holds it.
 fn create(rt: &impl Tester, store: &mut Store<MemStore>, path: &str) -> u32 {
-    let creation = locks::create(
+    let made = locks::create(
+        rt.alloc(),
         store,
         &NewLock {
             repo: &repo(rt, "studio/film"),
@@ -64,10 +66,15 @@ fn create(rt: &impl Tester, store: &mut Store<MemStore>, path: &str) -> u32 {
             moment: moment(rt, 1_463_500_146),
         },
     );
-    match unwrap(rt, creation) {
-        Creation::Created(id) => id.get(),
-        Creation::Held(row) => row.id.get(),
-        Creation::UsedUp => 0,
+    match made {
+        Ok(lock) => {
+            assert!(rt; lock.path.as_str() == path && lock.ref_name.as_str() == "refs/heads/main");
+            assert!(rt; lock.owner.as_str() == "ann" && lock.moment.get() == 1_463_500_146);
+            lock.id.get()
+        }
+        Err(LockFault::Held(lock)) => lock.id.get(),
+        Err(LockFault::UsedUp) => 0,
+        Err(LockFault::Store(_)) => u32::MAX,
     }
 }
 
@@ -81,7 +88,7 @@ fn at(rt: &impl Tester, store: &mut Store<MemStore>, path: &str) -> u32 {
 }
 
 /// The digits of the ids.
-fn digits(rows: &[LockRow]) -> u32 {
+fn digits(rows: &[Lock]) -> u32 {
     let mut digits = 0u32;
     for row in rows {
         digits = digits.wrapping_mul(10).wrapping_add(row.id.get());

@@ -5,7 +5,7 @@ use names::{Operation, Rule};
 use sha2::{Digest, Sha256};
 use sqlite::MemStore;
 use tables::Store;
-use tokens::{TokenFault, TokenRequest, caller, issue, of, offer, prune};
+use tokens::{CallerFault, TokenFault, TokenRequest, caller, issue, of, offer, prune};
 
 /// 64 times the letter c: 32 bytes 0xcc in hexadecimal digits.
 const TEXT: &str = "cccccccccccccccccccccccccccccccccccccccccccccccccccccccccccccccc";
@@ -147,13 +147,14 @@ fn borne(
     authorization: Option<&[u8]>,
     second: u64,
 ) -> Result<bool, Rule> {
-    match unwrap(rt, caller(store, authorization, moment(rt, second))) {
+    match caller(store, authorization, moment(rt, second)) {
         Ok(caller) => Ok(
             caller.user.as_str() == "ann"
                 && caller.repo.as_str() == "studio/film"
                 && caller.operation == Operation::Download,
         ),
-        Err(rule) => Err(rule),
+        Err(CallerFault::Rule(rule)) => Err(rule),
+        Err(CallerFault::Store(_)) => Ok(false),
     }
 }
 

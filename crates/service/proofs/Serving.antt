@@ -152,10 +152,9 @@ content_breaks before e o n is less bytes written answered whole =
       last = e;
       object = o;
       part = take n o.bytes;
-      rest = part.byte ∷ part.rest;
       order = refl;
       serving = is;
-      beginning = part.is;
+      partial = part;
       written = ap (λ (t : List ℕ). t ++ (head ++ take n o.bytes)) whole.written ∙ sym (append_assoc (session_text before) head (take n o.bytes));
       answered = whole.answered;
     }

@@ -112,13 +112,14 @@ pub record Call : Type 0 where
   pub was : Option (List ℕ)
   pub is : Option (List ℕ)
 
--- the connection was served the bytes that the source returned; or no read failed, the store refusal was written, and
--- nothing changed, as happens if there is no memory for the connection
+-- the connection was served the bytes that the source returned; or nothing was read, and no read failed, the store refusal
+-- was written, and nothing changed, as happens if there is no memory for the connection
 abbrev pub Serves : {S : Type 0} (g : Ghosts S) → Call → World → (old new : Store S) → Served → Type 0
 Serves g call world old new served =
     ((bytes : List ℕ) × Consumes call.left call.rest bytes
     × IsServed g call.setting bytes world old new call.was call.is served)
-    ⊎ ((call.failed_after ≡ call.failed_before) × IsUnserved g call.setting world old new call.was call.is served)
+    ⊎ ((call.failed_after ≡ call.failed_before) × (call.rest ≡ call.left)
+    × IsUnserved g call.setting world old new call.was call.is served)
 
 -- a write failed during this call exactly if the end says so
 abbrev pub IsCountedAs : ℕ → ℕ → End → Type 0

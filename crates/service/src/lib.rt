@@ -15,5 +15,6 @@ mod turn;
 
 pub use ends::{End, Served};
 pub use judging::{Denied, Target, judge};
+pub use model::laws::run_law;
 pub use routes::Routes;
 pub use session::serve;

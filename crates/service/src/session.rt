@@ -98,7 +98,8 @@ fn refuse_all<K: Sink>(sink: &mut K) -> Served
 /// The new contents of the store and the text written follow from the messages, step by step, whatever
 /// came before. What a stop leaves follows from the same steps: after a reply to a change, only the
 /// world with that change is left. A user's view of a repository changes only if a message asks about
-/// that repository. A repository within its quota then has at most its quota and one largest object in the database.
+/// that repository. A repository within its quota then has at most its quota and one largest object in the database,
+/// also in what a stop leaves.
 pub fn serve<S: Alter, R: Source, K: Sink>(
     alloc: Global,
     store: &mut Store<S>,
@@ -118,7 +119,8 @@ pub fn serve<S: Alter, R: Source, K: Sink>(
           was = K.taken sink.old;
           is = K.taken sink.new;
         }) world store.old store.new result) }
-    ensures bounded { From S.Store store.old store.new (StaysWithin S.Store store.new (policy_view policy.entry.now)) }
+    ensures bounded { From S.Store store.old store.new
+        (StaysWithin S.Store store.old store.new (policy_view policy.entry.now)) }
     ensures input_ended { result.end ≡ End.InputEnded → IsAtEnd (R.left source.new) }
     ensures no_fault { result.end ≢ End.ReadFailed → R.failed source.new ≡ R.failed source.old }
     ensures read_failed { result.end ≡ End.ReadFailed

@@ -14,7 +14,6 @@ use Rattle.tables.specs.declared.staged.Remembered.{Remembered}
 use Rattle.tables.specs.declared.new_rows.NewUpload.{NewUpload}
 use Rattle.tables.specs.declared.rows.UploadId.{UploadId}
 use Rattle.tables.specs.declared.fault.StoreFault.{StoreFault}
-use Rattle.tables.specs.declared.fault.StoreFault.TheVariants.{UnknownSchema}
 use Rattle.tables.specs.Rows.{Tables, tables_of}
 use Rattle.tables.specs.Statements.{is_staged}
 use Rattle.tables.specs.Staging.{upload_number, asked_upload, IsAbove, after_begin}
@@ -38,34 +37,31 @@ module _ {S : Type 0} (g : Ghosts S) where
     answers = λ k had is_open. subst (λ m. KnowsStaged m (shown g old).uploads) some (had.known k is_open);
     same = keeps_moves g old (record old { staged = rest }) (λ us _. subst (λ m. KnowsStaged m us) (sym none) tt) (λ k. k) (λ k. record { was_open = λ o. o; now = λ _. refl; committed = λ _. refl });
     adds = record { was_honest = λ k. k; outcomes = λ _ t left. left; safe = λ _ s. s };
-    known = λ e. cc;
   }
 
   -- the staged uploads were read
   pub learns_read : {T : Type 0} (old : Store S) (conn : Held S) (rest : Option (Vec Remembered)) (r : Result T StoreFault) (q : Result (Vec Remembered) StoreFault) (P : Tables → T → Type 0) → rest ≡ None → Looks g old.conn conn r P
-      → call.Answers g old.conn conn q (λ t known. AllByRecursion (IsLast known.items) (filter is_staged t.uploads)) → q ≢ Err UnknownSchema → Learns g old (record { conn = conn; staged = rest }) q
+      → call.Answers g old.conn conn q (λ t known. AllByRecursion (IsLast known.items) (filter is_staged t.uploads)) → Learns g old (record { conn = conn; staged = rest }) q
   unfolding KnowsStaged
-  learns_read old conn rest r q P none looks answers known =
+  learns_read old conn rest r q P none looks answers =
       let new : Store S = record { conn = conn; staged = rest } in
-      let reads = reads_from g old new r q P (λ t k. AllByRecursion (IsLast k.items) (filter is_staged t.uploads)) (λ us _. subst (λ m. KnowsStaged m us) (sym none) tt) looks answers known in
+      let reads = reads_from g old new r q P (λ t k. AllByRecursion (IsLast k.items) (filter is_staged t.uploads)) (λ us _. subst (λ m. KnowsStaged m us) (sym none) tt) looks answers in
       record {
         answers = λ k had. IfOk-weaker q _ _
             (λ found read is_open. subst (λ (t : Tables). KnowsStaged (Some found) t.uploads) (sym (reads.same.shows k had is_open)) (all_kept (IsLast found.items) is_staged (shown g old).uploads read.1)) (reads.answers k had);
         same = reads.same;
         adds = reads.adds;
-        known = known;
       }
 
   -- ---- beginning
 
   -- the staged uploads are unknown
-  pub begins_none : (old mid : Store S) (asked : NewUpload) (r : Result UploadId StoreFault) → IsErr r → Moves g (λ t. t) old mid → AddsNothing g old mid → r ≢ Err UnknownSchema → Begins g old mid r asked
-  begins_none old mid asked (Ok id) err same adds known = absurd (true≢false (sym err))
-  begins_none old mid asked (Err fault) err same adds known = record {
+  pub begins_none : (old mid : Store S) (asked : NewUpload) (r : Result UploadId StoreFault) → IsErr r → Moves g (λ t. t) old mid → AddsNothing g old mid → Begins g old mid r asked
+  begins_none old mid asked (Ok id) err same adds = absurd (true≢false (sym err))
+  begins_none old mid asked (Err fault) err same adds = record {
     answers = λ _ _. tt;
     made = tt;
     failed = record { moves = same; adds = λ _. record { was_honest = adds.was_honest; outcomes = λ k t left. inl (adds.outcomes k t left); safe = adds.safe } };
-    known = known;
   }
 
   module _ (old mid : Store S) (asked : NewUpload) (known : Vec Remembered) (learned : Learns g old mid (Ok known)) (last : Option UploadId) (is_last : option_map upload_number last ≡ remembered_in known.items (repo_text asked.repo.now))
@@ -111,7 +107,6 @@ module _ {S : Type 0} (g : Ghosts S) where
             };
           };
           failed = tt;
-          known = it.known;
         }
 
     -- it was not begun, and what was learned is remembered
@@ -141,5 +136,4 @@ module _ {S : Type 0} (g : Ghosts S) where
           safe = λ k safe trees left. elim ((it.stop (given had)).crash k trees left) [ inl before ↦ learned.adds.safe (it.clean k) safe trees before | inr after ↦ (after.2.0, after.2.2.kept, after.2.3) ];
         };
       };
-      known = it.known;
     }

@@ -30,5 +30,4 @@ module _ {S T : Type 0} (g : Ghosts S) (old begun mid last : Held S) (r : Result
         clean = commits.clean;
         stop = λ given. survives_weaker (state g old) (state g last) (Leads (step x) (state g old)) (LeadsSome g old step P)
             (λ clean db led. (x, (says given (clean_mid clean) refl).1, led)) (commits.stop given);
-        known = commits.known;
       }

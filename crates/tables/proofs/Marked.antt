@@ -69,7 +69,7 @@ all_marked : (us : List Upload) → AllByRecursion PassesChecks (map upload_row 
 all_marked [] all = tt
 all_marked (u ∷ us) all = (mark u all.0, all_marked us all.1)
 
-kept_marked : (db : Database) → IsKept db → AllByRecursion IsMarked (tables_of db.trees).uploads
+pub kept_marked : (db : Database) → IsKept db → AllByRecursion IsMarked (tables_of db.trees).uploads
 unfolding tables_of AreTyped
 kept_marked db kept =
     all_marked (map upload_in (db.trees 5)) (subst (AllByRecursion PassesChecks) (kept.typed uploads).same ((kept_is_sound db kept).obeys.rules Check).1.1.1.0)

@@ -1,5 +1,5 @@
 -- The staged upload of a repository is found.
-use Rattle.std.proofs.Common.{◌≡◌, ◌≢◌, ◌∙◌, inl, inr, ℕ, true, List, option_map, Option, Some, None, Result, Ok, Err, arith, refl, sym, ap, subst}
+use Rattle.std.proofs.Common.{◌≡◌, ◌∙◌, inl, inr, ℕ, true, List, option_map, Option, Some, None, Result, Ok, Err, arith, refl, sym, ap, subst}
 use Rattle.std.specs.Prelude.{IfOk}
 use Rattle.std.specs.Global.{Vec}
 use Rattle.std.proofs.lemmas.Result.{IfOk-weaker}
@@ -11,7 +11,6 @@ use Rattle.tables.specs.declared.staged.Remembered.{Remembered}
 use Rattle.tables.specs.declared.rows.UploadId.{UploadId}
 use Rattle.tables.specs.declared.rows.UploadRow.{UploadRow}
 use Rattle.tables.specs.declared.fault.StoreFault.{StoreFault}
-use Rattle.tables.specs.declared.fault.StoreFault.TheVariants.{UnknownSchema}
 use Rattle.tables.specs.Rows.{Tables, tables_of}
 use Rattle.tables.specs.Runs.{IsKept, tables_in}
 use Rattle.tables.specs.Statements.{same_bytes}
@@ -33,7 +32,6 @@ module _ {S : Type 0} (g : Ghosts S) (repo : List ℕ) where
     answers = λ _ _ is_last. ap (option_map upload_fields) (sym (no_last repo (tables_in (state g a)) is_last));
     same = λ _. record { was_open = λ o. o; now = λ _. refl; committed = λ _. refl };
     survives = record { clean = omega arith; shield = λ s. s; counts = omega arith; limit = refl; closes = λ _ o. inl o; crash = λ _ db left. inl left };
-    known = λ e. cc;
   }
 
   module _ (a b : Held S) (id : UploadId) where
@@ -41,19 +39,18 @@ module _ {S : Type 0} (g : Ghosts S) (repo : List ℕ) where
     IsRow r = Looks g a b r (λ t found. IsUploadOf found (staged_with (upload_number id) t))
 
     seeks_as : (r q : Result (Option UploadRow) StoreFault) → IsRow r
-        → ((t : Tables) → IfOk r (λ found. IsUploadOf found (staged_with (upload_number id) t)) → IfOk q (λ found. IsLastOf (Some (upload_number id)) repo t → IsStagedOf repo t found)) → q ≢ Err UnknownSchema
+        → ((t : Tables) → IfOk r (λ found. IsUploadOf found (staged_with (upload_number id) t)) → IfOk q (λ found. IsLastOf (Some (upload_number id)) repo t → IsStagedOf repo t found))
         → Seeks g a b (Some id) repo q
-    seeks_as r q looks says known = record {
+    seeks_as r q looks says = record {
       answers = λ clean ready. says (tables_in (state g a)) (IfOk-weaker r _ _ (λ _ it. it.1) (looks.answers clean ready));
       same = looks.same;
       survives = looks.survives;
-      known = known;
     }
 
     -- the last one is not staged
     pub seeks_nothing : IsRow (Ok None) → Seeks g a b (Some id) repo (Ok None)
     seeks_nothing looks =
-        seeks_as (Ok None) (Ok None) looks (λ t h is_last. ap (option_map upload_fields) (sym (none_found_last repo t (upload_number id) is_last (none_found (staged_with (upload_number id) t) h)))) (λ e. cc)
+        seeks_as (Ok None) (Ok None) looks (λ t h is_last. ap (option_map upload_fields) (sym (none_found_last repo t (upload_number id) is_last (none_found (staged_with (upload_number id) t) h))))
 
     -- it is
     pub seeks_one : (row : UploadRow) → ((f : UploadFields) → f ≡ read_upload row → same_bytes f.repo repo ≡ true) → IsRow (Ok (Some row)) → Seeks g a b (Some id) repo (Ok (Some row))
@@ -61,17 +58,17 @@ module _ {S : Type 0} (g : Ghosts S) (repo : List ℕ) where
         seeks_as (Ok (Some row)) (Ok (Some row)) looks
         (λ t h is_last.
         let it = one_found row (staged_with (upload_number id) t) h in
-        ap Some (sym it.2) ∙ ap (option_map upload_fields) (sym (found_last repo t (upload_number id) is_last it.0 it.1 (named (upload_fields it.0) it.2)))) (λ e. cc)
+        ap Some (sym it.2) ∙ ap (option_map upload_fields) (sym (found_last repo t (upload_number id) is_last it.0 it.1 (named (upload_fields it.0) it.2))))
 
     -- it was refused, or is another repository's
-    pub seeks_failed : (r : Result (Option UploadRow) StoreFault) (fault : StoreFault) → fault ≢ UnknownSchema → IsRow r → Seeks g a b (Some id) repo (Err fault)
-    seeks_failed r fault known looks = seeks_as r (Err fault) looks (λ t h. tt) (λ e. known (let same : fault ≡ UnknownSchema = cc in same))
+    pub seeks_failed : (r : Result (Option UploadRow) StoreFault) (fault : StoreFault) → IsRow r → Seeks g a b (Some id) repo (Err fault)
+    seeks_failed r fault looks = seeks_as r (Err fault) looks (λ t h. tt)
 
   -- ---- on the store
 
   -- the staged uploads are unknown
-  pub finds_unknown : (old mid : Store S) (fault : StoreFault) → Moves g (λ t. t) old mid → AddsNothing g old mid → fault ≢ UnknownSchema → Finds g old mid repo (Err fault)
-  finds_unknown old mid fault same adds known = record { answers = λ _ _. tt; same = same; adds = adds; known = λ e. known (let is : fault ≡ UnknownSchema = cc in is) }
+  pub finds_unknown : (old mid : Store S) (fault : StoreFault) → Moves g (λ t. t) old mid → AddsNothing g old mid → Finds g old mid repo (Err fault)
+  finds_unknown old mid fault same adds = record { answers = λ _ _. tt; same = same; adds = adds }
 
   -- what was learned is remembered
   pub finds : (old mid : Store S) (known : Vec Remembered) (last : Option UploadId) (conn : Held S) (r : Result (Option UploadRow) StoreFault) → Learns g old mid (Ok known) → option_map upload_number last ≡ remembered_in known.items repo
@@ -101,5 +98,4 @@ module _ {S : Type 0} (g : Ghosts S) (repo : List ℕ) where
           outcomes = λ k t left. elim (it.survives.crash k left.0.trees left.2) [ inl before ↦ learned.adds.outcomes (clean k) t (left.0, left.1, before, left.3) | inr none ↦ absurd none ];
           safe = λ k safe trees left. elim (it.survives.crash k trees left) [ inl before ↦ learned.adds.safe (clean k) safe trees before | inr none ↦ absurd none ];
         };
-        known = it.known;
       }

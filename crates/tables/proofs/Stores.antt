@@ -6,7 +6,6 @@ use Rattle.sqlite.specs.Held.{Held, state}
 use Rattle.sqlite_trees.specs.declared.store.Store.{Ghosts}
 use Rattle.tables.specs.declared.Store.{Store}
 use Rattle.tables.specs.declared.fault.StoreFault.{StoreFault}
-use Rattle.tables.specs.declared.fault.StoreFault.TheVariants.{UnknownSchema}
 use Rattle.tables.specs.Rows.{Tables, Upload, tables_of}
 use Rattle.tables.specs.Runs.{IsReady, IsKept}
 use Rattle.tables.specs.Remembered.{KnowsStaged}
@@ -36,8 +35,8 @@ module _ {S : Type 0} (g : Ghosts S) (old new : Store S) where
 
   -- the same, if what it leaves is no more than before
   pub reads_from : {T U : Type 0} (r : Result T StoreFault) (q : Result U StoreFault) (P : Tables → T → Type 0) (Q : Tables → U → Type 0)
-      → Recalls → Looks g old.conn new.conn r P → call.Answers g old.conn new.conn q Q → q ≢ Err UnknownSchema → Reads g old new q Q
-  reads_from r q P Q recalls looks answers known =
+      → Recalls → Looks g old.conn new.conn r P → call.Answers g old.conn new.conn q Q → Reads g old new q Q
+  reads_from r q P Q recalls looks answers =
       let honest : IsHonest g new → IsHonest g old = λ k. omega (arith, k, looks.survives.clean) in
       record {
         answers = λ k had. answers k had.ready;
@@ -47,7 +46,6 @@ module _ {S : Type 0} (g : Ghosts S) (old new : Store S) where
           outcomes = λ k t left. elim (looks.survives.crash k left.0.trees left.2) [ inl before ↦ (left.0, left.1, before, left.3) | inr none ↦ absurd none ];
           safe = λ k safe trees left. elim (looks.survives.crash k trees left) [ inl before ↦ safe trees before | inr none ↦ absurd none ];
         };
-        known = known;
       }
 
   -- a store that has to be open if it has the tables
@@ -97,7 +95,7 @@ module _ {S : Type 0} (g : Ghosts S) (old : Store S) (conn : Held S) where
   left = record old { conn = conn }
 
   pub looks_reads : {T U : Type 0} (r : Result T StoreFault) (q : Result U StoreFault) (P : Tables → T → Type 0) (Q : Tables → U → Type 0)
-      → Looks g old.conn conn r P → call.Answers g old.conn conn q Q → q ≢ Err UnknownSchema → Reads g old left q Q
+      → Looks g old.conn conn r P → call.Answers g old.conn conn q Q → Reads g old left q Q
   looks_reads r q P Q = reads_from g old left r q P Q (λ us h. h)
 
   pub transacts_changes : {T : Type 0} (f : Tables → Tables) (r : Result T StoreFault) (P : Tables → T → Type 0) → KeepsKnown f → Transacts g old.conn conn r f P → Changes g old left r f P
@@ -105,13 +103,11 @@ module _ {S : Type 0} (g : Ghosts S) (old : Store S) (conn : Held S) where
     answers = λ k had. it.answers k had.ready;
     made = makes g old left f (λ t k had is. keeps old.staged t (subst (λ (u : Tables). KnowsStaged old.staged u.uploads) (sym is) (had.known (it.commits.clean k) (was_open g old left (λ clean had. (it.commits.ok clean had.ready).0) k)))) it.commits;
     failed = tt;
-    known = it.commits.known;
   }
   transacts_changes f (Err e) P keeps it = record {
     answers = λ _ _. tt;
     made = tt;
     failed = record { moves = keeps_moves g old left (λ us h. h) it.commits.clean it.commits.err; adds = λ had. outcomes g old left f (Err e) it.commits had };
-    known = it.commits.known;
   }
 
 -- a store that has the tables and remembers nothing

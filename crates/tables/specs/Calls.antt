@@ -1,5 +1,5 @@
 -- The contracts of the functions on a connection, each as one definition.
-use Rattle.std.specs.Prelude.{◌≡◌, ◌≢◌, false, Result, Err, IfOk, OnOk, OnErr, IsTrue}
+use Rattle.std.specs.Prelude.{◌≡◌, false, Result, IfOk, OnOk, OnErr, IsTrue}
 use Rattle.sqlite.specs.Tree.{Trees}
 use Rattle.sqlite.specs.State.{State, HasCleanDisk, Shows, IsRolledBack, Survives}
 use Rattle.sqlite.specs.Schema.{Schema}
@@ -7,7 +7,6 @@ use Rattle.sqlite.specs.Held.{Held, state}
 use Rattle.sqlite_trees.specs.declared.store.Store.{Ghosts}
 use Rattle.typed_rows.specs.Transactions.{Keeps, Inside}
 use Rattle.tables.specs.declared.fault.StoreFault.{StoreFault}
-use Rattle.tables.specs.declared.fault.StoreFault.TheVariants.{UnknownSchema}
 use Rattle.tables.specs.Rows.{Tables}
 use Rattle.tables.specs.Making.{IsBlank}
 use Rattle.tables.specs.Runs.{IsReady, IsAfter, Blanks, Leads, Steps, tables_in, with_fresh}
@@ -59,7 +58,6 @@ module _ {S : Type 0} (g : Ghosts S) where
     pub answers : Answers old new result P
     pub same : HasCleanDisk (state g new) → Keeps (state g old) (state g new)
     pub survives : Survives (state g old) (state g new) (λ _. ⊥)
-    pub known : result ≢ Err UnknownSchema
 
   -- a stop now leaves what the connection shows
   abbrev pub IsSaved : State → Type 0
@@ -75,7 +73,6 @@ module _ {S : Type 0} (g : Ghosts S) where
     pub err : HasCleanDisk (state g new) → OnErr result (Keeps (state g old) (state g new))
     pub clean : HasCleanDisk (state g new) → HasCleanDisk (state g old)
     pub stop : Given → Survives (state g old) (state g new) (Leads step (state g old))
-    pub known : result ≢ Err UnknownSchema
 
   -- a commit of what the transaction shows, or its rollback
   pub record Finishes {T : Type 0} (old new : Held S) (result : Result T StoreFault) : Type 0 where
@@ -84,7 +81,6 @@ module _ {S : Type 0} (g : Ghosts S) where
     pub err : HasCleanDisk (state g new) → IsTrue old.in_transaction
         → OnErr result (IsRolledBack (state g old) (state g new))
     pub survives : Survives (state g old) (state g new) (λ trees. trees ≡ (state g old).now.trees)
-    pub known : result ≢ Err UnknownSchema
 
   -- the whole contract of a call that makes a step of the tables
   pub record Transacts {T : Type 0} (old new : Held S) (result : Result T StoreFault)

@@ -1,12 +1,11 @@
 -- The contracts of functions on a connection whose step depends on the value that they return.
-use Rattle.std.specs.Prelude.{◌≢◌, Result, Err, IfOk, OnErr, IsTrue}
+use Rattle.std.specs.Prelude.{Result, IfOk, OnErr, IsTrue}
 use Rattle.sqlite.specs.Tree.{Trees}
 use Rattle.sqlite_trees.specs.declared.store.Store.{Ghosts}
 use Rattle.sqlite.specs.State.{HasCleanDisk, Survives}
 use Rattle.sqlite.specs.Held.{Held, state}
 use Rattle.typed_rows.specs.Transactions.{Keeps}
 use Rattle.tables.specs.declared.fault.StoreFault.{StoreFault}
-use Rattle.tables.specs.declared.fault.StoreFault.TheVariants.{UnknownSchema}
 use Rattle.tables.specs.Rows.{Tables}
 use Rattle.tables.specs.Runs.{Steps, Leads, tables_in}
 use Rattle.tables.specs.Calls.{IfReady, Commits}
@@ -29,4 +28,3 @@ module _ {S : Type 0} (g : Ghosts S) where
     pub err : HasCleanDisk (state g new) → OnErr result (Keeps (state g old) (state g new))
     pub clean : HasCleanDisk (state g new) → HasCleanDisk (state g old)
     pub stop : Given → Survives (state g old) (state g new) (LeadsSome old step P)
-    pub known : result ≢ Err UnknownSchema

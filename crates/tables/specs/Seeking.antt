@@ -1,5 +1,5 @@
 -- The contracts of the calls that find the staged upload of a repository.
-use Rattle.std.specs.Prelude.{◌≢◌, find, Option, Result, Err, IfOk, option_map, List, ℕ}
+use Rattle.std.specs.Prelude.{find, Option, Result, IfOk, option_map, List, ℕ}
 use Rattle.sqlite.specs.State.{HasCleanDisk, Survives}
 use Rattle.sqlite.specs.Held.{Held, state}
 use Rattle.sqlite_trees.specs.declared.store.Store.{Ghosts}
@@ -8,7 +8,6 @@ use Rattle.tables.specs.declared.Store.{Store}
 use Rattle.tables.specs.declared.rows.UploadId.{UploadId}
 use Rattle.tables.specs.declared.rows.UploadRow.{UploadRow}
 use Rattle.tables.specs.declared.fault.StoreFault.{StoreFault}
-use Rattle.tables.specs.declared.fault.StoreFault.TheVariants.{UnknownSchema}
 use Rattle.tables.specs.Rows.{Tables}
 use Rattle.tables.specs.Statements.{is_staged_in}
 use Rattle.tables.specs.Staging.{upload_number, IsUploadOf}
@@ -28,7 +27,6 @@ module _ {S : Type 0} (g : Ghosts S) where
         → IfOk result (λ found. IsLastOf (option_map upload_number last) repo (tables_in (state g old)) → IsStagedOf repo (tables_in (state g old)) found)
     pub same : HasCleanDisk (state g new) → Keeps (state g old) (state g new)
     pub survives : Survives (state g old) (state g new) (λ _. ⊥)
-    pub known : result ≢ Err UnknownSchema
 
   -- the result is the upload that the repository has staged, of those that the store shows; the tables are unchanged
   pub record Finds (old new : Store S) (repo : List ℕ) (result : Result (Option UploadRow) StoreFault) : Type 0 where
@@ -36,4 +34,3 @@ module _ {S : Type 0} (g : Ghosts S) where
         → IfOk result (λ found. IsOpen g new → IsStagedOf repo (shown g new) found)
     pub same : Moves g (λ t. t) old new
     pub adds : AddsNothing g old new
-    pub known : result ≢ Err UnknownSchema

@@ -1,6 +1,6 @@
 //! The call that begins an upload.
 
-ghost use Rattle.std.specs.Prelude.{◌≡◌, ◌≢◌, ◌↔◌, ◌<ℤ◌, Some, option_map, IsTrue};
+ghost use Rattle.std.specs.Prelude.{◌≡◌, ◌↔◌, ◌<ℤ◌, Some, option_map, IsTrue};
 ghost use Rattle.names.specs.Names.{repo_text};
 ghost use Rattle.sqlite.specs.Held.{state};
 ghost use Rattle.typed_rows.specs.Transactions.{Inside};
@@ -59,7 +59,6 @@ fn last_out<S: Alter>(
         → MakesStep S.Store tx.old.conn.now tx.new.conn.now result
         (without_staged_in (repo_text repo.now)) }
     ensures within { Inside S.Store tx.old.conn.now tx.new.conn.now result }
-    ensures known { result ≢ Err StoreFault.UnknownSchema }
 {
     let Some(upload) = staged_in(tx, last)? else {
         return Ok(());
@@ -92,7 +91,6 @@ fn replace_into<S: Alter>(
         → MakesItsStep S.Store tx.old.conn.now tx.new.conn.now result
         (λ id. after_begin (asked_upload upload.now (upload_number id))) }
     ensures within { Inside S.Store tx.old.conn.now tx.new.conn.now result }
-    ensures known { result ≢ Err StoreFault.UnknownSchema }
 {
     last_out(tx, last, upload.repo)?;
     let id = upload_into(tx, upload)?;
@@ -117,7 +115,6 @@ fn begin_into<S: Alter>(
         → MakesItsStep S.Store tx.old.conn.now tx.new.conn.now result
         (λ id. after_begin (asked_upload upload.now (upload_number id))) }
     ensures within { Inside S.Store tx.old.conn.now tx.new.conn.now result }
-    ensures known { result ≢ Err StoreFault.UnknownSchema }
 {
     match last {
         None => Ok(upload_into(tx, upload)?),

@@ -25,7 +25,7 @@ mod uploads;
 mod write;
 
 pub use chunks::ChunkRow;
-pub use fault::StoreFault;
+pub use fault::{OpenFault, StoreFault};
 pub use new_rows::{LastChunk, NewLock, NewToken, NewUpload};
 pub use rows::{Completion, Creation, LockRow, ObjectRow, TokenRow, UploadId, UploadRow};
 pub use sqlite::{Alter, Start, Unknown};

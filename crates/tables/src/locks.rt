@@ -1,6 +1,6 @@
 //! The calls on locks, and on the number of locks that a repository ever made.
 
-ghost use Rattle.std.specs.Prelude.{◌≡◌, ◌≢◌, length, pos, find, filter, map, take, slice_get, IfOk, MatchOption};
+ghost use Rattle.std.specs.Prelude.{◌≡◌, length, pos, find, filter, map, take, slice_get, IfOk, MatchOption};
 ghost use Rattle.names.specs.Names.{repo_text, ref_text, path_text};
 ghost use Rattle.sqlite.specs.Held.{state};
 ghost use Rattle.tables.specs.Statements.{is_named, is_at, has_id, is_in, is_from, by_id, show_made, with_lock, without_lock};
@@ -28,9 +28,8 @@ pub(crate) struct Count {
 }
 
 fn count_from(row: &Row) -> Result<Count, StoreFault>
-    ensures value { (r : _) → row.now ≡ show_made r → IfOk result
+    ensures { (r : _) → row.now ≡ show_made r → IfOk result
         (λ found. read_count found ≡ repo_count r) }
-    ensures known { result ≢ Err StoreFault.UnknownSchema }
 {
     Ok(Count {
         rowid: row.get(0)?,
@@ -40,9 +39,8 @@ fn count_from(row: &Row) -> Result<Count, StoreFault>
 
 /// The count in the first of the rows.
 fn first_count(rows: &[Row]) -> Result<Option<Count>, StoreFault>
-    ensures value { (repos : _) → rows.now ≡ map show_made repos → IfOk result
+    ensures { (repos : _) → rows.now ≡ map show_made repos → IfOk result
         (λ found. IsCountOf found (slice_get repos 0)) }
-    ensures known { result ≢ Err StoreFault.UnknownSchema }
 {
     match rows.first() {
         None => Ok(None),
@@ -78,7 +76,6 @@ fn held_in<S: Alter>(
     ensures value { Says S.Store tx.old.conn.now tx.new.conn.now result
         (λ t found. IsLockOf found (held_at (asked_lock lock.now) t)) }
     ensures does { Does S.Store tx.old.conn.now tx.new.conn.now result (λ t. t) }
-    ensures known { result ≢ Err StoreFault.UnknownSchema }
 {
     let rows = select(
         tx,
@@ -100,7 +97,6 @@ fn count_in<S: Alter>(
     ensures value { Says S.Store tx.old.conn.now tx.new.conn.now result
         (λ t found. IsCountOf found (find (is_named (repo_text repo.now)) t.repos)) }
     ensures does { Does S.Store tx.old.conn.now tx.new.conn.now result (λ t. t) }
-    ensures known { result ≢ Err StoreFault.UnknownSchema }
 {
     let rows = select(
         tx,
@@ -191,7 +187,6 @@ fn create_into<S: Alter>(
         (IsOutcomeOf (asked_lock lock.now)) }
     ensures does { Does S.Store tx.old.conn.now tx.new.conn.now result
         (after_create (asked_lock lock.now)) }
-    ensures known { result ≢ Err StoreFault.UnknownSchema }
 {
     if let Some(row) = held_in(tx, lock)? {
         return Ok(Creation::Held(row));

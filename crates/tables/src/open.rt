@@ -11,7 +11,7 @@ ghost use Rattle.tables.specs.Layout.{custody};
 ghost use Rattle.tables.specs.Runs.{first_meta, fresh};
 ghost use Rattle.tables.specs.Shown.{connection, committed, IsHonest, IsOpen, HasNoTable, HasOurs, IsForeign, HasTables, shown, Leaves, IsSafe, Rests, AddsFresh};
 
-use crate::fault::StoreFault;
+use crate::fault::{OpenFault, StoreFault};
 use crate::storage::Storage;
 use crate::{Store, schema};
 use sqlite::{Alter, Connection, FileFrom, FileStore, MemStore, Start};
@@ -85,9 +85,9 @@ impl<S: Storage> Store<S> {
     ///
     /// # Errors
     ///
-    /// `UnknownSchema` for any other database; `Refused`; `Memory`. The database is unchanged, but if it had no
-    /// table, a stop may still leave the six tables.
-    pub fn create_or_check(&mut self, alloc: Global) -> Result<(), StoreFault>
+    /// `UnknownSchema` for any other database; `Store` of `Refused` or `Memory`. The database is unchanged, but if it
+    /// had no table, a stop may still leave the six tables.
+    pub fn create_or_check(&mut self, alloc: Global) -> Result<(), OpenFault>
         ensures ready { OnOk result (HasTables S.Store self.new) }
         ensures version { IsHonest S.Store self.new
             → OnOk result (IsOpen S.Store self.new
@@ -105,7 +105,7 @@ impl<S: Storage> Store<S> {
         ensures empty { IsHonest S.Store self.new → committed S.Store self.old catalog_tree ≡ []
             → OnOk result (HasNoTable S.Store self.old) }
         ensures err { IsHonest S.Store self.new → OnErr result (Rests S.Store self.old self.new) }
-        ensures unknown { IsHonest S.Store self.new → result ≡ Err StoreFault.UnknownSchema
+        ensures unknown { IsHonest S.Store self.new → result ≡ Err OpenFault.UnknownSchema
             → IsForeign S.Store self.old }
         ensures stop { AddsFresh S.Store self.old self.new }
     {

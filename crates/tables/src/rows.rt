@@ -45,7 +45,7 @@ pub struct TokenRow {
     pub expires: Moment,
 }
 
-/// Identifies an upload: a number that no other upload of the database ever had.
+/// Identifies an upload: a number greater than those of all uploads that the database had when it was begun.
 #[derive(Clone, Copy, Debug, PartialEq, Eq)]
 pub struct UploadId {
     pub(crate) number: i64,
@@ -125,7 +125,6 @@ fn lock_from(row: &Row) -> Result<LockRow, StoreFault>
     ensures in_range { (l : Lock) → row.now ≡ show_lock l → IfOk result (λ _. IsLockInRange l) }
     ensures refused { (l : Lock) → row.now ≡ show_lock l → IsLockInRange l
         → result ≢ Err StoreFault.Refused }
-    ensures known { result ≢ Err StoreFault.UnknownSchema }
 {
     Ok(LockRow {
         id: LockId::from_number(row.get(0)?).ok_or(StoreFault::Refused)?,
@@ -143,7 +142,6 @@ fn token_from(row: &Row) -> Result<TokenRow, StoreFault>
     ensures in_range { (t : Token) → row.now ≡ show_token t → IfOk result (λ _. IsTokenInRange t) }
     ensures refused { (t : Token) → row.now ≡ show_token t → IsTokenInRange t
         → result ≢ Err StoreFault.Refused }
-    ensures known { result ≢ Err StoreFault.UnknownSchema }
 {
     let digest: Vec<u8> = row.get(0)?;
     Ok(TokenRow {
@@ -157,9 +155,8 @@ fn token_from(row: &Row) -> Result<TokenRow, StoreFault>
 
 /// The upload in a row. A row that is out of range is refused.
 fn upload_from(row: &Row) -> Result<UploadRow, StoreFault>
-    ensures value { (u : Upload) → row.now ≡ show_upload u → IfOk result
+    ensures { (u : Upload) → row.now ≡ show_upload u → IfOk result
         (λ found. read_upload found ≡ upload_fields u) }
-    ensures known { result ≢ Err StoreFault.UnknownSchema }
 {
     let oid: String = row.get(2)?;
     Ok(UploadRow {
@@ -174,9 +171,8 @@ fn upload_from(row: &Row) -> Result<UploadRow, StoreFault>
 
 /// The upload in the first of the rows.
 pub(crate) fn first_upload(rows: &[Row]) -> Result<Option<UploadRow>, StoreFault>
-    ensures value { (uploads : _) → rows.now ≡ map show_upload uploads → IfOk result
+    ensures { (uploads : _) → rows.now ≡ map show_upload uploads → IfOk result
         (λ found. IsUploadOf found (slice_get uploads 0)) }
-    ensures known { result ≢ Err StoreFault.UnknownSchema }
 {
     match rows.first() {
         None => Ok(None),
@@ -186,9 +182,8 @@ pub(crate) fn first_upload(rows: &[Row]) -> Result<Option<UploadRow>, StoreFault
 
 /// The lock in the first of the rows.
 pub(crate) fn first_lock(rows: &[Row]) -> Result<Option<LockRow>, StoreFault>
-    ensures value { (locks : _) → rows.now ≡ map show_lock locks → IfOk result
+    ensures { (locks : _) → rows.now ≡ map show_lock locks → IfOk result
         (λ found. IsLockOf found (slice_get locks 0)) }
-    ensures known { result ≢ Err StoreFault.UnknownSchema }
 {
     match rows.first() {
         None => Ok(None),
@@ -198,9 +193,8 @@ pub(crate) fn first_lock(rows: &[Row]) -> Result<Option<LockRow>, StoreFault>
 
 /// The token in the first of the rows.
 pub(crate) fn first_token(rows: &[Row]) -> Result<Option<TokenRow>, StoreFault>
-    ensures value { (tokens : _) → rows.now ≡ map show_token tokens → IfOk result
+    ensures { (tokens : _) → rows.now ≡ map show_token tokens → IfOk result
         (λ found. IsTokenOf found (slice_get tokens 0)) }
-    ensures known { result ≢ Err StoreFault.UnknownSchema }
 {
     match rows.first() {
         None => Ok(None),
@@ -209,9 +203,8 @@ pub(crate) fn first_token(rows: &[Row]) -> Result<Option<TokenRow>, StoreFault>
 }
 
 pub(crate) fn all_locks(alloc: Global, rows: &[Row]) -> Result<Vec<LockRow>, StoreFault>
-    ensures value { (locks : _) → rows.now ≡ map show_lock locks → IfOk result
+    ensures { (locks : _) → rows.now ≡ map show_lock locks → IfOk result
         (λ found. AreLocksOf found.items locks) }
-    ensures known { result ≢ Err StoreFault.UnknownSchema }
 {
     let mut found = Vec::with_capacity(alloc, rows.len())?;
     for row in rows {
@@ -222,9 +215,8 @@ pub(crate) fn all_locks(alloc: Global, rows: &[Row]) -> Result<Vec<LockRow>, Sto
 }
 
 pub(crate) fn all_tokens(alloc: Global, rows: &[Row]) -> Result<Vec<TokenRow>, StoreFault>
-    ensures value { (tokens : _) → rows.now ≡ map show_token tokens → IfOk result
+    ensures { (tokens : _) → rows.now ≡ map show_token tokens → IfOk result
         (λ found. AreTokensOf found.items tokens) }
-    ensures known { result ≢ Err StoreFault.UnknownSchema }
 {
     let mut found = Vec::with_capacity(alloc, rows.len())?;
     for row in rows {
@@ -235,9 +227,8 @@ pub(crate) fn all_tokens(alloc: Global, rows: &[Row]) -> Result<Vec<TokenRow>, S
 }
 
 pub(crate) fn all_uploads(alloc: Global, rows: &[Row]) -> Result<Vec<UploadRow>, StoreFault>
-    ensures value { (uploads : _) → rows.now ≡ map show_upload uploads → IfOk result
+    ensures { (uploads : _) → rows.now ≡ map show_upload uploads → IfOk result
         (λ found. AreUploadsOf found.items uploads) }
-    ensures known { result ≢ Err StoreFault.UnknownSchema }
 {
     let mut found = Vec::with_capacity(alloc, rows.len())?;
     for row in rows {

@@ -1,6 +1,6 @@
 //! The six tables: creates them in an empty database, and detects any other schema.
 
-ghost use Rattle.std.specs.Prelude.{◌≡◌, ◌≢◌, ◌↔◌, [], ◌∷◌, map, IfOk, OnErr, OnOk, IsTrue};
+ghost use Rattle.std.specs.Prelude.{◌≡◌, ◌↔◌, [], ◌∷◌, map, IfOk, OnErr, OnOk, IsTrue};
 ghost use Rattle.sqlite.specs.State.{HasCleanDisk, Survives};
 ghost use Rattle.sqlite.specs.Held.{state};
 ghost use Rattle.sqlite_catalog.specs.Listing.{IsSound};
@@ -13,7 +13,7 @@ ghost use Rattle.tables.specs.Runs.{HasNoTable, IsForeign, HasOurs, IsReady, wit
 ghost use Rattle.typed_rows.specs.Transactions.{Inside, Keeps};
 ghost use Rattle.tables.specs.Calls.{MakesBlank, MakesFresh, Commits, Looks};
 
-use crate::fault::StoreFault;
+use crate::fault::{OpenFault, StoreFault};
 use crate::read::read;
 use crate::storage::Storage;
 use crate::write::finish;
@@ -112,8 +112,7 @@ fn is_blank(schema: &Schema) -> bool
 
 /// Whether the schema is the one that `create` makes.
 fn is_ours(alloc: Global, schema: &Schema) -> Result<bool, StoreFault>
-    ensures same { IfOk result (λ same. IsTrue same ↔ (schema.now ≡ custody)) }
-    ensures known { result ≢ Err StoreFault.UnknownSchema }
+    ensures { IfOk result (λ same. IsTrue same ↔ (schema.now ≡ custody)) }
 {
     let Ok(mut ours) = Connection::open_in_memory(alloc) else {
         return Err(StoreFault::Memory);
@@ -124,9 +123,8 @@ fn is_ours(alloc: Global, schema: &Schema) -> Result<bool, StoreFault>
 
 /// Whether `meta` has exactly the row of version 1.
 fn is_version_one(rows: &[Row]) -> Result<bool, StoreFault>
-    ensures one { (metas : _) → rows.now ≡ map show_meta metas → IfOk result
+    ensures { (metas : _) → rows.now ≡ map show_meta metas → IfOk result
         (λ is. IsTrue is ↔ (metas ≡ first_meta ∷ [])) }
-    ensures known { result ≢ Err StoreFault.UnknownSchema }
 {
     let [row] = rows else {
         return Ok(false);
@@ -151,7 +149,6 @@ fn has_our_tables<S: Storage>(alloc: Global, conn: &Connection<S>) -> Result<boo
     ensures ready { IfOk result (λ found. IsTrue found → IsReady (state S.Store conn.now)) }
     ensures same { IfOk result
         (λ found. IsTrue found ↔ ((state S.Store conn.now).now.schema ≡ custody)) }
-    ensures known { result ≢ Err StoreFault.UnknownSchema }
 {
     is_ours(alloc, conn.schema())
 }
@@ -160,7 +157,7 @@ fn has_our_tables<S: Storage>(alloc: Global, conn: &Connection<S>) -> Result<boo
 pub(crate) fn create_or_check<S: Storage>(
     alloc: Global,
     conn: &mut Connection<S>,
-) -> Result<(), StoreFault>
+) -> Result<(), OpenFault>
     ensures ready { OnOk result (IsReady (state S.Store conn.new)) }
     ensures version { HasCleanDisk (state S.Store conn.new)
         → OnOk result (IsTrue (state S.Store conn.new).is_open
@@ -169,7 +166,7 @@ pub(crate) fn create_or_check<S: Storage>(
         → OnOk result (MakesOrKeeps (state S.Store conn.old) (state S.Store conn.new)) }
     ensures err { HasCleanDisk (state S.Store conn.new)
         → OnErr result (Keeps (state S.Store conn.old) (state S.Store conn.new)) }
-    ensures unknown { HasCleanDisk (state S.Store conn.new) → result ≡ Err StoreFault.UnknownSchema
+    ensures unknown { HasCleanDisk (state S.Store conn.new) → result ≡ Err OpenFault.UnknownSchema
         → IsForeign (state S.Store conn.old) }
     ensures safe { HasCleanDisk (state S.Store conn.new)
         → OnOk result (LeavesOurs (state S.Store conn.new)) }
@@ -185,14 +182,14 @@ pub(crate) fn create_or_check<S: Storage>(
         (LeadsIfBlank (state S.Store conn.old)) }
 {
     if !conn.is_autocommit() {
-        return Err(StoreFault::Refused);
+        return Err(StoreFault::Refused.into());
     }
     if is_blank(conn.schema()) {
-        return create(conn);
+        return Ok(create(conn)?);
     }
     if has_our_tables(alloc, conn)? && has_version_one(conn)? {
         Ok(())
     } else {
-        Err(StoreFault::UnknownSchema)
+        Err(OpenFault::UnknownSchema)
     }
 }

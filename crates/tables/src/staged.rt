@@ -1,6 +1,6 @@
 //! What a store remembers of staged uploads, so that the next upload of a repository finds the one that it replaces.
 
-ghost use Rattle.std.specs.Prelude.{◌≡◌, ◌≢◌, List, map, filter, option_map, IfOk, IfSome, MatchOption, length, find};
+ghost use Rattle.std.specs.Prelude.{◌≡◌, map, filter, option_map, IfOk, IfSome, MatchOption, find};
 ghost use Rattle.std.specs.List.{AllByRecursion};
 ghost use Rattle.names.specs.Names.{repo_text};
 ghost use Rattle.tables.specs.Rows.{Upload};
@@ -70,21 +70,16 @@ pub(crate) fn remember(
         known[at].id = id;
         return Some(known);
     }
-    let repo = copy_of(alloc, repo)?;
+    let Ok(repo) = repo.to_owned(alloc) else {
+        return None;
+    };
     known.push(Remembered { repo, id }).ok()?;
     Some(known)
 }
 
-fn copy_of(alloc: Global, repo: &RepoName) -> Option<RepoName>
-    ensures { IfSome result (λ copy. repo_text copy ≡ repo_text repo.now) }
-{
-    RepoName::read(String::from_str(alloc, repo.as_str()).ok()?)
-}
-
 fn id_from(row: &Row) -> Result<UploadId, StoreFault>
-    ensures value { (u : Upload) → row.now ≡ show_upload u → IfOk result
+    ensures { (u : Upload) → row.now ≡ show_upload u → IfOk result
         (λ id. upload_number id ≡ u.id) }
-    ensures known { result ≢ Err StoreFault.UnknownSchema }
 {
     Ok(UploadId {
         number: row.get(0)?,
@@ -93,9 +88,8 @@ fn id_from(row: &Row) -> Result<UploadId, StoreFault>
 
 /// The repository and the id in a row. A row that is out of range is refused.
 fn entry_from(row: &Row) -> Result<Remembered, StoreFault>
-    ensures value { (u : Upload) → row.now ≡ show_upload u → IfOk result
+    ensures { (u : Upload) → row.now ≡ show_upload u → IfOk result
         (λ entry. IsEntryOf u entry) }
-    ensures known { result ≢ Err StoreFault.UnknownSchema }
 {
     Ok(Remembered {
         repo: RepoName::read(row.get(1)?).ok_or(StoreFault::Refused)?,
@@ -105,9 +99,8 @@ fn entry_from(row: &Row) -> Result<Remembered, StoreFault>
 
 /// The staged uploads in the rows. Two of one repository are refused.
 pub(crate) fn all_remembered(alloc: Global, rows: &[Row]) -> Result<Vec<Remembered>, StoreFault>
-    ensures value { (uploads : _) → rows.now ≡ map show_upload uploads → IfOk result
+    ensures { (uploads : _) → rows.now ≡ map show_upload uploads → IfOk result
         (λ known. AllByRecursion (IsLast known.items) uploads) }
-    ensures known { result ≢ Err StoreFault.UnknownSchema }
 {
     let mut known = Vec::with_capacity(alloc, rows.len())?;
     for row in rows {

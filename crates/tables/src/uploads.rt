@@ -1,7 +1,6 @@
 //! The calls on uploads, and on the number of bytes that a repository stores.
 
-ghost use Rattle.std.specs.Prelude.{◌≡◌, ◌≢◌, ◌+ℤ◌, pos, Some, find, map, slice_get, is_some, option_map, IfOk, IfSome};
-ghost use Rattle.std.specs.Ordering.{int_eq};
+ghost use Rattle.std.specs.Prelude.{◌≡◌, ◌+ℤ◌, pos, Some, find, map, slice_get, is_some, option_map, IfOk, IfSome};
 ghost use Rattle.names.specs.Names.{repo_text};
 ghost use Rattle.sqlite.specs.Held.{state};
 ghost use Rattle.typed_rows.specs.Transactions.{Inside};
@@ -33,9 +32,8 @@ pub(crate) struct Total {
 
 /// The object in a row. A row that is out of range is refused.
 fn object_from(row: &Row) -> Result<ObjectRow, StoreFault>
-    ensures value { (u : Upload) → row.now ≡ show_upload u → IfOk result
+    ensures { (u : Upload) → row.now ≡ show_upload u → IfOk result
         (λ found. read_object found ≡ upload_sized u) }
-    ensures known { result ≢ Err StoreFault.UnknownSchema }
 {
     Ok(ObjectRow {
         id: UploadId {
@@ -47,9 +45,8 @@ fn object_from(row: &Row) -> Result<ObjectRow, StoreFault>
 
 /// The object in the first of the rows.
 fn first_object(rows: &[Row]) -> Result<Option<ObjectRow>, StoreFault>
-    ensures value { (uploads : _) → rows.now ≡ map show_upload uploads → IfOk result
+    ensures { (uploads : _) → rows.now ≡ map show_upload uploads → IfOk result
         (λ found. IsObjectOf found (slice_get uploads 0)) }
-    ensures known { result ≢ Err StoreFault.UnknownSchema }
 {
     match rows.first() {
         None => Ok(None),
@@ -58,9 +55,8 @@ fn first_object(rows: &[Row]) -> Result<Option<ObjectRow>, StoreFault>
 }
 
 fn total_from(row: &Row) -> Result<Total, StoreFault>
-    ensures value { (r : _) → row.now ≡ show_used r → IfOk result
+    ensures { (r : _) → row.now ≡ show_used r → IfOk result
         (λ found. read_total found ≡ repo_total r) }
-    ensures known { result ≢ Err StoreFault.UnknownSchema }
 {
     Ok(Total {
         rowid: row.get(0)?,
@@ -70,9 +66,8 @@ fn total_from(row: &Row) -> Result<Total, StoreFault>
 
 /// The total in the first of the rows.
 fn first_total(rows: &[Row]) -> Result<Option<Total>, StoreFault>
-    ensures value { (repos : _) → rows.now ≡ map show_used repos → IfOk result
+    ensures { (repos : _) → rows.now ≡ map show_used repos → IfOk result
         (λ found. IsTotalOf found (slice_get repos 0)) }
-    ensures known { result ≢ Err StoreFault.UnknownSchema }
 {
     match rows.first() {
         None => Ok(None),
@@ -107,8 +102,7 @@ fn used_with(total: Option<Total>, size: Size) -> Option<i64>
 
 /// The number, which is refused if it is below 0.
 fn unsigned(number: i64) -> Result<u64, StoreFault>
-    ensures value { IfOk result (λ n. pos n ≡ number) }
-    ensures known { result ≢ Err StoreFault.UnknownSchema }
+    ensures { IfOk result (λ n. pos n ≡ number) }
 {
     u64::try_from(number).map_err(|_| StoreFault::Refused)
 }
@@ -124,7 +118,6 @@ pub(crate) fn staged_in<S: Alter>(
     ensures value { Says S.Store tx.old.conn.now tx.new.conn.now result
         (λ t found. IsUploadOf found (staged_with (upload_number id) t)) }
     ensures does { Does S.Store tx.old.conn.now tx.new.conn.now result (λ t. t) }
-    ensures known { result ≢ Err StoreFault.UnknownSchema }
 {
     let rows = select(
         tx,
@@ -161,7 +154,6 @@ fn total_in<S: Alter>(
     ensures value { Says S.Store tx.old.conn.now tx.new.conn.now result
         (λ t found. IsTotalOf found (find (is_named (repo_text repo.now)) t.repos)) }
     ensures does { Does S.Store tx.old.conn.now tx.new.conn.now result (λ t. t) }
-    ensures known { result ≢ Err StoreFault.UnknownSchema }
 {
     let rows = select(
         tx,
@@ -258,7 +250,6 @@ pub(crate) fn upload_out<S: Alter>(
     ensures same_reference { tx.new.conn.ghost_name ≡ tx.old.conn.ghost_name }
     ensures does { Does S.Store tx.old.conn.now tx.new.conn.now result
         (without_upload (upload_number id)) }
-    ensures known { result ≢ Err StoreFault.UnknownSchema }
 {
     chunks_out(tx, id)?;
     row_out(tx, id)?;
@@ -270,7 +261,6 @@ fn keep_into<S: Alter>(tx: &mut Transaction<'_, S>, upload: &UploadRow) -> Resul
     ensures same_reference { tx.new.conn.ghost_name ≡ tx.old.conn.ghost_name }
     ensures does { Does S.Store tx.old.conn.now tx.new.conn.now result
         (with_kept (begun_as upload.now)) }
-    ensures known { result ≢ Err StoreFault.UnknownSchema }
 {
     let total = total_in(tx, &upload.repo)?;
     let Some(used) = used_with(total, upload.size) else {
@@ -290,7 +280,6 @@ fn keep_all_into<S: Alter>(
     ensures same_reference { tx.new.conn.ghost_name ≡ tx.old.conn.ghost_name }
     ensures does { Does S.Store tx.old.conn.now tx.new.conn.now result
         (λ t. with_kept (begun_as upload.now) (with_last (upload_number upload.now.id) last.now t)) }
-    ensures known { result ≢ Err StoreFault.UnknownSchema }
 {
     if last.bytes.is_empty() {
         return keep_into(tx, upload);
@@ -310,7 +299,6 @@ fn settle_into<S: Alter>(
         (λ t completion. completion ≡ settled_as (begun_as upload.now) t) }
     ensures does { Does S.Store tx.old.conn.now tx.new.conn.now result
         (after_settling last.now (begun_as upload.now)) }
-    ensures known { result ≢ Err StoreFault.UnknownSchema }
 {
     if is_stored(tx, &upload.repo, &upload.oid)? {
         return Ok(Completion::Already);
@@ -345,7 +333,6 @@ fn complete_into<S: Alter>(
         (λ t completion. completion_of (upload_number id) oid.now (pos size) t ≡ Some completion) }
     ensures does { Does S.Store tx.old.conn.now tx.new.conn.now result
         (after_complete (upload_number id) last.now oid.now (pos size)) }
-    ensures known { result ≢ Err StoreFault.UnknownSchema }
 {
     let Some(upload) = staged_in(tx, id)? else {
         return Err(StoreFault::Refused);
@@ -363,7 +350,6 @@ fn remove_into<S: Alter>(tx: &mut Transaction<'_, S>, id: UploadId) -> Result<bo
         (λ t removed. removed ≡ is_some (staged_with (upload_number id) t)) }
     ensures does { Does S.Store tx.old.conn.now tx.new.conn.now result
         (without_staged (upload_number id)) }
-    ensures known { result ≢ Err StoreFault.UnknownSchema }
 {
     let Some(upload) = staged_in(tx, id)? else {
         return Ok(false);
@@ -383,7 +369,6 @@ fn shorten_into<S: Alter>(
         (λ t staged. staged ≡ is_some (staged_with (upload_number id) t)) }
     ensures does { Does S.Store tx.old.conn.now tx.new.conn.now result
         (without_staged_from (upload_number id) (pos n)) }
-    ensures known { result ≢ Err StoreFault.UnknownSchema }
 {
     let Some(upload) = staged_in(tx, id)? else {
         return Ok(false);

@@ -1,10 +1,9 @@
 -- The caller, from the row of a token to the world.
-use Rattle.std.proofs.Common.{◌≡◌, ℕ, ◌<◌, ◌≤◌, true, false, nat_lt, List, find, Option, Some, None, option_map, Result, Ok, Err, refl, sym, ap, ◌∙◌, subst, arith}
+use Rattle.std.proofs.Common.{◌≡◌, ℕ, ◌<◌, ◌≤◌, true, false, nat_lt, List, find, Option, Some, None, option_map, Result, Ok, Err, refl, sym, ap, ◌∙◌, arith}
 use Rattle.std.proofs.lemmas.Bool.Decides.{nat_tests}
 use Rattle.std.proofs.lemmas.Option.{none-some}
 use Rattle.sha2.specs.Sha256.{sha256}
 use Rattle.names.specs.Names.{user_text, repo_text}
-use Rattle.names.specs.declared.rules.Rule.{Rule}
 use Rattle.names.specs.declared.rules.Rule.TheVariants.{A2, A3}
 use Rattle.model.specs.World.{World, IsWorld, Token, find_token}
 use Rattle.model.specs.Callers as model
@@ -18,6 +17,8 @@ use Rattle.refinement.specs.Representation.{token_kept, token_row, Represents}
 use Rattle.refinement.proofs.Lookups.{token_found}
 use Rattle.refinement.proofs.Same.{same_operation, same_pos}
 use Rattle.tokens.specs.declared.callers.Caller.{Caller}
+use Rattle.tokens.specs.declared.callers.CallerFault.{CallerFault}
+use Rattle.tokens.specs.declared.callers.CallerFault.TheVariants as fault
 use Rattle.tokens.specs.Callers.{IsCalling, IsGoodAt}
 
 none_of_map : {A B C : Type 0} (f : A → C) (g : B → C) (o : Option B) → option_map {T = A} {U = C} f None ≡ option_map g o → o ≡ None
@@ -73,16 +74,17 @@ lt_true a b h = grind (arith, nat_tests)
 lt_false : (a b : ℕ) → b ≤ a → nat_lt a b ≡ false
 lt_false a b h = grind (arith, nat_tests)
 
-calling : (world : World) (now : ℕ) (values : List (List ℕ)) (text : List ℕ) (i : Token) (found : TokenRow) (r : Result Caller Rule)
+calling : (world : World) (now : ℕ) (values : List (List ℕ)) (text : List ℕ) (i : Token) (found : TokenRow) (r : Result Caller CallerFault)
     → bearer values ≡ Some text → find_token text world ≡ Some i → Keeps found i → IsGoodAt text found now r → IsCalling world now values r
 calling world now values text i found (Ok c) bears known k good =
     let before : now < i.expires = omega (arith, good.0, k.expires) in
     (presented_by text i, accepted world now values text i bears known (lt_true now i.expires before), record { token = good.1.token; user = good.1.user ∙ k.user; repo = good.1.repo ∙ k.repo; operation = good.1.operation ∙ k.operation; expires = good.1.expires ∙ k.expires })
-calling world now values text i found (Err rule) bears known k late =
+calling world now values text i found (Err (fault.Store f)) bears known k late = tt
+calling world now values text i found (Err (fault.Rule rule)) bears known k late =
     let after : i.expires ≤ now = omega (arith, late.0, k.expires) in
     refused_expired world now values text i bears known (lt_false now i.expires after) ∙ ap Err (sym late.1)
 
-pub known_token : (t : Tables) (world : World) (now : ℕ) (values : List (List ℕ)) (text digest : List ℕ) (found : TokenRow) (r : Result Caller Rule) → Represents t world → IsWorld world
+pub known_token : (t : Tables) (world : World) (now : ℕ) (values : List (List ℕ)) (text digest : List ℕ) (found : TokenRow) (r : Result Caller CallerFault) → Represents t world → IsWorld world
     → bearer values ≡ Some text → digest ≡ sha256 text → option_map read_token (Some found) ≡ option_map token_fields (find (has_digest digest) t.tokens)
     → IsGoodAt text found now r → IsCalling world now values r
 known_token t world now values text digest found r s w bears is e good =

@@ -1,9 +1,8 @@
 -- A requested token, in the tables and in the definitions.
-use Rattle.std.proofs.Common.{◌≡◌, ◌∙◌, ◌+◌, ℕ, ℤ, pos, Bool, true, false, not, nat_le, List, length, filter, Option, Some, None, is_some, Result, Ok, Err, refl, sym, ap, subst, IsTrue, IfOk, OnOk, OnErr}
+use Rattle.std.proofs.Common.{◌≡◌, ◌∙◌, ◌+◌, ◌≤◌, ℕ, pos, Bool, true, false, not, nat_le, List, length, filter, Option, Some, None, is_some, Result, Ok, Err, refl, sym, ap, subst, IsTrue, IfOk, OnOk, OnErr}
 use Rattle.std.specs.Prelude.{IsErrAnd, MatchResult}
 use Rattle.std.proofs.lemmas.Bool.{leb-true}
 use Rattle.sqlite_trees.specs.declared.store.Store.{Ghosts}
-use Rattle.sha2.specs.Sha256.{sha256}
 use Rattle.names.specs.Texts.{last_moment, is_hex_64}
 use Rattle.model.specs.World.{World, Token, IsToken, find_token, with_token, without_expired}
 use Rattle.model.specs.Reading.{◌>>=◌, check, none_or}
@@ -17,11 +16,13 @@ use Rattle.tables.specs.Statements as tables
 use Rattle.tables.specs.Steps.{has_token, after_add}
 use Rattle.tables.specs.Shown.{IsHonest, IsOpen, shown, Makes, Fails}
 use Rattle.tables.specs.declared.Store.{Store}
+use Rattle.tables.proofs.Moved.{moves_then}
 use Rattle.tables.specs.declared.fault.StoreFault.{StoreFault}
 use Rattle.refinement.specs.Representation.{Holds, token_kept, token_row}
-use Rattle.refinement.specs.Left.{Leads, Ends}
+use Rattle.refinement.specs.Left.{Leads, Ends, KeepsTables}
 use Rattle.refinement.proofs.Leading.{still_then, ends_made, ends_failed, takes_made, takes_failed, takes_still}
-use Rattle.refinement.proofs.Tokens.{token_known, none_is, some_is, would_add, holds_token, holds_if_known, holds_pruned, expired_counted, expired_gone}
+use Rattle.refinement.proofs.Holding.{holds_still}
+use Rattle.refinement.proofs.Tokens.{token_known, none_is, some_is, would_add, holds_token, still_if_known, holds_pruned, expired_counted, expired_gone}
 use Rattle.tokens.specs.Issuing.{Keeps, Issues, Refuses, denial_of, report_of, token_asked, token_until}
 use Rattle.tokens.specs.Pruning.{Prunes}
 use Rattle.tokens.specs.declared.issuing.TokenFault.{TokenFault}
@@ -43,19 +44,23 @@ module _ {S : Type 0} (g : Ghosts S) (old new : Store S) (world : World) (h : Ho
   keeps_by asked text expires k (Ok false) kept there made miss =
       let s = h.shows (made.moves.was_honest honest) (made.was_open honest) in (
         sym (token_known (shown g old) world text s h.laws) ∙ ap (λ (r : row.Token). has_token r.digest (shown g old)) (sym kept) ∙ there.1,
-        ends_made g old new unchanged world world (after_add k) h.ready made (holds_if_known g old new world k made.moves there.1 h),
+        ends_made g old new unchanged world world (after_add k) h.ready made (holds_still g old new world (still_if_known g old new world k made.moves there.1) h),
+        still_if_known g old new world k made.moves there.1,
       )
-  keeps_by asked text expires k (Err fault) kept there made miss = λ in_range none.
-      ends_failed g old new world (with_token (token_until asked text expires) world) (after_add k) miss (λ s. would_add (shown g old) world k (token_until asked text expires) s h.laws kept in_range none) h
+  keeps_by asked text expires k (Err fault) kept there made miss = (
+    λ in_range none.
+        ends_failed g old new world (with_token (token_until asked text expires) world) (after_add k) miss (λ s. would_add (shown g old) world k (token_until asked text expires) s h.laws kept in_range none) h,
+    miss.moves,
+  )
 
   -- the case in which they were asked to remove what has expired
-  pub prunes_by : (now : ℕ) (r : Result ℕ StoreFault) → IfOk r (λ n. IsOpen g old × (n ≡ length (filter (has_expired (pos now)) (shown g old).tokens)))
+  pub prunes_by : (now : ℕ) (r : Result ℕ StoreFault) → now ≤ last_moment → IfOk r (λ n. IsOpen g old × (n ≡ length (filter (has_expired (pos now)) (shown g old).tokens)))
       → OnOk r (Makes g (tables.without_expired (pos now)) old new) → OnErr r (Fails g (tables.without_expired (pos now)) old new) → Prunes g world now old new r
-  prunes_by now (Ok n) is made miss =
+  prunes_by now (Ok n) in_range is made miss =
       let counted = is.1 ∙ expired_counted (shown g old) world now (h.shows (made.moves.was_honest honest) (made.was_open honest)) in
-      takes_made g old new world (without_expired now world) (prunes now (Some n)) (tables.without_expired (pos now)) h.ready made (by_success (ap Some counted) refl) (holds_pruned g old new world now made.moves h)
-  prunes_by now (Err fault) is made miss =
-      takes_failed g old new world (prunes now None) (tables.without_expired (pos now)) refl (by_fault refl refl) miss (λ s. (keeps_without_expired now world h.laws, expired_gone (shown g old) world now s)) h
+      takes_made g old new world (without_expired now world) (prunes now (Some n)) (tables.without_expired (pos now)) h.ready made (in_range, by_success (ap Some counted) refl) (holds_pruned g old new world now made.moves h)
+  prunes_by now (Err fault) in_range is made miss =
+      (takes_failed g old new world (prunes now None) (tables.without_expired (pos now)) refl (in_range, by_fault refl refl) miss (λ s. (keeps_without_expired now world h.laws, expired_gone (shown g old) world now s)) h, miss.moves)
 
 -- ---- the answer of the definitions
 
@@ -113,20 +118,21 @@ module _ (world : World) (asked : TokenRequest) where
         }
 
     -- a token that was not stored is issued already
-    pub refuses_by : (handed : List ℕ) (expires : ℕ) → IsTrue (is_hex_64 (token_asked asked).text) → handed ≡ (token_asked asked).text → Leads g old mid world (λ bound. bound)
+    pub refuses_by : (handed : List ℕ) (expires : ℕ) → IsTrue (is_hex_64 (token_asked asked).text) → handed ≡ (token_asked asked).text → Leads g old mid world (λ bound. bound) → KeepsTables g old mid
         → Keeps g world asked handed expires mid new (Ok false) → Refuses g world old new asked AlreadyIssued
-    refuses_by handed expires hex same still kept =
+    refuses_by handed expires hex same still tables kept =
         let verdict = is_there (ap (λ t. is_some (find_token t world)) (sym same) ∙ kept.0) in
         record {
           verdict = verdict;
           takes = record { step = refused_step AlreadyIssued (is_request hex) verdict; leads = still_then g old mid new world world (left_by unchanged world world) still kept.1 };
+          tables = moves_then g old mid new tables kept.2;
         }
 
     -- a token that the store refused is not issued
     pub fails_by : (handed : List ℕ) (expires : ℕ) (f : StoreFault) → handed ≡ (token_asked asked).text → IsTrue (is_hex_64 (token_asked asked).text)
-        → token_verdict world (token_asked asked) ≡ Ok (token_until asked handed expires) → Leads g old mid world (λ bound. bound) → Keeps g world asked handed expires mid new (Err f)
+        → token_verdict world (token_asked asked) ≡ Ok (token_until asked handed expires) → Leads g old mid world (λ bound. bound) → KeepsTables g old mid → Keeps g world asked handed expires mid new (Err f)
         → Refuses g world old new asked (fault.Store f)
-    fails_by handed expires f same hex verdict still kept =
+    fails_by handed expires f same hex verdict still tables kept =
         let new_one = is_new handed expires same hex verdict in
         let made = with_token (token_until asked handed expires) world in
         record {
@@ -134,16 +140,18 @@ module _ (world : World) (asked : TokenRequest) where
           takes = record {
             step = refused_step (fault.Store f) (is_request hex) tt;
             leads = subst (λ (w : World). Ends g old new failed world w world) (sym (ap (after_token world) verdict))
-                (still_then g old mid new world world (left_by failed world made) still (kept new_one.0 new_one.1));
+                (still_then g old mid new world world (left_by failed world made) still (kept.0 new_one.0 new_one.1));
           };
+          tables = moves_then g old mid new tables kept.1;
         }
 
   -- a refusal before the store is asked to add the token is passed on
   pub refused_early : {S T : Type 0} (g : Ghosts S) (old new : Store S) (P : T → Type 0) (r : Result T TokenFault) (f : TokenFault) → IsErrAnd r (λ e. e ≡ f) → IsTrue (is_hex_64 (token_asked asked).text)
-      → denial_of f (token_verdict world (token_asked asked)) → Leads g old new world (λ bound. bound) → MatchResult r P (λ e. Refuses g world old new asked e)
-  refused_early g old new P (Ok text) f is hex verdict p = absurd is
-  refused_early g old new P (Err e) f is hex verdict p =
+      → denial_of f (token_verdict world (token_asked asked)) → Leads g old new world (λ bound. bound) → KeepsTables g old new → MatchResult r P (λ e. Refuses g world old new asked e)
+  refused_early g old new P (Ok text) f is hex verdict p same = absurd is
+  refused_early g old new P (Err e) f is hex verdict p same =
       subst (λ (x : TokenFault). Refuses g world old new asked x) (sym is) (record {
         verdict = verdict;
         takes = takes_still g old new world (issues (token_asked asked) (report_of f)) (refusal_changes_none f) (refused_step f (is_request hex) verdict) p;
+        tables = same;
       })

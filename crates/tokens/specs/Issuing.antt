@@ -10,7 +10,7 @@ use Rattle.model.specs.Steps.{issues}
 use Rattle.model.specs.Bounds.{Ending, changed, unchanged, failed, world_by}
 use Rattle.tables.specs.declared.Store.{Store}
 use Rattle.tables.specs.declared.fault.StoreFault.{StoreFault}
-use Rattle.refinement.specs.Left.{Ends, Takes}
+use Rattle.refinement.specs.Left.{Ends, KeepsTables, Takes}
 use Rattle.tokens.specs.declared.requests.TokenRequest.{TokenRequest}
 use Rattle.tokens.specs.declared.issuing.TokenFault.{TokenFault}
 use Rattle.tokens.specs.declared.issuing.TokenFault.TheVariants.{AlreadyIssued, ExpiresTooLate}
@@ -61,23 +61,25 @@ module _ {S : Type 0} (g : Ghosts S) where
     pub text_is : token.text ≡ text
     pub takes : Takes g old new world (issues (token_asked asked) (Some (Ok token))) (with_token token world)
 
-  -- no token is issued, for that cause, in a step that leaves the world unchanged
+  -- no token is issued, for that cause, in a step that leaves the world and the tables as they were
   pub record Refuses (world : World) (old new : Store S) (asked : TokenRequest) (f : TokenFault) : Type 0 where
     pub verdict : denial_of f (token_verdict world (token_asked asked))
     pub takes : Takes g old new world (issues (token_asked asked) (report_of f)) world
+    pub tables : KeepsTables g old new
 
   -- a call to add the token to the world ended this way
   abbrev pub EndsAdding : Store S → Store S → Ending → World → Token → Type 0
   EndsAdding old new ending world token =
       Ends g old new ending world (with_token token world) (world_by ending world (with_token token world))
 
-  -- a token that was stored is issued; one that was not is issued already, and nothing changed; or the store refused it
+  -- a token that was stored is issued; one that was not is issued already; or the store refused it. Unless it was stored,
+  -- the tables are as before
   abbrev pub Keeps : World → TokenRequest → List ℕ → ℕ → Store S → Store S → Result Bool StoreFault → Type 0
   Keeps world asked text expires old new (Ok true) =
       IsToken (token_until asked text expires)
       → (find_token text world ≡ None) × EndsAdding old new changed world (token_until asked text expires)
   Keeps world asked text expires old new (Ok false) =
-      (is_some (find_token text world) ≡ true) × Ends g old new unchanged world world world
+      (is_some (find_token text world) ≡ true) × Ends g old new unchanged world world world × KeepsTables g old new
   Keeps world asked text expires old new (Err f) =
-      IsToken (token_until asked text expires) → find_token text world ≡ None
-      → EndsAdding old new failed world (token_until asked text expires)
+      (IsToken (token_until asked text expires) → find_token text world ≡ None
+      → EndsAdding old new failed world (token_until asked text expires)) × KeepsTables g old new

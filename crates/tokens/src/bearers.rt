@@ -1,6 +1,6 @@
 //! Finds the caller: the token in a request, and its row in the store (RFC 6750).
 
-ghost use Rattle.std.specs.Prelude.{◌≡◌, ◌≢◌, option_map, Some, None, IfOk, if◌then◌else◌};
+ghost use Rattle.std.specs.Prelude.{◌≡◌, option_map, Some, None, if◌then◌else◌};
 ghost use Rattle.std.specs.List.{list_all};
 ghost use Rattle.sha2.specs.Sha256.{sha256};
 ghost use Rattle.model.specs.Callers.{bearer, is_visible};
@@ -8,10 +8,10 @@ ghost use Rattle.refinement.specs.Left.{Reads};
 ghost use Rattle.tokens.specs.Bearers.{single_value};
 ghost use Rattle.tokens.specs.Callers.{IsCalling};
 
-use crate::callers::{Caller, good_at};
+use crate::callers::{Caller, CallerFault, good_at};
 use names::{Moment, Rule};
 use sha2::{Digest, Sha256};
-use tables::{Alter, Store, StoreFault};
+use tables::{Alter, Store};
 
 fn is_visible(byte: u8) -> bool
     ensures { result ≡ is_visible byte }
@@ -57,29 +57,28 @@ fn digest_of(text: &str) -> [u8; 32]
     Sha256::digest(text.as_bytes())
 }
 
-/// Returns the caller for the value of the `Authorization` field: A1 if it has no token, A2 if the store
-/// has no such token, A3 if the token has expired. The store is only read.
+/// Returns the caller for the value of the `Authorization` field. The store is only read.
 ///
 /// # Errors
 ///
-/// `Refused` or `Memory`, which leave the store unchanged too.
+/// `Rule` of A1 if the value has no token, of A2 if the store has no such token, of A3 if the token has expired; `Store`
+/// of `Refused` or `Memory`.
 pub fn caller<'t, S: Alter>(
     store: &mut Store<S>,
     authorization: Option<&'t [u8]>,
     now: Moment,
-) -> Result<Result<Caller<'t>, Rule>, StoreFault>
-    ensures known { result ≢ Err StoreFault.UnknownSchema }
-    ensures world { Reads S.Store store.old store.new (λ world.
-        IfOk result (IsCalling world now (single_value (option_map (λ v. v.now) authorization.entry)))) }
+) -> Result<Caller<'t>, CallerFault>
+    ensures { Reads S.Store store.old store.new (λ world.
+        IsCalling world now (single_value (option_map (λ v. v.now) authorization.entry)) result) }
 {
     let Some(value) = authorization else {
-        return Ok(Err(Rule::A1));
+        return Err(CallerFault::Rule(Rule::A1));
     };
     let Some(text) = bearer_in(value) else {
-        return Ok(Err(Rule::A1));
+        return Err(CallerFault::Rule(Rule::A1));
     };
     let Some(token) = store.token(&digest_of(text))? else {
-        return Ok(Err(Rule::A2));
+        return Err(CallerFault::Rule(Rule::A2));
     };
-    Ok(good_at(text, token, now))
+    good_at(text, token, now)
 }

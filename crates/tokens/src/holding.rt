@@ -1,6 +1,6 @@
 //! Lists a user's tokens.
 
-ghost use Rattle.std.specs.Prelude.{◌≢◌, map, filter, IfOk, IsPermutation};
+ghost use Rattle.std.specs.Prelude.{map, filter, IfOk, IsPermutation};
 ghost use Rattle.names.specs.Names.{user_text, repo_text};
 ghost use Rattle.tables.specs.Steps.{read_token};
 ghost use Rattle.refinement.specs.Left.{Reads};
@@ -22,8 +22,7 @@ pub fn of<S: Alter>(
     user: &UserName,
     repo: &RepoName,
 ) -> Result<Vec<TokenRow>, StoreFault>
-    ensures known { result ≢ Err StoreFault.UnknownSchema }
-    ensures world { Reads S.Store store.old store.new (λ world.
+    ensures { Reads S.Store store.old store.new (λ world.
         IfOk result (λ found. IsPermutation (map read_token found.items)
         (map fields_of_token
         (filter (is_of (user_text user.entry.now) (repo_text repo.entry.now)) world.tokens)))) }

@@ -1,6 +1,6 @@
 //! Issues tokens.
 
-ghost use Rattle.std.specs.Prelude.{◌≡◌, ◌≢◌, ◌+◌, true, false, is_some, nat_le, Ok, IfOk, IsTrue, MatchOption, MatchResult, string_bytes};
+ghost use Rattle.std.specs.Prelude.{◌≡◌, ◌+◌, true, false, is_some, nat_le, Ok, IfOk, IsTrue, MatchOption, MatchResult, string_bytes};
 ghost use Rattle.hex.specs.Hex.{encode_lower};
 ghost use Rattle.names.specs.Texts.{last_moment, is_hex_64};
 ghost use Rattle.model.specs.World.{find_token};
@@ -16,7 +16,7 @@ use std::alloc::Global;
 use tables::{Alter, NewToken, Store, StoreFault};
 use thiserror::Error;
 
-/// Why no token was issued. The contents of the store are unchanged.
+/// Why no token was issued. The tables are unchanged.
 #[derive(Clone, Copy, Debug, PartialEq, Eq, Error)]
 pub enum TokenFault {
     /// A token of these random bytes is already stored.
@@ -42,15 +42,13 @@ impl From<StoreFault> for TokenFault {
 fn text_of(alloc: Global, random: &[u8; 32]) -> Result<String, StoreFault>
     ensures text { IfOk result (λ text. string_bytes text ≡ encode_lower random.now) }
     ensures digits { IsTrue (is_hex_64 (encode_lower random.now)) }
-    ensures known { result ≢ Err StoreFault.UnknownSchema }
 {
     Ok(hex::encode(alloc, random.as_slice())?)
 }
 
 /// Whether a token of this text was issued.
 fn is_known<S: Alter>(store: &mut Store<S>, text: &str) -> Result<bool, StoreFault>
-    ensures known { result ≢ Err StoreFault.UnknownSchema }
-    ensures world { Reads S.Store store.old store.new (λ world.
+    ensures { Reads S.Store store.old store.new (λ world.
         IfOk result (λ known. known ≡ is_some (find_token text.now world))) }
 {
     let digest = Sha256::digest(text.as_bytes());
@@ -73,8 +71,7 @@ fn keep<S: Alter>(
     text: &str,
     expires: Moment,
 ) -> Result<bool, StoreFault>
-    ensures known { result ≢ Err StoreFault.UnknownSchema }
-    ensures world { From S.Store store.old store.new (λ world.
+    ensures { From S.Store store.old store.new (λ world.
         Keeps S.Store world asked.entry.now text.now expires store.old store.new result) }
 {
     let digest = Sha256::digest(text.as_bytes());
@@ -93,8 +90,7 @@ fn judge<S: Alter>(
     asked: &TokenRequest<'_>,
     text: &str,
 ) -> Result<Moment, TokenFault>
-    ensures known { result ≢ Err (TokenFault.Store StoreFault.UnknownSchema) }
-    ensures world { Reads S.Store store.old store.new (λ world.
+    ensures { Reads S.Store store.old store.new (λ world.
         text.now ≡ (token_asked asked.entry.now).text → MatchResult result
         (λ expires. token_verdict world (token_asked asked.entry.now)
         ≡ Ok (token_until asked.entry.now text.now expires))
@@ -117,8 +113,7 @@ pub fn offer<S: Alter>(
     store: &mut Store<S>,
     asked: &TokenRequest<'_>,
 ) -> Result<String, TokenFault>
-    ensures known { result ≢ Err (TokenFault.Store StoreFault.UnknownSchema) }
-    ensures world { Reads S.Store store.old store.new (λ world.
+    ensures { Reads S.Store store.old store.new (λ world.
         MatchResult result
         (λ text. Offers world asked.entry.now (string_bytes text))
         (λ fault. denial_of fault (token_verdict world (token_asked asked.entry.now)))) }
@@ -134,14 +129,13 @@ pub fn offer<S: Alter>(
 /// # Errors
 ///
 /// `AlreadyIssued` (K1) if a token of these random bytes is stored; `ExpiresTooLate` (K2) if it would
-/// expire after the last moment; `Store`. None of them changes the contents of the store.
+/// expire after the last moment; `Store`. They leave the tables unchanged.
 pub fn issue<S: Alter>(
     alloc: Global,
     store: &mut Store<S>,
     asked: &TokenRequest<'_>,
 ) -> Result<String, TokenFault>
-    ensures known { result ≢ Err (TokenFault.Store StoreFault.UnknownSchema) }
-    ensures world { From S.Store store.old store.new (λ world.
+    ensures { From S.Store store.old store.new (λ world.
         MatchResult result
         (λ text. Issues S.Store world store.old store.new asked.entry.now (string_bytes text))
         (λ fault. Refuses S.Store world store.old store.new asked.entry.now fault)) }

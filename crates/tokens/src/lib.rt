@@ -13,8 +13,9 @@ mod pruning;
 mod requests;
 
 pub use bearers::caller;
-pub use callers::Caller;
+pub use callers::{Caller, CallerFault};
 pub use holding::of;
 pub use issuing::{TokenFault, issue, offer};
+pub use names::Operation as Op;
 pub use pruning::prune;
 pub use requests::TokenRequest;

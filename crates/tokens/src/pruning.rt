@@ -1,6 +1,5 @@
 //! Removes tokens.
 
-ghost use Rattle.std.specs.Prelude.{◌≢◌};
 ghost use Rattle.refinement.specs.Left.{From};
 ghost use Rattle.tokens.specs.Pruning.{Prunes};
 
@@ -11,11 +10,11 @@ use tables::{Alter, Store, StoreFault};
 ///
 /// # Errors
 ///
-/// `Refused` or `Memory`, which leave the contents of the store unchanged.
-pub fn prune<S: Alter>(store: &mut Store<S>, now: Moment) -> Result<usize, StoreFault>
-    ensures known { result ≢ Err StoreFault.UnknownSchema }
-    ensures world { From S.Store store.old store.new (λ world.
+/// `Refused` or `Memory`, which leave the tables unchanged.
+pub fn prune<S: Alter>(store: &mut Store<S>, now: Moment) -> Result<u64, StoreFault>
+    ensures { From S.Store store.old store.new (λ world.
         Prunes S.Store world now store.old store.new result) }
 {
-    store.remove_expired(now)
+    let removed = store.remove_expired(now)?;
+    Ok(removed as u64)
 }

@@ -1,5 +1,5 @@
 -- What a repository has in the database is at most the bytes of its objects and one largest object, for proofs in other crates.
-use Rattle.std.proofs.Common.{◌≡◌, ◌∙◌, inl, inr, ℕ, ◌+◌, ◌≤◌, Bool, true, false, not, List, [], ◌∷◌, map, filter, cond, length, bytes_eq, refl, sym, ap, AllPairs, arith, sum_by}
+use Rattle.std.proofs.Common.{◌≡◌, ◌∙◌, inl, inr, ℕ, ◌+◌, ◌≤◌, Bool, true, false, not, List, [], ◌∷◌, map, filter, cond, length, bytes_eq, refl, sym, ap, subst, AllPairs, arith, sum_by}
 use Rattle.std.specs.List.{AllByRecursion}
 use Rattle.std.proofs.lemmas.Bool.{true≢false}
 use Rattle.std.proofs.lemmas.List.Sorted.{sum_by-IsPermutation}
@@ -8,6 +8,7 @@ use Rattle.sqlite_trees.proofs.ListLemmas.{IsPermutation-filter, all-filter, fil
 use Rattle.sqlite_trees.specs.declared.store.Store.{Ghosts}
 use Rattle.names.specs.Texts.{largest_object}
 use Rattle.model.specs.World.{World, Object, total}
+use Rattle.model.specs.Bounds.{Bound}
 use Rattle.model.proofs.Lists.{IsOnly, each_weaker}
 use Rattle.model.proofs.Views.{only_of}
 use Rattle.tables.specs.Rows.{Tables, Upload, Chunk}
@@ -15,10 +16,11 @@ use Rattle.tables.specs.Statements.{is_complete, is_staged}
 use Rattle.tables.specs.Shown.{shown}
 use Rattle.tables.specs.declared.Store.{Store}
 use Rattle.refinement.specs.Objects.{bytes_of, object_in, HasSize, DiffersInRepo}
+use Rattle.refinement.specs.Left.{IsAmong, IsBoundedBy}
 use Rattle.refinement.specs.Representation.{Represents, Holds}
 use Rattle.refinement.proofs.Lookups.{same_is}
-use Rattle.uploads.specs.Bounds.{stored_in, StoresWithin}
-use Rattle.tables.proofs.Marked.{IsMarked, uploads_marked}
+use Rattle.uploads.specs.Bounds.{stored_in, AreWithin, StoresWithin, LeavesWithin}
+use Rattle.tables.proofs.Marked.{IsMarked, kept_marked, uploads_marked}
 
 -- ---- sums of filtered lists
 
@@ -97,3 +99,12 @@ module _ {S : Type 0} (g : Ghosts S) where
   pub stores_within : (s : Store S) (world : World) (repo : List ℕ) (most : ℕ) → Holds g s world → total repo world ≤ most → StoresWithin g s repo (most + largest_object)
   stores_within s world repo most h within k o =
       omega (arith, within, stored_bound (shown g s) world repo (h.shows k o) (uploads_marked g s h.ready k o))
+
+  within_one : (t : Tables) (repo : List ℕ) (most : ℕ) (bound : Bound) → AllByRecursion IsMarked t.uploads → IsAmong t bound → AreWithin repo most bound → stored_in repo t ≤ most + largest_object
+  within_one t repo most [] marked among within = absurd among
+  within_one t repo most (world ∷ bound) marked (inl is) within = omega (arith, within.0, stored_bound t world repo is.1 marked)
+  within_one t repo most (world ∷ bound) marked (inr rest) within = within_one t repo most bound marked rest within.1
+
+  pub leaves_within : (s : Store S) (bound : Bound) (repo : List ℕ) (most : ℕ) → IsBoundedBy g s bound → AreWithin repo most bound → LeavesWithin g s repo (most + largest_object)
+  leaves_within s bound repo most bounded within k t left =
+      within_one t repo most bound (subst (λ (u : Tables). AllByRecursion IsMarked u.uploads) (sym left.3) (kept_marked left.0 left.1)) (bounded.among k t left) within

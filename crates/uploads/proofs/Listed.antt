@@ -1,22 +1,19 @@
 -- The rows that are listed are the objects of the world.
-use Rattle.std.proofs.Common.{◌≡◌, ◌∙◌, ℕ, ℤ, pos, Bool, true, false, ◌&&◌, cond, List, [], ◌∷◌, map, filter, length, bytes_eq, Option, Some, None, Ordering, Less, Equal, Greater, is_gt, refl, sym, ap, subst, arith, AllPairs, IsPermutation}
+use Rattle.std.proofs.Common.{◌≡◌, ◌∙◌, ℕ, ℤ, pos, Bool, true, false, ◌&&◌, cond, List, [], ◌∷◌, map, filter, length, bytes_eq, Option, Some, None, Ordering, Less, Equal, Greater, is_gt, refl, sym, ap, subst, AllPairs, IsPermutation}
 use Rattle.std.specs.List.{AllByRecursion, AllZip}
-use Rattle.std.specs.Ordering.{nat_cmp, ordering_then, ordering_reverse}
+use Rattle.std.specs.Ordering.{nat_cmp, ordering_then}
 use Rattle.std.specs.Cmp.{IsTotalOrder}
 use Rattle.std.specs.Cmp.Lexicographic.{slice_cmp}
-use Rattle.std.proofs.lemmas.Bool.{true≢false}
-use Rattle.std.proofs.lemmas.Cmp.{upto, on_total, then_total, int_cmp_total, nat_list_cmp_total}
-use Rattle.std.proofs.lemmas.List.Elements.{All-from_recursion}
-use Rattle.std.proofs.lemmas.List.Kept.{AllPairs-cons}
+use Rattle.std.proofs.lemmas.Cmp.{on_total, then_total, int_cmp_total, nat_list_cmp_total}
 use Rattle.std.proofs.lemmas.List.Sorted.{IsPermutation-map, IsPermutation-trans}
 use Rattle.std.proofs.lemmas.Map.Text.{is_eq-slice_cmp}
 use Rattle.sqlite_trees.specs.Tree.{IsAscending}
 use Rattle.sqlite_trees.specs.declared.store.Store.{Ghosts}
 use Rattle.sqlite_trees.proofs.ListLemmas.{IsPermutation-filter, filter-map, filter_all}
-use Rattle.sqlite_keyed.specs.Lists.{insert_sorted, sort_by}
+use Rattle.sqlite_keyed.proofs.ListLemmas.{ascending-map, ascending_weaker}
 use Rattle.sqlite_keyed.proofs.SortLemmas.{IsPermutation-sort_by}
 use Rattle.model.specs.World.{World, Object}
-use Rattle.model.proofs.Lists.{each_in, each_of, each_weaker, each_map, each_passes, in_before_filter}
+use Rattle.model.proofs.Lists.{each_in, each_of, each_passes, in_before_filter}
 use Rattle.tables.specs.Rows as row
 use Rattle.tables.specs.Rows.{Tables}
 use Rattle.tables.specs.Shown.{HasTables, Moves, shown}
@@ -27,42 +24,8 @@ use Rattle.tables.specs.declared.rows.UploadRow.{UploadRow}
 use Rattle.refinement.specs.Objects.{HasSize, bytes_of, pieces_of, object_in, IsStored}
 use Rattle.refinement.specs.Representation.{Represents}
 use Rattle.refinement.proofs.Same.{same_pos}
+use Rattle.refinement.proofs.Sorting.{NotAfter, each_sorted, sorted_rises, into_pairs}
 use Rattle.uploads.specs.Listing.{is_listed, IsNotAfter, IsRowOf, Lists}
-
--- ---- a sorted list rises
-
-module _ {X : Type 0} (cmp : X → X → Ordering) (total : IsTotalOrder cmp) where
-  abbrev NotAfter : X → X → Type 0
-  NotAfter a b = is_gt (cmp a b) ≡ false
-
-  each_inserted : (P : X → Type 0) (new : X) (xs : List X) → P new → AllByRecursion P xs → AllByRecursion P (insert_sorted cmp new xs)
-  each_inserted P new [] h all = (h, tt)
-  each_inserted P new (x ∷ xs) h all =
-      elim (is_gt (cmp new x)) as (λ v. AllByRecursion P (cond v (x ∷ insert_sorted cmp new xs) (new ∷ x ∷ xs))) [
-        | true ↦ (all.0, each_inserted P new xs h all.1)
-        | false ↦ (h, all)
-      ]
-
-  each_sorted : (P : X → Type 0) (xs : List X) → AllByRecursion P xs → AllByRecursion P (sort_by cmp xs)
-  each_sorted P [] all = tt
-  each_sorted P (x ∷ xs) all = each_inserted P x (sort_by cmp xs) all.0 (each_sorted P xs all.1)
-
-  turned : (o : Ordering) → is_gt o ≡ true → is_gt (ordering_reverse o) ≡ false
-  turned Less e = absurd (true≢false (sym e))
-  turned Equal e = absurd (true≢false (sym e))
-  turned Greater e = refl
-
-  inserted_rises : (new : X) (xs : List X) → IsAscending NotAfter xs → IsAscending NotAfter (insert_sorted cmp new xs)
-  inserted_rises new [] up = (tt, tt)
-  inserted_rises new (x ∷ xs) up = at (is_gt (cmp new x)) refl (inserted_rises new xs up.1)
-    where
-      at : (v : Bool) → is_gt (cmp new x) ≡ v → IsAscending NotAfter (insert_sorted cmp new xs) → IsAscending NotAfter (cond v (x ∷ insert_sorted cmp new xs) (new ∷ x ∷ xs))
-      at true e rest = (each_inserted (NotAfter x) new xs (ap is_gt (total.antisymm x new) ∙ turned (cmp new x) e) up.0, rest)
-      at false e rest = ((e, each_weaker (NotAfter x) (NotAfter new) xs (λ z. upto total new x z e) up.0), up)
-
-  sorted_rises : (xs : List X) → IsAscending NotAfter (sort_by cmp xs)
-  sorted_rises [] = tt
-  sorted_rises (x ∷ xs) = inserted_rises x (sort_by cmp xs) (sorted_rises xs)
 
 -- ---- the order of the rows is that of the objects
 
@@ -79,12 +42,10 @@ first_two Equal Greater c e = e
 first_two Greater b c e = e
 
 objects_rise : (chunks : List row.Chunk) (us : List row.Upload) → IsAscending (NotAfter name_cmp name_total) us → AllPairs IsNotAfter (map (object_in chunks) us)
-objects_rise chunks [] up = λ i j d below within. absurd (omega (arith, within))
-objects_rise chunks (u ∷ us) up =
-    let first = object_in chunks u in
-    let later = each_weaker (NotAfter name_cmp name_total u) (λ v. IsNotAfter first (object_in chunks v)) us (λ v. first_two (slice_cmp nat_cmp u.repo v.repo) (slice_cmp nat_cmp u.oid v.oid) _) up.0 in
-    AllPairs-cons IsNotAfter first (map (object_in chunks) us)
-    (All-from_recursion (IsNotAfter first) (map (object_in chunks) us) (each_map (IsNotAfter first) (object_in chunks) us later)) (objects_rise chunks us up.1)
+objects_rise chunks us up =
+    into_pairs IsNotAfter (map (object_in chunks) us)
+    (ascending-map IsNotAfter (object_in chunks) us
+    (ascending_weaker (NotAfter name_cmp name_total) (λ u v. IsNotAfter (object_in chunks u) (object_in chunks v)) (λ u v. first_two (slice_cmp nat_cmp u.repo v.repo) (slice_cmp nat_cmp u.oid v.oid) _) us up))
 
 -- ---- the rows are those of the objects
 

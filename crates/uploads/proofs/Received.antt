@@ -1,13 +1,15 @@
 -- A staged upload whose bytes arrived is completed.
-use Rattle.std.proofs.Common.{◌≡◌, ◌∙◌, ◌⊎◌, inl, inr, ℕ, ◌≤◌, pos, List, ◌++◌, length, Some, is_some, Ok, Err, refl, sym, ap, subst}
+use Rattle.std.proofs.Common.{◌≡◌, ◌∙◌, ◌⊎◌, inl, inr, ℕ, ◌+◌, ◌≤◌, true, None, add_comm, pos, List, ◌++◌, length, Some, is_some, Ok, Err, refl, sym, ap, subst}
 use Rattle.std.specs.List.{concat}
+use Rattle.std.proofs.lemmas.Slice.Eq.{bytes_eq-Decides}
 use Rattle.sqlite_trees.specs.declared.store.Store.{Ghosts}
 use Rattle.names.specs.Texts.{largest_object}
-use Rattle.model.specs.World.{World, IsWorld, IsObject, object_named, with_object}
+use Rattle.model.specs.World.{World, IsWorld, IsObject, name_of, object_named, total, with_object}
 use Rattle.model.specs.Bounds.{changed, unchanged}
 use Rattle.model.proofs.Keeping.{keeps_with_object}
+use Rattle.model.proofs.Quota.{total_with}
 use Rattle.tables.specs.Rows.{Tables}
-use Rattle.tables.specs.Shown.{IsHonest, IsOpen, Makes, Fails, shown}
+use Rattle.tables.specs.Shown.{IsHonest, IsOpen, Moves, Makes, Fails, shown}
 use Rattle.tables.specs.Staging.{upload_number, completion_by, completion_of, after_complete}
 use Rattle.tables.specs.declared.Store.{Store}
 use Rattle.tables.specs.declared.fault.StoreFault.{StoreFault}
@@ -15,13 +17,16 @@ use Rattle.tables.specs.declared.rows.Completion.{Completion}
 use Rattle.tables.specs.declared.rows.Completion.TheVariants as completion
 use Rattle.tables.specs.declared.new_rows.LastChunk.{LastChunk}
 use Rattle.tables.specs.declared.rows.UploadId.{UploadId}
+use Rattle.tables.proofs.Moved.{moves_still}
 use Rattle.refinement.specs.Representation.{Represents, Holds}
+use Rattle.refinement.specs.Left.{Keeps}
 use Rattle.refinement.specs.Staging.{staged_row}
 use Rattle.refinement.proofs.Completing.{staged_in_range, Completed, completed, completed_by}
-use Rattle.refinement.proofs.Leading.{holds_made, ends_made, ends_failed_or, keeps_failed}
+use Rattle.refinement.proofs.Holding.{holds_still}
+use Rattle.refinement.proofs.Leading.{holds_made, ends_made, ends_failed_or, ends_reported, keeps_failed}
 use Rattle.refinement.proofs.Tokens.{none_is}
 use Rattle.uploads.specs.Completing.{Staged, bytes_in, object_of, IsAsBegun, Arrives, Completes}
-use Rattle.uploads.specs.declared.completing.Kept.TheVariants.{New, Already}
+use Rattle.uploads.specs.declared.completing.Kept.TheVariants.{New}
 use Rattle.uploads.specs.declared.completing.UploadFault.TheVariants.{Differs}
 use Rattle.uploads.specs.declared.completing.UploadFault.TheVariants as fault
 
@@ -61,48 +66,65 @@ module _ {S : Type 0} (g : Ghosts S) (old new : Store S) (world : World) (upload
       → Completed (shown g old) world (upload_number id) upload.repo upload.name upload.size upload.pieces chunk oid size (h.shows k o) h.laws (a.stages k o) a.next arrived c
   after k o c said = completed (shown g old) world (upload_number id) upload.repo upload.name upload.size upload.pieces chunk oid size (h.shows k o) h.laws (a.stages k o) a.next arrived c said
 
-  holds_same : (k : IsHonest g old) (o : IsOpen g old) → Makes g step old new → Represents (step (shown g old)) world → Holds g new world
-  holds_same k o makes r = holds_made g old new world step h.ready makes h.laws (λ _ _. r)
+  -- the tables are as before, and so is the world
+  still : Moves g (λ t. t) old new → Makes g step old new → Keeps g old new world
+  still same makes = ends_made g old new unchanged world made step h.ready makes (holds_still g old new world same h)
 
-  added : IsHonest g old → IsOpen g old → completion_of (upload_number id) oid (pos size) (shown g old) ≡ Some completion.New → Makes g step old new → Completes g world upload old new (Ok New)
+  -- what the tables represent if the step left them as they were
+  stays : (k : IsHonest g old) (o : IsOpen g old) → step (shown g old) ≡ shown g old → Represents (step (shown g old)) world
+  stays k o same = subst (λ (t : Tables). Represents t world) (sym same) (h.shows k o)
+
+  -- the total with a new object
+  grown : IsAsBegun upload → object_named upload.repo upload.name world ≡ None → total upload.repo made ≡ total upload.repo world + upload.size
+  grown begun none =
+      let free : object_named upload.repo (name_of (bytes_in upload)) world ≡ None = ap (λ (n : List ℕ). object_named upload.repo n world) begun.0 ∙ none in
+      rw free (total_with world (object_of upload) upload.repo true ((bytes_eq-Decides upload.repo upload.repo).1 refl) ∙ add_comm (length (bytes_in upload)) (total upload.repo world)
+      ∙ ap (λ (n : ℕ). total upload.repo world + n) begun.1)
+
+  added : IsHonest g old → IsOpen g old → completion_of (upload_number id) oid (pos size) (shown g old) ≡ Some completion.New → Makes g step old new → Completes g world id upload old new (Ok New)
   added k o said makes =
-      let it = after k o completion.New said in (
+      let it = after k o completion.New said in
+      let none = none_is (object_named upload.repo upload.name world) (ap (λ (n : List ℕ). is_some (object_named upload.repo n world)) it.0 ∙ it.2) in (
         is_begun it.0 it.1,
-        none_is (object_named upload.repo upload.name world) (ap (λ (n : List ℕ). is_some (object_named upload.repo n world)) it.0 ∙ it.2),
+        none,
         ends_made g old new changed world made step h.ready makes
             (holds_made g old new made step h.ready makes (keeps_with_object world (object_of upload) (is_object k o it.1) h.laws) (λ _ _. subst (Represents (step (shown g old))) same_object it.3)),
+        grown (is_begun it.0 it.1) none,
       )
 
-  known : IsHonest g old → IsOpen g old → completion_of (upload_number id) oid (pos size) (shown g old) ≡ Some completion.Already → Makes g step old new → Completes g world upload old new (Ok Already)
+  -- the repository has an object of the name, and the upload is still staged
+  abbrev pub IsThere : Type 0
+  IsThere = IsAsBegun upload × (is_some (object_named upload.repo upload.name world) ≡ true) × Keeps g old new world
+
+  known : IsHonest g old → IsOpen g old → completion_of (upload_number id) oid (pos size) (shown g old) ≡ Some completion.Already → Makes g step old new → IsThere
   known k o said makes =
       let it = after k o completion.Already said in (
         is_begun it.0 it.1,
         ap (λ (n : List ℕ). is_some (object_named upload.repo n world)) it.0 ∙ it.2,
-        ends_made g old new unchanged world made step h.ready makes (holds_same k o makes it.3),
+        still (moves_still g old new step makes.moves (λ _. it.3)) makes,
       )
 
-  differs : IsHonest g old → IsOpen g old → completion_of (upload_number id) oid (pos size) (shown g old) ≡ Some completion.Differs → Makes g step old new → Completes g world upload old new (Err Differs)
+  differs : IsHonest g old → IsOpen g old → completion_of (upload_number id) oid (pos size) (shown g old) ≡ Some completion.Differs → Makes g step old new → Completes g world id upload old new (Err Differs)
   differs k o said makes =
-      let it = after k o completion.Differs said in (
-        (λ begun. it.0 (sym begun.0 ∙ sym a.name) (sym begun.1 ∙ sym a.length)),
-        ends_made g old new unchanged world made step h.ready makes (holds_same k o makes it.1),
-      )
+      let it = after k o completion.Differs said in
+      let same = moves_still g old new step makes.moves (λ _. it.1) in
+      ((λ begun. it.0 (sym begun.0 ∙ sym a.name) (sym begun.1 ∙ sym a.length)), still same makes, same)
 
   -- what a stop may leave of a call that failed
   either : (k : IsHonest g old) (o : IsOpen g old) (c : Completion)
       → Completed (shown g old) world (upload_number id) upload.repo upload.name upload.size upload.pieces chunk oid size (h.shows k o) h.laws (a.stages k o) a.next arrived c
       → (IsWorld made × Represents (step (shown g old)) made) ⊎ Represents (step (shown g old)) world
   either k o completion.New it = inl (keeps_with_object world (object_of upload) (is_object k o it.1) h.laws, subst (Represents (step (shown g old))) same_object it.3)
-  either k o completion.Already it = inr it.3
-  either k o completion.Differs it = inr it.1
+  either k o completion.Already it = inr (stays k o it.3)
+  either k o completion.Differs it = inr (stays k o it.1)
 
   -- it leaves the world if the bytes differ from what was begun
   unless_begun : (k : IsHonest g old) (o : IsOpen g old) (c : Completion)
       → Completed (shown g old) world (upload_number id) upload.repo upload.name upload.size upload.pieces chunk oid size (h.shows k o) h.laws (a.stages k o) a.next arrived c
       → (IsAsBegun upload → ⊥) → Represents (step (shown g old)) world
   unless_begun k o completion.New it differ = absurd (differ (is_begun it.0 it.1))
-  unless_begun k o completion.Already it differ = it.3
-  unless_begun k o completion.Differs it differ = it.1
+  unless_begun k o completion.Already it differ = stays k o it.3
+  unless_begun k o completion.Differs it differ = stays k o it.1
 
   -- the result of the transaction that failed
   abbrev tried : Completion
@@ -112,7 +134,7 @@ module _ {S : Type 0} (g : Ghosts S) (old new : Store S) (world : World) (upload
       → Completed (shown g old) world (upload_number id) upload.repo upload.name upload.size upload.pieces chunk oid size (h.shows k o) h.laws (a.stages k o) a.next arrived tried
   would k o = completed_by (shown g old) world (upload_number id) upload.repo upload.name upload.size upload.pieces chunk oid size (h.shows k o) h.laws (a.stages k o) a.next arrived
 
-  pub refused : (f : StoreFault) → Fails g step old new → Completes g world upload old new (Err (fault.Store f))
+  pub refused : (f : StoreFault) → Fails g step old new → Completes g world id upload old new (Err (fault.Store f))
   refused f fails = (
     ends_failed_or g old new world made step fails (λ k o s. either k o tried (would k o)) h,
     λ differ. keeps_failed g old new world (λ was t. t ≡ step was) fails
@@ -121,11 +143,15 @@ module _ {S : Type 0} (g : Ghosts S) (old new : Store S) (world : World) (upload
 
   -- the result of the call for a result of the call on the tables
   abbrev pub Reported : Completion → Type 0
-  Reported completion.New = Completes g world upload old new (Ok New)
-  Reported completion.Already = Completes g world upload old new (Ok Already)
-  Reported completion.Differs = Completes g world upload old new (Err Differs)
+  Reported completion.New = Completes g world id upload old new (Ok New)
+  Reported completion.Already = IsThere
+  Reported completion.Differs = Completes g world id upload old new (Err Differs)
 
   pub completes_by : (c : Completion) → IsHonest g new → IsOpen g old × (completion_of (upload_number id) oid (pos size) (shown g old) ≡ Some c) → Makes g step old new → Reported c
   completes_by completion.New honest said makes = added (makes.moves.was_honest honest) said.0 said.1 makes
   completes_by completion.Already honest said makes = known (makes.moves.was_honest honest) said.0 said.1 makes
   completes_by completion.Differs honest said makes = differs (makes.moves.was_honest honest) said.0 said.1 makes
+
+-- the repository has the object already, and the store refused to remove the upload; the world is kept
+pub unremoved : {S : Type 0} (g : Ghosts S) (old new : Store S) (world : World) (id : UploadId) (upload : Staged) (f : StoreFault) → Keeps g old new world → Completes g world id upload old new (Err (fault.Store f))
+unremoved g old new world id upload f kept = (ends_reported g old new world (with_object (object_of upload) world) kept, λ differ. kept)

@@ -1,16 +1,16 @@
 -- Uploads that are completed.
-use Rattle.std.specs.Prelude.{◌≡◌, ℕ, true, List, ◌++◌, length, None, is_some, IsTrue, Result, Ok, Err}
+use Rattle.std.specs.Prelude.{◌≡◌, ◌+◌, ℕ, true, List, ◌++◌, length, None, is_some, IsTrue, Result, Ok, Err}
 use Rattle.std.specs.List.{concat}
 use Rattle.sqlite_trees.specs.declared.store.Store.{Ghosts}
 use Rattle.names.specs.Texts.{is_repo}
-use Rattle.model.specs.World.{World, Object, name_of, object_named, with_object}
+use Rattle.model.specs.World.{World, Object, name_of, object_named, total, with_object}
 use Rattle.model.specs.Bounds.{Ending, changed, unchanged, failed}
 use Rattle.tables.specs.Staging.{upload_number}
 use Rattle.tables.specs.declared.Store.{Store}
 use Rattle.tables.specs.declared.new_rows.LastChunk.{LastChunk}
 use Rattle.tables.specs.declared.rows.UploadId.{UploadId}
-use Rattle.refinement.specs.Left.{Ends, Keeps}
-use Rattle.refinement.specs.Staging.{Stages}
+use Rattle.refinement.specs.Left.{Ends, Keeps, KeepsTables}
+use Rattle.refinement.specs.Staging.{Stages, StagesNone}
 use Rattle.uploads.specs.declared.completing.Kept.{Kept}
 use Rattle.uploads.specs.declared.completing.Kept.TheVariants.{New, Already}
 use Rattle.uploads.specs.declared.completing.UploadFault.{UploadFault}
@@ -52,15 +52,18 @@ module _ {S : Type 0} (g : Ghosts S) where
   abbrev pub Adds : Store S → Store S → Ending → World → Staged → World → Type 0
   Adds old new ending world upload kept = Ends g old new ending world (with_object (object_of upload) world) kept
 
-  -- the object was added, or the repository has it already; or the bytes differ from what was begun; or the store refused,
-  -- and then a stop leaves no object of bytes that differ
-  abbrev pub Completes : World → Staged → Store S → Store S → Result Kept UploadFault → Type 0
-  Completes world upload old new (Ok New) =
+  -- the object was added, and its repository's total grew by the size of the upload; or the repository has it already, and
+  -- the upload is removed; or the bytes differ from what was begun, and the tables are as before; or the store refused, and
+  -- then a stop leaves no object of bytes that differ
+  abbrev pub Completes : World → UploadId → Staged → Store S → Store S → Result Kept UploadFault → Type 0
+  Completes world id upload old new (Ok New) =
       IsAsBegun upload × (object_named upload.repo upload.name world ≡ None)
       × Adds old new changed world upload (with_object (object_of upload) world)
-  Completes world upload old new (Ok Already) =
+      × (total upload.repo (with_object (object_of upload) world) ≡ total upload.repo world + upload.size)
+  Completes world id upload old new (Ok Already) =
       IsAsBegun upload × (is_some (object_named upload.repo upload.name world) ≡ true)
-      × Adds old new unchanged world upload world
-  Completes world upload old new (Err Differs) = (IsAsBegun upload → ⊥) × Adds old new unchanged world upload world
-  Completes world upload old new (Err (fault.Store f)) =
+      × Keeps g old new world × StagesNone g new (upload_number id)
+  Completes world id upload old new (Err Differs) =
+      (IsAsBegun upload → ⊥) × Adds old new unchanged world upload world × KeepsTables g old new
+  Completes world id upload old new (Err (fault.Store f)) =
       Adds old new failed world upload world × ((IsAsBegun upload → ⊥) → Keeps g old new world)

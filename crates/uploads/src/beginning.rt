@@ -1,6 +1,5 @@
 //! Begins uploads.
 
-ghost use Rattle.std.specs.Prelude.{◌≢◌, Err};
 ghost use Rattle.refinement.specs.Left.{From, Keeps};
 ghost use Rattle.uploads.specs.Beginning.{Begins};
 
@@ -19,8 +18,7 @@ fn shorten_staged<S: Alter>(
     store: &mut Store<S>,
     repo: &RepoName,
 ) -> Result<(), StoreFault>
-    ensures known { result ≢ Err StoreFault.UnknownSchema }
-    ensures world { From S.Store store.old store.new (Keeps S.Store store.old store.new) }
+    ensures { From S.Store store.old store.new (Keeps S.Store store.old store.new) }
 {
     let Some(staged) = store.staged_upload(alloc, repo)? else {
         return Ok(());
@@ -42,8 +40,7 @@ pub fn begin<S: Alter>(
     oid: &Oid,
     size: Size,
 ) -> Result<UploadId, StoreFault>
-    ensures known { result ≢ Err StoreFault.UnknownSchema }
-    ensures world { From S.Store store.old store.new (λ world.
+    ensures { From S.Store store.old store.new (λ world.
         Begins S.Store world repo.now oid.now size store.old store.new result) }
 {
     shorten_staged(alloc, store, repo)?;

@@ -1,6 +1,6 @@
 //! Completes uploads.
 
-ghost use Rattle.std.specs.Prelude.{◌≡◌, ◌≢◌, Err};
+ghost use Rattle.std.specs.Prelude.{◌≡◌, Err};
 ghost use Rattle.refinement.specs.Left.{From};
 ghost use Rattle.uploads.specs.Completing.{Staged, Arrives, Completes};
 ghost use Rattle.uploads.specs.declared.completing.UploadFault.TheVariants.{Store as by_store};
@@ -14,7 +14,7 @@ use tables::{Alter, Completion, LastChunk, Store, StoreFault, UploadId};
 pub enum Kept {
     /// The upload is an object of its repository now.
     New,
-    /// The repository already has an object of this name. The upload was removed, if the store allowed it.
+    /// The repository already has an object of this name. The upload was removed.
     Already,
 }
 
@@ -24,7 +24,7 @@ pub enum UploadFault {
     /// The name or the size of the bytes differs from that with which the upload was begun. It is still staged.
     #[error("the bytes differ from the name or the size of the upload")]
     Differs,
-    /// The store refused, or memory ran out. The contents of the store are unchanged, but a stop may still leave the
+    /// The store refused, or memory ran out. The objects of the store are unchanged, but a stop may still leave the
     /// object, if its bytes do not differ.
     #[error("{0}")]
     Store(StoreFault),
@@ -45,7 +45,7 @@ impl From<StoreFault> for UploadFault {
 /// # Errors
 ///
 /// `Differs` for another name or size, and `Store` of `Refused`, also if no upload is staged under this id, or of
-/// `Memory`. Both leave the contents of the store unchanged.
+/// `Memory`. Both leave the objects of the store unchanged, and the upload may still be staged.
 pub fn complete<S: Alter>(
     store: &mut Store<S>,
     id: UploadId,
@@ -53,15 +53,14 @@ pub fn complete<S: Alter>(
     oid: &Oid,
     size: Size,
 ) -> Result<Kept, UploadFault>
-    ensures known { result ≢ Err (UploadFault.Store StoreFault.UnknownSchema) }
-    ensures world { From S.Store store.old store.new (λ world.
+    ensures { From S.Store store.old store.new (λ world.
         (upload : Staged) → Arrives S.Store store.old id upload last.now oid.now size
-        → Completes S.Store world upload store.old store.new result) }
+        → Completes S.Store world id upload store.old store.new result) }
 {
     match store.complete_upload(id, last, oid, size)? {
         Completion::New => Ok(Kept::New),
         Completion::Already => {
-            let _ = abandon(store, id, size);
+            abandon(store, id, size)?;
             Ok(Kept::Already)
         }
         Completion::Differs => Err(UploadFault::Differs),

@@ -1,6 +1,6 @@
 //! Finds objects.
 
-ghost use Rattle.std.specs.Prelude.{◌≡◌, ◌≢◌, Err, IfOk, option_map};
+ghost use Rattle.std.specs.Prelude.{◌≡◌, IfOk, option_map};
 ghost use Rattle.names.specs.Names.{repo_text};
 ghost use Rattle.model.specs.World.{total};
 ghost use Rattle.refinement.specs.Left.{Reads};
@@ -22,8 +22,7 @@ pub fn find<S: Alter>(
     repo: &RepoName,
     oid: &Oid,
 ) -> Result<Option<ObjectRow>, StoreFault>
-    ensures known { result ≢ Err StoreFault.UnknownSchema }
-    ensures world { Reads S.Store store.old store.new (λ world.
+    ensures { Reads S.Store store.old store.new (λ world.
         IfOk result (Finds S.Store world store.new (repo_text repo.now) oid.now)) }
 {
     store.object(repo, oid)
@@ -35,8 +34,7 @@ pub fn find<S: Alter>(
 ///
 /// `Refused` or `Memory`. The contents of the store are unchanged in any case.
 pub fn used<S: Alter>(store: &mut Store<S>, repo: &RepoName) -> Result<u64, StoreFault>
-    ensures known { result ≢ Err StoreFault.UnknownSchema }
-    ensures world { Reads S.Store store.old store.new (λ world.
+    ensures { Reads S.Store store.old store.new (λ world.
         IfOk result (λ n. n ≡ total (repo_text repo.now) world)) }
 {
     store.used(repo)
@@ -53,8 +51,7 @@ pub fn all<S: Alter>(
     store: &mut Store<S>,
     repo: Option<&RepoName>,
 ) -> Result<Vec<UploadRow>, StoreFault>
-    ensures known { result ≢ Err StoreFault.UnknownSchema }
-    ensures world { Reads S.Store store.old store.new (λ world.
+    ensures { Reads S.Store store.old store.new (λ world.
         IfOk result (λ found. Lists S.Store world store.new
         (option_map (λ r. repo_text r.now) repo.entry) found.items)) }
 {

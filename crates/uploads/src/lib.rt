@@ -17,3 +17,4 @@ pub use completing::{Kept, UploadFault, complete};
 pub use finding::{all, find, used};
 pub use laws::bound_law;
 pub use removing::{abandon, sweep};
+pub use tables::UploadRow as Stored;

@@ -1,6 +1,6 @@
 //! Removes uploads that are not completed.
 
-ghost use Rattle.std.specs.Prelude.{◌≢◌, Err, OnOk};
+ghost use Rattle.std.specs.Prelude.{OnOk};
 ghost use Rattle.tables.specs.Staging.{upload_number};
 ghost use Rattle.refinement.specs.Left.{From, Keeps};
 ghost use Rattle.refinement.specs.Staging.{StagesNone};
@@ -27,8 +27,7 @@ pub(crate) fn shorten<S: Alter>(
     id: UploadId,
     size: Size,
 ) -> Result<(), StoreFault>
-    ensures known { result ≢ Err StoreFault.UnknownSchema }
-    ensures world { From S.Store store.old store.new (Shortens S.Store store.old store.new) }
+    ensures { From S.Store store.old store.new (Shortens S.Store store.old store.new) }
 {
     let mut left = size.get() / PART_BYTES;
     'parts: while left > 0 {
@@ -45,8 +44,7 @@ pub(crate) fn shorten<S: Alter>(
 ///
 /// `Refused` or `Memory`. The upload may still be staged, without some of its bytes. No object is changed in any case.
 pub fn abandon<S: Alter>(store: &mut Store<S>, id: UploadId, size: Size) -> Result<(), StoreFault>
-    ensures known { result ≢ Err StoreFault.UnknownSchema }
-    ensures world { From S.Store store.old store.new (λ world.
+    ensures { From S.Store store.old store.new (λ world.
         Keeps S.Store store.old store.new world
         × OnOk result (StagesNone S.Store store.new (upload_number id))) }
 {
@@ -61,8 +59,7 @@ pub fn abandon<S: Alter>(store: &mut Store<S>, id: UploadId, size: Size) -> Resu
 ///
 /// `Refused` or `Memory`. Some of the uploads may still be staged. No object is changed in any case.
 pub fn sweep<S: Alter>(alloc: Global, store: &mut Store<S>) -> Result<u64, StoreFault>
-    ensures known { result ≢ Err StoreFault.UnknownSchema }
-    ensures world { From S.Store store.old store.new (λ world.
+    ensures { From S.Store store.old store.new (λ world.
         Sweeps S.Store world store.old store.new result) }
 {
     let staged = store.staged_uploads(alloc)?;

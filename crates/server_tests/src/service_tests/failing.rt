@@ -11,7 +11,7 @@ use sha2::{Digest, Sha256};
 use sqlite::{Connection, FileStore, Files, MemStore, Options};
 use sqlite_disk::{Crash, Disk, Fuse, Memory};
 use std::process::Abort;
-use tables::{NewToken, Storage, Store, StoreFault};
+use tables::{NewToken, OpenFault, Storage, Store};
 
 /// The reply to the upload.
 const DONE: &str = "HTTP/1.1 200 OK\r\nContent-Length: 0\r\n\r\n";
@@ -49,7 +49,7 @@ fn fused(rt: &impl Tester, counted: Counted, calls: u64) -> Files<Fuse<Memory>> 
 }
 
 /// Makes the tables, and stores ann's upload token.
-fn prepare<S: Storage>(rt: &impl Tester, store: &mut Store<S>) -> Result<(), StoreFault> {
+fn prepare<S: Storage>(rt: &impl Tester, store: &mut Store<S>) -> Result<(), OpenFault> {
     store.create_or_check(rt.alloc())?;
     let ann = user(rt, "ann");
     let film = repo(rt, "studio/film");

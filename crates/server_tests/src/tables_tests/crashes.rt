@@ -8,7 +8,7 @@ use crate::harness::{Tester, lock_path, moment, ref_name, repo, user};
 use names::Operation;
 use sqlite::{Connection, FileStore, Files, Options};
 use sqlite_disk::{Crash, Disk, Fuse, Memory};
-use tables::{Creation, NewLock, Storage, Store, StoreFault};
+use tables::{Creation, NewLock, OpenFault, Storage, Store};
 use tokens::{TokenRequest, issue};
 
 const FILM: &str = "studio/film";
@@ -92,7 +92,7 @@ fn issue_token<S: Storage>(rt: &impl Tester, store: &mut Store<S>) -> bool {
 }
 
 /// The contents of the store.
-fn seen<S: Storage>(rt: &impl Tester, store: &mut Store<S>) -> Result<Seen, StoreFault> {
+fn seen<S: Storage>(rt: &impl Tester, store: &mut Store<S>) -> Result<Seen, OpenFault> {
     store.create_or_check(rt.alloc())?;
     let film = repo(rt, FILM);
     let ann = user(rt, "ann");

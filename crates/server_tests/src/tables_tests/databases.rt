@@ -6,7 +6,7 @@ use super::files::{Step, run, take_steps};
 use crate::harness::{Tester, in_memory, lock_path, moment, ref_name, repo, unwrap, user};
 use names::{LockId, Operation};
 use sqlite::Connection;
-use tables::{Alter, Creation, NewLock, NewToken, Store, StoreFault};
+use tables::{Alter, Creation, NewLock, NewToken, OpenFault, Store, StoreFault};
 
 const FILM: &str = "studio/film";
 
@@ -227,7 +227,7 @@ const FILES: &[(&str, &[Step])] = &[
         &[
             Step::Fill,
             Step::Run("DELETE FROM meta"),
-            Step::Check(Err(StoreFault::UnknownSchema)),
+            Step::Check(Err(OpenFault::UnknownSchema)),
         ],
     ),
     // The last id is given once. A lock without an id holds no path: the second path is free at the
@@ -246,11 +246,17 @@ const FILES: &[(&str, &[Step])] = &[
         "no.db",
         &[
             Step::Write("no database, but a text of some length"),
-            Step::Check(Err(StoreFault::Refused)),
+            Step::Check(Err(OpenFault::Store(StoreFault::Refused))),
         ],
     ),
-    ("nowhere/at.db", &[Step::Check(Err(StoreFault::Refused))]),
-    (":memory:", &[Step::Check(Err(StoreFault::Refused))]),
+    (
+        "nowhere/at.db",
+        &[Step::Check(Err(OpenFault::Store(StoreFault::Refused)))],
+    ),
+    (
+        ":memory:",
+        &[Step::Check(Err(OpenFault::Store(StoreFault::Refused)))],
+    ),
 ];
 
 #[test]
@@ -274,10 +280,10 @@ fn a_connection_is_taken_over(rt: HostRuntime) {
     assert!(rt; !is_taken_over(&rt, "CREATE TABLE a (b INTEGER)"));
 }
 
-const FAULTS: &[(StoreFault, &str)] = &[
-    (StoreFault::UnknownSchema, "store G1"),
-    (StoreFault::Refused, "store G2"),
-    (StoreFault::Memory, "no memory"),
+const FAULTS: &[(OpenFault, &str)] = &[
+    (OpenFault::UnknownSchema, "store G1"),
+    (OpenFault::Store(StoreFault::Refused), "store G2"),
+    (OpenFault::Store(StoreFault::Memory), "no memory"),
 ];
 
 #[test]

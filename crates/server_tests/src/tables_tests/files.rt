@@ -9,7 +9,7 @@ use sqlite::{Connection, Error, File, FileFrom, FileStore, Wary};
 use std::alloc::Global;
 use std::fs;
 use std::rt::HostRuntime;
-use tables::{Alter, Storage, Store, StoreFault};
+use tables::{Alter, OpenFault, Storage, Store, StoreFault};
 
 /// A step on a file, with the expected result.
 pub(crate) enum Step {
@@ -18,7 +18,7 @@ pub(crate) enum Step {
     /// Another program runs these statements on it.
     Run(&'static str),
     /// A store is opened over it, and creates or checks its tables.
-    Check(Result<(), StoreFault>),
+    Check(Result<(), OpenFault>),
     /// The same for a file of another schema, which is left unchanged.
     Leave,
     /// A lock and a token are added.
@@ -30,7 +30,7 @@ pub(crate) enum Step {
 }
 
 /// Takes a step over an open store.
-fn work<S: Storage>(rt: &impl Tester, store: &mut Store<S>, step: &Step) -> Result<(), StoreFault> {
+fn work<S: Storage>(rt: &impl Tester, store: &mut Store<S>, step: &Step) -> Result<(), OpenFault> {
     if let Step::Lock(first, second, again) = step {
         assert!(rt; last_locks(rt, store) == (*first, *second, *again));
         return Ok(());
@@ -51,7 +51,7 @@ fn work_on<S: Storage + Drop>(
     rt: &impl Tester,
     opened: Result<Store<S>, StoreFault>,
     step: &Step,
-) -> Result<(), StoreFault> {
+) -> Result<(), OpenFault> {
     let mut store = opened?;
     work(rt, &mut store, step)
 }
@@ -68,7 +68,7 @@ fn run_on<S: Alter + Drop>(rt: &impl Tester, opened: Result<Connection<S>, Error
 }
 
 /// Takes a step over the file.
-fn open(rt: &impl Tester, host: &HostRuntime, path: &str, step: &Step) -> Result<(), StoreFault> {
+fn open(rt: &impl Tester, host: &HostRuntime, path: &str, step: &Step) -> Result<(), OpenFault> {
     if let Step::Run(sql) = step {
         let opened: Result<Connection<FileStore<File>>, Error> = Connection::open(host, path);
         run_on(rt, opened, sql);
@@ -84,7 +84,7 @@ fn open(rt: &impl Tester, host: &HostRuntime, path: &str, step: &Step) -> Result
 fn expect_left(rt: &impl Tester, host: &HostRuntime, path: &str) {
     let before = unwrap(rt, fs::read(host, path));
     let refused = open(rt, host, path, &Step::Leave);
-    assert!(rt; refused == Err(StoreFault::UnknownSchema), "{path}");
+    assert!(rt; refused == Err(OpenFault::UnknownSchema), "{path}");
     let after = unwrap(rt, fs::read(host, path));
     assert!(rt; before.as_slice() == after.as_slice(), "{path}");
 }

@@ -16,12 +16,12 @@ loop-next-preserved g c =
     c.in-Some.is (before sees answers) (one sees answers) c.in_ok-append.ensures.items c.as_slice.ensures.value c.unless_full-next.ensures)
     c.loop-next.invariant c.in_ok-window.ensures.world
 
-pub returns-in_err-append-clause-world : goal.returns-in_err-append-clause-world
-returns-in_err-append-clause-world g c =
+pub returns-in_err-append : goal.returns-in_err-append
+returns-in_err-append g c =
     reads_then g.S.Store c.args.store.now c.loop-next.store c.read_window.new.store _ _ _
     (λ world laws before one sees answers. search rules) c.loop-next.invariant c.in_ok-window.ensures.world
 
-pub returns-in_err-window-clause-world : goal.returns-in_err-window-clause-world
-returns-in_err-window-clause-world g c =
+pub returns-in_err-window : goal.returns-in_err-window
+returns-in_err-window g c =
     reads_then g.S.Store c.args.store.now c.loop-next.store c.read_window.new.store _ _ _
     (λ world laws before one sees answers. search rules) c.loop-next.invariant c.read_window.ensures.world

@@ -1,39 +1,44 @@
-use Rattle.std.proofs.Common.{sym}
+use Rattle.std.proofs.Common.{◌≡◌, Ok, Err, Result, sym, subst}
 use Rattle.names.specs.Names.{repo_text}
+use Rattle.names.specs.declared.rules.Rule.{Rule}
 use Rattle.model.specs.Forms.{needs_upload, is_upload}
 use Rattle.policy.specs.Values.{policy_view, repo_view}
+use Rattle.forms.specs.Given.{Gives}
 use Rattle.forms.specs.Requests.{request_asked}
+use Rattle.forms.specs.declared.request.Request.{Request}
 use Rattle.desk.specs.Asking.{request_read}
-use Rattle.desk.proofs.Admitting.{refused_form, passed_on, uncovered, taken, is_own, not_covered, covered_by, not_needed}
+use Rattle.desk.proofs.Admitting.{refused_form, uncovered, taken, is_own, not_covered, covered_by, not_needed}
 use Rattle.desk.proofs.admission.admit.Goals as goal
 use Rattle.desk.proofs.admission.admit.Goals.{else-needs_upload-via-then-needs_upload+else-not-is_for_upload, else-needs_upload-via-else-needs_upload}
 
-pub returns-in_err-request : goal.returns-in_err-request
-returns-in_err-request c =
+pub returns-in-Err : goal.returns-in-Err
+returns-in-Err c =
     let a = c.args.asked.now in
-    passed_on c.in_err-request.field-0.0 c.from_residual.result _ c.from_residual.ensures.1
-    (refused_form (policy_view c.args.policy.now) (repo_text c.args.caller.now.repo) (is_upload c.args.caller.now.operation) a.repo.now
-    (request_read a) (repo_view c.in-Some.repo.now) c.in_err-request.field-0.0
+    let refused : request_read a ≡ Err c.in-Err.rule = subst (λ (r : Result Request Rule). Gives request_asked r (request_read a)) c.in-Err.is c.in_ok-read.ensures in
+    refused_form (policy_view c.args.policy.now) (repo_text c.args.caller.now.repo) (is_upload c.args.caller.now.operation) a.repo.now
+    (request_read a) (repo_view c.in-Some.repo.now) c.in-Err.rule
     (is_own c.as_str.result.now (repo_text c.args.caller.now.repo) a.repo.now c.ne.result c.as_str.ensures.value c.ne.ensures c.if-ne.false)
-    (sym c.in-Some.ensures.value) c.in_err-request.ensures)
+    (sym c.in-Some.ensures.value) refused
 
 pub returns-then-not-is_for_upload : goal.returns-then-not-is_for_upload
 returns-then-not-is_for_upload c =
     let a = c.args.asked.now in
-    rw c.into-then-not-is_for_upload.ensures (uncovered (policy_view c.args.policy.now) (repo_text c.args.caller.now.repo) (is_upload c.args.caller.now.operation) a.repo.now
-    (request_read a) (repo_view c.in-Some.repo.now) (request_asked c.in_ok-request.request)
+    let read : request_read a ≡ Ok (request_asked c.in-Ok.request) = subst (λ (r : Result Request Rule). Gives request_asked r (request_read a)) c.in-Ok.is c.in_ok-read.ensures in
+    uncovered (policy_view c.args.policy.now) (repo_text c.args.caller.now.repo) (is_upload c.args.caller.now.operation) a.repo.now
+    (request_read a) (repo_view c.in-Some.repo.now) (request_asked c.in-Ok.request)
     (is_own c.as_str.result.now (repo_text c.args.caller.now.repo) a.repo.now c.ne.result c.as_str.ensures.value c.ne.ensures c.if-ne.false)
-    (sym c.in-Some.ensures.value) c.in_ok-request.ensures
-    (not_covered (needs_upload (request_asked c.in_ok-request.request)) (is_upload c.args.caller.now.operation) c.if-needs_upload.ensures c.if-not-is_for_upload.ensures))
+    (sym c.in-Some.ensures.value) read
+    (not_covered (needs_upload (request_asked c.in-Ok.request)) (is_upload c.args.caller.now.operation) c.if-needs_upload.ensures c.if-not-is_for_upload.ensures)
 
 pub returns : goal.returns
 returns c =
     let a = c.args.asked.now in
+    let read : request_read a ≡ Ok (request_asked c.in-Ok.request) = subst (λ (r : Result Request Rule). Gives request_asked r (request_read a)) c.in-Ok.is c.in_ok-read.ensures in
     taken (policy_view c.args.policy.now) (repo_text c.args.caller.now.repo) (is_upload c.args.caller.now.operation) a.repo.now
-    (request_read a) (repo_view c.in-Some.repo.now) (request_asked c.in_ok-request.request)
+    (request_read a) (repo_view c.in-Some.repo.now) (request_asked c.in-Ok.request)
     (is_own c.as_str.result.now (repo_text c.args.caller.now.repo) a.repo.now c.ne.result c.as_str.ensures.value c.ne.ensures c.if-ne.false)
-    (sym c.in-Some.ensures.value) c.in_ok-request.ensures
+    (sym c.in-Some.ensures.value) read
     (elim c.else-needs_upload.branch [
-      | else-needs_upload-via-then-needs_upload+else-not-is_for_upload w ↦ covered_by (needs_upload (request_asked c.in_ok-request.request)) (is_upload c.args.caller.now.operation) w.if-not-is_for_upload.ensures
-      | else-needs_upload-via-else-needs_upload w ↦ not_needed (needs_upload (request_asked c.in_ok-request.request)) (is_upload c.args.caller.now.operation) w.if-needs_upload.ensures
+      | else-needs_upload-via-then-needs_upload+else-not-is_for_upload w ↦ covered_by (needs_upload (request_asked c.in-Ok.request)) (is_upload c.args.caller.now.operation) w.if-not-is_for_upload.ensures
+      | else-needs_upload-via-else-needs_upload w ↦ not_needed (needs_upload (request_asked c.in-Ok.request)) (is_upload c.args.caller.now.operation) w.if-needs_upload.ensures
     ])

@@ -13,10 +13,10 @@ use Rattle.desk.proofs.Offering.{batch_denied, offers_are_quiet, batch_allowed}
 use Rattle.desk.proofs.batching.batch.Goals as goal
 
 pub returns-in_err-objects : goal.returns-in_err-objects
-returns-in_err-objects g c = refused_after _ _ c.in_err-objects.ensures.world c.from_residual-in_err-objects.ensures.1
+returns-in_err-objects g c = refused_after _ _ c.in_err-objects.ensures c.from_residual-in_err-objects.ensures.1
 
 pub returns-in_err-batch_reply : goal.returns-in_err-batch_reply
-returns-in_err-batch_reply g c = refused_after _ _ c.in_ok-objects.ensures.world c.from_residual-in_err-batch_reply.ensures.1
+returns-in_err-batch_reply g c = refused_after _ _ c.in_ok-objects.ensures c.from_residual-in_err-batch_reply.ensures.1
 
 pub returns : goal.returns
 returns g c =
@@ -30,7 +30,7 @@ returns g c =
     let reply = c.in_ok-batch_reply.field-0 in
     let shows : IsReplyOf reply (Ok (offers (map (offer_at links) some))) =
     subst (λ (os : List Offer). IsReplyOf reply (Ok (offers (map (offer_at links) os)))) c.as_slice.ensures.value c.in_ok-batch_reply.ensures in
-    replied_after _ reply c.in_ok-objects.ensures.world (offers_are_quiet (map (offer_at links) some)) shows
+    replied_after _ reply c.in_ok-objects.ensures (offers_are_quiet (map (offer_at links) some)) shows
     (λ world laws judged who is_caller. batch_allowed case who world ref links is_caller c.links_of-links.ensures asked some named c.in_ok-may_batch.ensures judged)
 
 pub returns-in_err-may_batch : goal.returns-in_err-may_batch

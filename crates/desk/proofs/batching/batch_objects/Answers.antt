@@ -8,15 +8,15 @@ use Rattle.desk.proofs.Offering.{HasJudged, judged_more}
 use Rattle.desk.proofs.Placing.{reads_then, reads_weaker, none_ok}
 use Rattle.desk.proofs.batching.batch_objects.Goals as goal
 
-pub returns-in_err-actions-clause-world : goal.returns-in_err-actions-clause-world
-returns-in_err-actions-clause-world g c =
+pub returns-in_err-actions : goal.returns-in_err-actions
+returns-in_err-actions g c =
     reads_then g.S.Store c.args.store.now c.loop-object.store c.judge.new.store _ _ _
-    (λ world laws so_far failed. none_ok _ _ c.from_residual-in_err-actions.result c.from_residual-in_err-actions.ensures.1) c.loop-object.invariant c.in_err-actions.ensures.world
+    (λ world laws so_far failed. none_ok _ _ c.from_residual-in_err-actions.result c.from_residual-in_err-actions.ensures.1) c.loop-object.invariant c.in_err-actions.ensures
 
-pub returns-in_err-add_offer-clause-world : goal.returns-in_err-add_offer-clause-world
-returns-in_err-add_offer-clause-world g c =
+pub returns-in_err-add_offer : goal.returns-in_err-add_offer
+returns-in_err-add_offer g c =
     reads_then g.S.Store c.args.store.now c.loop-object.store c.judge.new.store _ _ _
-    (λ world laws so_far failed. none_ok _ _ c.from_residual-in_err-add_offer.result c.from_residual-in_err-add_offer.ensures.1) c.loop-object.invariant c.in_ok-actions.ensures.world
+    (λ world laws so_far failed. none_ok _ _ c.from_residual-in_err-add_offer.result c.from_residual-in_err-add_offer.ensures.1) c.loop-object.invariant c.in_ok-actions.ensures
 
 pub loop-object-preserved : goal.loop-object-preserved
 loop-object-preserved g c =
@@ -30,10 +30,10 @@ loop-object-preserved g c =
     (reads_then g.S.Store old c.loop-object.store c.judge.new.store (HasJudged repo asked used c.loop-object.offers.items (take c.loop-object.object-index items)) _ _
     (λ world laws so_far judged.
     judged_more repo asked used world c.loop-object.offers.items more (take c.loop-object.object-index items) c.object-item.result c.in_ok-actions.actions so_far (judged so_far.total) c.in_ok-add_offer.ensures)
-    c.loop-object.invariant c.in_ok-actions.ensures.world)
+    c.loop-object.invariant c.in_ok-actions.ensures)
 
-pub returns-clause-world : goal.returns-clause-world
-returns-clause-world g c =
+pub returns : goal.returns
+returns g c =
     let items = c.as_slice-object-items.result.now in
     let past : length items ≤ c.loop-object.object-index = search rules in
     reads_weaker g.S.Store c.args.store.now c.loop-object.store _ _ (λ world laws all. all.judged)

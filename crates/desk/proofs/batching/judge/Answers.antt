@@ -9,8 +9,8 @@ use Rattle.desk.proofs.Placing.{reads_weaker}
 use Rattle.desk.proofs.Showing.{read_alike}
 use Rattle.desk.proofs.batching.judge.Goals as goal
 
-pub returns-in_ok-found-in-Ok-clause-world : goal.returns-in_ok-found-in-Ok-clause-world
-returns-in_ok-found-in-Ok-clause-world g c =
+pub returns-in_ok-found-in-Ok : goal.returns-in_ok-found-in-Ok
+returns-in_ok-found-in-Ok g c =
     let repo = repo_view c.args.repo.now in
     let named = c.in-Ok.named in
     let object = object_asked c.args.object.now in
@@ -20,4 +20,4 @@ returns-in_ok-found-in-Ok-clause-world g c =
     (λ world laws finds used.
     judged_found g.S.Store world c.find.new.store repo (batch_asked c.args.asked.now) object named c.in_ok-found-in-Ok.found c.args.used c.fits-fits.result c.actions_for.result laws used fitting sound
     (subst (λ (n : List ℕ). Finds g.S.Store world c.find.new.store n named.name c.in_ok-found-in-Ok.found) c.name.ensures finds) c.actions_for.ensures)
-    c.in_ok-found-in-Ok.ensures.world
+    c.in_ok-found-in-Ok.ensures

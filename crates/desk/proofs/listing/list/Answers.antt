@@ -22,10 +22,10 @@ pub returns-in_err-rows : goal.returns-in_err-rows
 returns-in_err-rows g c = refused_unread _ _ c.from_residual-in_err-rows.ensures.1
 
 pub returns-in_err-found : goal.returns-in_err-found
-returns-in_err-found g c = refused_after _ _ c.in_err-found.ensures.world c.from_residual-in_err-found.ensures.1
+returns-in_err-found g c = refused_after _ _ c.in_err-found.ensures c.from_residual-in_err-found.ensures.1
 
 pub returns-in_err-page_reply : goal.returns-in_err-page_reply
-returns-in_err-page_reply g c = refused_after _ _ c.in_ok-found.ensures.world c.from_residual-in_err-page_reply.ensures.1
+returns-in_err-page_reply g c = refused_after _ _ c.in_ok-found.ensures c.from_residual-in_err-page_reply.ensures.1
 
 pub returns : goal.returns
 returns g c =
@@ -36,7 +36,7 @@ returns g c =
     let found = c.in_ok-found.found in
     let rows = c.in_ok-rows.rows in
     let sees = may_list (case_policy case) (case_user case) in
-    replied_after _ _ c.in_ok-found.ensures.world (list_is_quiet (page_seen repo found)) (c.in_ok-page_reply.ensures repo)
+    replied_after _ _ c.in_ok-found.ensures (list_is_quiet (page_seen repo found)) (c.in_ok-page_reply.ensures repo)
     (λ world laws paged who user.
     let seen = paged sees (λ row answer k.
     let is : answer ≡ allow_on (policy_view rows.policy.now) (question_view rows.question) row = search rules in

@@ -3,7 +3,7 @@ use Rattle.std.specs.Bool.{⊤}
 use Rattle.model.specs.Reading.{◌>>=◌}
 use Rattle.model.specs.Answers.{Answer, Denial, permit}
 use Rattle.locks.specs.Creating.{placed_verdict}
-use Rattle.desk.specs.Done.{AnswersOrDenies}
+use Rattle.desk.specs.Done.{AnswersAlone}
 use Rattle.desk.specs.Rights.{case_policy}
 use Rattle.desk.proofs.Unchanged.{denied_unread}
 use Rattle.desk.proofs.Verdicts.{verdict_alike}
@@ -26,6 +26,6 @@ returns g c =
       honest = c.make_lock.ensures.honest;
       each = λ honest world h who user.
           let allowed = ap (λ (may : Result ⊤ Denial). may >>= λ _. placed_verdict world w) (ap (λ q. permit (case_policy case) q 403) (sym c.question_on.ensures) ∙ c.in_ok-permit.ensures) in
-          subst (λ (v : Answer). AnswersOrDenies g.S.Store c.args.store.now c.make_lock.new.store world v c.make_lock.result)
+          subst (λ (v : Answer). AnswersAlone g.S.Store c.args.store.now c.make_lock.new.store world v c.make_lock.result)
           (sym allowed ∙ verdict_alike world case who c.args.asked.now w user c.wanted_by-wanted.ensures) (c.make_lock.ensures.each honest world h);
     }

@@ -6,7 +6,7 @@ pub returns-in-Ok-Stored : goal.returns-in-Ok-Stored
 returns-in-Ok-Stored g c = kept_none g.S.Store c.args.store.now
 
 pub returns-in-Ok-Differs : goal.returns-in-Ok-Differs
-returns-in-Ok-Differs g c = from_weaker g.S.Store c.args.store.now c.abandon.new.store _ _ (λ world it. it.0) c.abandon.ensures.world
+returns-in-Ok-Differs g c = from_weaker g.S.Store c.args.store.now c.abandon.new.store _ _ (λ world it. it.0) c.abandon.ensures
 
 pub returns-in-Err-Store : goal.returns-in-Err-Store
-returns-in-Err-Store g c = from_weaker g.S.Store c.args.store.now c.sweep.new.store _ _ (λ world it. swept_keeps g.S.Store c.args.store.now c.sweep.new.store world c.sweep.result it) c.sweep.ensures.world
+returns-in-Err-Store g c = from_weaker g.S.Store c.args.store.now c.sweep.new.store _ _ (λ world it. swept_keeps g.S.Store c.args.store.now c.sweep.new.store world c.sweep.result it) c.sweep.ensures

@@ -22,7 +22,7 @@ returns-in_default-clause-bytes g c =
 pub returns-in_err-upload-clause-bytes : goal.returns-in_err-upload-clause-bytes
 returns-in_err-upload-clause-bytes g c =
     let content = c.args.content.now in
-    let begun = c.in_err-upload.ensures.world in
+    let begun = c.in_err-upload.ensures in
     let p = err_from_is_err_and c.from_residual.result c.from_residual.ensures.1 in
     rw p.1 (
       [],
@@ -39,5 +39,5 @@ returns-clause-bytes g c =
       came.0,
       came.1,
       received g.S.Store c.args.store.now c.begin.new.store c.receive_staged-received.new.store c.clear.new.store c.in_ok-upload.upload (repo_text c.args.repo.now) c.args.name.now c.in-Some.size came.0 (g.B.Body.size c.receive_staged-received.new.content)
-          c.receive_staged-received.result c.args.repo.now.in_range (came.1.size ∙ sym c.left.ensures ∙ sym c.in-Some.ensures.value) c.in_ok-upload.ensures.world came.2 c.clear.ensures,
+          c.receive_staged-received.result c.args.repo.now.in_range (came.1.size ∙ sym c.left.ensures ∙ sym c.in-Some.ensures.value) c.in_ok-upload.ensures came.2 c.clear.ensures,
     )

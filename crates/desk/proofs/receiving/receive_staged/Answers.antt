@@ -21,7 +21,7 @@ returns-in_err-settle-clause-bytes g c =
       filled.0,
       filled.1,
       staged_all g.S.Store c.args.store.now c.args.upload c.args.size c.fill.new.store c.settle.new.store filled.0 (g.B.Body.size c.fill.new.content) c.in_ok-arrival.arrival (Err c.in_err-settle.field-0.0)
-          c.in_ok-arrival.ensures.whole.whole filled.2 c.in_err-settle.ensures.world,
+          c.in_ok-arrival.ensures.whole.whole filled.2 c.in_err-settle.ensures,
     )
 
 pub returns-clause-bytes : goal.returns-clause-bytes
@@ -30,5 +30,5 @@ returns-clause-bytes g c =
       filled.0,
       filled.1,
       staged_all g.S.Store c.args.store.now c.args.upload c.args.size c.fill.new.store c.settle.new.store filled.0 (g.B.Body.size c.fill.new.content) c.in_ok-arrival.arrival (Ok c.in_ok-settle.field-0)
-          c.in_ok-arrival.ensures.whole.whole filled.2 c.in_ok-settle.ensures.world,
+          c.in_ok-arrival.ensures.whole.whole filled.2 c.in_ok-settle.ensures,
     )

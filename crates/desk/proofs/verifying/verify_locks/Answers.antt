@@ -21,10 +21,10 @@ returns-in_err-cursor g c =
     denied_unread _ _ c.from_residual.ensures.1 (λ world who user. verify_by case who user world asked ref (Err (denial_view c.in_err-cursor.field-0.0)) named c.in_err-cursor.ensures)
 
 pub returns-in_err-found : goal.returns-in_err-found
-returns-in_err-found g c = refused_after _ _ c.in_err-found.ensures.world c.from_residual-in_err-found.ensures.1
+returns-in_err-found g c = refused_after _ _ c.in_err-found.ensures c.from_residual-in_err-found.ensures.1
 
 pub returns-in_err-split_reply : goal.returns-in_err-split_reply
-returns-in_err-split_reply g c = refused_after _ _ c.in_ok-found.ensures.world c.from_residual-in_err-split_reply.ensures.1
+returns-in_err-split_reply g c = refused_after _ _ c.in_ok-found.ensures c.from_residual-in_err-split_reply.ensures.1
 
 pub returns : goal.returns
 returns g c =
@@ -37,7 +37,7 @@ returns g c =
     let repo = (case_repo case).name in
     let user = case_user case in
     let found = c.in_ok-found.found in
-    replied_after _ _ c.in_ok-found.ensures.world (split_is_quiet user (page_seen repo found)) (c.in_ok-split_reply.ensures repo)
+    replied_after _ _ c.in_ok-found.ensures (split_is_quiet user (page_seen repo found)) (c.in_ok-split_reply.ensures repo)
     (λ world laws paged who is_user.
     let seen = paged (λ _. true) (λ row answer k. search rules) in
     let cut : page_seen repo found ≡ page_of cursor c.read_limit.result (wanted_locks repo world c.of_ref.result (λ _. true)) =

@@ -1,16 +1,9 @@
-use Rattle.std.proofs.Common.{◌≡◌, filter, map}
-use Rattle.std.proofs.lemmas.Result.{IfOk-weaker}
-use Rattle.names.specs.Names.{repo_text}
-use Rattle.model.specs.RepoState.{locks_of}
-use Rattle.tables.specs.Shown.{shown, IsOpen}
-use Rattle.tables.specs.Statements.{is_in, by_id}
-use Rattle.tables.specs.Steps.{AreLocksOf}
-use Rattle.locks.specs.Finding.{lock_seen}
+use Rattle.locks.proofs.Prelude.{◌≡◌, filter, map, IfOk-weaker, repo_text, locks_of, shown, IsOpen, is_in, by_id, AreLocksOf, lock_seen}
 use Rattle.locks.proofs.Found.{locks_seen}
 use Rattle.locks.proofs.finding.all.Goals as goal
 
-pub returns-clause-world : goal.returns-clause-world
-returns-clause-world g c = record {
+pub returns : goal.returns
+returns g c = record {
   same = c.locks_in.ensures.same;
   adds = c.locks_in.ensures.adds;
   each = λ honest world h.

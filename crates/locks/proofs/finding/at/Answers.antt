@@ -1,15 +1,9 @@
-use Rattle.std.proofs.Common.{◌≡◌, find, option_map}
-use Rattle.std.proofs.lemmas.Result.{IfOk-weaker}
-use Rattle.names.specs.Names.{repo_text, ref_text, path_text}
-use Rattle.tables.specs.Shown.{shown, IsOpen}
-use Rattle.tables.specs.Statements.{is_at}
-use Rattle.tables.specs.Steps.{IsLockOf}
-use Rattle.locks.specs.Finding.{lock_seen, lock_on}
+use Rattle.locks.proofs.Prelude.{◌≡◌, find, option_map, IfOk-weaker, repo_text, ref_text, path_text, shown, IsOpen, is_at, IsLockOf, lock_seen, lock_on}
 use Rattle.locks.proofs.Found.{at_seen}
 use Rattle.locks.proofs.finding.at.Goals as goal
 
-pub returns-clause-world : goal.returns-clause-world
-returns-clause-world g c = record {
+pub returns : goal.returns
+returns g c = record {
   same = c.lock_at.ensures.same;
   adds = c.lock_at.ensures.adds;
   each = λ honest world h.

@@ -1,15 +1,9 @@
-use Rattle.std.proofs.Common.{◌≡◌, pos, find, option_map}
-use Rattle.std.proofs.lemmas.Result.{IfOk-weaker}
-use Rattle.names.specs.Names.{repo_text}
-use Rattle.tables.specs.Shown.{shown, IsOpen}
-use Rattle.tables.specs.Statements.{has_id}
-use Rattle.tables.specs.Steps.{IsLockOf}
-use Rattle.locks.specs.Finding.{lock_seen, lock_with}
+use Rattle.locks.proofs.Prelude.{◌≡◌, pos, find, option_map, IfOk-weaker, repo_text, shown, IsOpen, has_id, IsLockOf, lock_seen, lock_with}
 use Rattle.locks.proofs.Found.{id_seen}
 use Rattle.locks.proofs.finding.get.Goals as goal
 
-pub returns-clause-world : goal.returns-clause-world
-returns-clause-world g c = record {
+pub returns : goal.returns
+returns g c = record {
   same = c.lock_with_id.ensures.same;
   adds = c.lock_with_id.ensures.adds;
   each = λ honest world h.

@@ -1,13 +1,9 @@
-use Rattle.std.proofs.Common.{◌≡◌, ◌∙◌, pos}
-use Rattle.std.proofs.lemmas.Result.{IfOk-weaker}
-use Rattle.names.specs.Names.{repo_text}
-use Rattle.tables.specs.Shown.{shown, IsOpen}
-use Rattle.tables.specs.Steps.{made_of}
+use Rattle.locks.proofs.Prelude.{◌≡◌, ◌∙◌, pos, IfOk-weaker, repo_text, shown, IsOpen, made_of}
 use Rattle.locks.proofs.Found.{same_number}
 use Rattle.locks.proofs.finding.made.Goals as goal
 
-pub returns-clause-world : goal.returns-clause-world
-returns-clause-world g c = record {
+pub returns : goal.returns
+returns g c = record {
   same = c.made.ensures.same;
   adds = c.made.ensures.adds;
   each = λ honest world h.

@@ -1,16 +1,9 @@
-use Rattle.std.proofs.Common.{◌≡◌, pos, filter, map, take, nat_le}
-use Rattle.std.proofs.lemmas.Result.{IfOk-weaker}
-use Rattle.names.specs.Names.{repo_text}
-use Rattle.model.specs.RepoState.{locks_of}
-use Rattle.tables.specs.Shown.{shown, IsOpen}
-use Rattle.tables.specs.Statements.{is_from, by_id}
-use Rattle.tables.specs.Steps.{AreLocksOf}
-use Rattle.locks.specs.Finding.{lock_seen}
+use Rattle.locks.proofs.Prelude.{◌≡◌, pos, filter, map, take, nat_le, IfOk-weaker, repo_text, locks_of, shown, IsOpen, is_from, by_id, AreLocksOf, lock_seen}
 use Rattle.locks.proofs.Found.{window_seen}
 use Rattle.locks.proofs.finding.window.Goals as goal
 
-pub returns-clause-world : goal.returns-clause-world
-returns-clause-world g c = record {
+pub returns : goal.returns
+returns g c = record {
   same = c.locks_from.ensures.same;
   adds = c.locks_from.ensures.adds;
   each = λ honest world h.

@@ -2,7 +2,7 @@ use Rattle.refinement.proofs.ReadOnly.{reads_weaker}
 use Rattle.operator.proofs.listing_locks.list_locks.Goals as goal
 
 pub returns-in_err-rows : goal.returns-in_err-rows
-returns-in_err-rows g c = reads_weaker g.S.Store c.args.store.now c.all.new.store _ _ (λ world laws p. tt) c.all.ensures.world
+returns-in_err-rows g c = reads_weaker g.S.Store c.args.store.now c.all.new.store _ _ (λ world laws p. tt) c.all.ensures
 
 pub returns : goal.returns
-returns g c = reads_weaker g.S.Store c.args.store.now c.all.new.store _ _ (λ world laws p. tt) c.all.ensures.world
+returns g c = reads_weaker g.S.Store c.args.store.now c.all.new.store _ _ (λ world laws p. tt) c.all.ensures

@@ -22,10 +22,10 @@ loop-path-preserved g c =
     let is = one ∙ ap₂ (λ (p : Policy) (pushed : model.Push). path_verdict (policy_view p) world pushed path) c.in_ok-push.ensures.policy c.in_ok-push.ensures.push in
     one_more path_text verdict_view (path_verdict (policy_view policy) world asked) c.args.paths.now
     c.loop-path.path-index c.path-item.result c.in_ok-verdict.verdict c.loop-path.verdicts.items c.push.new.self.items c.loop-path-test.true c.path-item.is is before (search rules))
-    c.loop-path.invariant c.in_ok-verdict.ensures.world
+    c.loop-path.invariant c.in_ok-verdict.ensures
 
-pub returns-clause-world : goal.returns-clause-world
-returns-clause-world g c =
+pub returns : goal.returns
+returns g c =
     reads_weaker g.S.Store c.args.store.now c.loop-path.store _ _
     (λ world laws all.
     all
@@ -33,12 +33,12 @@ returns-clause-world g c =
     (take_all c.loop-path.path-index c.args.paths.now c.loop-path-test.false))
     c.loop-path.invariant
 
-pub returns-in_err-verdict-clause-world : goal.returns-in_err-verdict-clause-world
-returns-in_err-verdict-clause-world g c =
+pub returns-in_err-verdict : goal.returns-in_err-verdict
+returns-in_err-verdict g c =
     reads_then g.S.Store c.args.store.now c.loop-path.store c.verdict_on.new.store _ _ _
-    (λ world laws before one. search rules) c.loop-path.invariant c.verdict_on.ensures.world
+    (λ world laws before one. search rules) c.loop-path.invariant c.verdict_on.ensures
 
-pub returns-in_err-map_err-clause-world : goal.returns-in_err-map_err-clause-world
-returns-in_err-map_err-clause-world g c =
+pub returns-in_err-map_err : goal.returns-in_err-map_err
+returns-in_err-map_err g c =
     reads_then g.S.Store c.args.store.now c.loop-path.store c.verdict_on.new.store _ _ _
-    (λ world laws before one. search rules) c.loop-path.invariant c.verdict_on.ensures.world
+    (λ world laws before one. search rules) c.loop-path.invariant c.verdict_on.ensures

@@ -16,6 +16,7 @@ returns-in-Err-clause-session g c =
       honest = λ k. k;
       each = λ honest world h. rw same (inr (
         refl,
+        refl,
         unserved g.S.Store (setting_of c.args.policy.now c.args.now) world c.args.store.now (g.K.Sink.taken c.args.sink.now) (g.K.Sink.taken c.refuse_all.new.sink) c.refuse_all.result c.refuse_all.ensures.refusal h,
       ));
     }

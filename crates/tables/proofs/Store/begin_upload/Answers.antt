@@ -1,4 +1,4 @@
-use Rattle.std.proofs.Common.{ap, rules, ◌∙◌}
+use Rattle.std.proofs.Common.{ap, ◌∙◌}
 use Rattle.names.specs.Names.{repo_text}
 use Rattle.tables.specs.Remembered.{remembered_in}
 use Rattle.tables.proofs.Begins.{begins_none, begins_made, begins_failed}
@@ -7,7 +7,7 @@ use Rattle.tables.proofs.Store.begin_upload.Goals as goal
 pub returns-in_err-known : goal.returns-in_err-known
 returns-in_err-known g c =
     let learned = c.in_err-known.ensures.learns in
-    begins_none g.S.Store c.args.self.now c.take_staged.new.self c.args.upload.now c.from_residual.result c.from_residual.ensures.0 learned.same learned.adds (search rules)
+    begins_none g.S.Store c.args.self.now c.take_staged.new.self c.args.upload.now c.from_residual.result c.from_residual.ensures.0 learned.same learned.adds
 
 pub returns-in-Ok : goal.returns-in-Ok
 returns-in-Ok g c =

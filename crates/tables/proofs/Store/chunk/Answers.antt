@@ -18,4 +18,4 @@ returns g c =
       it.0,
       c.first_chunk.ensures (filter passes chunks) (it.1 (chunk_at c.args.upload.number c.args.n) refl (rw (c.params-to_sql.ensures, c.params-to_sql-2.ensures, to_z-of_z w64 c.args.upload.number (search rules))))
           ∙ ap (option_map (λ (k : Chunk). k.bytes)) (slice_get-filter passes chunks),
-    )) (search rules)
+    ))

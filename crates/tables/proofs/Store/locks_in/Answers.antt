@@ -12,4 +12,4 @@ returns g c =
     looks_reads g.S.Store _ _ _ c.all_locks.result _ _ c.in_ok-rows.ensures
     (λ clean ready.
     let it = c.in_ok-rows.ensures.answers clean ready in
-    with_fact _ _ c.all_locks.result it.0 (c.all_locks.ensures.value (by_id (filter (is_in (repo_text c.args.repo.now)) (shown g.S.Store c.args.self.now).locks)) (c.as_slice.ensures.value ∙ it.1 (locks_in (repo_text c.args.repo.now)) refl (rw (c.params-to_sql.ensures, c.as_str.ensures.value))))) c.all_locks.ensures.known
+    with_fact _ _ c.all_locks.result it.0 (c.all_locks.ensures (by_id (filter (is_in (repo_text c.args.repo.now)) (shown g.S.Store c.args.self.now).locks)) (c.as_slice.ensures.value ∙ it.1 (locks_in (repo_text c.args.repo.now)) refl (rw (c.params-to_sql.ensures, c.as_str.ensures.value)))))

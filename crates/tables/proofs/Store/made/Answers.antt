@@ -17,6 +17,6 @@ returns g c =
     let it = c.in_ok-rows.ensures.answers clean ready in (
       it.0,
       c.made_so_far.ensures (slice_get (filter passes repos) 0)
-          (c.in_ok-first_count.ensures.value (filter passes repos) (c.as_slice.ensures.value ∙ it.1 (made_by (repo_text c.args.repo.now)) refl (rw (c.params-to_sql.ensures, c.as_str.ensures.value))))
+          (c.in_ok-first_count.ensures (filter passes repos) (c.as_slice.ensures.value ∙ it.1 (made_by (repo_text c.args.repo.now)) refl (rw (c.params-to_sql.ensures, c.as_str.ensures.value))))
           ∙ ap made_in (slice_get-filter passes repos),
-    )) (search rules)
+    ))

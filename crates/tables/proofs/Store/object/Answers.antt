@@ -17,4 +17,4 @@ returns g c =
     (λ clean ready.
     let it = c.in_ok-rows.ensures.answers clean ready in
     with_fact _ _ c.first_object.result it.0 (first_found read_object upload_sized passes uploads c.first_object.result
-    (c.first_object.ensures.value (filter passes uploads) (c.as_slice.ensures.value ∙ it.1 (object repo c.args.oid.now) refl (rw (c.params-to_sql.ensures, c.params-to_sql-2.ensures, c.as_str.ensures.value, c.text.ensures.value)))))) c.first_object.ensures.known
+    (c.first_object.ensures (filter passes uploads) (c.as_slice.ensures.value ∙ it.1 (object repo c.args.oid.now) refl (rw (c.params-to_sql.ensures, c.params-to_sql-2.ensures, c.as_str.ensures.value, c.text.ensures.value))))))

@@ -11,4 +11,4 @@ returns g c =
     looks_reads g.S.Store _ _ _ c.all_uploads.result _ _ c.in_ok-rows.ensures
     (λ clean ready.
     let it = c.in_ok-rows.ensures.answers clean ready in
-    with_fact _ _ c.all_uploads.result it.0 (c.all_uploads.ensures.value (filter is_staged (shown g.S.Store c.args.self.now).uploads) (c.as_slice.ensures.value ∙ it.1 staged refl refl))) c.all_uploads.ensures.known
+    with_fact _ _ c.all_uploads.result it.0 (c.all_uploads.ensures (filter is_staged (shown g.S.Store c.args.self.now).uploads) (c.as_slice.ensures.value ∙ it.1 staged refl refl)))

@@ -14,4 +14,4 @@ returns-clause-learns g c =
     learns_read g.S.Store c.args.self.now c.read.new.conn c.take.new.self _ c.all_remembered.result _ c.take.ensures.after c.in_ok-rows.ensures
     (λ clean ready.
     let it = c.in_ok-rows.ensures.answers clean ready in
-    with_fact _ _ c.all_remembered.result it.0 (c.all_remembered.ensures.value (filter is_staged (shown g.S.Store c.args.self.now).uploads) (c.as_slice.ensures.value ∙ it.1 staged refl refl))) c.all_remembered.ensures.known
+    with_fact _ _ c.all_remembered.result it.0 (c.all_remembered.ensures (filter is_staged (shown g.S.Store c.args.self.now).uploads) (c.as_slice.ensures.value ∙ it.1 staged refl refl)))

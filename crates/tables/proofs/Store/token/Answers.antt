@@ -14,4 +14,4 @@ returns g c =
     looks_reads g.S.Store _ _ _ c.first_token.result _ _ c.in_ok-rows.ensures
     (λ clean ready.
     let it = c.in_ok-rows.ensures.answers clean ready in
-    with_fact _ _ c.first_token.result it.0 (first_found read_token token_fields passes tokens c.first_token.result (c.first_token.ensures.value (filter passes tokens) (c.as_slice-2.ensures.value ∙ it.1 (token c.args.digest.now) refl (rw (c.params-to_sql.ensures, c.as_slice.ensures)))))) c.first_token.ensures.known
+    with_fact _ _ c.first_token.result it.0 (first_found read_token token_fields passes tokens c.first_token.result (c.first_token.ensures (filter passes tokens) (c.as_slice-2.ensures.value ∙ it.1 (token c.args.digest.now) refl (rw (c.params-to_sql.ensures, c.as_slice.ensures))))))

@@ -12,4 +12,4 @@ returns g c =
     looks_reads g.S.Store _ _ _ c.all_tokens.result _ _ c.in_ok-rows.ensures
     (λ clean ready.
     let it = c.in_ok-rows.ensures.answers clean ready in
-    with_fact _ _ c.all_tokens.result it.0 (c.all_tokens.ensures.value (filter (is_held_by (user_text c.args.user.now) (repo_text c.args.repo.now)) (shown g.S.Store c.args.self.now).tokens) (c.as_slice.ensures.value ∙ it.1 (tokens_of (user_text c.args.user.now) (repo_text c.args.repo.now)) refl (rw (c.params-to_sql.ensures, c.params-to_sql-2.ensures, c.as_str.ensures.value, c.as_str-2.ensures.value))))) c.all_tokens.ensures.known
+    with_fact _ _ c.all_tokens.result it.0 (c.all_tokens.ensures (filter (is_held_by (user_text c.args.user.now) (repo_text c.args.repo.now)) (shown g.S.Store c.args.self.now).tokens) (c.as_slice.ensures.value ∙ it.1 (tokens_of (user_text c.args.user.now) (repo_text c.args.repo.now)) refl (rw (c.params-to_sql.ensures, c.params-to_sql-2.ensures, c.as_str.ensures.value, c.as_str-2.ensures.value)))))

@@ -17,6 +17,5 @@ returns g c =
     looks_reads g.S.Store _ _ _ c.unsigned.result _ _ c.in_ok-rows.ensures
     (λ clean ready.
     let it = c.in_ok-rows.ensures.answers clean ready in
-    let found = c.in_ok-first_total.ensures.value (filter (is_named repo) repos) (c.as_slice.ensures.value ∙ it.1 (used_by repo) refl (rw (c.params-to_sql.ensures, c.as_str.ensures.value))) in
-    IfOk-weaker c.unsigned.result _ _ (λ _ is. (it.0, is ∙ to_z-of_z w64 c.used_so_far.result (search rules) ∙ c.used_so_far.ensures (slice_get (filter (is_named repo) repos) 0) found ∙ ap used_in (slice_get-filter (is_named repo) repos))) c.unsigned.ensures.value)
-    c.unsigned.ensures.known
+    let found = c.in_ok-first_total.ensures (filter (is_named repo) repos) (c.as_slice.ensures.value ∙ it.1 (used_by repo) refl (rw (c.params-to_sql.ensures, c.as_str.ensures.value))) in
+    IfOk-weaker c.unsigned.result _ _ (λ _ is. (it.0, is ∙ to_z-of_z w64 c.used_so_far.result (search rules) ∙ c.used_so_far.ensures (slice_get (filter (is_named repo) repos) 0) found ∙ ap used_in (slice_get-filter (is_named repo) repos))) c.unsigned.ensures)

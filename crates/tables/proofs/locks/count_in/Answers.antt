@@ -15,7 +15,7 @@ returns-clause-value g c clean inside ready =
     let repos = (tables_in (state g.S.Store c.args.tx.now.conn.now)).repos in
     let it = c.in_ok-rows.ensures.rows clean inside ready in
     with_fact _ _ c.first_count.result it.0 (first_found read_count repo_count (is_named repo) repos c.first_count.result
-    (c.first_count.ensures.value (filter (is_named repo) repos) (c.as_slice.ensures.value ∙ it.1 (made_by repo) refl (rw (c.params-to_sql.ensures, c.as_str.ensures.value)))))
+    (c.first_count.ensures (filter (is_named repo) repos) (c.as_slice.ensures.value ∙ it.1 (made_by repo) refl (rw (c.params-to_sql.ensures, c.as_str.ensures.value)))))
 
 pub returns-clause-does : goal.returns-clause-does
 unfolding reading

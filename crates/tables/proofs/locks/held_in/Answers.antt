@@ -15,7 +15,7 @@ returns-clause-value g c clean inside ready =
     let locks = (tables_in (state g.S.Store c.args.tx.now.conn.now)).locks in
     let it = c.in_ok-rows.ensures.rows clean inside ready in
     with_fact _ _ c.first_lock.result it.0 (first_found read_lock lock_fields passes locks c.first_lock.result
-    (c.first_lock.ensures.value (filter passes locks) (c.as_slice.ensures.value ∙ it.1 (lock_at lock.repo lock.ref_name lock.path) refl (rw (c.params-to_sql.ensures, c.params-to_sql-2.ensures, c.params-to_sql-3.ensures, c.as_str.ensures.value, c.as_str-2.ensures.value, c.as_str-3.ensures.value)))))
+    (c.first_lock.ensures (filter passes locks) (c.as_slice.ensures.value ∙ it.1 (lock_at lock.repo lock.ref_name lock.path) refl (rw (c.params-to_sql.ensures, c.params-to_sql-2.ensures, c.params-to_sql-3.ensures, c.as_str.ensures.value, c.as_str-2.ensures.value, c.as_str-3.ensures.value)))))
 
 pub returns-clause-does : goal.returns-clause-does
 unfolding reading

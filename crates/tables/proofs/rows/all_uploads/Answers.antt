@@ -6,5 +6,5 @@ use Rattle.tables.proofs.rows.all_uploads.Goals as goal
 
 pub loop-row-preserved : goal.loop-row-preserved
 loop-row-preserved c uploads all =
-    one_more show_upload upload_fields read_upload c.args.rows.now uploads c.loop-row.row-index c.row-item.result c.in_ok-upload.upload c.loop-row.found.items c.push.new.self.items all c.loop-row-test.true c.row-item.is c.in_ok-upload.ensures.value
+    one_more show_upload upload_fields read_upload c.args.rows.now uploads c.loop-row.row-index c.row-item.result c.in_ok-upload.upload c.loop-row.found.items c.push.new.self.items all c.loop-row-test.true c.row-item.is c.in_ok-upload.ensures
     (c.loop-row.invariant uploads all) (search rules)

@@ -9,7 +9,7 @@ clean : doubt true ≡ 0
 unfolding doubt
 clean = refl
 
-pub returns-clause-same : goal.returns-clause-same
-returns-clause-same c =
+pub returns : goal.returns
+returns c =
     let ours = c.schema.ensures.value ∙ (c.in_ok-create.ensures.ok clean record { schema_is = c.in-Ok.ensures.empty.2; empty = tt }).1.kept.schema in
     (λ same. c.same_schema.ensures.same same ∙ ours, λ is. c.same_schema.ensures.complete (ap is_plain is ∙ custody_is_plain) (is ∙ sym ours))

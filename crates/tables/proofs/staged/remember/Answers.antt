@@ -10,6 +10,6 @@ returns-in-Some c =
 
 pub returns : goal.returns
 returns c =
-    let entry : Remembered = record { repo = c.in_ok-repo.repo; id = c.args.id } in
+    let entry : Remembered = record { repo = c.in-Ok.repo; id = c.args.id } in
     let pushed : c.push.new.self.items ≡ c.args.known.items ++ entry ∷ [] = search rules in
-    noted_new c.args.known.items (repo_text c.args.repo.now) c.args.id entry c.push.new.self.items (rw c.as_slice.ensures.value at c.in_default.ensures) c.in_ok-repo.ensures refl pushed
+    noted_new c.args.known.items (repo_text c.args.repo.now) c.args.id entry c.push.new.self.items (rw c.as_slice.ensures.value at c.in_default.ensures) c.in-Ok.ensures refl pushed

@@ -17,8 +17,7 @@ returns g c =
       answers = λ clean ready.
           let it = rows.answers clean ready in
           with_fact _ _ c.first_upload.result it.0 (first_found read_upload upload_fields passes uploads c.first_upload.result
-          (c.first_upload.ensures.value (filter passes uploads) (c.as_slice.ensures.value ∙ it.1 (staged_with c.args.id.number) refl (rw (c.params-to_sql.ensures, to_z-of_z w64 c.args.id.number (search rules))))));
+          (c.first_upload.ensures (filter passes uploads) (c.as_slice.ensures.value ∙ it.1 (staged_with c.args.id.number) refl (rw (c.params-to_sql.ensures, to_z-of_z w64 c.args.id.number (search rules))))));
       same = rows.same;
       survives = rows.survives;
-      known = c.first_upload.ensures.known;
     }

@@ -1,8 +1,7 @@
-use Rattle.std.proofs.Common.{◌≡◌, List, ℕ, Option, map, option_map, refl, sym, ap, ◌∙◌}
+use Rattle.std.proofs.Common.{map, option_map, refl, sym, ap, ◌∙◌}
 use Rattle.std.proofs.lemmas.Result.{IfOk-weaker}
 use Rattle.sqlite.specs.Held.{state}
 use Rattle.names.specs.Names.{repo_text}
-use Rattle.tables.specs.Rows.{Tables}
 use Rattle.tables.specs.Runs.{tables_in}
 use Rattle.tables.specs.Statements.{objects_in, objects, show_upload, reading}
 use Rattle.tables.specs.Staging.{objects_of}
@@ -19,7 +18,6 @@ returns-in-Some g c =
           (it.answers clean ready);
       same = it.same;
       survives = it.survives;
-      known = it.known;
     }
 
 pub returns-in-None : goal.returns-in-None
@@ -31,5 +29,4 @@ returns-in-None g c =
       answers = λ clean ready. IfOk-weaker c.read-in-None.result _ _ (λ _ h. (h.0, h.1 objects refl refl ∙ ap (λ o. map show_upload (objects_of (option_map (λ r. repo_text r.now) o) t)) (sym c.in-None.is))) (it.answers clean ready);
       same = it.same;
       survives = it.survives;
-      known = it.known;
     }

@@ -15,7 +15,7 @@ returns-clause-value g c clean inside ready =
     let uploads = (tables_in (state g.S.Store c.args.tx.now.conn.now)).uploads in
     let it = c.in_ok-rows.ensures.rows clean inside ready in
     with_fact _ _ c.first_upload.result it.0 (first_found read_upload upload_fields passes uploads c.first_upload.result
-    (c.first_upload.ensures.value (filter passes uploads) (c.as_slice.ensures.value ∙ it.1 (staged_with c.args.id.number) refl (rw (c.params-to_sql.ensures, to_z-of_z w64 c.args.id.number (search rules))))))
+    (c.first_upload.ensures (filter passes uploads) (c.as_slice.ensures.value ∙ it.1 (staged_with c.args.id.number) refl (rw (c.params-to_sql.ensures, to_z-of_z w64 c.args.id.number (search rules))))))
 
 pub returns-clause-does : goal.returns-clause-does
 unfolding reading

@@ -8,8 +8,8 @@ use Rattle.tokens.specs.Callers.{IsCalling}
 use Rattle.tokens.proofs.Calling.{unknown_token, known_token}
 use Rattle.tokens.proofs.bearers.caller.Goals as goal
 
-pub returns-in_default-2-clause-world : goal.returns-in_default-2-clause-world
-returns-in_default-2-clause-world g c = record {
+pub returns-in_default-2 : goal.returns-in_default-2
+returns-in_default-2 g c = record {
   same = c.token.ensures.same;
   adds = c.token.ensures.adds;
   each = λ honest world h.
@@ -20,8 +20,8 @@ returns-in_default-2-clause-world g c = record {
       (sym c.in-Some-bearer_in.ensures) c.digest_of.ensures (ap (option_map read_token) (sym c.in_default-2.is) ∙ (c.in_ok-token.ensures.answers honest h.ready).1));
 }
 
-pub returns-clause-world : goal.returns-clause-world
-returns-clause-world g c = record {
+pub returns : goal.returns
+returns g c = record {
   same = c.token.ensures.same;
   adds = c.token.ensures.adds;
   each = λ honest world h.

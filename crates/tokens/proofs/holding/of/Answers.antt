@@ -8,8 +8,8 @@ use Rattle.tokens.specs.Holding.{is_of, fields_of_token}
 use Rattle.tokens.proofs.Listed.{held_listed}
 use Rattle.tokens.proofs.holding.of.Goals as goal
 
-pub returns-clause-world : goal.returns-clause-world
-returns-clause-world g c = record {
+pub returns : goal.returns
+returns g c = record {
   same = c.tokens_of.ensures.same;
   adds = c.tokens_of.ensures.adds;
   each = λ honest world h.

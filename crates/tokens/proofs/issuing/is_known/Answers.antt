@@ -6,8 +6,8 @@ use Rattle.tables.specs.Steps.{read_token, token_fields}
 use Rattle.refinement.proofs.Tokens.{some_alike, token_known}
 use Rattle.tokens.proofs.issuing.is_known.Goals as goal
 
-pub returns-clause-world : goal.returns-clause-world
-returns-clause-world g c = record {
+pub returns : goal.returns
+returns g c = record {
   same = c.token.ensures.same;
   adds = c.token.ensures.adds;
   each = λ honest world h.

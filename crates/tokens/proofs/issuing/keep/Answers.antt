@@ -7,8 +7,8 @@ use Rattle.refinement.proofs.Leading.{was_by}
 use Rattle.tokens.proofs.Kept.{keeps_by}
 use Rattle.tokens.proofs.issuing.keep.Goals as goal
 
-pub returns-clause-world : goal.returns-clause-world
-returns-clause-world g c =
+pub returns : goal.returns
+returns g c =
     let old = c.args.store.now in
     let new = c.add_token.new.self in
     let r = c.add_token.result in

@@ -7,8 +7,8 @@ use Rattle.uploads.specs.Listing.{Lists}
 use Rattle.uploads.proofs.Listed.{lists_by}
 use Rattle.uploads.proofs.finding.all.Goals as goal
 
-pub returns-clause-world : goal.returns-clause-world
-returns-clause-world g c = record {
+pub returns : goal.returns
+returns g c = record {
   same = c.objects.ensures.same;
   adds = c.objects.ensures.adds;
   each = λ honest world h.

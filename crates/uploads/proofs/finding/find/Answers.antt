@@ -8,8 +8,8 @@ use Rattle.uploads.specs.Finding.{Finds}
 use Rattle.uploads.proofs.Found.{finds_by}
 use Rattle.uploads.proofs.finding.find.Goals as goal
 
-pub returns-clause-world : goal.returns-clause-world
-returns-clause-world g c = record {
+pub returns : goal.returns
+returns g c = record {
   same = c.object.ensures.same;
   adds = c.object.ensures.adds;
   each = λ honest world h.

@@ -11,9 +11,9 @@ parts-preserved g c = record {
   so_far = shortens_more g.S.Store c.args.store.now c.parts.store c.shorten_upload.new.self c.args.id.number _ c.parts.invariant.so_far c.in_ok-shorten_upload.ensures.made;
 }
 
-pub returns-in_err-shorten_upload-clause-world : goal.returns-in_err-shorten_upload-clause-world
-returns-in_err-shorten_upload-clause-world g c =
+pub returns-in_err-shorten_upload : goal.returns-in_err-shorten_upload
+returns-in_err-shorten_upload g c =
     shortens_failed g.S.Store c.args.store.now c.parts.store c.shorten_upload.new.self c.args.id.number _ c.parts.invariant.so_far c.in_err-shorten_upload.ensures.failed
 
-pub returns-clause-world : goal.returns-clause-world
-returns-clause-world g c = c.parts.invariant.so_far
+pub returns : goal.returns
+returns g c = c.parts.invariant.so_far

@@ -12,14 +12,14 @@ returns-in_err-taken-clause-kept g c = from_nothing g.S.Store c.args.store.now c
 pub returns-in_err-fill_all-clause-kept : goal.returns-in_err-fill_all-clause-kept
 returns-in_err-fill_all-clause-kept g c =
     let keeps = c.fill_all.ensures.keeps in
-    let value = c.in_ok-taken.ensures.value in
+    let value = c.in_ok-taken.ensures in
     from_room g.S.Store c.args.store.now c.fill_all.new.store c.args.self.now (length c.args.piece.now) keeps.honest keeps.kept
     (λ repo name size bytes taken. let limit = taken.limit in let count = taken.counted.count in omega (arith, limit, count, value.0, value.1))
 
 pub returns-clause-kept : goal.returns-clause-kept
 returns-clause-kept g c =
     let keeps = c.fill_all.ensures.keeps in
-    let value = c.in_ok-taken.ensures.value in
+    let value = c.in_ok-taken.ensures in
     from_room g.S.Store c.args.store.now c.fill_all.new.store c.args.self.now (length c.args.piece.now) keeps.honest keeps.kept
     (λ repo name size bytes taken. let limit = taken.limit in let count = taken.counted.count in omega (arith, limit, count, value.0, value.1))
 
@@ -32,11 +32,11 @@ returns-clause-taken g c ready repo name size bytes taken =
           let limit = taken.limit in
           let count = taken.counted.count in
           let longer = length-append bytes c.args.piece.now in
-          let value = c.in_ok-taken.ensures.value in
+          let value = c.in_ok-taken.ensures in
           omega (arith, limit, count, longer, value.0, value.1);
       counted = record {
         hashed = c.update.ensures bytes (subst (λ h. Holds256 h bytes) (sym same.hasher) taken.counted.hashed);
-        count = c.in_ok-taken.ensures.value.0 ∙ ap (λ n. n + length c.args.piece.now) taken.counted.count ∙ sym (length-append bytes c.args.piece.now);
+        count = c.in_ok-taken.ensures.0 ∙ ap (λ n. n + length c.args.piece.now) taken.counted.count ∙ sym (length-append bytes c.args.piece.now);
       };
       cuts = c.in_ok-fill_all.ensures.advances ready repo name size bytes taken.cuts;
     }

@@ -7,4 +7,4 @@ returns-else-unswept g c = from_none g.S.Store c.args.store.now
 
 pub returns-then-unswept : goal.returns-then-unswept
 returns-then-unswept g c =
-    from_weaker g.S.Store c.args.store.now c.sweep.new.store _ _ (sweeps_work g.S.Store c.args.store.now c.sweep.new.store c.sweep.result) c.sweep.ensures.world
+    from_weaker g.S.Store c.args.store.now c.sweep.new.store _ _ (sweeps_work g.S.Store c.args.store.now c.sweep.new.store c.sweep.result) c.sweep.ensures
