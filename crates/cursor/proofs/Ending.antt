@@ -1,5 +1,5 @@
 -- Reading comes to an end: each window begins at a later id.
-use Rattle.std.proofs.Common.{◌-◌, ℕ, suc, Option, Some, None}
+use Rattle.cursor.proofs.Prelude.{◌-◌, ℕ, suc, Option, Some, None}
 
 -- how many ids are left to begin at, at most
 abbrev pub ids_left : Option ℕ → ℕ

@@ -1,22 +1,13 @@
 -- The windows joined are all the locks, and the first of them are the page.
-use Rattle.std.proofs.Common.{◌≡◌, ◌∙◌, ◌<◌, ◌≤◌, ◌+◌, ℕ, zero, suc, Bool, true, false, cond, nat_lt, nat_le, List, [], ◌∷◌, ◌++◌, map, take, drop, filter, length, option_map, Option, Some, None, refl, sym, ap, ap₂, subst, arith, append_assoc, AllPairs}
+use Rattle.cursor.proofs.Prelude.{◌≡◌, ◌∙◌, ◌<◌, ◌≤◌, ◌+◌, ℕ, zero, suc, Bool, true, false, cond, nat_lt, nat_le, List, [], ◌∷◌, ◌++◌, map, take, drop, filter, length, option_map, Option, Some, None, refl, sym, ap, ap₂, subst, arith, append_assoc, filter-append, recursion_from_All, AllPairs-filter, World, IsWorld, IsLock, Lock, locks_of, IsBelow, Rise, rise_from, locks_rise, LockRow, lock_seen, Test, cut, left, after_row, next_start, unless_full}
+use Rattle.std.proofs.Common.{AllPairs}
 use Rattle.std.specs.List.{AllByRecursion, slice_get}
 use Rattle.std.proofs.lemmas.Bool.Decides.{nat_tests}
 use Rattle.std.proofs.lemmas.List.{take-append-drop}
-use Rattle.std.proofs.lemmas.List.Elements.{filter-append, recursion_from_All}
-use Rattle.std.proofs.lemmas.List.Kept.{AllPairs-filter}
 use Rattle.names.specs.Texts.{last_lock_id}
-use Rattle.model.specs.World.{World, IsWorld, IsLock, Lock}
-use Rattle.model.specs.RepoState.{locks_of}
 use Rattle.model.specs.Orders.{first}
-use Rattle.model.specs.Pages.{IsBelow}
 use Rattle.model.proofs.Lists.{into, in_from, each_in, each_of, each_weaker, each_passes}
 use Rattle.model.proofs.Ordered.{locks_are_those}
-use Rattle.model.proofs.Pages.{Rise, rise_from, locks_rise}
-use Rattle.tables.specs.declared.rows.LockRow.{LockRow}
-use Rattle.locks.specs.Finding.{lock_seen}
-use Rattle.cursor.specs.Wanted.{Test}
-use Rattle.cursor.specs.Paging.{cut, left, after_row, next_start, unless_full}
 
 -- ---- ids
 

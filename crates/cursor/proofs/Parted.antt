@@ -1,7 +1,6 @@
 -- One more lock of the user goes to the front of the others.
-use Rattle.std.proofs.Common.{◌≡◌, ◌∙◌, ◌<◌, ◌≤◌, ◌+◌, ◌-◌, ℕ, zero, suc, Bool, true, false, not, cond, List, [], ◌∷◌, ◌++◌, take, drop, filter, length, get_or, refl, sym, ap, ap₂, subst, arith, append_assoc, append-nil, length-append, add-one}
+use Rattle.cursor.proofs.Prelude.{◌≡◌, ◌∙◌, ◌<◌, ◌≤◌, ◌+◌, ◌-◌, ℕ, zero, suc, Bool, true, false, not, cond, List, [], ◌∷◌, ◌++◌, take, drop, filter, length, get_or, refl, sym, ap, ap₂, subst, arith, append_assoc, append-nil, length-append, add-one, filter-append}
 use Rattle.std.proofs.Math.Seq.{take-append_seam, drop-append_seam, drop-cons, take-suc}
-use Rattle.std.proofs.lemmas.List.Elements.{filter-append}
 use borrow.Rule.Slice.PartMut.{put_mid, mid_of, post_of}
 
 module _ {X : Type 0} where

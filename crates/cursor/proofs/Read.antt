@@ -1,10 +1,8 @@
 -- Calls that only read, one after another.
-use Rattle.std.proofs.Common.{◌∙◌}
+use Rattle.cursor.proofs.Prelude.{◌∙◌, World, IsWorld, Reads}
 use Rattle.sqlite_trees.specs.declared.store.Store.{Ghosts}
-use Rattle.model.specs.World.{World, IsWorld}
 use Rattle.tables.specs.Shown.{Moves, AddsNothing}
 use Rattle.tables.specs.declared.Store.{Store}
-use Rattle.refinement.specs.Left.{Reads}
 use Rattle.refinement.proofs.Holding.{holds_still}
 
 module _ {S : Type 0} (g : Ghosts S) where

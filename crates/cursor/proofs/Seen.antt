@@ -1,14 +1,6 @@
 -- For callers: a closure that accepts every lock, and the locks of a page that is split.
-use Rattle.std.proofs.Common.{◌≡◌, ℕ, Bool, true, false, not, ◌&&◌, cond, List, [], ◌∷◌, map, filter, refl, sym, ap}
-use Rattle.sqlite_trees.proofs.ListLemmas.{filter-map}
-use Rattle.model.specs.World.{World, Lock}
-use Rattle.model.specs.RepoState.{locks_of}
+use Rattle.cursor.proofs.Prelude.{◌≡◌, ℕ, Bool, true, false, not, ◌&&◌, cond, List, [], ◌∷◌, map, filter, refl, sym, ap, filter-map, World, Lock, locks_of, meets, LockRow, lock_seen, is_owned, is_other, Test, form_of_filter, wanted_locks}
 use Rattle.model.specs.Callers.{is_own}
-use Rattle.model.specs.Locks.{meets}
-use Rattle.tables.specs.declared.rows.LockRow.{LockRow}
-use Rattle.locks.specs.Finding.{lock_seen}
-use Rattle.cursor.specs.Owners.{is_owned, is_other}
-use Rattle.cursor.specs.Wanted.{Test, form_of_filter, wanted_locks}
 use Rattle.cursor.specs.declared.filters.Filter.{Filter}
 
 and_true : (test : Test) (locks : List Lock) → filter (λ l. test l && true) locks ≡ filter test locks

@@ -1,15 +1,9 @@
 -- A walk over the pages of a repository is whole.
-use Rattle.std.proofs.Common.{◌≡◌, ℕ, List, [], ◌∷◌, ◌++◌, map, Option, Some, None, MatchOption, refl, sym, ap, subst, arith, get_or}
+use Rattle.cursor.proofs.Prelude.{◌≡◌, ℕ, List, [], ◌∷◌, ◌++◌, map, Option, Some, None, MatchOption, refl, sym, ap, subst, arith, get_or, AllPairs-filter, recursion_from_All, All-from_recursion, Lock, locks_of, IsBelow, IsPage, Leg, walk_locks, page_is_least, locks_rise, walks_are_whole}
 use Rattle.std.specs.List.{All, AllPairs, Contains}
-use Rattle.std.proofs.lemmas.List.Kept.{AllPairs-filter}
-use Rattle.std.proofs.lemmas.List.Elements.{recursion_from_All, All-from_recursion}
-use Rattle.model.specs.World.{Lock}
-use Rattle.model.specs.RepoState.{locks_of}
 use Rattle.model.specs.Pages as pages
-use Rattle.model.specs.Pages.{IsBelow, IsPage, Leg, walk_locks}
 use Rattle.model.specs.Laws.{IsWholeWalk}
 use Rattle.model.proofs.Lists.{each_map}
-use Rattle.model.proofs.Pages.{page_is_least, locks_rise, walks_are_whole}
 use Rattle.cursor.specs.Walking.{Visit, locks_at, IsVisit, IsWalk, joined, HasOtherId, WalksRise, WalksHoldOnce, WalksMissNone}
 
 -- a visit is one page of a walk

@@ -1,17 +1,11 @@
 -- Which of the checks a request passes.
-use Rattle.std.proofs.Common.{◌≡◌, ℕ, Bool, true, false, not, ◌||◌, List, Option, Some, None, Result, Ok, Err, bytes_eq, refl, sym, ap, subst, ◌∙◌}
+use Rattle.desk.proofs.Prelude.{◌≡◌, ℕ, Bool, true, false, not, ◌||◌, List, Option, Some, None, Result, Ok, Err, bytes_eq, refl, sym, ap, subst, ◌∙◌, Rule, A4, A5, R1, Repo, repo_named, needs_upload, request_of, ◌>>=◌, check, ok_or, found_passes, admission_result, is_put, uploads}
 use Rattle.std.specs.Bool.{⊤}
-use Rattle.names.specs.declared.rules.Rule.{Rule}
-use Rattle.names.specs.declared.rules.Rule.TheVariants.{A4, A5, R1}
-use Rattle.model.specs.Policy.{Policy, Repo, repo_named}
-use Rattle.model.specs.Forms.{Request, needs_upload, request_of}
-use Rattle.model.specs.Reading.{◌>>=◌, check, ok_or}
+use Rattle.model.specs.Policy.{Policy}
+use Rattle.model.specs.Forms.{Request}
 use Rattle.model.specs.declared.Form.{Form}
 use Rattle.model.specs.declared.Form.TheVariants as asks
-use Rattle.model.proofs.Lists.{found_passes}
 use Rattle.refinement.proofs.Lookups.{same_is}
-use Rattle.desk.specs.Admission.{admission_result}
-use Rattle.desk.specs.Asking.{is_put, uploads}
 
 -- a request whose form is refused is not admitted
 pub refused_form : (policy : Policy) (own : List ℕ) (covers : Bool) (repo_asked : List ℕ) (asked : Result Request Rule) (r : Repo) (rule : Rule)

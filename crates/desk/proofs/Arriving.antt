@@ -1,27 +1,15 @@
 -- An upload, from the bytes that arrive to the answer.
-use Rattle.std.proofs.Common.{◌≡◌, ◌∙◌, ◌+◌, ◌≤◌, ℕ, Bool, true, false, List, [], ◌++◌, length, replicate, Option, Some, None, is_some, Result, Ok, Err, bytes_eq, refl, sym, ap, subst, arith, take, append-nil, append_assoc, length-append, length-take}
-use Rattle.std.specs.Prelude.{IsTrue}
+use Rattle.desk.proofs.Prelude.{◌≡◌, ◌∙◌, ◌+◌, ◌≤◌, ℕ, Bool, true, false, List, [], ◌++◌, length, replicate, Option, Some, None, is_some, Result, Ok, Err, bytes_eq, refl, sym, ap, subst, arith, take, append-nil, append_assoc, length-append, length-take, IsTrue, nil_from_length, length-replicate, Ghosts, X2, World, Object, name_of, object_named, with_object, Answer, stores, by_rule, store_refusal, content_verdict, Ending, changed, unchanged, failed, answer_ending, Store, StoreFault, Holds, From, Keeps, Ends, leads_none, keeps_still, keeps_then, keeps_ends, ends_then, ends_reported, Receipt, Differs, AnswerFault, HasRead, object_from, Takes, HasAll, Fills, Carries, Settles, Receives, ReceivesStaged}
 use Rattle.std.proofs.lemmas.Bool.{true≢false}
-use Rattle.std.proofs.lemmas.List.{nil_from_length, length-replicate}
 use Rattle.std.proofs.lemmas.Slice.Eq.{bytes_eq-Decides}
-use Rattle.sqlite_trees.specs.declared.store.Store.{Ghosts}
 use Rattle.names.specs.declared.bodies.Body.{Ghosts as BodyGhosts}
 use Rattle.names.specs.Texts.{is_repo}
-use Rattle.names.specs.declared.rules.Rule.TheVariants.{X2}
-use Rattle.model.specs.World.{World, Object, name_of, object_named, with_object}
-use Rattle.model.specs.Answers.{Answer, stores, by_rule, store_refusal}
-use Rattle.model.specs.Objects.{content_verdict}
-use Rattle.model.specs.Bounds.{Ending, changed, unchanged, failed, answer_ending}
 use Rattle.model.specs.Steps.{after}
 use Rattle.tables.specs.Shown.{HasTables}
 use Rattle.tables.specs.Staging.{upload_number}
-use Rattle.tables.specs.declared.Store.{Store}
-use Rattle.tables.specs.declared.fault.StoreFault.{StoreFault}
 use Rattle.tables.specs.declared.rows.UploadId.{UploadId}
-use Rattle.refinement.specs.Representation.{Holds}
-use Rattle.refinement.specs.Left.{From, Keeps, Ends, Gives}
+use Rattle.refinement.specs.Left.{Gives}
 use Rattle.refinement.specs.Staging.{Stages}
-use Rattle.refinement.proofs.Leading.{leads_none, keeps_still, keeps_then, keeps_ends, ends_then, ends_reported}
 use Rattle.chunks.specs.Intakes.{IsCut, IsWhole, HasCounted, HasTaken}
 use Rattle.chunks.specs.declared.intake.Intake.{Intake}
 use Rattle.chunks.specs.declared.intake.Arrival.{Arrival}
@@ -31,12 +19,8 @@ use Rattle.uploads.specs.declared.completing.Kept.{Kept}
 use Rattle.uploads.specs.declared.completing.Kept.TheVariants.{New, Already}
 use Rattle.uploads.specs.declared.completing.UploadFault.{UploadFault}
 use Rattle.uploads.specs.declared.completing.UploadFault.TheVariants as upload_fault
-use Rattle.desk.specs.declared.receiving.Receipt.{Receipt}
-use Rattle.desk.specs.declared.receiving.Receipt.TheVariants.{Stored, Differs}
-use Rattle.desk.specs.declared.outcomes.AnswerFault.{AnswerFault}
+use Rattle.desk.specs.declared.receiving.Receipt.TheVariants.{Stored}
 use Rattle.desk.specs.declared.outcomes.AnswerFault.TheVariants as fault
-use Rattle.desk.specs.Contents.{HasRead}
-use Rattle.desk.specs.Receiving.{object_from, Takes, HasAll, Fills, Carries, Settles, Receives, ReceivesStaged}
 
 -- ---- the content
 

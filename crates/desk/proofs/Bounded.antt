@@ -1,32 +1,17 @@
 -- After an answer a repository has at most its quota and one largest object in the database.
-use Rattle.std.proofs.Common.{◌≡◌, ◌≤◌, ℕ, true, List, ◌∷◌, ◌++◌, length, replicate, Result, Ok, Err, Some, refl, arith, length-append}
+use Rattle.desk.proofs.Prelude.{◌≡◌, ◌≤◌, ℕ, true, List, ◌∷◌, ◌++◌, length, replicate, Result, Ok, Err, Some, refl, arith, length-append, AllByRecursion, length-replicate, Ghosts, World, Answer, Denial, Plan, Bound, failed, left_by, answer_ending, policy_view, Store, From, IsBoundedBy, from_weaker, Holds, is_put, plan_seen, request_seen, setting_of, HasRead, AnswersIf, AnswersRequest, IsAnsweredAs, LeavesOthers, LeavesWorld, StaysWithin, verdict_by, Answered, AnswerFault}
 use Rattle.std.specs.Bool.{⊤}
-use Rattle.std.specs.List.{AllByRecursion}
-use Rattle.std.proofs.lemmas.List.{length-replicate}
-use Rattle.sqlite_trees.specs.declared.store.Store.{Ghosts}
 use Rattle.names.specs.declared.bodies.Body.{Ghosts as BodyGhosts}
-use Rattle.model.specs.World.{World, total}
-use Rattle.model.specs.Answers.{Answer, Denial, Plan}
+use Rattle.model.specs.World.{total}
 use Rattle.model.specs.Steps.{after}
-use Rattle.model.specs.Bounds.{Bound, failed, left_by, answer_ending}
 use Rattle.model.specs.Laws.{quota_of}
 use Rattle.model.proofs.Apart.{differ_by_bytes, desk_leaves_views}
 use Rattle.model.proofs.Left.{all_left}
 use Rattle.model.proofs.Quota.{desk_stays}
-use Rattle.policy.specs.Values.{policy_view}
 use Rattle.policy.specs.declared.policies.Policy.{Policy}
-use Rattle.tables.specs.declared.Store.{Store}
 use Rattle.tables.specs.Shown.{IsHonest}
-use Rattle.refinement.specs.Left.{From, IsBoundedBy}
-use Rattle.refinement.proofs.Leading.{from_weaker}
-use Rattle.refinement.specs.Representation.{Holds}
 use Rattle.uploads.proofs.Bounds.{leaves_within, stores_within}
-use Rattle.desk.specs.Asking.{is_put, plan_seen, request_seen, setting_of}
-use Rattle.desk.specs.Contents.{HasRead}
-use Rattle.desk.specs.Done.{AnswersIf, AnswersRequest, IsAnsweredAs, LeavesOthers, LeavesWorld, StaysWithin, verdict_by}
 use Rattle.desk.specs.declared.admission.RepoRequest.{RepoRequest}
-use Rattle.desk.specs.declared.outcomes.Answered.{Answered}
-use Rattle.desk.specs.declared.outcomes.AnswerFault.{AnswerFault}
 use Rattle.desk.specs.declared.outcomes.AnswerFault.TheVariants as fault
 
 module _ {S : Type 0} (g : Ghosts S) (old new : Store S) where

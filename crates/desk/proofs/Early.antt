@@ -1,28 +1,12 @@
 -- An answer before its content is read, after calls that only read, and of a request without content.
-use Rattle.std.proofs.Common.{◌≡◌, ◌∙◌, ◌<◌, ℕ, Bool, true, false, MatchBool, List, [], ◌∷◌, ◌++◌, Some, Result, Ok, Err, is_err, refl, sym, ap, subst}
-use Rattle.std.specs.Prelude.{IsErrAnd}
+use Rattle.desk.proofs.Prelude.{◌≡◌, ◌∙◌, ◌<◌, ℕ, Bool, true, false, MatchBool, List, [], ◌∷◌, ◌++◌, Some, Result, Ok, Err, is_err, refl, sym, ap, subst, IsErrAnd, Ghosts, World, Answer, Denial, Plan, receives, answer_ending, Store, StoreFault, From, Leads, Keeps, KeepsTables, Reads, keeps_still, leaves_kept, leaves_then, reads_lead, still_then, Answered, AnswerFault, Reply, request_asked, uploads, IsReplyOf, AnswersIf, AnswersRequest, IsAnsweredAs, given_with, verdict_by}
 use Rattle.std.specs.Result.{IfErr}
 use Rattle.std.proofs.lemmas.Bool.{true≢false}
-use Rattle.sqlite_trees.specs.declared.store.Store.{Ghosts}
 use Rattle.names.specs.declared.bodies.Body.{Ghosts as BodyGhosts}
-use Rattle.model.specs.World.{World}
-use Rattle.model.specs.Answers.{Answer, Denial, Plan, receives}
-use Rattle.model.specs.Bounds.{answer_ending}
-use Rattle.tables.specs.declared.Store.{Store}
-use Rattle.tables.specs.declared.fault.StoreFault.{StoreFault}
-use Rattle.refinement.specs.Left.{From, Leads, Keeps, KeepsTables, Reads}
-use Rattle.refinement.proofs.Leading.{keeps_still, leaves_kept, leaves_then, reads_lead, still_then}
-use Rattle.desk.specs.declared.outcomes.Answered.{Answered}
-use Rattle.desk.specs.declared.outcomes.AnswerFault.{AnswerFault}
 use Rattle.desk.specs.declared.outcomes.AnswerFault.TheVariants as fault
-use Rattle.desk.specs.declared.replies.Reply.{Reply}
-use Rattle.forms.specs.Requests.{request_asked}
 use Rattle.forms.specs.declared.objects.PutRequest.{PutRequest}
 use Rattle.forms.specs.declared.request.Request as code
 use Rattle.forms.specs.declared.request.Request.TheVariants as form
-use Rattle.desk.specs.Asking.{uploads}
-use Rattle.desk.specs.Replies.{IsReplyOf}
-use Rattle.desk.specs.Done.{AnswersIf, AnswersRequest, IsAnsweredAs, given_with, verdict_by}
 use Rattle.desk.proofs.Arriving.{read_none}
 use Rattle.desk.proofs.Unchanged.{Replies}
 use Rattle.desk.proofs.Verdicts.{denied_done, refused_done, done_then}

@@ -1,29 +1,10 @@
 -- Requests for the content of an object.
-use Rattle.std.proofs.Common.{◌≡◌, ℕ, List, length, Some, None, Result, Ok, Err, refl, sym, subst}
-use Rattle.std.specs.Prelude.{IsErrAnd}
-use Rattle.sqlite_trees.specs.declared.store.Store.{Ghosts}
-use Rattle.names.specs.declared.rules.Rule.TheVariants.{X1}
-use Rattle.model.specs.World.{World, Object, object_named}
-use Rattle.model.specs.RepoState.{size_of}
+use Rattle.desk.proofs.Prelude.{◌≡◌, ℕ, List, length, Some, None, Result, Ok, Err, refl, sym, subst, IsErrAnd, Ghosts, X1, World, Object, object_named, size_of, Answer, by_rule, may_pull, serves, get_verdict, Store, ObjectRow, Reads, Finds, size_found, Reply, ReplyBody, Content, NotGranted, IsReplyOf, Lends, IsUserOf, case_policy, case_repo, case_user, case_seen, AnswersEach, verdict_by}
 use Rattle.model.specs.Callers.{Caller}
 use Rattle.model.specs.Cases.{Case}
-use Rattle.model.specs.Answers.{Answer, by_rule, may_pull, serves}
-use Rattle.model.specs.Objects.{get_verdict}
-use Rattle.tables.specs.declared.Store.{Store}
-use Rattle.tables.specs.declared.rows.ObjectRow.{ObjectRow}
-use Rattle.refinement.specs.Left.{Reads}
-use Rattle.uploads.specs.Finding.{Finds}
-use Rattle.uploads.proofs.Sizes.{size_found}
-use Rattle.desk.specs.declared.replies.Reply.{Reply}
-use Rattle.desk.specs.declared.replies.ReplyBody.{ReplyBody}
 use Rattle.desk.specs.declared.cases.Case as code
-use Rattle.desk.specs.declared.replies.ReplyBody.TheVariants.{Content}
 use Rattle.desk.specs.declared.cases.Denial.TheVariants as denied
-use Rattle.desk.specs.declared.outcomes.NotGranted.{NotGranted}
 use Rattle.desk.specs.declared.outcomes.NotGranted.TheVariants as not_granted
-use Rattle.desk.specs.Replies.{IsReplyOf, Lends}
-use Rattle.desk.specs.Rights.{IsUserOf, case_policy, case_repo, case_user, case_seen}
-use Rattle.desk.specs.Done.{AnswersEach, verdict_by}
 use Rattle.desk.proofs.Unchanged.{denied_after, served_after}
 
 module _ (world : World) (repo : List ℕ) (c : Case) (name content : List ℕ) (may : may_pull c.setting.policy c.caller.user c.repo.name 404 ≡ Ok tt) where

@@ -1,11 +1,6 @@
 -- Contents that replies send, for proofs in other crates.
-use Rattle.std.proofs.Common.{◌≡◌, ◌∙◌, Bool, true, false, Ok, sym, ap, true≢false}
-use Rattle.sqlite_trees.specs.declared.store.Store.{Ghosts}
-use Rattle.model.specs.Answers.{Answer, serves}
-use Rattle.tables.specs.declared.Store.{Store}
-use Rattle.desk.specs.Replies.{ShowsBody, Lends}
-use Rattle.desk.specs.declared.replies.ReplyBody.{ReplyBody}
-use Rattle.desk.specs.declared.replies.ReplyBody.TheVariants.{Made, Fixed, Empty, Content}
+use Rattle.desk.proofs.Prelude.{◌≡◌, ◌∙◌, Bool, true, false, Ok, sym, ap, Ghosts, Answer, serves, Store, ShowsBody, Lends, ReplyBody, Made, Fixed, Empty, Content}
+use Rattle.std.proofs.Common.{true≢false}
 
 -- the answer is the content of an object
 abbrev pub serves_object : Answer → Bool

@@ -1,3 +1,4 @@
+mod Prelude
 pub mod Making
 pub mod Admitting
 pub mod Verdicts

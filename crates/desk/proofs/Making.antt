@@ -1,27 +1,9 @@
 -- From the result of a request for a lock to the reply.
-use Rattle.std.proofs.Common.{◌≡◌, ◌∙◌, ◌<◌, ◌+◌, ℕ, true, nat_lt, Some, None, Option, Result, Ok, Err, refl, sym, ap, subst, arith, false}
-use Rattle.std.proofs.lemmas.Bool.Decides.{nat_tests}
-use Rattle.sqlite_trees.specs.declared.store.Store.{Ghosts}
-use Rattle.names.specs.Names.{repo_text, ref_text, path_text}
+use Rattle.desk.proofs.Prelude.{◌≡◌, ◌∙◌, ◌<◌, ◌+◌, ℕ, true, nat_lt, Some, None, Option, Result, Ok, Err, refl, sym, ap, subst, arith, false, nat_tests, Ghosts, repo_text, ref_text, path_text, L5, World, Lock, lock_at, Answer, makes_lock, by_lock, by_rule, store_refusal, Store, NewLock, LockRow, ends_reported, lock_seen, state_of, lock_wanted, placed_verdict, Creates, NotGranted, Reply, IsReplyOf, Answers, AnswersAlone, free_verdict, IsReadyAfter, ReportsHeld}
 use Rattle.names.specs.Texts.{last_lock_id}
-use Rattle.names.specs.declared.rules.Rule.TheVariants.{L5}
-use Rattle.model.specs.World.{World, Lock}
-use Rattle.model.specs.RepoState.{lock_at}
-use Rattle.model.specs.Answers.{Answer, makes_lock, by_lock, by_rule, store_refusal}
-use Rattle.tables.specs.declared.Store.{Store}
-use Rattle.tables.specs.declared.new_rows.NewLock.{NewLock}
-use Rattle.tables.specs.declared.rows.LockRow.{LockRow}
 use Rattle.locks.specs.declared.creating.LockFault.TheVariants as fault
 use Rattle.refinement.specs.Left.{Gives}
-use Rattle.refinement.proofs.Leading.{ends_reported}
-use Rattle.locks.specs.Finding.{lock_seen}
-use Rattle.locks.specs.Creating.{state_of, lock_wanted, placed_verdict, Creates}
-use Rattle.desk.specs.declared.outcomes.NotGranted.{NotGranted}
-use Rattle.desk.specs.declared.replies.Reply.{Reply}
-use Rattle.desk.specs.Replies.{IsReplyOf}
 use Rattle.desk.proofs.Lent.{serves_object, none_lent}
-use Rattle.desk.specs.Done.{Answers, AnswersAlone}
-use Rattle.desk.specs.Locking.{free_verdict, IsReadyAfter, ReportsHeld}
 
 less : (a b : ℕ) → a < b → nat_lt a b ≡ true
 less a b h = grind (arith, nat_tests)

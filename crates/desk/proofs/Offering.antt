@@ -1,39 +1,21 @@
 -- A batch: from what the code judges of each object to the verdict of the definitions.
-use Rattle.std.proofs.Common.{◌≡◌, ◌∙◌, ℕ, ◌+◌, ◌-◌, ◌==◌, Bool, true, false, List, [], ◌∷◌, ◌++◌, map, Option, Some, None, Result, Ok, Err, refl, sym, ap, ap₂}
+use Rattle.desk.proofs.Prelude.{◌≡◌, ◌∙◌, ℕ, ◌+◌, ◌-◌, ◌==◌, Bool, true, false, List, [], ◌∷◌, ◌++◌, map, Option, Some, None, Result, Ok, Err, refl, sym, ap, ap₂, nat_le, option_map, map-append, Ghosts, Rule, B1, B4, B5, ◌>>=◌, check, ok_or, or_default, World, IsWorld, Repo, RepoState, repo_state, size_of, has_room, BatchForm, Answer, Denial, offers, downloads, may_pull, may_push, ref_or_default, valid_size, check_hash, action_at, download_of, upload_of, upload_actions, unless_stored, offer, offers_for, may_batch, batch_verdict, content_href, object_asked, offer_at, result_at, actions_at, Store, ObjectRow, Finds, size_found, IsSound, Judged, AreLinksOf, actions_for, actions_on, judged_as, judged_on, judged_by, may_transfer, IsCallerOf, case_policy, case_repo, case_user, case_seen}
 use Rattle.std.specs.Bool.{⊤}
-use Rattle.std.specs.Prelude.{nat_le, option_map}
-use Rattle.std.proofs.lemmas.List.{map-append}
-use Rattle.sqlite_trees.specs.declared.store.Store.{Ghosts}
-use Rattle.names.specs.declared.rules.Rule.{Rule}
-use Rattle.names.specs.declared.rules.Rule.TheVariants.{B1, B4, B5}
 use Rattle.names.specs.declared.operations.Operation.{Operation}
 use Rattle.names.specs.declared.operations.Operation.TheVariants as operation
-use Rattle.model.specs.Reading.{◌>>=◌, check, ok_or, or_default}
-use Rattle.model.specs.World.{World, IsWorld, total}
-use Rattle.model.specs.Policy.{Repo}
-use Rattle.model.specs.RepoState.{RepoState, repo_state, size_of, has_room}
-use Rattle.model.specs.Forms.{BatchObject, BatchForm}
+use Rattle.model.specs.World.{total}
+use Rattle.model.specs.Forms.{BatchObject}
 use Rattle.model.specs.Callers.{Caller}
 use Rattle.model.specs.Cases as model
-use Rattle.model.specs.Answers.{Answer, Denial, Offer, offers, downloads, may_pull, may_push}
+use Rattle.model.specs.Answers.{Offer}
 use Rattle.model.specs.Answers as answer
-use Rattle.model.specs.Locks.{ref_or_default}
-use Rattle.model.specs.Batch.{valid_size, check_hash, action_at, download_of, upload_of, upload_actions, unless_stored, offer, offers_for, may_batch, batch_verdict, content_href}
 use Rattle.forms.specs.declared.offers.Actions.{Actions}
 use Rattle.forms.specs.declared.offers.Actions.TheVariants.{Download, Upload, Stored}
 use Rattle.forms.specs.declared.offers.Links.{Links}
 use Rattle.forms.specs.declared.offers.Offer as shown
 use Rattle.forms.specs.declared.batch.BatchObject as given
-use Rattle.forms.specs.Requests.{object_asked}
-use Rattle.forms.specs.Offers.{offer_at, result_at, actions_at}
-use Rattle.tables.specs.declared.Store.{Store}
-use Rattle.tables.specs.declared.rows.ObjectRow.{ObjectRow}
-use Rattle.uploads.specs.Finding.{Finds}
-use Rattle.uploads.proofs.Sizes.{size_found}
 use Rattle.desk.specs.declared.cases.Case.{Case}
 use Rattle.desk.specs.declared.batching.NamedObject.{NamedObject}
-use Rattle.desk.specs.Batching.{IsSound, Judged, AreLinksOf, actions_for, actions_on, judged_as, judged_on, judged_by, may_transfer}
-use Rattle.desk.specs.Rights.{IsCallerOf, case_policy, case_repo, case_user, case_seen}
 use Rattle.desk.proofs.Placing.{room_is}
 use Rattle.desk.proofs.Unchanged.{IsQuiet}
 

@@ -1,18 +1,8 @@
 -- Whether there is a place for an upload: calls that read, one after another.
-use Rattle.std.proofs.Common.{◌≡◌, ◌∙◌, ◌+◌, ℕ, Bool, true, false, List, Option, Some, None, Result, Ok, Err, IfOk, refl, sym, ap}
-use Rattle.std.specs.Prelude.{IsErrAnd, is_some, nat_le, option_map}
-use Rattle.sqlite_trees.specs.declared.store.Store.{Ghosts}
-use Rattle.model.specs.World.{World, IsWorld, total}
-use Rattle.model.specs.Policy.{Repo}
-use Rattle.model.specs.RepoState.{has_room, repo_state}
-use Rattle.tables.specs.declared.Store.{Store}
-use Rattle.tables.specs.declared.rows.ObjectRow.{ObjectRow}
+use Rattle.desk.proofs.Prelude.{◌≡◌, ◌∙◌, ◌+◌, ℕ, Bool, true, false, List, Option, Some, None, Result, Ok, Err, IfOk, refl, sym, ap, IsErrAnd, is_some, nat_le, option_map, Ghosts, World, IsWorld, Repo, has_room, repo_state, Store, ObjectRow, Reads, Finds, size_found, room_left, has_place}
+use Rattle.model.specs.World.{total}
 use Rattle.tables.proofs.Moved.{moves_then, nothing_then}
-use Rattle.refinement.specs.Left.{Reads}
 use Rattle.refinement.proofs.Holding.{holds_still}
-use Rattle.uploads.specs.Finding.{Finds}
-use Rattle.uploads.proofs.Sizes.{size_found, room_left}
-use Rattle.desk.specs.Objects.{has_place}
 
 module _ {S : Type 0} (g : Ghosts S) where
   pub reads_then : (a b c : Store S) (P Q R : World → Type 0) → ((world : World) → IsWorld world → P world → Q world → R world) → Reads g a b P → Reads g b c Q → Reads g a c R

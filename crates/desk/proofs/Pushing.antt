@@ -1,17 +1,8 @@
 -- Requests that push objects: their ref, and the verdicts on verification and on a place for an upload.
-use Rattle.std.proofs.Common.{◌≡◌, ◌∙◌, ℕ, ◌==◌, true, false, List, Option, Some, None, Result, Ok, Err, refl, ap, subst}
+use Rattle.desk.proofs.Prelude.{◌≡◌, ◌∙◌, ℕ, ◌==◌, true, false, List, Option, Some, None, Result, Ok, Err, refl, ap, subst, X3, V1, V2, ◌>>=◌, check, ok_or, size_of, PutForm, VerifyForm, Denial, by_rule, by_rules, may_push, confirms, receives, ref_or_default, put_verdict, verify_verdict, has_place, size_check, IsUserOf, case_policy, case_repo, case_user}
 use Rattle.std.specs.Bool.{⊤}
-use Rattle.names.specs.declared.rules.Rule.TheVariants.{X3, V1, V2}
-use Rattle.model.specs.Reading.{◌>>=◌, check, ok_or}
-use Rattle.model.specs.RepoState.{size_of}
-use Rattle.model.specs.Forms.{PutForm, VerifyForm}
 use Rattle.model.specs.Callers.{Caller}
 use Rattle.model.specs.Cases.{Case}
-use Rattle.model.specs.Answers.{Denial, by_rule, by_rules, may_push, confirms, receives}
-use Rattle.model.specs.Locks.{ref_or_default}
-use Rattle.model.specs.Objects.{put_verdict, verify_verdict}
-use Rattle.desk.specs.Objects.{has_place, size_check}
-use Rattle.desk.specs.Rights.{IsUserOf, case_policy, case_repo, case_user}
 use Rattle.desk.specs.declared.cases.Case as code
 use Rattle.desk.proofs.Unchanged.{IsQuiet}
 

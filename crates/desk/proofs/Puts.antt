@@ -1,32 +1,14 @@
 -- Requests to upload an object: denied before its content is read, or answered by all of it.
-use Rattle.std.proofs.Common.{◌≡◌, ◌∙◌, ℕ, false, true, List, ◌++◌, length, Result, Ok, Err, is_ok, is_err, refl, sym, ap, subst, append-nil, arith}
-use Rattle.std.specs.Prelude.{IfOk, OnOk, IfErr}
+use Rattle.desk.proofs.Prelude.{◌≡◌, ◌∙◌, ℕ, false, true, List, ◌++◌, length, Result, Ok, Err, is_ok, is_err, refl, sym, ap, subst, append-nil, arith, IfOk, OnOk, nil_from_length, Ghosts, World, PutForm, Answer, Denial, Plan, receives, put_verdict, content_verdict, Store, StoreFault, From, Reads, reads_lead, Answered, AnswerFault, Receipt, Differs, Reply, HasRead, IsLeftBy, IsReplyOf, IsUserOf, case_repo, case_seen, Answers, AnswersIf, AnswersRequest, IsAnsweredAs, verdict_by, RepliesReceived, Receives, object_from, answer_of}
+use Rattle.std.specs.Prelude.{IfErr}
 use Rattle.std.specs.declared.alloc.AllocError.{AllocError}
 use Rattle.std.proofs.lemmas.Bool.{true≢false}
-use Rattle.std.proofs.lemmas.List.{nil_from_length}
-use Rattle.sqlite_trees.specs.declared.store.Store.{Ghosts}
 use Rattle.names.specs.declared.bodies.Body.{Ghosts as BodyGhosts}
-use Rattle.model.specs.World.{World}
 use Rattle.model.specs.Callers.{Caller}
-use Rattle.model.specs.Forms.{PutForm}
-use Rattle.model.specs.Answers.{Answer, Denial, Plan, receives}
-use Rattle.model.specs.Objects.{put_verdict, content_verdict}
-use Rattle.tables.specs.declared.Store.{Store}
-use Rattle.tables.specs.declared.fault.StoreFault.{StoreFault}
-use Rattle.refinement.specs.Left.{From, Gives, Reads}
-use Rattle.refinement.proofs.Leading.{reads_lead}
+use Rattle.refinement.specs.Left.{Gives}
 use Rattle.desk.specs.declared.cases.Case.{Case}
-use Rattle.desk.specs.declared.outcomes.Answered.{Answered}
-use Rattle.desk.specs.declared.outcomes.AnswerFault.{AnswerFault}
 use Rattle.desk.specs.declared.outcomes.AnswerFault.TheVariants as fault
-use Rattle.desk.specs.declared.receiving.Receipt.{Receipt}
-use Rattle.desk.specs.declared.receiving.Receipt.TheVariants.{Stored, Differs}
-use Rattle.desk.specs.declared.replies.Reply.{Reply}
-use Rattle.desk.specs.Contents.{HasRead, IsLeftBy}
-use Rattle.desk.specs.Replies.{IsReplyOf}
-use Rattle.desk.specs.Rights.{IsUserOf, case_repo, case_seen}
-use Rattle.desk.specs.Done.{Answers, AnswersIf, AnswersRequest, IsAnsweredAs, verdict_by}
-use Rattle.desk.specs.Receiving.{RepliesReceived, Receives, object_from, answer_of}
+use Rattle.desk.specs.declared.receiving.Receipt.TheVariants.{Stored}
 use Rattle.desk.proofs.Arriving.{kept_refused}
 use Rattle.desk.proofs.Early.{answered_then}
 use Rattle.desk.proofs.Lent.{serves_object, none_lent}

@@ -1,40 +1,16 @@
 -- The verdict on a request to release a lock, from the lock that is found.
-use Rattle.std.proofs.Common.{◌≡◌, ◌∙◌, ◌<◌, ◌==◌, ◌&&◌, ℕ, Bool, true, false, List, [], ◌∷◌, find, cond, Option, Some, None, is_some, Result, Ok, Err, if◌then◌else◌, refl, sym, ap, subst, arith}
-use Rattle.std.specs.Prelude.{IsErrAnd}
+use Rattle.desk.proofs.Prelude.{◌≡◌, ◌∙◌, ◌<◌, ◌==◌, ◌&&◌, ℕ, Bool, true, false, List, [], ◌∷◌, find, cond, Option, Some, None, is_some, Result, Ok, Err, if◌then◌else◌, refl, sym, ap, subst, arith, IsErrAnd, Ghosts, Question, changed, failed, found_passes, Store, StoreFault, Ends, Removes, Reply, IsReplyOf, AnswersAlone, NotGranted, AllByRecursion, nat_tests, L2, L3, ◌>>=◌, check, ok_or, World, Lock, IsWorld, locks_of, UnlockForm, lock_question, sees, Denial, permit, releases, by_rule, by_rules, store_refusal, release_verdict, unlock_verdict, IsBelow, lock_with, case_policy, case_repo, case_user, case_seen, denial_view, IsUserOf, Judges, right_to_release, found_verdict}
 use Rattle.std.proofs.lemmas.Bool.{true≢false}
-use Rattle.sqlite_trees.specs.declared.store.Store.{Ghosts}
 use Rattle.model.specs.declared.Right.{Right}
-use Rattle.model.specs.Policy.{Question}
-use Rattle.model.specs.Bounds.{changed, failed}
-use Rattle.model.proofs.Lists.{found_passes}
-use Rattle.tables.specs.declared.Store.{Store}
-use Rattle.tables.specs.declared.fault.StoreFault.{StoreFault}
-use Rattle.refinement.specs.Left.{Ends, Gives}
+use Rattle.refinement.specs.Left.{Gives}
 use Rattle.refinement.specs.Removal.{without_found}
-use Rattle.locks.specs.Removing.{Removes}
 use Rattle.desk.proofs.Lent.{none_lent}
 use Rattle.desk.specs.declared.cases.Denial as code
-use Rattle.desk.specs.declared.replies.Reply.{Reply}
-use Rattle.desk.specs.Replies.{IsReplyOf}
-use Rattle.desk.specs.Done.{AnswersAlone}
-use Rattle.desk.specs.declared.outcomes.NotGranted.{NotGranted}
-use Rattle.std.specs.List.{AllByRecursion}
-use Rattle.std.proofs.lemmas.Bool.Decides.{nat_tests}
-use Rattle.names.specs.declared.rules.Rule.TheVariants.{L2, L3}
 use Rattle.model.specs.declared.Right.TheVariants as right
-use Rattle.model.specs.Reading.{◌>>=◌, check, ok_or}
-use Rattle.model.specs.World.{World, Lock, IsWorld}
-use Rattle.model.specs.RepoState.{locks_of}
-use Rattle.model.specs.Forms.{UnlockForm}
-use Rattle.model.specs.Callers.{Caller, is_own, lock_question, sees}
-use Rattle.model.specs.Answers.{Denial, permit, releases, by_rule, by_rules, store_refusal}
-use Rattle.model.specs.Locks.{release_verdict, unlock_verdict}
-use Rattle.model.specs.Pages.{IsBelow}
+use Rattle.model.specs.Callers.{Caller, is_own}
 use Rattle.model.proofs.Pages.{Rise, rise_from, locks_rise}
-use Rattle.locks.specs.Finding.{lock_with}
 use Rattle.desk.specs.declared.cases.Case.{Case}
-use Rattle.desk.specs.Rights.{case_policy, case_repo, case_user, case_seen, denial_view, IsUserOf, Judges}
-use Rattle.desk.specs.Unlocking.{right_to_release, lock_verdict, found_verdict}
+use Rattle.desk.specs.Unlocking.{lock_verdict}
 
 -- ---- the lock that the caller sees
 

@@ -1,26 +1,12 @@
 -- Pages of locks, from their rows to what a client sees.
-use Rattle.std.proofs.Common.{◌≡◌, ◌∙◌, ℕ, Bool, true, false, ◌&&◌, not, List, [], ◌∷◌, map, filter, Option, Some, None, option_map, Bor, Result, Ok, Err, bytes_eq, refl, sym, ap}
-use Rattle.std.specs.List.{AllZip}
+use Rattle.desk.proofs.Prelude.{◌≡◌, ◌∙◌, ℕ, Bool, true, false, ◌&&◌, not, List, [], ◌∷◌, map, filter, Option, Some, None, option_map, Bor, Result, Ok, Err, bytes_eq, refl, sym, ap, AllZip, ◌>>=◌, World, Lock, locks_of, ListForm, VerifyLocksForm, may_list, pull_question, push_question, Answer, Denial, Page, lists, splits, by_rules, permit, meets, list_verdict, listed_locks, ref_locks, ref_or_default, verify_locks_verdict, cursor_in, page_limit, page_of, IsOf, lock_shown, LockRow, lock_seen, form_of_filter, is_wanted, lock_part, IsUserOf, case_policy, case_repo, case_seen, case_user}
 use Rattle.std.specs.Option.{option_copied}
 use Rattle.sqlite_trees.proofs.ListLemmas.{filter-map}
-use Rattle.model.specs.Reading.{◌>>=◌}
-use Rattle.model.specs.World.{World, Lock}
-use Rattle.model.specs.RepoState.{locks_of}
-use Rattle.model.specs.Forms.{ListForm, VerifyLocksForm}
-use Rattle.model.specs.Callers.{Caller, is_own, may_list, pull_question, push_question}
-use Rattle.model.specs.Answers.{Answer, Denial, Page, lists, splits, by_rules, permit}
-use Rattle.model.specs.Locks.{meets, list_verdict, listed_locks, ref_locks, ref_or_default, verify_locks_verdict}
-use Rattle.model.specs.Pages.{cursor_in, page_limit, page_of}
-use Rattle.forms.specs.ShownLocks.{IsOf, lock_shown}
+use Rattle.model.specs.Callers.{Caller, is_own}
 use Rattle.forms.specs.declared.shown_lock.ShownLock.{ShownLock}
-use Rattle.tables.specs.declared.rows.LockRow.{LockRow}
 use Rattle.refinement.proofs.Tokens.{filter_alike}
-use Rattle.locks.specs.Finding.{lock_seen}
 use Rattle.cursor.specs.Owners.{is_owned, is_other}
-use Rattle.cursor.specs.Wanted.{form_of_filter, is_wanted}
 use Rattle.cursor.specs.declared.filters.Filter.{Filter}
-use Rattle.desk.specs.Locking.{lock_part}
-use Rattle.desk.specs.Rights.{IsUserOf, case_policy, case_repo, case_seen, case_user}
 use Rattle.desk.specs.Paging.{filter_by_ref, filters_of, list_start, verify_start}
 use Rattle.desk.specs.declared.cases.Case.{Case}
 use Rattle.desk.proofs.Unchanged.{IsQuiet}

@@ -1,27 +1,12 @@
 -- Requests that only read the store: their replies, and what a stop leaves.
-use Rattle.std.proofs.Common.{◌≡◌, ◌∙◌, ℕ, Bool, true, false, cond, List, Some, Result, Ok, Err, refl, sym, ap, subst}
-use Rattle.std.specs.Prelude.{IsErrAnd, ⊤}
-use Rattle.sqlite_trees.specs.declared.store.Store.{Ghosts}
-use Rattle.model.specs.World.{World, Object, IsWorld}
+use Rattle.desk.proofs.Prelude.{◌≡◌, ◌∙◌, ℕ, Bool, true, false, cond, List, Some, Result, Ok, Err, refl, sym, ap, subst, IsErrAnd, Ghosts, World, Object, IsWorld, Answer, Denial, serves, is_store_refusal, plan_to, plan_for, failed, unchanged, is_changed, answer_ending, Store, Holds, StoreFault, From, KeepsTables, LeavesTables, Reads, Ends, reads_lead, reads_none, ends_still, leaves_kept, Reply, IsReplyOf, Lends, Answers, AnswersAlone, AnswersCaller, AnswersEach, AnswersUser, RepliesOrDenies, given_by, verdict_by, IsCallerOf, case_repo, case_seen, denial_view, NotGranted}
+use Rattle.std.specs.Prelude.{⊤}
 use Rattle.model.specs.Callers.{Caller}
 use Rattle.model.specs.Forms.{Request}
 use Rattle.model.specs.Cases as cases
-use Rattle.model.specs.Answers.{Answer, Denial, serves, is_store_refusal}
-use Rattle.model.specs.Verdict.{plan_to, plan_for}
 use Rattle.model.specs.Steps.{after}
-use Rattle.model.specs.Bounds.{failed, unchanged, is_changed, answer_ending}
-use Rattle.tables.specs.declared.Store.{Store}
-use Rattle.refinement.specs.Representation.{Holds}
-use Rattle.tables.specs.declared.fault.StoreFault.{StoreFault}
-use Rattle.refinement.specs.Left.{From, KeepsTables, LeavesTables, Reads, Ends}
-use Rattle.refinement.proofs.Leading.{reads_lead, reads_none, ends_still, leaves_kept}
-use Rattle.desk.specs.declared.replies.Reply.{Reply}
-use Rattle.desk.specs.Replies.{IsReplyOf, Lends}
-use Rattle.desk.specs.Done.{Answers, AnswersAlone, AnswersCaller, AnswersEach, AnswersUser, RepliesOrDenies, given_by, verdict_by}
-use Rattle.desk.specs.Rights.{IsCallerOf, case_repo, case_seen, denial_view}
 use Rattle.desk.specs.declared.cases.Case.{Case}
 use Rattle.desk.specs.declared.cases.Denial as code
-use Rattle.desk.specs.declared.outcomes.NotGranted.{NotGranted}
 use Rattle.desk.specs.declared.outcomes.NotGranted.TheVariants as not_granted
 use Rattle.desk.proofs.Verdicts.{answer_finished, denied_done, refused_done}
 use Rattle.desk.proofs.Lent.{serves_object, none_lent}

@@ -1,47 +1,22 @@
 -- How the definitions decide a request, step by step.
-use Rattle.std.proofs.Common.{◌≡◌, ◌∙◌, ℕ, not, ◌||◌, List, Some, Result, Ok, Err, bytes_eq, refl, sym, ap₂, subst}
-use Rattle.std.specs.Prelude.{IsErrAnd}
+use Rattle.desk.proofs.Prelude.{◌≡◌, ◌∙◌, ℕ, not, ◌||◌, List, Some, Result, Ok, Err, bytes_eq, refl, sym, ap₂, subst, IsErrAnd, Ghosts, Rule, repo_text, ◌>>=◌, check, ok_or, World, Repo, Question, repo_named, needs_upload, is_upload, caller_by, lock_question, Answer, Denial, Plan, by_rule, by_rules, permit, store_refusal, place_verdict, new_lock, finish, plan_to, plan_for, caller_plan, desk_plan, failed, left_by, answer_ending, lock_asked, Store, StoreFault, Holds, Leads, KeepsTables, Reads, ends_still, denial_changes_none, leaves_then, reads_lead, still_then, Answers, AnswersAlone, AnswersOrDenies, given_by, given_or, NotGranted, IsReplyOf, Reply, admission_result, state_of, lock_wanted, IsWantedBy, question_on, allowed_verdict, IsUserOf, case_policy, case_seen, NewLock}
 use Rattle.std.specs.Bool.{⊤}
-use Rattle.sqlite_trees.specs.declared.store.Store.{Ghosts}
-use Rattle.names.specs.declared.rules.Rule.{Rule}
 use Rattle.names.specs.declared.rules.Rule.TheVariants as rule
-use Rattle.names.specs.Names.{repo_text}
 use Rattle.model.specs.declared.Right.TheVariants as right
-use Rattle.model.specs.Reading.{◌>>=◌, check, ok_or}
 use Rattle.model.specs.World as kept
-use Rattle.model.specs.World.{World}
-use Rattle.model.specs.Policy.{Policy, Repo, Question, repo_named}
-use Rattle.model.specs.Forms.{Request, needs_upload, is_upload}
+use Rattle.model.specs.Policy.{Policy}
+use Rattle.model.specs.Forms.{Request}
 use Rattle.model.specs.Callers as model
-use Rattle.model.specs.Callers.{caller_by, lock_question}
 use Rattle.model.specs.Cases.{Setting, DeskRequest, case_in}
-use Rattle.model.specs.Answers.{Answer, Denial, Plan, by_rule, by_rules, permit, store_refusal}
-use Rattle.model.specs.Locks.{place_verdict, lock_verdict, new_lock}
-use Rattle.model.specs.Objects.{finish}
-use Rattle.model.specs.Verdict.{plan_to, plan_for, caller_plan, desk_plan}
+use Rattle.model.specs.Locks.{lock_verdict}
 use Rattle.model.specs.Steps.{after}
-use Rattle.model.specs.Bounds.{failed, left_by, answer_ending}
-use Rattle.forms.specs.Requests.{lock_asked}
 use Rattle.forms.specs.declared.lock.LockRequest.{LockRequest}
-use Rattle.tables.specs.declared.Store.{Store}
-use Rattle.tables.specs.declared.fault.StoreFault.{StoreFault}
-use Rattle.refinement.specs.Representation.{Holds}
-use Rattle.refinement.specs.Left.{Leads, Gives, KeepsTables, Reads}
-use Rattle.refinement.proofs.Leading.{ends_still, denial_changes_none, leaves_then, reads_lead, still_then}
+use Rattle.refinement.specs.Left.{Gives}
 use Rattle.tokens.specs.Callers.{IsHolder}
 use Rattle.tokens.specs.declared.callers.Caller.{Caller}
-use Rattle.desk.specs.Done.{Answers, AnswersAlone, AnswersOrDenies, given_by, given_or}
-use Rattle.desk.specs.declared.outcomes.NotGranted.{NotGranted}
 use Rattle.desk.specs.declared.outcomes.NotGranted.TheVariants as not_granted
 use Rattle.desk.proofs.Lent.{none_lent}
-use Rattle.desk.specs.Replies.{IsReplyOf}
-use Rattle.desk.specs.declared.replies.Reply.{Reply}
-use Rattle.desk.specs.Admission.{admission_result}
-use Rattle.locks.specs.Creating.{state_of, lock_wanted}
-use Rattle.desk.specs.Locking.{IsWantedBy, question_on, allowed_verdict}
-use Rattle.desk.specs.Rights.{IsUserOf, case_policy, case_seen}
 use Rattle.desk.specs.declared.cases.Case.{Case}
-use Rattle.tables.specs.declared.new_rows.NewLock.{NewLock}
 
 -- successive checks by rules are one check by the first of them that fails
 checks_joined : (own : Result ⊤ Rule) (repo : Result Repo Rule) (asked : Result Request Rule) (covered : Request → Result ⊤ Rule) (f : Repo → Request → Result Plan Denial)

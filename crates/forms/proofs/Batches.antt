@@ -1,16 +1,7 @@
 -- Whether basic is among the transfers of a batch.
-use Rattle.std.proofs.Common.{◌≡◌, ℕ, Bool, ◌||◌, ◌==◌, List, [], ◌∷◌, length, Option, Some, None, Result, Ok, bytes_eq, codes, option_and_then, option_map, refl, arith}
-use Rattle.std.specs.List.{list_any}
-use Rattle.std.proofs.lemmas.Bool.{ne_eqb}
-use Rattle.serde_json.specs.Data.{Items}
-use Rattle.serde_json.specs.Find.{as_str}
-use Rattle.serde_json.specs.View.{items_view, view}
+use Rattle.forms.proofs.Prelude.{◌≡◌, ℕ, Bool, ◌||◌, ◌==◌, List, [], ◌∷◌, length, Option, Some, None, Result, Ok, bytes_eq, codes, option_and_then, option_map, refl, arith, list_any, ne_eqb, Items, as_str, items_view, Rule, J1, ◌>>=◌, ok_or, each_as, has_basic, has_basic_in}
+use Rattle.serde_json.specs.View.{view}
 use Rattle.serde_json.specs.declared.value.Value.{Value}
-use Rattle.names.specs.declared.rules.Rule.{Rule}
-use Rattle.names.specs.declared.rules.Rule.TheVariants.{J1}
-use Rattle.model.specs.Reading.{◌>>=◌, ok_or}
-use Rattle.model.specs.Forms.{each_as, has_basic}
-use Rattle.forms.specs.Given.{has_basic_in}
 
 abbrev is_basic : List ℕ → Bool
 is_basic name = bytes_eq name (codes "basic")

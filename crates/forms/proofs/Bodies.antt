@@ -1,19 +1,11 @@
 -- What a body asks for, by way of its JSON value.
-use Rattle.std.proofs.Common.{◌≡◌, ℕ, Bool, true, false, ◌&&◌, List, Option, Some, None, Result, Ok, Err, refl, sym, ap, ◌∙◌, codes, if◌then◌else◌, length, nat_le, option_and_then, IsTrue}
+use Rattle.forms.proofs.Prelude.{◌≡◌, ℕ, Bool, true, false, ◌&&◌, List, Option, Some, None, Result, Ok, Err, refl, sym, ap, ◌∙◌, codes, if◌then◌else◌, length, nat_le, option_and_then, IsTrue, true≢false, Num, Data, null, boolean, number, string, array, object, Members, as_object, as_str, as_number, as_bool, as_u64, is_hex_64, is_lock_path, is_ref, lock_id_in, Rule, J1, J2, J3, J4, ◌>>=◌, check, ok_or, or_default, BatchForm, BatchObject, VerifyForm, LockForm, members_of, as_array_of, as_batch_object, as_name, has_basic, object_limit, operation_in, optional, is_if_given, is_size, if_not_empty, query_ref, whole_if_given, BatchKeys, ObjectKeys, VerifyLocksKeys, UnlockKeys, batch_keys, batch_objects, batch_in_range, object_keys, verify_in_range, lock_fields, in_range, value_of, if_object, object_of, verify_locks_keys, verify_locks_in_range, unlock_keys, unlock_in_range, within}
 use Rattle.std.specs.Str.{is_utf8, IsUtf8}
-use Rattle.std.proofs.lemmas.Bool.{true≢false}
 use Rattle.std.proofs.lemmas.Str.{IsUtf8-from_is_utf8, is_utf8-from_IsUtf8}
-use Rattle.serde_json.specs.Data.{Num, Data, null, boolean, number, string, array, object, Members}
 use Rattle.serde_json.specs.Read.{read}
-use Rattle.serde_json.specs.Find.{as_object, as_str, as_number, as_bool, as_u64}
-use Rattle.names.specs.Texts.{is_hex_64, is_lock_path, is_ref, lock_id_in}
-use Rattle.names.specs.declared.rules.Rule.{Rule}
-use Rattle.names.specs.declared.rules.Rule.TheVariants.{J1, J2, J3, J4}
 use Rattle.names.specs.declared.operations.Operation.{Operation}
-use Rattle.model.specs.Reading.{◌>>=◌, check, ok_or, or_default}
 use Rattle.model.specs.Forms as form
-use Rattle.model.specs.Forms.{BatchForm, BatchObject, VerifyForm, LockForm, batch_form, verify_form, lock_form, verify_locks_form, unlock_form, members_of, as_array_of, as_batch_object, as_name, has_basic, object_limit, operation_in, optional, is_if_given, is_size, if_not_empty, query_ref, whole_if_given}
-use Rattle.forms.specs.Given.{BatchKeys, ObjectKeys, VerifyLocksKeys, UnlockKeys, batch_keys, batch_objects, batch_in_range, object_keys, verify_in_range, lock_fields, in_range, value_of, if_object, object_of, verify_locks_keys, verify_locks_in_range, unlock_keys, unlock_in_range, within}
+use Rattle.model.specs.Forms.{batch_form, verify_form, lock_form, verify_locks_form, unlock_form}
 
 pub no_text : (body : List ℕ) → ¬ (IsUtf8 body) → None ≡ value_of body
 no_text body bad = at (is_utf8 body) refl

@@ -1,14 +1,9 @@
 -- The number that 1 to 10 digits write, with or without a minus sign.
-use Rattle.std.proofs.Common.{◌≡◌, ◌≢◌, ℕ, ◌≤◌, ◌^◌, ◌<◌, true, List, [], ◌∷◌, length, Option, Some, Result, Ok, ℤ, pos, option_map, refl, sym, ap, ◌∙◌, arith, rules}
-use Rattle.std.specs.Char.{is_ascii_digit}
+use Rattle.forms.proofs.Prelude.{◌≡◌, ◌≢◌, ℕ, ◌≤◌, ◌^◌, ◌<◌, true, List, [], ◌∷◌, length, Option, Some, Result, Ok, ℤ, pos, option_map, refl, sym, ap, ◌∙◌, arith, rules, is_ascii_digit, list_all, le-leb, ne_eqb, Ok-from_Ok_iff, short_number_in, limit_in}
 use Rattle.std.specs.Int.{w64}
-use Rattle.std.specs.List.{list_all}
 use Rattle.std.specs.Result.{result_ok}
 use Rattle.std.specs.Str.Parse.{digits_value, ParsesSigned}
-use Rattle.std.proofs.lemmas.Bool.{le-leb, ne_eqb}
-use Rattle.std.proofs.lemmas.Result.{Ok-from_Ok_iff}
 use Rattle.std.proofs.lemmas.Str.Parse.{IsNumeralModel, numerals_by_value, parse_signed_digits, digits_value_short}
-use Rattle.model.specs.Forms.{short_number_in, limit_in}
 
 abbrev AreDigits : List ℕ → Type 0
 AreDigits ds = list_all is_ascii_digit ds ≡ true

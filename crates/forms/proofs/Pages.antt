@@ -1,16 +1,11 @@
 -- The JSON of several locks.
-use Rattle.std.proofs.Common.{◌≡◌, ℕ, false, List, [], ◌∷◌, map, Option, Some, None, refl, sym, ap, ◌∙◌, Bor}
-use Rattle.serde_json.specs.Data.{Data, array, item}
+use Rattle.forms.proofs.Prelude.{◌≡◌, ℕ, false, List, [], ◌∷◌, map, Option, Some, None, refl, sym, ap, ◌∙◌, Bor, Data, array, item, compact_text, has_float, items_have_float, items_of, lock_data, locks_data, list_json, split_json, reply_of, json, IsOf, AreOf, lock_shown, page_shown, split_data, split_shown, ShownLock}
 use Rattle.serde_json.specs.View as view
-use Rattle.serde_json.specs.Written.{compact_text, has_float, items_have_float}
 use Rattle.model.specs.World.{Lock}
 use Rattle.model.specs.Answers.{Page}
 use Rattle.model.specs.Answers as model
-use Rattle.model.specs.Replies.{items_of, lock_data, locks_data, list_json, split_json, reply_of, json}
 use Rattle.forms.specs.Replies.{IsPageOf, IsSplitOf, IsAnswer}
 use Rattle.forms.specs.declared.answer.Answer.TheVariants.{Listed, Split}
-use Rattle.forms.specs.ShownLocks.{IsOf, AreOf, lock_shown, page_shown, split_data, split_shown}
-use Rattle.forms.specs.declared.shown_lock.ShownLock.{ShownLock}
 use Rattle.forms.specs.declared.page.ShownPage.{ShownPage}
 use Rattle.forms.specs.declared.page.SplitPage.{SplitPage}
 

@@ -1,14 +1,6 @@
 -- What a query asks for, by way of its pairs.
-use Rattle.std.proofs.Common.{◌≡◌, ℕ, true, false, List, [], ◌∷◌, ◌++◌, Option, Some, None, Result, Ok, Err, refl, codes, ◌&&◌, ◌==◌, length, arith}
-use Rattle.std.proofs.lemmas.Bool.Decides.{nat_tests}
-use Rattle.std.specs.Prelude.{bytes_eq}
-use Rattle.form_urlencoded.specs.Form.{raw_pairs}
-use Rattle.names.specs.Texts.{is_hex_64, is_lock_path, is_ref, lock_id_in}
-use Rattle.names.specs.declared.rules.Rule.{Rule}
-use Rattle.names.specs.declared.rules.Rule.TheVariants.{J2}
-use Rattle.model.specs.Reading.{◌>>=◌, check}
-use Rattle.model.specs.Forms.{put_form, list_form, decode_text, query_ref, query_single, query_value, is_if_given, if_not_empty, limit_in, read_if_given}
-use Rattle.forms.specs.Given.{ListKeys, list_keys, list_in_range, only, values_among, within}
+use Rattle.forms.proofs.Prelude.{◌≡◌, ℕ, true, false, List, [], ◌∷◌, ◌++◌, Option, Some, None, Result, Ok, Err, refl, codes, ◌&&◌, ◌==◌, length, arith, nat_tests, bytes_eq, raw_pairs, is_hex_64, is_lock_path, is_ref, lock_id_in, Rule, J2, ◌>>=◌, check, decode_text, query_ref, query_single, is_if_given, if_not_empty, limit_in, read_if_given, ListKeys, list_keys, list_in_range, only, values_among, within}
+use Rattle.model.specs.Forms.{put_form, list_form, query_value}
 use Rattle.forms.proofs.Bodies.{both_within, one_within}
 
 -- ---- one key

@@ -1,11 +1,7 @@
 -- Refusals that are passed on.
-use Rattle.std.proofs.Common.{◌≡◌, Result, Ok, Err, refl, sym, subst}
-use Rattle.std.specs.Prelude.{IsErrAnd}
-use Rattle.names.specs.declared.rules.Rule.{Rule}
-use Rattle.model.specs.Reading.{◌>>=◌}
+use Rattle.forms.proofs.Prelude.{◌≡◌, Result, Ok, Err, refl, sym, subst, IsErrAnd, Rule, ◌>>=◌, IsRefusedBy, Reads}
 use Rattle.forms.specs.declared.refusal.Refusal.{Refusal}
 use Rattle.forms.specs.declared.refusal.Refusal.TheVariants as refusal
-use Rattle.forms.specs.Given.{IsRefusedBy, Reads}
 
 -- a rule that was turned into a refusal
 pub by_rule : {Y : Type 0} (e : Refusal) (rule : Rule) (read : Result Y Rule) → e ≡ refusal.Rule rule → read ≡ Err rule → IsRefusedBy e read

@@ -1,11 +1,7 @@
 -- The JSON of a batch.
-use Rattle.std.proofs.Common.{◌≡◌, false, List, [], ◌∷◌, map, Result, Ok, Err, refl, ap, ◌∙◌}
-use Rattle.serde_json.specs.Data.{object}
-use Rattle.serde_json.specs.Written.{has_float, items_have_float}
-use Rattle.names.specs.declared.rules.Rule.{Rule}
+use Rattle.forms.proofs.Prelude.{◌≡◌, false, List, [], ◌∷◌, map, Result, Ok, Err, refl, ap, ◌∙◌, object, has_float, items_have_float, Rule, items_of, members, offer_data, offer_members, batch_json, offer_at, offer_json, result_at}
 use Rattle.model.specs.Answers as model
-use Rattle.model.specs.Replies.{items_of, members, offer_data, offer_members, batch_json}
-use Rattle.forms.specs.Offers.{AreTextsOf, offer_at, offer_json, result_at}
+use Rattle.forms.specs.Offers.{AreTextsOf}
 use Rattle.forms.specs.declared.offers.Actions.{Actions}
 use Rattle.forms.specs.declared.offers.Actions.TheVariants.{Download, Upload, Stored}
 use Rattle.forms.specs.declared.offers.Links.{Links}

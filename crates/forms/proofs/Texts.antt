@@ -1,11 +1,7 @@
 -- The JSON of a lock, from its texts.
-use Rattle.std.proofs.Common.{◌≡◌, decimal, refl}
+use Rattle.forms.proofs.Prelude.{◌≡◌, decimal, refl, lock_data, lock_shown, data_of_texts, LockTexts, ShownLock}
 use Rattle.names.specs.Names.{user_text, path_text}
 use Rattle.model.specs.Moments.{moment_text}
-use Rattle.model.specs.Replies.{lock_data}
-use Rattle.forms.specs.ShownLocks.{lock_shown, data_of_texts}
-use Rattle.forms.specs.declared.shown_lock.LockTexts.{LockTexts}
-use Rattle.forms.specs.declared.shown_lock.ShownLock.{ShownLock}
 
 -- the texts are those of the shown lock
 pub record AreTextsOf (t : LockTexts) (shown : ShownLock) : Type 0 where

@@ -1,7 +1,7 @@
 -- The escapes of a text, by its first bytes.
-use Rattle.std.proofs.Common.{◌≡◌, ◌∙◌, refl, sym, ap, ℕ, true, false, List, [], ◌∷◌, ◌++◌, append_assoc}
+use Rattle.operator.proofs.Prelude.{◌≡◌, ◌∙◌, refl, sym, ap, ℕ, true, false, List, [], ◌∷◌, ◌++◌, append_assoc, escape, is_control}
 use Rattle.std.proofs.lemmas.List.{append-nil}
-use Rattle.operator.specs.Escapes.{escape, escaped, is_control}
+use Rattle.operator.specs.Escapes.{escaped}
 
 -- a control character first
 pub escaped_control : (byte next : ℕ) (rest : List ℕ) → is_control byte next ≡ true → escaped (byte ∷ next ∷ rest) ≡ escape next ++ escaped rest

@@ -1,3 +1,4 @@
+mod Prelude
 mod Escaping
 pub mod Working
 pub mod Reached

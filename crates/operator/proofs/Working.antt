@@ -1,26 +1,15 @@
 -- Calls that lead a store by the steps of a run, one after another; for proofs in other crates too.
-use Rattle.std.specs.Prelude.{⊤}
-use Rattle.std.proofs.Common.{◌≡◌, ℕ, List, [], ◌∷◌, ◌++◌, Result, Ok, Err, MatchResult, refl, sym, ap, subst}
+use Rattle.operator.proofs.Prelude.{⊤, ◌≡◌, ℕ, List, [], ◌∷◌, ◌++◌, Result, Ok, Err, MatchResult, refl, sym, ap, subst, World, Event, Run, Bound, bound_after, reports_are_true, run_append, IsBoundedBy, Leads, Keeps, Takes, From, Reads, leads_none, reads_lead, from_weaker, Prunes, Sweeps, Work, takes, keeps, steps_of, bound_of_works, Works}
 use Rattle.sqlite_trees.specs.declared.store.Store.{Ghosts}
-use Rattle.model.specs.World.{World}
-use Rattle.model.specs.Steps.{Event, Run}
-use Rattle.model.specs.Bounds.{Bound, bound_after}
-use Rattle.model.proofs.Left.{reports_are_true}
-use Rattle.model.proofs.Progress.{run_append}
 use Rattle.tables.specs.declared.Store.{Store}
 use Rattle.tables.specs.declared.fault.StoreFault.{StoreFault}
 use Rattle.refinement.specs.Representation.{Holds}
-use Rattle.refinement.specs.Left.{IsBoundedBy, Leads, Keeps, Takes, From, Reads}
-use Rattle.refinement.proofs.Leading.{leads_none, reads_lead, from_weaker}
 use Rattle.tokens.specs.declared.issuing.TokenFault.{TokenFault}
 use Rattle.tokens.specs.declared.requests.TokenRequest.{TokenRequest}
 use Rattle.tokens.specs.Issuing.{Issues, Refuses}
-use Rattle.tokens.specs.Pruning.{Prunes}
-use Rattle.uploads.specs.Removing.{Sweeps}
 use Rattle.operator.specs.declared.tasks.Task.{Task}
 use Rattle.operator.specs.declared.tasks.Task.TheVariants.{Issue, Prune, CheckPush, ListLocks, ListObjects, CheckObjects, Sweep}
 use Rattle.operator.specs.Tasks.{Does}
-use Rattle.operator.specs.Works.{Work, takes, keeps, steps_of, bound_of_works, Works}
 
 -- the steps of the calls, and of more calls
 steps_append : (before after : List Work) → steps_of (before ++ after) ≡ steps_of before ++ steps_of after

@@ -1,11 +1,9 @@
 -- The rows that apply to a question decide it as the policy does.
-use Rattle.std.proofs.Common.{◌≡◌, ◌∙◌, ℕ, ◌+◌, ◌<◌, Bool, true, false, ◌&&◌, List, [], ◌∷◌, length, map, drop, get_or, Option, cond, refl, ap}
-use Rattle.std.specs.List.{filter}
-use Rattle.model.specs.Policy.{Row, Question, Decision, decision_by, decide, decide_from, held_by}
-use Rattle.policy.specs.Applicable.{NumberedRow, numbered_from, applies, covers_place, decide_among, question_on, ApplicableRowsDecide}
+use Rattle.policy.proofs.Prelude.{◌≡◌, ◌∙◌, ℕ, ◌+◌, ◌<◌, Bool, true, false, ◌&&◌, List, [], ◌∷◌, length, map, drop, get_or, Option, cond, refl, ap, filter, Question, Decision, decision_by, decide, decide_from, held_by, numbered_from, applies, covers_place, decide_among, question_on, ApplicableRowsDecide, policy_view, question_view, row_view, numbered_view}
+use Rattle.model.specs.Policy.{Row}
+use Rattle.policy.specs.Applicable.{NumberedRow}
 use Rattle.policy.specs.declared.numbered.NumberedRow as code
 use Rattle.policy.specs.declared.applicable.ApplicableRows.{ApplicableRows}
-use Rattle.policy.specs.Values.{policy_view, question_view, row_view, numbered_view}
 use Rattle.policy.proofs.Steps.{map-drop}
 
 regrouped : (named ref path right : Bool) → (named && ref && path && right) ≡ ((named && right) && (ref && path))

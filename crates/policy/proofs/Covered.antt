@@ -1,13 +1,6 @@
 -- A row that covers another one matches each question that the other one matches.
-use Rattle.std.proofs.Common.{◌≡◌, ◌∙◌, ℕ, suc, ◌-◌, arith, Bool, true, false, ◌&&◌, ◌||◌, ◌==◌, List, [], ◌∷◌, ◌++◌, length, take, drop, get_or, Option, Some, None, codes, bytes_eq, refl, sym, ap, subst, append_assoc}
-use Rattle.std.specs.List.{list_all, list_any, ends_with}
-use Rattle.std.proofs.lemmas.Bool.{and_parts}
-use Rattle.std.proofs.lemmas.Bool.Decides.{Decides-eqb}
-use Rattle.std.proofs.lemmas.Slice.Eq.{starts_is, ends_is, bytes_eq-Decides}
-use Rattle.names.specs.Texts.{begins}
-use Rattle.model.specs.declared.Right.{Right}
+use Rattle.policy.proofs.Prelude.{◌≡◌, ◌∙◌, ℕ, suc, ◌-◌, arith, Bool, true, false, ◌&&◌, ◌||◌, ◌==◌, List, [], ◌∷◌, ◌++◌, length, take, drop, get_or, Option, Some, None, codes, bytes_eq, refl, sym, ap, subst, append_assoc, list_all, list_any, ends_with, and_parts, Decides-eqb, starts_is, ends_is, bytes_eq-Decides, begins, Right, is_any, holds, held_by, held_if_named, same_right}
 use Rattle.model.specs.declared.Right.TheVariants as right
-use Rattle.model.specs.Policy.{is_any, holds, held_by, held_if_named, same_right}
 use Rattle.policy.specs.Covering.{hold_all, have_all, CoveringRowMatches}
 
 -- ---- tests

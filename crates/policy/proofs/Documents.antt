@@ -1,10 +1,7 @@
 -- The TOML crate's values, as the lists that the policy language is defined on.
-use Rattle.std.proofs.Common.{◌≡◌, List, [], ◌∷◌, ℕ, Bool, ◌&&◌, map, Some, String, Global, string_bytes, refl, ap}
-use Rattle.std.specs.List.{list_all}
+use Rattle.policy.proofs.Prelude.{◌≡◌, List, [], ◌∷◌, ℕ, Bool, ◌&&◌, map, Some, String, Global, string_bytes, refl, ap, list_all, Data, as_array, items_of, items_view, view, members_view}
 use Rattle.std.specs.Map.{keys_of}
-use Rattle.toml.specs.Data.{Data, as_array}
 use Rattle.toml.specs.declared.value.Value.{Value}
-use Rattle.toml.specs.View.{items_of, items_view, view, members_view}
 use Rattle.policy.specs.Language.{list_of, names_of, as_values, is_name_of, has_only}
 use Rattle.policy.specs.declared.keys.Key.{Key}
 

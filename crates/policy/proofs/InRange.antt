@@ -1,11 +1,9 @@
 -- The properties of every policy, for proofs in other crates.
-use Rattle.std.proofs.Common.{get_or}
+use Rattle.policy.proofs.Prelude.{get_or, is_repo, is_ref, repo_view, policy_view}
 use Rattle.std.proofs.lemmas.List.Elements.{All-map}
-use Rattle.names.specs.Texts.{is_repo, is_ref}
 use Rattle.std.specs.Prelude.{IsTrue}
 use Rattle.model.specs.Policy as model
 use Rattle.policy.specs.declared.policies.Policy.{Policy}
-use Rattle.policy.specs.Values.{repo_view, policy_view}
 
 -- the names of its repositories are in range
 pub IsPolicy-policy_view : (p : Policy) → model.IsPolicy (policy_view p)

@@ -1,3 +1,4 @@
+mod Prelude
 pub mod InRange
 pub mod Lists
 pub mod Slashes

@@ -1,10 +1,5 @@
 -- A property of the items of a mapped list, as a property of the items themselves.
-use Rattle.std.proofs.Common.{◌≡◌, ◌∙◌, sym, length, Bool, true, false, ◌||◌, List, [], ◌∷◌, map, Option, Some, None, option_map, is_some, Bor, cond, refl, ap, ℕ, ◌&&◌, String, Global, string_bytes}
-use Rattle.std.proofs.lemmas.List.{length-map}
-use Rattle.std.proofs.lemmas.List.Folds.{list_all-map}
-use Rattle.std.specs.List.{list_any, list_all, find}
-use Rattle.std.specs.Option.{option_copied}
-use Rattle.policy.specs.Ranges.{texts, is_count, are_entries}
+use Rattle.policy.proofs.Prelude.{◌≡◌, ◌∙◌, sym, length, Bool, true, false, ◌||◌, List, [], ◌∷◌, map, Option, Some, None, option_map, is_some, Bor, cond, refl, ap, ℕ, ◌&&◌, String, Global, string_bytes, length-map, list_all-map, list_any, list_all, find, option_copied, texts, is_count, are_entries}
 
 pub list_any-map : {A B : Type 0} (test : B → Bool) (f : A → B) (xs : List A) → list_any test (map f xs) ≡ list_any (λ x. test (f x)) xs
 list_any-map test f [] = refl

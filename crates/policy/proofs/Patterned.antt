@@ -1,13 +1,6 @@
 -- Patterns that were read hold what the texts of the row hold.
-use Rattle.std.proofs.Common.{◌≡◌, ◌∙◌, ℕ, Bool, true, false, ◌||◌, ◌==◌, List, [], ◌∷◌, map, Option, Some, None, codes, bytes_eq, refl, sym, ap₂}
-use Rattle.std.proofs.lemmas.List.{append-nil}
-use Rattle.std.proofs.lemmas.Slice.Eq.{starts_is, bytes_eq-Decides}
-use Rattle.std.proofs.lemmas.Bool.Decides.{Decides-eqb}
-use Rattle.std.specs.List.{list_any, ends_with}
-use Rattle.names.specs.Texts.{begins}
-use Rattle.model.specs.Policy.{is_any, holds, held_if_named}
+use Rattle.policy.proofs.Prelude.{◌≡◌, ◌∙◌, ℕ, Bool, true, false, ◌||◌, ◌==◌, List, [], ◌∷◌, map, Option, Some, None, codes, bytes_eq, refl, sym, ap₂, append-nil, starts_is, bytes_eq-Decides, Decides-eqb, list_any, ends_with, begins, is_any, holds, held_if_named, pattern_of, pattern_view, pattern_holds, holds_every, hold_if_named}
 use Rattle.policy.specs.declared.patterns.Pattern as code
-use Rattle.policy.specs.Patterns.{pattern_of, pattern_view, pattern_holds, holds_every, hold_if_named}
 use Rattle.policy.proofs.Lists.{list_any-map}
 
 any_alike : {A : Type 0} (f g : A → Bool) (xs : List A) → ((x : A) → f x ≡ g x) → list_any f xs ≡ list_any g xs

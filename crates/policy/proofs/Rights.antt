@@ -1,11 +1,6 @@
 -- The rights that texts name: one for each text, if each text names a right.
-use Rattle.std.proofs.Common.{◌≡◌, ℕ, ◌+◌, List, [], ◌∷◌, length, Option, Some, None, is_some, option_map, unwrap_or, true, refl, arith}
-use Rattle.std.proofs.lemmas.Bool.{and_parts}
-use Rattle.std.specs.List.{list_all}
-use Rattle.model.specs.declared.Right.{Right}
-use Rattle.policy.specs.Ranges.{is_count, are_entries}
+use Rattle.policy.proofs.Prelude.{◌≡◌, ℕ, ◌+◌, List, [], ◌∷◌, length, Option, Some, None, is_some, option_map, unwrap_or, true, refl, arith, and_parts, list_all, Right, is_count, are_entries, rights_named}
 use Rattle.policy.specs.Language.{is_right, right_named}
-use Rattle.policy.specs.Reading.{rights_named}
 
 one_more : (right : Option Right) (names : List (List ℕ)) (rights : List Right) → is_some right ≡ true → length rights ≡ length names
     → length (unwrap_or (option_map (λ r. r ∷ rights) right) rights) ≡ length names + 1

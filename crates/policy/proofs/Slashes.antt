@@ -1,11 +1,6 @@
 -- The text before a slash at its end.
-use Rattle.std.proofs.Common.{◌≡◌, ◌≢◌, ℕ, ◌-◌, List, [], ◌∷◌, ◌++◌, length, Option, Some, None, option_map, true, refl, ap, sym, arith, length-append, Bor, inl, inr}
+use Rattle.policy.proofs.Prelude.{◌≡◌, ◌≢◌, ℕ, ◌-◌, List, [], ◌∷◌, ◌++◌, length, Option, Some, None, option_map, true, refl, ap, sym, arith, length-append, Bor, inl, inr, cases_Bool, Decides-eqb, ends_is, MatchOption, ends_in_slash, before_slash}
 use Rattle.std.proofs.Math.Seq.{take-append_seam}
-use Rattle.std.proofs.lemmas.Bool.{cases_Bool}
-use Rattle.std.proofs.lemmas.Bool.Decides.{Decides-eqb}
-use Rattle.std.proofs.lemmas.Slice.Eq.{ends_is}
-use Rattle.std.specs.Option.{MatchOption}
-use Rattle.policy.specs.Ranges.{ends_in_slash, before_slash}
 
 -- the text before the slash of a text that ends in a slash
 before_slash-append : (front : List ℕ) → before_slash (front ++ 47 ∷ []) ≡ Some front

@@ -1,23 +1,12 @@
 -- The repositories and rows of a file, one by one.
-use Rattle.std.proofs.Common.{◌≡◌, ◌∙◌, ℕ, ◌+◌, ◌<◌, List, [], ◌∷◌, ◌++◌, length, map, drop, get_or, true, false, not, ◌||◌, Option, None, is_some, refl, sym, ap, bytes_eq, Bor, append_assoc}
+use Rattle.policy.proofs.Prelude.{◌≡◌, ◌∙◌, ℕ, ◌+◌, ◌<◌, List, [], ◌∷◌, ◌++◌, length, map, drop, get_or, true, false, not, ◌||◌, Option, None, is_some, refl, sym, ap, bytes_eq, Bor, append_assoc, drop_more, map-append, list_any-append, true≢false, and_parts, or_parts, or_from, not-true, false_from_ne_true, bytes_eq-Decides, find, option_copied, repo_text, Data, is_among, are_distinct, repo_view, row_view, entry_fault, repos_fault, rows_fault, repo_in, table_in, repos_in, rows_in}
 use Rattle.std.specs.Bool.{IsTrue}
-use Rattle.std.proofs.lemmas.List.{drop_more, map-append}
-use Rattle.std.proofs.lemmas.List.Folds.{list_any-append}
-use Rattle.std.proofs.lemmas.Bool.{true≢false, and_parts, or_parts, or_from, not-true, false_from_ne_true}
-use Rattle.std.proofs.lemmas.Slice.Eq.{bytes_eq-Decides}
-use Rattle.std.specs.List.{find}
-use Rattle.std.specs.Option.{option_copied}
-use Rattle.names.specs.Names.{repo_text}
 use Rattle.policy.specs.declared.faults.Place.TheVariants as place
 use Rattle.policy.specs.Language.{repo_keys}
 use Rattle.policy.proofs.Lists.{list_any-map, is_some-find, is_some-copied}
-use Rattle.toml.specs.Data.{Data}
 use Rattle.policy.specs.declared.repos.Repo.{Repo}
 use Rattle.policy.specs.declared.rows.Row.{Row}
-use Rattle.policy.specs.Ranges.{is_among, are_distinct}
 use Rattle.policy.specs.Repos.{names_of}
-use Rattle.policy.specs.Values.{repo_view, row_view}
-use Rattle.policy.specs.Reading.{entry_fault, repos_fault, rows_fault, repo_in, table_in, repos_in, rows_in}
 
 -- the entries before number index + 1 were read without a fault
 pub record ReposSoFar (all : List Data) (index : ℕ) (repos : List Repo) (rest : List Data) : Type 0 where

@@ -1,16 +1,11 @@
 -- The verdict on a text is the verdict on its table.
-use Rattle.std.proofs.Common.{◌≡◌, ◌∙◌, ℕ, ◌≤◌, List, length, Option, Some, Result, Ok, Err, refl, le-leb}
+use Rattle.policy.proofs.Prelude.{◌≡◌, ◌∙◌, ℕ, ◌≤◌, List, length, Option, Some, Result, Ok, Err, refl, le-leb, false_from_ne_true, Members, PolicyFault, longest_file, Reads, IfRefused, Spells, at_place, fault_in, document_fault, policy_in}
 use Rattle.std.specs.Str.{IsUtf8, is_utf8}
-use Rattle.std.proofs.lemmas.Bool.{false_from_ne_true}
 use Rattle.std.proofs.lemmas.Str.{is_utf8-from_IsUtf8, IsUtf8-from_is_utf8}
 use Rattle.std.specs.Result.{IfOk, IfErr}
-use Rattle.toml.specs.Data.{Members}
 use Rattle.toml.specs.Parse.{parse_document}
 use Rattle.policy.specs.declared.faults.Fault.{Fault}
-use Rattle.policy.specs.declared.faults.PolicyFault.{PolicyFault}
 use Rattle.policy.specs.declared.faults.PolicyFault.TheVariants.{Refused, Memory}
-use Rattle.policy.specs.Ranges.{longest_file}
-use Rattle.policy.specs.Reading.{Reads, IfRefused, Spells, at_place, fault_in, document_fault, policy_in}
 use Rattle.model.specs.Policy as model
 use Rattle.policy.specs.declared.faults.FaultCode.TheVariants.{Y1}
 use Rattle.policy.specs.declared.faults.Place.TheVariants as place

@@ -1,25 +1,12 @@
 -- An upload that is begun: the tables represent the same world, and the upload is staged.
-use Rattle.std.proofs.Common.{◌≡◌, ◌∙◌, ℕ, ◌≤◌, ◌<ℤ◌, ℤ, Bool, true, false, not, ◌&&◌, List, [], ◌∷◌, ◌++◌, map, filter, find, cond, length, Option, Some, None, IfSome, is_some, IsTrue, refl, sym, ap, subst, AllPairs, IsPermutation, arith}
-use Rattle.std.specs.List.{AllByRecursion}
+use Rattle.refinement.proofs.Prelude.{◌≡◌, ◌∙◌, ℕ, ◌≤◌, ◌<ℤ◌, ℤ, Bool, true, false, not, ◌&&◌, List, [], ◌∷◌, ◌++◌, map, filter, find, cond, length, Option, Some, None, IfSome, is_some, IsTrue, refl, sym, ap, subst, AllPairs, IsPermutation, arith, AllByRecursion, int_eq, true≢false, filter-append, All-from_recursion, find-append, delete_where, all_weaker, all-append, all-filter, all_kept, ascending-append, filter_none, largest_object, World, Object, find_filter, none_where, Tables, same_bytes, is_upload, is_complete, is_staged, is_staged_in, is_of, IsAbove, chunk_kept, number_cmp, bytes_of, HasPieces, object_in, HasSize, DiffersInRepo, RepresentObjects, Represents, staged_row, IsStaged}
 use Rattle.std.specs.Option.{option_or}
-use Rattle.std.specs.Ordering.{int_eq}
-use Rattle.std.proofs.lemmas.Bool.{true≢false}
 use Rattle.std.proofs.lemmas.List.{append-nil}
-use Rattle.std.proofs.lemmas.List.Elements.{filter-append, All-from_recursion}
-use Rattle.std.proofs.lemmas.List.Folds.{find-append}
 use Rattle.std.proofs.lemmas.List.Quantifiers.{all_pairs_push}
-use Rattle.sqlite_keyed.specs.Lists.{sort_by, delete_where}
-use Rattle.sqlite_keyed.proofs.ListLemmas.{all_weaker, all-append, all-filter, all_kept, ascending-append, filter_none}
-use Rattle.names.specs.Texts.{largest_object}
-use Rattle.model.specs.World.{World, Object}
-use Rattle.model.proofs.Lists.{find_filter, none_where}
+use Rattle.sqlite_keyed.specs.Lists.{sort_by}
 use Rattle.tables.specs.Rows as row
-use Rattle.tables.specs.Rows.{Tables}
-use Rattle.tables.specs.Statements.{same_bytes, is_upload, is_complete, is_staged, is_staged_in, is_of, with_upload, without_row, without_chunks}
-use Rattle.tables.specs.Staging.{IsAbove, without_upload, without_found, without_staged_in, after_begin}
-use Rattle.refinement.specs.Objects.{chunk_kept, number_cmp, bytes_of, HasPieces, object_in, HasSize, DiffersInRepo, RepresentObjects}
-use Rattle.refinement.specs.Representation.{Represents}
-use Rattle.refinement.specs.Staging.{staged_row, IsStaged}
+use Rattle.tables.specs.Statements.{with_upload, without_row, without_chunks}
+use Rattle.tables.specs.Staging.{without_upload, without_found, without_staged_in, after_begin}
 use Rattle.refinement.proofs.Counts.{named_itself, same_text}
 use Rattle.refinement.proofs.Found.{IsOnly, only_first, none_passes}
 use Rattle.refinement.proofs.Lookups.{find_alike}

@@ -1,17 +1,8 @@
 -- The effect of a change of the tables on the world.
-use Rattle.std.proofs.Common.{◌≡◌, ℕ, ◌+◌, ℤ, pos, Bool, true, false, List, [], ◌∷◌, ◌++◌, map, find, cond, bytes_eq, refl, sym, ap, ◌∙◌, subst, IsPermutation}
-use Rattle.std.proofs.lemmas.List.{map-append}
-use Rattle.std.proofs.lemmas.List.Sorted.{IsPermutation-refl, IsPermutation-trans, IsPermutation-cons, IsPermutation-to_front}
-use Rattle.std.proofs.lemmas.Slice.Eq.{bytes_eq-Decides}
-use Rattle.sqlite_keyed.specs.Keyed.{next_key}
-use Rattle.model.specs.World.{World, Lock, with_lock, one_more, nothing}
+use Rattle.refinement.proofs.Prelude.{◌≡◌, ℕ, ◌+◌, ℤ, pos, Bool, true, false, List, [], ◌∷◌, ◌++◌, map, find, cond, bytes_eq, refl, sym, ap, ◌∙◌, subst, IsPermutation, map-append, IsPermutation-refl, IsPermutation-trans, IsPermutation-cons, IsPermutation-to_front, bytes_eq-Decides, next_key, World, Lock, with_lock, one_more, nothing, Tables, made_in, made_of, set_made, fresh, DiffersInRepo, lock_kept, lock_row, Represents}
 use Rattle.tables.specs.Rows as row
-use Rattle.tables.specs.Rows.{Tables}
 use Rattle.tables.specs.Statements.{is_named, with_lock as with_lock_row}
-use Rattle.tables.specs.Steps.{made_in, made_of, set_made, with_made, with_new_lock}
-use Rattle.tables.specs.Runs.{fresh}
-use Rattle.refinement.specs.Objects.{DiffersInRepo}
-use Rattle.refinement.specs.Representation.{lock_kept, lock_row, Represents}
+use Rattle.tables.specs.Steps.{with_made, with_new_lock}
 use Rattle.refinement.proofs.Counts.{not_named, made_set, made_other, used_kept}
 use Rattle.refinement.proofs.Sorting.{into_pairs}
 

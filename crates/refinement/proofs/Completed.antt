@@ -1,24 +1,10 @@
 -- A staged upload that is completed: what the tables represent then.
-use Rattle.std.proofs.Common.{◌≡◌, ◌∙◌, ℕ, ◌+◌, ◌+ℤ◌, ◌<ℤ◌, ℤ, pos, Bool, true, false, not, List, [], ◌∷◌, map, filter, find, cond, length, Some, is_some, bytes_eq, IsTrue, refl, sym, ap, subst, AllPairs, IsPermutation, arith, sum_by}
-use Rattle.std.specs.List.{AllByRecursion}
-use Rattle.std.specs.Ordering.{int_eq}
-use Rattle.std.proofs.lemmas.Int.{ints}
-use Rattle.std.proofs.lemmas.List.Kept.{AllPairs-filter}
-use Rattle.std.proofs.lemmas.List.Sorted.{IsPermutation-refl, IsPermutation-trans, IsPermutation-cons, IsPermutation-middle}
+use Rattle.refinement.proofs.Prelude.{◌≡◌, ◌∙◌, ℕ, ◌+◌, ◌+ℤ◌, ◌<ℤ◌, ℤ, pos, Bool, true, false, not, List, [], ◌∷◌, map, filter, find, cond, length, Some, is_some, bytes_eq, IsTrue, refl, sym, ap, subst, AllPairs, IsPermutation, arith, sum_by, AllByRecursion, int_eq, ints, AllPairs-filter, IsPermutation-refl, IsPermutation-trans, IsPermutation-cons, IsPermutation-middle, is_eq-slice_cmp, IsKeyedBy, next_key, update_where, all_both, all_map, all_weaker, World, Object, total, Repo, Tables, same_bytes, is_upload, is_complete, is_staged, used_in, used_of, set_used, bytes_of, object_in, HasSize, DiffersInRepo, RepresentObjects, Represents}
 use Rattle.std.proofs.lemmas.List.Sums.{sum_by-cons}
-use Rattle.std.proofs.lemmas.Map.Text.{is_eq-slice_cmp}
-use Rattle.sqlite_keyed.specs.Keyed.{IsKeyedBy, next_key}
-use Rattle.sqlite_keyed.specs.Lists.{update_where}
 use Rattle.sqlite_keyed.proofs.KeyedLemmas.{IsKeyedBy-update_where, has_key-update_where}
-use Rattle.sqlite_keyed.proofs.ListLemmas.{all_both, all_map, all_weaker}
-use Rattle.model.specs.World.{World, Object, total}
 use Rattle.tables.specs.Rows as row
-use Rattle.tables.specs.Rows.{Repo, Tables}
-use Rattle.tables.specs.Statements.{is_named, same_bytes, is_upload, is_complete, is_staged, with_done}
-use Rattle.tables.specs.Steps.{used_in, used_of}
-use Rattle.tables.specs.Staging.{set_used, with_used, with_kept}
-use Rattle.refinement.specs.Objects.{bytes_of, object_in, HasSize, DiffersInRepo, RepresentObjects}
-use Rattle.refinement.specs.Representation.{Represents}
+use Rattle.tables.specs.Statements.{is_named, with_done}
+use Rattle.tables.specs.Staging.{with_used, with_kept}
 use Rattle.refinement.proofs.Counts.{same_text, used_set, used_other, made_kept}
 use Rattle.refinement.proofs.Uploads.{found_alone}
 

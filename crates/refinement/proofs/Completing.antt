@@ -1,23 +1,10 @@
 -- The results of completing a staged upload, in the world that the tables represent.
-use Rattle.std.proofs.Common.{◌≡◌, ◌∙◌, ℕ, ◌+◌, ◌≤◌, ℤ, pos, Bool, true, false, ◌&&◌, List, ◌∷◌, ◌++◌, find, cond, length, length-append, Some, option_map, is_some, refl, sym, ap, subst, arith}
-use Rattle.std.specs.List.{concat}
-use Rattle.std.specs.Ordering.{int_eq}
-use Rattle.std.proofs.lemmas.Bool.{true≢false, and_from}
-use Rattle.std.proofs.lemmas.Int.{ints}
-use Rattle.names.specs.Texts.{largest_object}
-use Rattle.model.specs.World.{World, IsWorld, Object, object_named, with_object}
-use Rattle.model.proofs.Lists.{each_in, in_found}
-use Rattle.model.proofs.Tests.{both_true}
+use Rattle.refinement.proofs.Prelude.{◌≡◌, ◌∙◌, ℕ, ◌+◌, ◌≤◌, ℤ, pos, Bool, true, false, ◌&&◌, List, ◌∷◌, ◌++◌, find, cond, length, Some, option_map, is_some, refl, sym, ap, subst, arith, concat, int_eq, true≢false, and_from, ints, largest_object, World, IsWorld, Object, object_named, with_object, each_in, in_found, both_true, Tables, same_bytes, is_upload, is_staged, is_staged_with, is_object, staged_with, with_last, is_as_begun, settled_as, completion_by, completion_of, after_completion, after_found, LastChunk, bytes_of, HasSize, Represents, staged_row, IsStaged, pieces_with, find_and}
+use Rattle.std.proofs.Common.{length-append}
 use Rattle.tables.specs.Rows as row
-use Rattle.tables.specs.Rows.{Tables}
-use Rattle.tables.specs.Statements.{same_bytes, is_upload, is_staged, is_staged_with, is_object}
-use Rattle.tables.specs.Staging.{staged_with, with_last, is_as_begun, settled_as, completion_by, completion_of, after_completion, after_found, after_complete}
-use Rattle.tables.specs.declared.new_rows.LastChunk.{LastChunk}
+use Rattle.tables.specs.Staging.{after_complete}
 use Rattle.tables.specs.declared.rows.Completion.{Completion}
 use Rattle.tables.specs.declared.rows.Completion.TheVariants.{New, Already, Differs}
-use Rattle.refinement.specs.Objects.{bytes_of, HasSize}
-use Rattle.refinement.specs.Representation.{Represents}
-use Rattle.refinement.specs.Staging.{staged_row, IsStaged, pieces_with}
 use Rattle.refinement.proofs.Completed.{kept_represented}
 use Rattle.refinement.proofs.Counts.{named_itself, same_text}
 use Rattle.refinement.proofs.Kept.{object_known}
@@ -26,7 +13,6 @@ use Rattle.refinement.proofs.Lookups.{find_alike}
 use Rattle.refinement.proofs.Begun.{both_meet}
 use Rattle.refinement.proofs.Pieces.{own_number, bytes_are}
 use Rattle.refinement.proofs.Same.{same_pos}
-use Rattle.model.proofs.Lists.{find_and}
 
 -- an upload that is found by its id, and is staged, is found as a staged one
 pub found_staged : (us : List row.Upload) (id : ℤ) (s : row.Upload) → find (is_upload id) us ≡ Some s → is_staged s ≡ true → find (is_staged_with id) us ≡ Some s

@@ -1,12 +1,6 @@
 -- The counts in the rows of repositories.
-use Rattle.std.proofs.Common.{◌≡◌, ◌∙◌, ℕ, ℤ, pos, Bool, true, false, List, [], ◌∷◌, find, cond, Option, Some, None, bytes_eq, refl, sym, ap, subst}
-use Rattle.std.proofs.lemmas.Bool.{true≢false}
-use Rattle.std.proofs.lemmas.Map.Text.{is_eq-slice_cmp}
-use Rattle.std.proofs.lemmas.Slice.Eq.{bytes_eq-Decides}
-use Rattle.tables.specs.Rows.{Repo}
-use Rattle.tables.specs.Statements.{is_named, same_bytes}
-use Rattle.tables.specs.Steps.{made_in, used_in, set_first, set_made}
-use Rattle.tables.specs.Staging.{set_used}
+use Rattle.refinement.proofs.Prelude.{◌≡◌, ◌∙◌, ℕ, ℤ, pos, Bool, true, false, List, [], ◌∷◌, find, cond, Option, Some, None, bytes_eq, refl, sym, ap, subst, true≢false, is_eq-slice_cmp, bytes_eq-Decides, Repo, same_bytes, made_in, used_in, set_first, set_made, set_used}
+use Rattle.tables.specs.Statements.{is_named}
 
 -- ---- names
 

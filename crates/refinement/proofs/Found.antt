@@ -1,10 +1,5 @@
 -- Lookups in a list, whatever its order.
-use Rattle.std.proofs.Common.{◌≡◌, suc, Bool, true, false, List, [], ◌∷◌, map, find, cond, Option, Some, None, option_map, IfSome, refl, sym, ap, subst, ◌∙◌, All, AllPairs, IsPermutation, arith}
-use Rattle.std.specs.List.{AllByRecursion}
-use Rattle.std.proofs.lemmas.Bool.{true≢false, cond_both}
-use Rattle.std.proofs.lemmas.Option.{none-some}
-use Rattle.std.proofs.lemmas.List.Elements.{recursion_from_All, All-from_recursion}
-use Rattle.std.proofs.lemmas.List.Sorted.{All-permutation, IsPermutation-sym}
+use Rattle.refinement.proofs.Prelude.{◌≡◌, suc, Bool, true, false, List, [], ◌∷◌, map, find, cond, Option, Some, None, option_map, IfSome, refl, sym, ap, subst, ◌∙◌, All, AllPairs, IsPermutation, arith, AllByRecursion, true≢false, cond_both, none-some, recursion_from_All, All-from_recursion, All-permutation, IsPermutation-sym}
 
 -- ---- the first that passes a test
 

@@ -1,15 +1,8 @@
 -- The world that a store holds after a call.
-use Rattle.std.proofs.Common.{◌≡◌, ℕ, pos, ◌+◌, sym, subst, ap, ◌∙◌, refl}
-use Rattle.sqlite_trees.specs.declared.store.Store.{Ghosts}
-use Rattle.model.specs.World.{World, Lock, with_lock}
+use Rattle.refinement.proofs.Prelude.{◌≡◌, ℕ, pos, ◌+◌, sym, subst, ap, ◌∙◌, refl, Ghosts, World, Lock, with_lock, Tables, shown, Moves, outcome_of, created, held, used_up, Outcome, after_outcome, with_new_lock, LockFields, Store, moves_still, Represents, Holds, lock_kept, lock_row}
 use Rattle.model.proofs.Keeping.{IsNewLock, keeps_with_lock}
 use Rattle.tables.specs.Rows as row
-use Rattle.tables.specs.Rows.{Tables}
-use Rattle.tables.specs.Shown.{shown, Moves}
-use Rattle.tables.specs.Steps.{outcome_of, created, held, used_up, Outcome, after_outcome, after_create, with_new_lock, LockFields}
-use Rattle.tables.specs.declared.Store.{Store}
-use Rattle.tables.proofs.Moved.{moves_still}
-use Rattle.refinement.specs.Representation.{Represents, Holds, lock_kept, lock_row}
+use Rattle.tables.specs.Steps.{after_create}
 use Rattle.refinement.proofs.Changes.{new_lock_represented}
 
 module _ {S : Type 0} (g : Ghosts S) (old new : Store S) where

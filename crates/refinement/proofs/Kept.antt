@@ -1,14 +1,6 @@
 -- The objects of a world, and the complete uploads that are found.
-use Rattle.std.proofs.Common.{◌≡◌, ◌∙◌, ℕ, pos, Bool, true, false, ◌&&◌, List, filter, find, length, Option, Some, None, option_map, is_some, bytes_eq, refl, sym, ap}
-use Rattle.std.proofs.lemmas.Map.Text.{is_eq-slice_cmp}
-use Rattle.model.specs.World.{World, IsWorld, Object, DiffersInName, object_named}
-use Rattle.model.proofs.Lists.{find_filter, in_found, each_in, found_passes}
-use Rattle.model.proofs.Tests.{both_true}
+use Rattle.refinement.proofs.Prelude.{◌≡◌, ◌∙◌, ℕ, pos, Bool, true, false, ◌&&◌, List, filter, find, length, Option, Some, None, option_map, is_some, bytes_eq, refl, sym, ap, is_eq-slice_cmp, World, IsWorld, Object, DiffersInName, object_named, find_filter, in_found, each_in, found_passes, both_true, Tables, is_complete, is_object, bytes_of, object_in, HasSize, Represents}
 use Rattle.tables.specs.Rows as row
-use Rattle.tables.specs.Rows.{Tables}
-use Rattle.tables.specs.Statements.{is_complete, is_object}
-use Rattle.refinement.specs.Objects.{bytes_of, object_in, HasSize}
-use Rattle.refinement.specs.Representation.{Represents}
 use Rattle.refinement.proofs.Found.{found_of, Excludes}
 use Rattle.refinement.proofs.Lookups.{find_alike, same_is}
 

@@ -1,13 +1,7 @@
 -- A staged upload with its last chunk.
-use Rattle.std.proofs.Common.{◌≡◌, ◌∙◌, ℕ, ◌+◌, ◌≤◌, ℤ, List, [], ◌∷◌, ◌++◌, length, sym, ap, subst, append-nil}
-use Rattle.std.specs.List.{concat}
-use Rattle.std.proofs.lemmas.List.Folds.{concat-append}
-use Rattle.model.specs.World.{World}
-use Rattle.tables.specs.Rows.{Tables}
+use Rattle.refinement.proofs.Prelude.{◌≡◌, ◌∙◌, ℕ, ◌+◌, ◌≤◌, ℤ, List, [], ◌∷◌, ◌++◌, length, sym, ap, subst, concat, concat-append, World, Tables, LastChunk, Represents, IsStaged, pieces_with}
+use Rattle.std.proofs.Common.{append-nil}
 use Rattle.tables.specs.Staging.{with_bytes, with_last}
-use Rattle.tables.specs.declared.new_rows.LastChunk.{LastChunk}
-use Rattle.refinement.specs.Representation.{Represents}
-use Rattle.refinement.specs.Staging.{IsStaged, pieces_with}
 use Rattle.refinement.proofs.Staging.{chunk_staged, chunk_represented}
 
 -- the bytes of the pieces and of the last one

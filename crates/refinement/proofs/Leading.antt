@@ -1,18 +1,9 @@
 -- Successive calls, and what a stop leaves of the store that they borrow.
-use Rattle.std.proofs.Common.{◌≡◌, ◌⊎◌, inl, inr, Bool, true, false, cond, List, [], ◌∷◌, ◌++◌, Option, Some, Result, Ok, Err, OnOk, OnErr, refl, sym, ap, subst}
-use Rattle.std.proofs.lemmas.Bool.{true≢false}
-use Rattle.sqlite_trees.specs.declared.store.Store.{Ghosts}
-use Rattle.model.specs.World.{World, IsWorld}
+use Rattle.refinement.proofs.Prelude.{◌≡◌, ◌⊎◌, inl, inr, Bool, true, false, cond, List, [], ◌∷◌, ◌++◌, Option, Some, Result, Ok, Err, OnOk, OnErr, refl, sym, ap, subst, true≢false, Ghosts, World, IsWorld, Bound, Ending, changed, failed, is_changed, left_by, world_by, answer_ending, ending_of, intended_world, bound_after, bound_of_run, Tables, IsHonest, IsOpen, IsDurable, HasTables, Moves, AddsNothing, Makes, Fails, FailsAny, shown, Store, moves_none, moves_then, nothing_none, Represents, Holds, IsAmong, IsBoundedBy, Leads, Keeps, Ends, KeepsTables, LeavesTables, Gives, Takes, From, Reads}
 use Rattle.model.specs.Answers.{Answer, Denial, is_store_refusal}
-use Rattle.model.specs.Bounds.{Bound, Ending, changed, unchanged, failed, is_changed, left_by, world_by, answer_ending, ending_of, intended_world, bound_after, bound_of_run}
+use Rattle.model.specs.Bounds.{unchanged}
 use Rattle.model.specs.Steps.{Exchange, Event, exchanged, judgement, after, IsExchange, IsStep, Run}
 use Rattle.model.proofs.Left.{reports_are_true}
-use Rattle.tables.specs.Rows.{Tables}
-use Rattle.tables.specs.Shown.{IsHonest, IsOpen, IsDurable, HasTables, Moves, AddsNothing, Makes, Fails, FailsAny, shown}
-use Rattle.tables.specs.declared.Store.{Store}
-use Rattle.tables.proofs.Moved.{moves_none, moves_then, nothing_none}
-use Rattle.refinement.specs.Representation.{Represents, Holds}
-use Rattle.refinement.specs.Left.{IsAmong, IsBoundedBy, Leads, Keeps, Ends, KeepsTables, LeavesTables, Gives, Takes, From, Reads}
 use Rattle.refinement.proofs.Holding.{holds_still}
 
 -- the bound of a run, with one more event

@@ -1,22 +1,8 @@
 -- What the calls read from the tables is what the world has.
-use Rattle.std.proofs.Common.{◌≡◌, ℕ, pos, Bool, true, ◌&&◌, ◌==◌, List, [], ◌∷◌, find, filter, cond, nat_lt, Option, Some, None, option_map, IfSome, bytes_eq, refl, sym, ap, ◌∙◌, arith}
-use Rattle.std.specs.Ordering.{int_eq}
-use Rattle.std.proofs.lemmas.Bool.Decides.{nat_tests}
-use Rattle.std.proofs.lemmas.Int.{ints}
-use Rattle.std.proofs.lemmas.Map.Text.{is_eq-slice_cmp}
-use Rattle.std.proofs.lemmas.Slice.Eq.{bytes_eq-Decides}
-use Rattle.sha2.specs.Sha256.{sha256}
-use Rattle.model.proofs.Tests.{both_true}
-use Rattle.model.proofs.Lists.{find_rising, find_filter, only_left, in_found, into}
+use Rattle.refinement.proofs.Prelude.{◌≡◌, ℕ, pos, Bool, true, ◌&&◌, ◌==◌, List, [], ◌∷◌, find, filter, cond, nat_lt, Option, Some, None, option_map, IfSome, bytes_eq, refl, sym, ap, ◌∙◌, arith, int_eq, nat_tests, ints, is_eq-slice_cmp, bytes_eq-Decides, sha256, both_true, find_rising, find_filter, only_left, in_found, into, World, IsWorld, Lock, Token, DiffersInId, DiffersInPlace, DiffersInDigest, find_token, locks_of, Tables, is_at, has_id, has_digest, lock_kept, token_kept, lock_row, token_row, Represents, lock_on, lock_with}
 use Rattle.model.proofs.Ordered.{locks_are_those}
 use Rattle.model.proofs.Views.{only_of}
 use Rattle.model.specs.World as model
-use Rattle.model.specs.World.{World, IsWorld, Lock, Token, DiffersInId, DiffersInPlace, DiffersInDigest, find_token}
-use Rattle.model.specs.RepoState.{locks_of}
-use Rattle.tables.specs.Rows.{Tables}
-use Rattle.tables.specs.Statements.{is_at, has_id, has_digest}
-use Rattle.refinement.specs.Representation.{lock_kept, token_kept, lock_row, token_row, Represents}
-use Rattle.refinement.specs.Lookup.{lock_on, lock_with}
 use Rattle.refinement.proofs.Found.{same_found, Excludes}
 
 pub find_alike : {A : Type 0} (p q : A → Bool) (xs : List A) → ((x : A) → p x ≡ q x) → find p xs ≡ find q xs

@@ -1,18 +1,6 @@
 -- The result of a lock request, in the tables and in the world.
-use Rattle.std.proofs.Common.{◌≡◌, ◌+ℤ◌, ℕ, ◌+◌, ◌<◌, ◌≤◌, ℤ, pos, Bool, true, false, find, cond, Option, Some, None, option_map, refl, sym, ap, ◌∙◌, arith, ◌⊎◌, inl, inr, ◌≢◌, nat_lt}
-use Rattle.std.specs.Ordering.{int_eq}
-use Rattle.std.proofs.lemmas.Bool.{true≢false, cases_eq}
-use Rattle.std.proofs.lemmas.Bool.Decides.{Decides-int_eq}
-use Rattle.std.proofs.lemmas.Option.{none-some}
-use Rattle.std.proofs.lemmas.Int.{ints}
-use Rattle.names.specs.Texts.{last_lock_id}
-use Rattle.model.specs.World.{World, IsWorld, Lock}
+use Rattle.refinement.proofs.Prelude.{◌≡◌, ◌+ℤ◌, ℕ, ◌+◌, ◌<◌, ◌≤◌, ℤ, pos, Bool, true, false, find, cond, Option, Some, None, option_map, refl, sym, ap, ◌∙◌, arith, ◌⊎◌, inl, inr, ◌≢◌, nat_lt, int_eq, true≢false, cases_eq, Decides-int_eq, none-some, ints, last_lock_id, World, IsWorld, Lock, Tables, is_at, LockFields, lock_fields, made_of, held, used_up, created, outcome_by, outcome_of, greatest_id, lock_kept, lock_row, Represents, lock_on}
 use Rattle.tables.specs.Rows as row
-use Rattle.tables.specs.Rows.{Tables}
-use Rattle.tables.specs.Statements.{is_at}
-use Rattle.tables.specs.Steps.{LockFields, lock_fields, made_of, held, used_up, created, outcome_by, outcome_of, greatest_id}
-use Rattle.refinement.specs.Representation.{lock_kept, lock_row, Represents}
-use Rattle.refinement.specs.Lookup.{lock_on}
 use Rattle.refinement.proofs.Lookups.{lock_found}
 
 created_by : (o : Option row.Lock) (made n : ℤ) → created n ≡ outcome_by o made → (o ≡ None) × (int_eq made greatest_id ≡ false) × (n ≡ made +ℤ pos 1)

@@ -1,22 +1,8 @@
 -- The chunks of an upload, and their bytes.
-use Rattle.std.proofs.Common.{◌≡◌, ◌∙◌, ◌<◌, ℕ, suc, ◌+◌, ℤ, pos, Bool, true, false, List, [], ◌∷◌, ◌++◌, map, filter, find, cond, length, option_map, refl, sym, ap, subst, arith, Less, IsPermutation}
-use Rattle.std.specs.List.{AllByRecursion, concat}
-use Rattle.std.specs.Ordering.{int_cmp, int_eq}
-use Rattle.std.specs.Cmp.{IsTotalOrder}
-use Rattle.std.proofs.lemmas.Cmp.{int_cmp_total, on_total}
-use Rattle.std.proofs.lemmas.Int.{ints}
-use Rattle.std.proofs.lemmas.List.{map-append, append-nil, length-append}
-use Rattle.std.proofs.lemmas.List.Elements.{filter-append}
-use Rattle.std.proofs.lemmas.List.Folds.{concat-append}
-use Rattle.std.proofs.lemmas.List.Sorted.{IsPermutation-map, IsPermutation-trans, IsPermutation-sym, IsPermutation-append_left}
-use Rattle.sqlite_trees.specs.Tree.{IsAscending}
+use Rattle.refinement.proofs.Prelude.{◌≡◌, ◌∙◌, ◌<◌, ℕ, suc, ◌+◌, ℤ, pos, Bool, true, false, List, [], ◌∷◌, ◌++◌, map, filter, find, cond, length, option_map, refl, sym, ap, subst, arith, Less, IsPermutation, AllByRecursion, concat, int_cmp, int_eq, IsTotalOrder, int_cmp_total, on_total, ints, map-append, filter-append, concat-append, IsPermutation-map, IsPermutation-trans, IsPermutation-sym, IsPermutation-append_left, IsAscending, IsPermutation-sort_by, sort_by-map, find_filter, is_of, is_chunk, asked_chunk, chunk_kept, number_cmp, chunks_of, pieces_of, bytes_of, piece_rows, HasPieces}
+use Rattle.std.proofs.lemmas.List.{append-nil, length-append}
 use Rattle.sqlite_keyed.specs.Lists.{sort_by}
-use Rattle.sqlite_keyed.proofs.SortLemmas.{IsPermutation-sort_by, sort_by-map}
-use Rattle.model.proofs.Lists.{find_filter}
 use Rattle.tables.specs.Rows as row
-use Rattle.tables.specs.Statements.{is_of, is_chunk}
-use Rattle.tables.specs.Staging.{asked_chunk}
-use Rattle.refinement.specs.Objects.{chunk_kept, number_cmp, chunks_of, pieces_of, bytes_of, piece_rows, HasPieces}
 use Rattle.refinement.proofs.Found.{found_of}
 use Rattle.refinement.proofs.Sorting.{less, into_pairs, sorted_rises, one_order}
 

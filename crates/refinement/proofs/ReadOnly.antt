@@ -1,9 +1,5 @@
 -- Calls that only read, one after another.
-use Rattle.sqlite_trees.specs.declared.store.Store.{Ghosts}
-use Rattle.model.specs.World.{World, IsWorld}
-use Rattle.tables.specs.declared.Store.{Store}
-use Rattle.tables.proofs.Moved.{moves_then, nothing_then}
-use Rattle.refinement.specs.Left.{Reads}
+use Rattle.refinement.proofs.Prelude.{Ghosts, World, IsWorld, Store, moves_then, nothing_then, Reads}
 use Rattle.refinement.proofs.Holding.{holds_still}
 
 module _ {S : Type 0} (g : Ghosts S) where

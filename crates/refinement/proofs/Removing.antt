@@ -1,22 +1,10 @@
 -- A lock that is removed.
-use Rattle.std.proofs.Common.{◌≡◌, ◌∙◌, ℕ, pos, Bool, true, false, not, nat_lt, List, [], ◌∷◌, map, find, filter, cond, length, Option, Some, None, is_some, IfSome, ◌==◌, refl, sym, ap, ap₂, subst, IsPermutation, arith}
-use Rattle.std.proofs.lemmas.Bool.Decides.{nat_tests}
-use Rattle.sqlite_trees.proofs.ListLemmas.{IsPermutation-filter, filter-map}
-use Rattle.sqlite_trees.specs.declared.store.Store.{Ghosts}
+use Rattle.refinement.proofs.Prelude.{◌≡◌, ◌∙◌, ℕ, pos, Bool, true, false, not, nat_lt, List, [], ◌∷◌, map, find, filter, cond, length, Option, Some, None, is_some, IfSome, ◌==◌, refl, sym, ap, ap₂, subst, IsPermutation, arith, nat_tests, IsPermutation-filter, filter-map, Ghosts, World, IsWorld, Lock, locks_of, found_passes, Tables, has_id, shown, Moves, Store, moves_still, Represents, Holds, lock_kept, lock_row, lock_with}
 use Rattle.model.specs.World as model
-use Rattle.model.specs.World.{World, IsWorld, Lock}
-use Rattle.model.specs.RepoState.{locks_of}
 use Rattle.model.proofs.Keeping.{keeps_without_lock}
-use Rattle.model.proofs.Lists.{found_passes}
 use Rattle.tables.specs.Rows as row
-use Rattle.tables.specs.Rows.{Tables}
-use Rattle.tables.specs.Statements.{has_id, without_lock}
-use Rattle.tables.specs.Shown.{shown, Moves}
-use Rattle.tables.specs.declared.Store.{Store}
-use Rattle.tables.proofs.Moved.{moves_still}
+use Rattle.tables.specs.Statements.{without_lock}
 use Rattle.refinement.specs.Removal.{without_found}
-use Rattle.refinement.specs.Representation.{Represents, Holds, lock_kept, lock_row}
-use Rattle.refinement.specs.Lookup.{lock_with}
 use Rattle.refinement.proofs.Lookups.{numbered_in, number_found, found_own, row_numbered}
 use Rattle.refinement.proofs.Tokens.{filter_alike, none_is, some_alike}
 

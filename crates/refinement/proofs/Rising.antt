@@ -1,27 +1,9 @@
 -- The rows of a repository's locks in the order of their ids, and the locks of the world.
-use Rattle.std.proofs.Common.{◌≡◌, ◌∙◌, ℕ, pos, Bool, true, false, ◌&&◌, nat_le, nat_lt, cond, List, [], ◌∷◌, map, filter, bytes_eq, refl, ap, subst, IsPermutation, arith, Ordering, Less, Equal, Greater, is_gt}
-use Rattle.std.specs.Prelude.{int_le}
-use Rattle.std.specs.List.{AllByRecursion}
-use Rattle.std.specs.Ordering.{int_cmp, ordering_then}
-use Rattle.std.specs.Cmp.{IsTotalOrder}
-use Rattle.std.proofs.lemmas.Bool.Decides.{nat_tests}
-use Rattle.std.proofs.lemmas.Cmp.{int_cmp_total, on_total, then_total}
-use Rattle.std.proofs.lemmas.List.Sorted.{IsPermutation-map, IsPermutation-trans, IsPermutation-sym, IsPermutation-refl, IsPermutation-cons, IsPermutation-middle}
-use Rattle.std.proofs.lemmas.Map.Text.{is_eq-slice_cmp}
-use Rattle.sqlite_trees.specs.Tree.{IsAscending}
-use Rattle.sqlite_trees.proofs.ListLemmas.{IsPermutation-filter, filter-map}
-use Rattle.sqlite_keyed.proofs.ListLemmas.{ascending-map, ascending_weaker}
-use Rattle.sqlite_keyed.proofs.SortLemmas.{IsPermutation-sort_by}
+use Rattle.refinement.proofs.Prelude.{◌≡◌, ◌∙◌, ℕ, pos, Bool, true, false, ◌&&◌, nat_le, nat_lt, cond, List, [], ◌∷◌, map, filter, bytes_eq, refl, ap, subst, IsPermutation, arith, Ordering, Less, Equal, Greater, is_gt, int_le, AllByRecursion, int_cmp, ordering_then, IsTotalOrder, nat_tests, int_cmp_total, on_total, then_total, IsPermutation-map, IsPermutation-trans, IsPermutation-sym, IsPermutation-refl, IsPermutation-cons, IsPermutation-middle, is_eq-slice_cmp, IsAscending, IsPermutation-filter, filter-map, ascending-map, ascending_weaker, IsPermutation-sort_by, World, IsWorld, Lock, locks_of, each_filter, Tables, is_in, is_from, id_cmp, by_id, lock_kept, lock_row, Represents}
 use Rattle.model.specs.Orders.{insert_by, sort_by}
-use Rattle.model.specs.World.{World, IsWorld, Lock}
-use Rattle.model.specs.RepoState.{locks_of}
 use Rattle.model.specs.Pages.{IsBelow}
-use Rattle.model.proofs.Lists.{each_filter}
 use Rattle.model.proofs.Pages.{Rise, rise_from, locks_rise}
 use Rattle.tables.specs.Rows as row
-use Rattle.tables.specs.Rows.{Tables}
-use Rattle.tables.specs.Statements.{is_in, is_from, id_cmp, by_id}
-use Rattle.refinement.specs.Representation.{lock_kept, lock_row, Represents}
 use Rattle.refinement.proofs.Sorting.{less, NotAfter, sorted_rises, one_order}
 use Rattle.refinement.proofs.Tokens.{filter_alike}
 

@@ -1,19 +1,8 @@
 -- Tables represent one world, up to the order of its lists and the texts of its tokens.
-use Rattle.std.proofs.Common.{◌≡◌, ◌∙◌, inl, inr, ℕ, ℤ, pos, List, [], ◌∷◌, map, filter, cond, refl, sym, ap, ap₂, subst, IsPermutation}
-use Rattle.std.specs.Ordering.{int_eq}
-use Rattle.std.proofs.lemmas.List.Sorted.{IsPermutation-trans, IsPermutation-sym, IsPermutation-map}
-use Rattle.sha2.specs.Sha256.{sha256}
+use Rattle.refinement.proofs.Prelude.{◌≡◌, ◌∙◌, inl, inr, ℕ, ℤ, pos, List, [], ◌∷◌, map, filter, cond, refl, sym, ap, ap₂, subst, IsPermutation, int_eq, IsPermutation-trans, IsPermutation-sym, IsPermutation-map, sha256, World, Object, Lock, Token, TokenDigest, token_digest, SameWorld, Bound, IsWithin, Tables, is_complete, code_of, object_in, RepresentObjects, Represents, lock_kept, lock_row, token_kept, token_row, IsAmong}
 use Rattle.names.specs.declared.operations.Operation.{Operation}
 use Rattle.names.specs.declared.operations.Operation.TheVariants.{Download, Upload}
-use Rattle.model.specs.World.{World, Object, Lock, Token}
-use Rattle.model.specs.Bounds.{TokenDigest, token_digest, SameWorld, Bound, IsWithin}
 use Rattle.tables.specs.Rows as row
-use Rattle.tables.specs.Rows.{Tables}
-use Rattle.tables.specs.Statements.{is_complete}
-use Rattle.tables.specs.Steps.{code_of}
-use Rattle.refinement.specs.Objects.{object_in, RepresentObjects}
-use Rattle.refinement.specs.Representation.{Represents, lock_kept, lock_row, token_kept, token_row}
-use Rattle.refinement.specs.Left.{IsAmong}
 use Rattle.refinement.proofs.Found.{map_itself}
 
 nat_of : ℤ → ℕ

@@ -1,22 +1,10 @@
 -- A staged upload that loses its last chunks: the tables represent the same world.
-use Rattle.std.proofs.Common.{◌≡◌, ◌∙◌, ◌≤◌, ℕ, suc, ℤ, pos, Bool, true, false, not, ◌&&◌, List, [], ◌∷◌, map, filter, find, cond, length, Option, Some, None, is_some, IsTrue, IsPermutation, refl, sym, ap, subst, arith}
-use Rattle.std.specs.Prelude.{int_le}
-use Rattle.std.specs.List.{AllByRecursion, concat}
-use Rattle.std.specs.Ordering.{int_eq}
-use Rattle.std.proofs.lemmas.Int.{ints}
+use Rattle.refinement.proofs.Prelude.{◌≡◌, ◌∙◌, ◌≤◌, ℕ, suc, ℤ, pos, Bool, true, false, not, ◌&&◌, List, [], ◌∷◌, map, filter, find, cond, length, Option, Some, None, is_some, IsTrue, IsPermutation, refl, sym, ap, subst, arith, int_le, AllByRecursion, concat, int_eq, ints, IsPermutation-filter, delete_where, all_weaker, all_of, all_both, all-filter, World, Object, filter_weaker, in_found, found_passes, both_true, Tables, is_upload, is_complete, is_staged_with, is_of, is_of_from, asked_chunk, staged_with, without_found_from, chunk_kept, number_cmp, chunks_of, pieces_of, bytes_of, piece_rows, HasPieces, object_in, HasSize, RepresentObjects, Represents}
 use Rattle.std.proofs.lemmas.List.{length-append}
-use Rattle.sqlite_trees.proofs.ListLemmas.{IsPermutation-filter}
-use Rattle.sqlite_keyed.specs.Lists.{sort_by, delete_where}
-use Rattle.sqlite_keyed.proofs.ListLemmas.{all_weaker, all_of, all_both, all-filter}
-use Rattle.model.specs.World.{World, Object}
-use Rattle.model.proofs.Lists.{filter_weaker, in_found, found_passes}
-use Rattle.model.proofs.Tests.{both_true}
+use Rattle.sqlite_keyed.specs.Lists.{sort_by}
 use Rattle.tables.specs.Rows as row
-use Rattle.tables.specs.Rows.{Tables}
-use Rattle.tables.specs.Statements.{is_upload, is_complete, is_staged_with, is_of, is_of_from, without_chunks_from}
-use Rattle.tables.specs.Staging.{asked_chunk, staged_with, without_found_from, without_staged_from}
-use Rattle.refinement.specs.Objects.{chunk_kept, number_cmp, chunks_of, pieces_of, bytes_of, piece_rows, HasPieces, object_in, HasSize, RepresentObjects}
-use Rattle.refinement.specs.Representation.{Represents}
+use Rattle.tables.specs.Statements.{without_chunks_from}
+use Rattle.tables.specs.Staging.{without_staged_from}
 use Rattle.refinement.proofs.Pieces.{same_number, own_rows, ordered, in_any_order, same_pieces, own_pieces, bytes_are}
 use Rattle.refinement.proofs.Uploads.{found_itself, not_complete, map_alike, same_object, same_size}
 use Rattle.refinement.proofs.Withdrawn.{alone, complete_apart}

@@ -1,17 +1,6 @@
 -- Sorted lists.
-use Rattle.std.proofs.Common.{◌≡◌, ◌∙◌, ◌<◌, ℕ, zero, suc, pos, Bool, true, false, cond, List, [], ◌∷◌, Ordering, Less, Equal, Greater, is_lt, is_gt, refl, sym, ap, AllPairs, IsPermutation, IsSorted, arith, add-one}
-use Rattle.std.specs.List.{AllByRecursion}
-use Rattle.std.specs.Ordering.{int_cmp, ordering_reverse}
-use Rattle.std.specs.Cmp.{IsTotalOrder}
-use Rattle.std.proofs.lemmas.Bool.{true≢false}
-use Rattle.std.proofs.lemmas.Cmp.{upto}
-use Rattle.std.proofs.lemmas.Int.{ints}
-use Rattle.std.proofs.lemmas.List.Elements.{All-from_recursion}
-use Rattle.std.proofs.lemmas.List.Kept.{AllPairs-cons}
-use Rattle.sqlite_trees.specs.Tree.{IsAscending}
-use Rattle.sqlite_keyed.specs.Lists.{insert_sorted, sort_by}
-use Rattle.sqlite_keyed.proofs.SortLemmas.{sorted_unique}
-use Rattle.model.proofs.Lists.{each_weaker}
+use Rattle.refinement.proofs.Prelude.{◌≡◌, ◌∙◌, ◌<◌, ℕ, zero, suc, pos, Bool, true, false, cond, List, [], ◌∷◌, Ordering, Less, Equal, Greater, is_lt, is_gt, refl, sym, ap, AllPairs, IsPermutation, IsSorted, arith, add-one, AllByRecursion, int_cmp, ordering_reverse, IsTotalOrder, true≢false, upto, ints, All-from_recursion, AllPairs-cons, IsAscending, insert_sorted, sorted_unique, each_weaker}
+use Rattle.sqlite_keyed.specs.Lists.{sort_by}
 
 pub less : (a b : ℕ) → a < b → int_cmp (pos a) (pos b) ≡ Less
 less a b h = grind (arith, ints)

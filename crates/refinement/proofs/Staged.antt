@@ -1,21 +1,9 @@
 -- What calls on uploads leave of the world that a store holds, and of a staged upload.
-use Rattle.std.proofs.Common.{◌∙◌, ℕ, pos, ◌+◌, ◌≤◌, ℤ, List, [], ◌∷◌, ◌++◌, length, Result, Ok, Err, OnOk, OnErr, refl, sym, ap, subst}
-use Rattle.std.specs.List.{concat}
-use Rattle.sqlite_trees.specs.declared.store.Store.{Ghosts}
+use Rattle.refinement.proofs.Prelude.{◌∙◌, ℕ, pos, ◌+◌, ◌≤◌, ℤ, List, [], ◌∷◌, ◌++◌, length, Result, Ok, Err, OnOk, OnErr, refl, sym, ap, subst, concat, Ghosts, largest_object, World, Tables, IsHonest, HasTables, Moves, Makes, Fails, Begins, shown, with_chunk, upload_number, asked_upload, asked_chunk, staged_with, IsBegun, without_staged, without_staged_from, after_begin, Store, Represents, Holds, Keeps, IsStaged, Stages, StagesNone}
 use Rattle.names.specs.Names.{repo_text}
-use Rattle.names.specs.Texts.{largest_object}
-use Rattle.model.specs.World.{World}
-use Rattle.tables.specs.Rows.{Tables}
-use Rattle.tables.specs.Shown.{IsHonest, HasTables, Moves, Makes, Fails, Begins, shown}
-use Rattle.tables.specs.Statements.{with_chunk}
-use Rattle.tables.specs.Staging.{upload_number, asked_upload, asked_chunk, staged_with, IsBegun, without_staged, without_staged_from, after_begin}
-use Rattle.tables.specs.declared.Store.{Store}
 use Rattle.tables.specs.declared.fault.StoreFault.{StoreFault}
 use Rattle.tables.specs.declared.new_rows.NewUpload.{NewUpload}
 use Rattle.tables.specs.declared.rows.UploadId.{UploadId}
-use Rattle.refinement.specs.Representation.{Represents, Holds}
-use Rattle.refinement.specs.Left.{Keeps}
-use Rattle.refinement.specs.Staging.{IsStaged, Stages, StagesNone}
 use Rattle.refinement.proofs.Leading.{keeps_by, keeps_made, keeps_failed}
 use Rattle.refinement.proofs.Staging.{chunk_staged, chunk_represented}
 use Rattle.refinement.proofs.Begun.{begun_represented, begun_staged}

@@ -1,19 +1,7 @@
 -- What the steps on uploads change of the world, and of staged uploads.
-use Rattle.std.proofs.Common.{◌≡◌, ◌∙◌, ℕ, ◌+◌, ◌≤◌, ℤ, pos, Bool, true, false, List, [], ◌∷◌, ◌++◌, find, length, Some, is_some, IsTrue, refl, sym, ap, subst, IsPermutation}
-use Rattle.std.specs.List.{AllByRecursion, concat}
-use Rattle.std.specs.Ordering.{int_eq}
-use Rattle.std.proofs.lemmas.Bool.{true≢false}
-use Rattle.sqlite_keyed.specs.Keyed.{next_key}
-use Rattle.sqlite_keyed.proofs.ListLemmas.{all_both, all_weaker, all-append}
-use Rattle.names.specs.Texts.{largest_object}
-use Rattle.model.specs.World.{World, Object}
+use Rattle.refinement.proofs.Prelude.{◌≡◌, ◌∙◌, ℕ, ◌+◌, ◌≤◌, ℤ, pos, Bool, true, false, List, [], ◌∷◌, ◌++◌, find, length, Some, is_some, IsTrue, refl, sym, ap, subst, IsPermutation, AllByRecursion, concat, int_eq, true≢false, next_key, all_both, all_weaker, all-append, largest_object, World, Object, Tables, is_upload, is_complete, is_of, asked_chunk, chunks_of, pieces_of, bytes_of, HasPieces, object_in, HasSize, RepresentObjects, Represents, staged_row, IsStaged}
 use Rattle.tables.specs.Rows as row
-use Rattle.tables.specs.Rows.{Tables}
-use Rattle.tables.specs.Statements.{is_upload, is_complete, is_of, with_chunk}
-use Rattle.tables.specs.Staging.{asked_chunk}
-use Rattle.refinement.specs.Objects.{chunks_of, pieces_of, bytes_of, HasPieces, object_in, HasSize, RepresentObjects}
-use Rattle.refinement.specs.Representation.{Represents}
-use Rattle.refinement.specs.Staging.{staged_row, IsStaged}
+use Rattle.tables.specs.Statements.{with_chunk}
 use Rattle.refinement.proofs.Same.{same_pos}
 use Rattle.refinement.proofs.Uploads.{IsAlone, found_alone, not_complete, map_alike, same_object, same_size}
 use Rattle.refinement.proofs.Pieces.{numbers_meet, same_number, bytes_are, same_pieces, own_pieces, other_chunks, pieces_more, length_more}

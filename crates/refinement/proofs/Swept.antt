@@ -1,14 +1,8 @@
 -- Staged uploads that are removed one after the other.
-use Rattle.std.proofs.Common.{◌≡◌, ◌∙◌, inl, ℤ, ◌<ℤ◌, true, not, List, [], ◌∷◌, map, filter, cond, Some, refl, sym, ap, subst}
-use Rattle.std.specs.List.{AllByRecursion}
-use Rattle.sqlite_trees.specs.Tree.{IsAscending}
-use Rattle.sqlite_keyed.specs.Keyed.{IsKeyedBy}
-use Rattle.sqlite_keyed.proofs.ListLemmas.{all_weaker, ascending-filter, filter_all}
-use Rattle.model.proofs.Lists.{In, each_passes, in_before_filter}
+use Rattle.refinement.proofs.Prelude.{◌≡◌, ◌∙◌, inl, ℤ, ◌<ℤ◌, true, not, List, [], ◌∷◌, map, filter, cond, Some, refl, sym, ap, subst, AllByRecursion, IsAscending, IsKeyedBy, all_weaker, ascending-filter, filter_all, In, each_passes, in_before_filter, Tables, is_upload, is_staged, staged_with}
 use Rattle.tables.specs.Rows as row
-use Rattle.tables.specs.Rows.{Tables}
-use Rattle.tables.specs.Statements.{is_upload, is_staged, without_row, without_chunks}
-use Rattle.tables.specs.Staging.{staged_with, without_upload, without_found, without_staged}
+use Rattle.tables.specs.Statements.{without_row, without_chunks}
+use Rattle.tables.specs.Staging.{without_upload, without_found, without_staged}
 use Rattle.refinement.proofs.Completing.{found_staged}
 use Rattle.refinement.proofs.Pieces.{numbers_meet, own_number}
 use Rattle.refinement.proofs.Uploads.{apart_below, found_itself}

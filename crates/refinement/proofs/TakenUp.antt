@@ -1,29 +1,17 @@
 -- A store that `start` accepted is in a world, and a stop leaves that world.
-use Rattle.std.proofs.Common.{◌≡◌, ◌∙◌, ◌⊎◌, inl, inr, IsTrue, [], ◌∷◌, Result, Ok, Err, OnOk, refl, sym, ap, subst}
-use Rattle.std.proofs.Math.Logic.{∥∥₁_map}
+use Rattle.refinement.proofs.Prelude.{◌≡◌, ◌∙◌, ◌⊎◌, inl, inr, IsTrue, [], ◌∷◌, Result, Ok, Err, OnOk, refl, sym, ap, subst, ∥∥₁_map, Ghosts, Trees, over_files, World, IsWorld, nothing, Bound, Tables, tables_of, fresh, IsHonest, IsSafe, HasTables, shown, committed, HasNoTable, HasOurs, Rests, Leaves, Store, Represents, IsAmong, IsBoundedBy}
 use Rattle.sqlite_disk.specs.declared.Disk as disk
-use Rattle.sqlite_trees.specs.declared.store.Store.{Ghosts}
-use Rattle.sqlite_trees.specs.Tree.{Trees}
 use Rattle.sqlite_catalog.specs.Listing.{IsSound}
 use Rattle.sqlite_wal.specs.Recovery.{Image}
 use Rattle.sqlite_store.specs.declared.store.FileStore.{FileStore}
 use Rattle.sqlite_store.specs.FileStore as files
 use Rattle.sqlite.specs.Effect.{Database}
-use Rattle.sqlite.specs.Files.{over_files}
 use Rattle.sqlite.specs.Schema.{Schema}
 use Rattle.sqlite.proofs.Theorems.{opens_again}
-use Rattle.model.specs.World.{World, IsWorld, nothing}
-use Rattle.model.specs.Bounds.{Bound}
 use Rattle.model.proofs.Keeping.{makes_world}
 use Rattle.tables.specs.Layout.{custody}
 use Rattle.tables.specs.Making.{no_schema}
-use Rattle.tables.specs.Rows.{Tables, tables_of}
-use Rattle.tables.specs.Runs.{fresh}
-use Rattle.tables.specs.Shown.{IsHonest, IsSafe, HasTables, shown, committed, HasNoTable, HasOurs, Rests, Leaves}
-use Rattle.tables.specs.declared.Store.{Store}
 use Rattle.tables.proofs.Opened.{kept_is_sound}
-use Rattle.refinement.specs.Representation.{Represents}
-use Rattle.refinement.specs.Left.{IsAmong, IsBoundedBy}
 use Rattle.refinement.specs.Opening.{HoldsAmong, IsAt, IsAtOne}
 use Rattle.refinement.proofs.Changes.{fresh_represented}
 

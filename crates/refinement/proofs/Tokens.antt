@@ -1,23 +1,9 @@
 -- The effect of a change of the tokens on the world.
-use Rattle.std.proofs.Common.{◌≡◌, ◌∙◌, ℕ, pos, Bool, true, false, not, nat_lt, List, [], ◌∷◌, map, find, filter, cond, Option, Some, None, option_map, is_some, length, refl, sym, ap, subst, IsPermutation, arith}
-use Rattle.std.specs.Prelude.{int_le}
-use Rattle.std.proofs.lemmas.Bool.Decides.{nat_tests}
-use Rattle.std.proofs.lemmas.List.{length-map}
-use Rattle.std.proofs.lemmas.List.Sorted.{length_permutation}
-use Rattle.sqlite_trees.proofs.ListLemmas.{IsPermutation-filter, filter-map}
-use Rattle.sqlite_trees.specs.declared.store.Store.{Ghosts}
-use Rattle.sha2.specs.Sha256.{sha256}
-use Rattle.model.specs.World.{World, IsWorld, Token, IsToken, find_token, with_token, without_expired}
+use Rattle.refinement.proofs.Prelude.{◌≡◌, ◌∙◌, ℕ, pos, Bool, true, false, not, nat_lt, List, [], ◌∷◌, map, find, filter, cond, Option, Some, None, option_map, is_some, length, refl, sym, ap, subst, IsPermutation, arith, int_le, nat_tests, length-map, length_permutation, IsPermutation-filter, filter-map, Ghosts, sha256, World, IsWorld, Token, IsToken, find_token, with_token, without_expired, Tables, has_digest, has_expired, has_token, shown, Moves, Store, moves_still, token_kept, token_row, Represents, Holds}
 use Rattle.model.proofs.Keeping.{keeps_with_token, keeps_without_expired}
 use Rattle.tables.specs.Rows as row
-use Rattle.tables.specs.Rows.{Tables}
-use Rattle.tables.specs.Statements.{has_digest, has_expired}
 use Rattle.tables.specs.Statements as tables
-use Rattle.tables.specs.Steps.{has_token, after_add}
-use Rattle.tables.specs.Shown.{shown, Moves}
-use Rattle.tables.specs.declared.Store.{Store}
-use Rattle.tables.proofs.Moved.{moves_still}
-use Rattle.refinement.specs.Representation.{token_kept, token_row, Represents, Holds}
+use Rattle.tables.specs.Steps.{after_add}
 use Rattle.refinement.proofs.Changes.{one_item_more}
 use Rattle.refinement.proofs.Lookups.{token_found}
 

@@ -1,14 +1,6 @@
 -- Rows of uploads: by their ids, and with other chunks.
-use Rattle.std.proofs.Common.{◌≡◌, ◌∙◌, inl, inr, ◌<ℤ◌, ℤ, pos, Bool, true, false, List, [], ◌∷◌, map, filter, find, cond, length, Some, refl, sym, ap, ap₂, subst, arith}
-use Rattle.std.specs.List.{AllByRecursion, concat}
-use Rattle.std.specs.Ordering.{int_eq}
-use Rattle.std.proofs.lemmas.Bool.{true≢false}
-use Rattle.std.proofs.lemmas.Int.{ints}
-use Rattle.sqlite_keyed.specs.Keyed.{IsKeyedBy}
-use Rattle.model.proofs.Lists.{In, each_in}
+use Rattle.refinement.proofs.Prelude.{◌≡◌, ◌∙◌, inl, inr, ◌<ℤ◌, ℤ, pos, Bool, true, false, List, [], ◌∷◌, map, filter, find, cond, length, Some, refl, sym, ap, ap₂, subst, arith, AllByRecursion, concat, int_eq, true≢false, ints, IsKeyedBy, In, each_in, is_upload, is_complete, chunks_of, bytes_of, object_in, HasSize}
 use Rattle.tables.specs.Rows as row
-use Rattle.tables.specs.Statements.{is_upload, is_complete}
-use Rattle.refinement.specs.Objects.{chunks_of, bytes_of, object_in, HasSize}
 use Rattle.refinement.proofs.Pieces.{own_number}
 
 -- ---- rows with an id

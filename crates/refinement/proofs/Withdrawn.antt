@@ -1,21 +1,10 @@
 -- A staged upload that is removed with its chunks: the tables represent the same world.
-use Rattle.std.proofs.Common.{◌≡◌, ◌∙◌, ℕ, ℤ, pos, Bool, true, false, not, ◌&&◌, List, [], ◌∷◌, map, filter, find, cond, length, Option, Some, None, is_some, IsTrue, refl, sym, ap, subst, AllPairs, IsPermutation}
-use Rattle.std.specs.List.{AllByRecursion}
-use Rattle.std.specs.Ordering.{int_eq}
-use Rattle.std.proofs.lemmas.Bool.{true≢false}
-use Rattle.std.proofs.lemmas.List.Kept.{AllPairs-filter}
-use Rattle.sqlite_keyed.specs.Lists.{sort_by, delete_where}
+use Rattle.refinement.proofs.Prelude.{◌≡◌, ◌∙◌, ℕ, ℤ, pos, Bool, true, false, not, ◌&&◌, List, [], ◌∷◌, map, filter, find, cond, length, Option, Some, None, is_some, IsTrue, refl, sym, ap, subst, AllPairs, IsPermutation, AllByRecursion, int_eq, true≢false, AllPairs-filter, delete_where, all_weaker, all_of, World, Object, filter_weaker, in_found, found_passes, none_where, both_true, Tables, is_upload, is_complete, is_staged, is_staged_with, is_staged_in, is_of, staged_with, chunk_kept, number_cmp, chunks_of, pieces_of, bytes_of, HasPieces, object_in, HasSize, DiffersInRepo, RepresentObjects, Represents}
+use Rattle.sqlite_keyed.specs.Lists.{sort_by}
 use Rattle.sqlite_keyed.proofs.KeyedLemmas.{IsKeyedBy-delete_where, has_key-delete_where}
-use Rattle.sqlite_keyed.proofs.ListLemmas.{all_weaker, all_of}
-use Rattle.model.specs.World.{World, Object}
-use Rattle.model.proofs.Lists.{filter_weaker, in_found, found_passes, none_where}
-use Rattle.model.proofs.Tests.{both_true}
 use Rattle.tables.specs.Rows as row
-use Rattle.tables.specs.Rows.{Tables}
-use Rattle.tables.specs.Statements.{is_upload, is_complete, is_staged, is_staged_with, is_staged_in, is_of, without_row, without_chunks}
-use Rattle.tables.specs.Staging.{staged_with, without_upload, without_found, without_staged, without_staged_in}
-use Rattle.refinement.specs.Objects.{chunk_kept, number_cmp, chunks_of, pieces_of, bytes_of, HasPieces, object_in, HasSize, DiffersInRepo, RepresentObjects}
-use Rattle.refinement.specs.Representation.{Represents}
+use Rattle.tables.specs.Statements.{without_row, without_chunks}
+use Rattle.tables.specs.Staging.{without_upload, without_found, without_staged, without_staged_in}
 use Rattle.refinement.proofs.Pieces.{numbers_meet, same_number, same_pieces, own_pieces}
 use Rattle.refinement.proofs.Uploads.{IsAlone, found_alone, found_itself, not_complete, map_alike, same_object, same_size}
 

@@ -1,17 +1,7 @@
 -- The router finds the table's row, for every good table and every path.
-use Rattle.std.proofs.Common.{◌≡◌, ℕ, suc, ◌<◌, List, [], ◌∷◌, ◌++◌, get_or, map, None, Bool, true, false, cond, refl, sym, ap, ◌∙◌, ◌==◌}
-use Rattle.std.specs.List.{list_all, onto_first, AllByRecursion}
-use Rattle.std.proofs.lemmas.Bool.{eqb-true, eqb-false}
-use Rattle.matchit.specs.Rows.{RowsOf}
-use Rattle.matchit.specs.Seek.{first}
-use Rattle.matchit.specs.Router.{RouteOf, map_key}
+use Rattle.routes.proofs.Prelude.{◌≡◌, ℕ, suc, ◌<◌, List, [], ◌∷◌, ◌++◌, get_or, map, None, Bool, true, false, cond, refl, sym, ap, ◌∙◌, ◌==◌, list_all, onto_first, AllByRecursion, eqb-true, eqb-false, RowsOf, first, RouteOf, map_key, Segment, parts, Resource, patterns, fitting, row_at, is_some_text, whole_row, table, table_routed, rows_in, resource_at}
 use Rattle.matchit.proofs.RenameLemmas.{first-rename}
-use Rattle.model.specs.Heads.{Segment}
-use Rattle.names.specs.Texts.{parts}
-use Rattle.routes.specs.declared.table.Resource.{Resource}
 use Rattle.routes.specs.declared.table.Resource.TheVariants.{Batch, Locks, VerifyLocks, Unlock, Content, Verify}
-use Rattle.routes.specs.Patterns.{patterns, fitting, row_at, is_some_text}
-use Rattle.routes.specs.Table.{whole_row, table, table_routed, rows_in, resource_at}
 use Rattle.routes.proofs.Rows.{joined, are_good, are_all_apart}
 use Rattle.routes.proofs.Walks.{ArePlain, ArePlainParts, AreGoodRows, good-rows, walk, walk-none}
 use Rattle.routes.proofs.Fitting.{AllApart, apart-from, all-apart, row-fitting, fitting-later}

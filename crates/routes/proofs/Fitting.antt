@@ -1,11 +1,6 @@
 -- If no two rows fit one path, the row found part by part is the first that fits.
-use Rattle.std.proofs.Common.{◌≡◌, ℕ, List, [], ◌∷◌, ◌++◌, Option, Some, None, Bool, true, false, cond, not, ◌&&◌, ◌||◌, refl, sym, ap, ◌∙◌, bytes_eq}
-use Rattle.std.specs.List.{list_all}
-use Rattle.std.proofs.lemmas.Bool.{and_parts, and_from, true≢false}
+use Rattle.routes.proofs.Prelude.{◌≡◌, ℕ, List, [], ◌∷◌, ◌++◌, Option, Some, None, Bool, true, false, cond, not, ◌&&◌, ◌||◌, refl, sym, ap, ◌∙◌, bytes_eq, list_all, and_parts, and_from, true≢false, or_else, Segment, literal, parameter, fits, fitting, is_some_text}
 use Rattle.std.proofs.lemmas.Slice.Eq.{bytes_eq-Decides}
-use Rattle.matchit.specs.Seek.{or_else}
-use Rattle.model.specs.Heads.{Segment, literal, parameter, fits}
-use Rattle.routes.specs.Patterns.{fitting, is_some_text}
 use Rattle.routes.proofs.Rows.{ended, after_literal, after_parameter, row_by_parts, are_apart, is_apart_from, are_all_apart}
 
 -- no path fits both rows

@@ -1,15 +1,11 @@
 -- Why the router may refuse a route, and what its rows are after an insert.
-use Rattle.std.proofs.Common.{◌≡◌, ◌≢◌, ℕ, List, [], ◌∷◌, Option, Some, None, Bool, true, false, cond, Result, Ok, Err, refl, sym, ap, subst, ◌∙◌}
+use Rattle.routes.proofs.Prelude.{◌≡◌, ◌≢◌, ℕ, List, [], ◌∷◌, Option, Some, None, Bool, true, false, cond, Result, Ok, Err, refl, sym, ap, subst, ◌∙◌, RowsOf, comes_before, RouteOf, Refused, InsertsRead, rename, map_key, nearest, route_from, Resource, pattern_of, rows_in}
 use Rattle.std.specs.Result.{IsOkAnd}
 use Rattle.matchit.specs.Route.{Scan, parse_route}
-use Rattle.matchit.specs.Rows.{RowsOf, comes_before}
 use Rattle.matchit.specs.Order.{placed}
-use Rattle.matchit.specs.Router.{RouteOf, Refused, InsertsRead, rename, map_key, nearest, route_from}
 use Rattle.matchit.proofs.NearestLemmas.{nearest-rename}
 use Rattle.matchit.specs.declared.error.InsertError.{InsertError}
 use Rattle.matchit.specs.declared.error.InsertError.TheVariants.{Conflict, InvalidParam, InvalidParamSegment, InvalidCatchAll, OutOfMemory}
-use Rattle.routes.specs.declared.table.Resource.{Resource}
-use Rattle.routes.specs.Table.{pattern_of, rows_in}
 
 some-not-none : {K L : Type 0} (f : K → L) (o : Option K) (k : K) → o ≡ Some k → map_key f o ≡ None → ⊥
 some-not-none f o k e none = absurd (cc (ap (map_key f) e, none))

@@ -1,9 +1,7 @@
 -- The parts of a text, by `split_once` at a slash.
-use Rattle.std.proofs.Common.{◌≡◌, ◌≢◌, ℕ, zero, suc, ◌-◌, ◌<◌, List, [], ◌∷◌, length, Some, refl, sym, ap, ◌∙◌, arith, ◌==◌}
-use Rattle.std.specs.List.{slice_get, position_or_len, before_first, after_first}
+use Rattle.routes.proofs.Prelude.{◌≡◌, ◌≢◌, ℕ, zero, suc, ◌-◌, ◌<◌, List, [], ◌∷◌, length, Some, refl, sym, ap, ◌∙◌, arith, ◌==◌, slice_get, position_or_len, before_first, after_first, parts}
 use Rattle.std.proofs.lemmas.List.Splits.{slice_split_first, slice_split_none}
 use Rattle.std.proofs.lemmas.List.Sums.{fails_before_first}
-use Rattle.names.specs.Texts.{parts}
 
 pub some_parts : (text owner name : List ℕ)
     → (position_or_len (λ b. b == 47) text < length text) × (owner ≡ before_first (λ b. b == 47) text) × (name ≡ after_first (λ b. b == 47) text)

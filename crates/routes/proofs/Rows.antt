@@ -1,8 +1,5 @@
 -- Rows of a table, part by part; and tests of a table.
-use Rattle.std.proofs.Common.{ℕ, Bool, true, false, ◌&&◌, ◌||◌, ◌==◌, not, nat_lt, List, [], ◌∷◌, ◌++◌, length, Option, Some, None, bytes_eq, cond}
-use Rattle.std.specs.List.{list_all}
-use Rattle.matchit.specs.Seek.{or_else}
-use Rattle.model.specs.Heads.{Segment, literal, parameter}
+use Rattle.routes.proofs.Prelude.{ℕ, Bool, true, false, ◌&&◌, ◌||◌, ◌==◌, not, nat_lt, List, [], ◌∷◌, ◌++◌, length, Option, Some, None, bytes_eq, cond, list_all, or_else, Segment, literal, parameter}
 
 -- the parts of a path, each after its slash
 abbrev pub joined : List (List ℕ) → List ℕ

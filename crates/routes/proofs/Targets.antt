@@ -1,16 +1,10 @@
 -- The route of a target, from its resource and its parts.
-use Rattle.std.proofs.Common.{◌≡◌, ℕ, ◌-◌, Bool, true, false, ◌==◌, List, [], ◌∷◌, ◌++◌, take, drop, length, find, map, Option, Some, None, option_map, Result, Ok, Err, refl, sym, ap, ◌∙◌, cond, codes}
-use Rattle.std.specs.List.{slice_get, list_all, ends_with}
+use Rattle.routes.proofs.Prelude.{◌≡◌, ℕ, ◌-◌, Bool, true, false, ◌==◌, List, [], ◌∷◌, ◌++◌, take, drop, length, find, map, Option, Some, None, option_map, Result, Ok, Err, refl, sym, ap, ◌∙◌, cond, codes, slice_get, list_all, ends_with, parts, Route, RouteRow, under_lfs, parameter_in, row_fits, repo_text, route_of_parts, path_of, route_at, is_some_text, fitting, row_at, Resource, row_of, resources, whole_row, table, resource_at}
 use Rattle.std.specs.Str.{IsUtf8}
 use Rattle.std.proofs.lemmas.Str.{is_utf8-from_IsUtf8}
 use Rattle.names.specs.declared.rules.Rule.{Rule}
 use Rattle.names.specs.declared.rules.Rule.TheVariants.{H6}
 use Rattle.model.specs.Reading.{◌>>=◌, check, ok_or}
-use Rattle.names.specs.Texts.{parts}
-use Rattle.model.specs.Heads.{Route, RouteRow, under_lfs, parameter_in, row_fits, repo_text, route_of_parts, path_of, route_at}
-use Rattle.routes.specs.Patterns.{is_some_text, fitting, row_at}
-use Rattle.routes.specs.declared.table.Resource.{Resource}
-use Rattle.routes.specs.Table.{row_of, resources, whole_row, table, resource_at}
 
 abbrev pub Routed : Type 0
 Routed = Result Route Rule

@@ -1,12 +1,8 @@
 -- The router's walk over bytes, part by part.
-use Rattle.std.proofs.Common.{◌≡◌, ◌≢◌, ℕ, zero, suc, ◌+◌, ◌-◌, ◌<◌, ◌≤◌, List, [], ◌∷◌, ◌++◌, length, drop, Option, Some, None, Bool, true, false, cond, not, ◌&&◌, refl, sym, ap, subst, ◌∙◌, arith, nat_lt, ◌==◌, bytes_eq, length-append, append-nil}
-use Rattle.std.proofs.lemmas.Bool.{ltb-true, and_parts, and_right, and_from, lt-ltb, ne_eqb, eqb-false, not-true, true≢false}
+use Rattle.routes.proofs.Prelude.{◌≡◌, ◌≢◌, ℕ, zero, suc, ◌+◌, ◌-◌, ◌<◌, ◌≤◌, List, [], ◌∷◌, ◌++◌, length, drop, Option, Some, None, Bool, true, false, cond, not, ◌&&◌, refl, sym, ap, subst, ◌∙◌, arith, nat_lt, ◌==◌, bytes_eq, length-append, append-nil, ltb-true, and_parts, and_right, and_from, lt-ltb, ne_eqb, eqb-false, not-true, true≢false, RowsOf, param_token, catch_all_token, own, step, or_else, first, has_slash, segment, cuts, longest_from, longest_suffix, with_suffix, same_text, Segment, literal, parameter, tokens, patterns}
 use Rattle.std.proofs.lemmas.Bool.Decides.{nat_tests}
 use Rattle.std.proofs.Math.Seq.{drop-append_seam}
-use Rattle.matchit.specs.Rows.{RowsOf, param_token, catch_all_token}
-use Rattle.matchit.specs.Seek.{own, step, or_else, seek, first, param_step, has_slash, segment, cuts, longest_from, longest_suffix, with_suffix, same_text}
-use Rattle.model.specs.Heads.{Segment, literal, parameter}
-use Rattle.routes.specs.Patterns.{tokens, patterns}
+use Rattle.matchit.specs.Seek.{seek, param_step}
 use Rattle.routes.proofs.Rows.{joined, is_clean_byte, is_clean, is_good, are_good, ended, after_literal, after_parameter, row_by_parts}
 
 -- a byte other than a slash

@@ -1,25 +1,7 @@
 -- A reply is sent.
-use Rattle.std.proofs.Common.{◌≡◌, ◌∙◌, ℕ, Bool, true, false, List, [], ◌++◌, MatchBool, Option, Some, None, is_some, option_map, sym, ap, ap₂, subst}
-use Rattle.std.specs.Io.KnownBytes.{Appends}
-use Rattle.sqlite_trees.specs.declared.store.Store.{Ghosts}
-use Rattle.model.specs.World.{World}
-use Rattle.model.specs.Cases.{Setting}
-use Rattle.model.specs.Answers.{Answer, is_store_refusal}
-use Rattle.model.specs.Bounds.{bound_after}
-use Rattle.model.specs.Steps.{Exchange, exchanged, closes, closes_if, allow}
-use Rattle.model.specs.Replies.{reply_text}
-use Rattle.model.specs.Sessions.{text_of, text_if}
-use Rattle.model.specs.Stream.{BeginsWith}
-use Rattle.names.specs.Streams.{IsBeginning}
+use Rattle.service.proofs.Prelude.{◌≡◌, ◌∙◌, ℕ, Bool, true, false, List, [], ◌++◌, MatchBool, Option, Some, None, is_some, option_map, sym, ap, ap₂, subst, Appends, Ghosts, World, Setting, Answer, is_store_refusal, bound_after, Exchange, exchanged, closes, closes_if, allow, reply_text, text_of, text_if, BeginsWith, IsBeginning, Store, leads_then, leads_still, BreaksOff, IsEarly, IsFirst, IsIncomplete, IsResponse, IsSent, EndsReply, IsTurn, ClosesTurn, EndsTurn, End, Response}
 use Rattle.tables.specs.Shown.{Moves, AddsNothing}
-use Rattle.tables.specs.declared.Store.{Store}
-use Rattle.refinement.proofs.Leading.{leads_then, leads_still}
-use Rattle.service.specs.Sending.{BreaksOff}
-use Rattle.service.specs.Responding.{IsEarly}
-use Rattle.service.specs.Turns.{IsFirst, IsIncomplete, IsResponse, IsSent, EndsReply, IsTurn, ClosesTurn, EndsTurn}
-use Rattle.service.specs.declared.ends.End.{End}
 use Rattle.service.specs.declared.ends.End.TheVariants.{InputEnded, Closed, StoreRefused, ReadFailed, WriteFailed, StoreFailed}
-use Rattle.service.specs.declared.responding.Response.{Response}
 use Rattle.service.proofs.Responses.{begins_now}
 
 -- ---- the text and the content of a reply

@@ -1,41 +1,15 @@
 -- A message whose body is read before the answer, or by it.
-use Rattle.std.proofs.Common.{◌≡◌, ◌∙◌, ◌+◌, ◌<◌, ◌≤◌, ℕ, Bool, true, false, List, [], ◌++◌, length, Result, Ok, Err, refl, sym, ap, subst, arith}
+use Rattle.service.proofs.Prelude.{◌≡◌, ◌∙◌, ◌+◌, ◌<◌, ◌≤◌, ℕ, Bool, true, false, List, [], ◌++◌, length, Result, Ok, Err, refl, sym, ap, subst, arith, nil_from_length, ⊤, Consumes, IsAtEnd, Ghosts, RequestHead, last_moment, BodyFault, World, IsPolicy, body_length, content_length, Setting, desk_plan, BeginsWithHead, waiting, source_of, body_left, HandsOut, Hands, by_none, by_read, by_both, Store, is_put, request_seen, IsAnsweredAs, IsSettled, RepoRequest, Answered, AnswerFault, Asks, IsRequestOf, target_asked, RespondsBy, Responds, Asked, Response}
 use Rattle.std.proofs.lemmas.Bool.{true≢false}
-use Rattle.std.proofs.lemmas.List.{nil_from_length}
 use Rattle.std.specs.Result.{IfErr}
-use Rattle.std.specs.Bool.{⊤}
-use Rattle.std.specs.Io.KnownBytes.{Consumes, IsAtEnd}
-use Rattle.sqlite_trees.specs.declared.store.Store.{Ghosts}
-use Rattle.httparse.specs.Grammar.{RequestHead}
-use Rattle.names.specs.Texts.{last_moment}
 use Rattle.names.specs.declared.bodies.Body as content
-use Rattle.names.specs.declared.bodies.BodyFault.{BodyFault}
 use Rattle.names.specs.declared.bodies.BodyFault.TheVariants.{Ended, Device}
 use Rattle.names.specs.declared.streams.Source as source
-use Rattle.model.specs.World.{World}
-use Rattle.model.specs.Policy.{IsPolicy}
-use Rattle.model.specs.Heads.{body_length, content_length}
-use Rattle.model.specs.Cases.{Setting}
-use Rattle.model.specs.Verdict.{desk_plan}
-use Rattle.model.specs.Stream.{BeginsWithHead}
-use Rattle.wire.specs.Connections.{waiting}
-use Rattle.wire.specs.States.{source_of, body_left, HandsOut, Hands, by_none, by_read, by_both}
 use Rattle.wire.specs.declared.connection.Conn.{Conn}
 use Rattle.wire.specs.declared.inflow.Inflow.{Inflow}
 use Rattle.wire.proofs.Handed.{handed}
-use Rattle.tables.specs.declared.Store.{Store}
-use Rattle.desk.specs.Asking.{is_put, request_seen}
 use Rattle.desk.specs.Contents.{IsLeftBy}
-use Rattle.desk.specs.Done.{IsAnsweredAs, IsSettled}
-use Rattle.desk.specs.declared.admission.RepoRequest.{RepoRequest}
-use Rattle.desk.specs.declared.outcomes.Answered.{Answered}
-use Rattle.desk.specs.declared.outcomes.AnswerFault.{AnswerFault}
 use Rattle.desk.specs.declared.outcomes.AnswerFault.TheVariants as fault
-use Rattle.service.specs.Messages.{Asks, IsRequestOf, target_asked}
-use Rattle.service.specs.Responding.{RespondsBy}
-use Rattle.service.specs.Turns.{Responds}
-use Rattle.service.specs.declared.message.Asked.{Asked}
-use Rattle.service.specs.declared.responding.Response.{Response}
 use Rattle.service.proofs.Messages.{body_is, whole_first}
 use Rattle.service.proofs.Responses.{made_as, plan_made, put_responds, whole_responds}
 

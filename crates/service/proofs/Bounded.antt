@@ -1,21 +1,9 @@
 -- After a connection a repository has at most its quota and one largest object in the database.
-use Rattle.std.proofs.Common.{◌≡◌, ◌≤◌, inl, inr, ℕ, List, map, All, ap, arith}
+use Rattle.service.proofs.Prelude.{◌≡◌, ◌≤◌, inl, inr, ℕ, List, map, All, ap, arith, Ghosts, World, Setting, Exchange, exchanged, AreUnder, bound_of_run, Store, From, Holds, StaysWithin, Call, Serves, Served}
 use Rattle.std.proofs.lemmas.List.Elements.{All-map, All-weaker, recursion_from_All}
-use Rattle.sqlite_trees.specs.declared.store.Store.{Ghosts}
-use Rattle.model.specs.World.{World}
-use Rattle.model.specs.Cases.{Setting}
-use Rattle.model.specs.Steps.{Exchange, exchanged}
 use Rattle.model.specs.Laws.{HasQuotaWithin, quota_of}
-use Rattle.model.specs.Sessions.{AreUnder}
-use Rattle.model.specs.Bounds.{bound_of_run}
 use Rattle.model.proofs.Quota.{bound_in_quota, stays_in_quota}
-use Rattle.tables.specs.declared.Store.{Store}
-use Rattle.refinement.specs.Left.{From}
-use Rattle.refinement.specs.Representation.{Holds}
 use Rattle.uploads.proofs.Bounds.{leaves_within, stores_within}
-use Rattle.desk.specs.Done.{StaysWithin}
-use Rattle.service.specs.Served.{Call, Serves}
-use Rattle.service.specs.declared.ends.Served.{Served}
 
 -- each exchange is under the policy, whose quota is within the bound
 quotas : (setting : Setting) (repo : List ℕ) (most : ℕ) (exchanges : List Exchange) → AreUnder setting exchanges → quota_of repo setting.policy ≤ most

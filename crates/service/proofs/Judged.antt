@@ -1,24 +1,14 @@
 -- The verdict on a head, check by check.
-use Rattle.std.proofs.Common.{◌≡◌, ℕ, Bool, true, false, not, ◌||◌, List, [], ◌∷◌, Some, None, Result, Ok, Err, codes, refl, ap, ◌∙◌, subst, ◌≤◌, length, lit≤, bytes_eq, cond}
-use Rattle.std.specs.Bool.{⊤}
+use Rattle.service.proofs.Prelude.{◌≡◌, ℕ, Bool, true, false, not, ◌||◌, List, [], ◌∷◌, Some, None, Result, Ok, Err, codes, refl, ap, ◌∙◌, subst, ◌≤◌, length, lit≤, bytes_eq, cond, ⊤, RequestHead, Rule, H6, H7, H8, Form, is_put, ◌>>=◌, check, Route, check_framing, route_at, form_of, is_method, accepts, values, methods_of, is_h7, IsDenied, Denied}
 use Rattle.std.specs.Result.{IfErr}
 use Rattle.std.specs.Str.{IsUtf8, is_utf8}
 use Rattle.std.proofs.lemmas.Str.{IsUtf8-from_is_utf8}
 use Rattle.std.proofs.lemmas.Slice.Eq.{bytes_eq-Decides}
-use Rattle.httparse.specs.Grammar.{RequestHead}
-use Rattle.names.specs.declared.rules.Rule.{Rule}
-use Rattle.names.specs.declared.rules.Rule.TheVariants.{H6, H7, H8}
-use Rattle.model.specs.declared.Form.{Form}
 use Rattle.model.specs.declared.Form.TheVariants as form
-use Rattle.desk.specs.Asking.{is_put}
-use Rattle.model.specs.Reading.{◌>>=◌, check}
-use Rattle.model.specs.Heads.{Route, head_verdict, check_framing, route_at, form_of, is_method, accepts, values, methods_of}
-use Rattle.model.specs.Steps.{is_h7}
+use Rattle.model.specs.Heads.{head_verdict}
 use Rattle.routes.specs.declared.table.Resource.{Resource}
 use Rattle.routes.specs.declared.table.Resource.TheVariants.{Batch, Locks, VerifyLocks, Unlock, Content, Verify}
 use Rattle.routes.specs.Table.{row_of}
-use Rattle.service.specs.Judging.{IsDenied}
-use Rattle.service.specs.declared.judging.Denied.{Denied}
 
 -- ---- the checks in their order
 

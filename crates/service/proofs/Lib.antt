@@ -1,3 +1,4 @@
+mod Prelude
 pub mod Judged
 pub mod Messages
 pub mod Sent

@@ -1,31 +1,18 @@
 -- A head, and the message that it begins.
-use Rattle.std.proofs.Common.{inl, inr, append-nil, ◌≡◌, ◌∙◌, ◌<◌, ◌≤◌, ℕ, suc, Bool, true, false, ◌||◌, nat_le, List, [], ◌∷◌, ◌++◌, append_assoc, length, take, drop, codes, Option, Some, Bor, Result, Ok, Err, refl, sym, ap, ap₂, subst, arith, cond, length-append, is_err, option_map, lit<, lit≤, true≢false}
+use Rattle.service.proofs.Prelude.{inl, inr, append-nil, ◌≡◌, ◌∙◌, ◌<◌, ◌≤◌, ℕ, suc, Bool, true, false, ◌||◌, nat_le, List, [], ◌∷◌, ◌++◌, append_assoc, length, take, drop, codes, Option, Some, Bor, Result, Ok, Err, refl, sym, ap, ap₂, subst, arith, cond, length-append, is_err, option_map, lit<, lit≤, drop_all, drop_at, take_at, IfErr-at_err, ⊤, RequestHead, ReadsRequest, MayBecomeRequest, Rule, ◌>>=◌, check, Target, head_verdict, check_framing, body_length, values, at_most, asks_close, content_length, is_measured, is_clear, is_small, Message, message, bad_head, is_of_head, BeginsWithHead, BeginsWith, with_message, with_bad_head, message_with, IsUnfinished, BeginsBadly, head_more, Refuses, is_put, AsksFor, IsDenied, target_seen, Asks, IsCopyOf, IsRefused, target_asked, whole_message, Asked}
+use Rattle.std.proofs.Common.{true≢false}
 use Rattle.std.proofs.lemmas.Bool.{true≢false}
 use Rattle.std.proofs.lemmas.Bool.Decides.{nat_tests}
-use Rattle.std.proofs.lemmas.List.{drop_all, drop_at, take_at}
-use Rattle.std.proofs.lemmas.Result.{IfErr-at_err}
-use Rattle.std.specs.Bool.{⊤}
-use Rattle.httparse.specs.Grammar.{RequestHead, print_request, ReadsRequest, MayBecomeRequest}
-use Rattle.names.specs.declared.rules.Rule.{Rule}
+use Rattle.httparse.specs.Grammar.{print_request}
 use Rattle.names.specs.declared.rules.Rule.TheVariants as rule
-use Rattle.model.specs.Reading.{◌>>=◌, check}
 use Rattle.model.specs.Orders.{first}
-use Rattle.model.specs.Heads.{Target, head_verdict, check_framing, body_length, values, at_most, asks_close, content_length, is_measured, is_clear, is_small}
-use Rattle.model.specs.Steps.{Message, message, bad_head, is_of_head}
-use Rattle.model.specs.Stream.{BeginsWithHead, BeginsWith, with_message, with_bad_head, message_with, IsUnfinished, BeginsBadly}
 use Rattle.model.proofs.Refusals.{IsHeadRule, head_fails, verdict_refused}
 use Rattle.model.proofs.Streamed.{first_is_first}
 use Rattle.model.proofs.Tests.{both_true}
-use Rattle.wire.proofs.Streams.{head_more}
 use Rattle.tokens.specs.Bearers.{single_value}
-use Rattle.wire.specs.Connections.{Refuses}
 use Rattle.service.proofs.Judged.{not_framed, framing_rule, refused}
-use Rattle.desk.specs.Asking.{is_put}
-use Rattle.service.specs.Judging.{AsksFor, IsDenied, target_seen}
-use Rattle.service.specs.Messages.{Asks, IsCopyOf, IsRefused, target_asked, whole_message}
 use Rattle.service.specs.declared.judging.Denied as judging
 use Rattle.service.specs.declared.judging.Target as code
-use Rattle.service.specs.declared.message.Asked.{Asked}
 
 -- ---- a head that is refused
 

@@ -1,51 +1,17 @@
 -- The response to a message, by what the desk answered.
-use Rattle.std.proofs.Common.{◌≡◌, ◌∙◌, ◌+◌, ◌<◌, ◌≤◌, ℕ, Bool, true, false, not, ◌&&◌, ◌||◌, nat_le, List, [], ◌++◌, length, take, drop, replicate, codes, MatchBool, Option, Some, None, Result, Ok, Err, is_err, is_ok, refl, sym, ap, ap₂, subst, arith, append-nil, length-append, bytes_eq}
+use Rattle.service.proofs.Prelude.{◌≡◌, ◌∙◌, ◌+◌, ◌<◌, ◌≤◌, ℕ, Bool, true, false, not, ◌&&◌, ◌||◌, nat_le, List, [], ◌++◌, length, take, drop, replicate, codes, MatchBool, Option, Some, None, Result, Ok, Err, is_err, is_ok, refl, sym, ap, ap₂, subst, arith, append-nil, length-append, bytes_eq, length-replicate, length-take-le, IfErr-at_err, ⊤, Ghosts, RequestHead, last_moment, BodyFault, World, Object, name_of, IsPolicy, ◌>>=◌, Form, Target, head_verdict, query_of, asks_close, is_method, body_length, content_length, Setting, DeskRequest, Answer, Denial, Plan, receives, by_rule, by_row, by_lock, is_rule, is_store_refusal, store_refusal, verdict, desk_plan, desk_request, early_check, early_verdict, Message, Exchange, exchanged, Carries, verdict_on, by_verdict, by_refusal, denial_alone, message, is_early, is_of_head, is_h7, is_denial, is_x2, is_sure, denies_put, closes, closes_after, allow, after, BeginsWith, BeginsWithHead, message_with, unchanged, failed, left_by, answer_ending, bound_after, Store, StoreFault, Leads, Keeps, ends_still, ends_reported, denial_changes_none, is_put, request_seen, Answers, IsAnsweredAs, IsSettled, verdict_by, IsReplyOf, Lends, RepoRequest, Answered, AnswerFault, Asks, IsRefused, IsRequestOf, target_asked, whole_message, RespondsBy, IsFirst, IsIncomplete, IsResponse, IsTurn, Responds, exchange, less_than_body, Asked, Response, head_more}
 use Rattle.std.proofs.lemmas.Bool.{leb-false, leb-true, true≢false}
-use Rattle.std.proofs.lemmas.List.{length-replicate, length-take-le}
-use Rattle.std.proofs.lemmas.Result.{IfErr-at_err}
 use Rattle.std.proofs.Math.Seq.{take-append-add}
 use Rattle.std.specs.Result.{IfErr}
-use Rattle.std.specs.Bool.{⊤}
-use Rattle.sqlite_trees.specs.declared.store.Store.{Ghosts}
-use Rattle.httparse.specs.Grammar.{RequestHead}
-use Rattle.names.specs.Texts.{last_moment}
-use Rattle.names.specs.declared.bodies.BodyFault.{BodyFault}
-use Rattle.model.specs.World.{World, Object, name_of}
-use Rattle.model.specs.Policy.{IsPolicy}
-use Rattle.model.specs.Reading.{◌>>=◌}
-use Rattle.model.specs.declared.Form.{Form}
 use Rattle.model.specs.declared.Form.TheVariants as form
-use Rattle.model.specs.Heads.{Target, head_verdict, query_of, asks_close, is_method, body_length, content_length}
 use Rattle.model.specs.Forms.{request_of}
-use Rattle.model.specs.Cases.{Setting, DeskRequest}
-use Rattle.model.specs.Answers.{Answer, Denial, Plan, receives, by_rule, by_row, by_lock, is_rule, is_store_refusal, store_refusal}
 use Rattle.model.specs.Objects.{content_verdict}
-use Rattle.model.specs.Verdict.{verdict, desk_plan, desk_request, early_check, early_verdict}
-use Rattle.model.specs.Steps.{Message, Exchange, exchanged, Carries, verdict_on, by_verdict, by_refusal, denial_alone, message, is_early, is_of_head, is_h7, is_denial, is_x2, is_sure, denies_put, closes, closes_after, allow, after}
-use Rattle.model.specs.Stream.{BeginsWith, BeginsWithHead, message_with}
-use Rattle.model.specs.Bounds.{unchanged, failed, left_by, answer_ending, bound_after}
 use Rattle.model.proofs.Refusals.{IsLate, IsOfPlan, desk_fails, desk_plan_fails, fails, request_fails, verdict_at, early_at}
 use Rattle.model.proofs.Firsts.{begins_with_message}
-use Rattle.tables.specs.declared.Store.{Store}
-use Rattle.tables.specs.declared.fault.StoreFault.{StoreFault}
-use Rattle.refinement.specs.Left.{Leads, Keeps}
-use Rattle.refinement.proofs.Leading.{ends_still, ends_reported, denial_changes_none}
-use Rattle.desk.specs.Asking.{is_put, request_seen}
-use Rattle.desk.specs.Done.{Answers, IsAnsweredAs, IsSettled, verdict_by}
-use Rattle.desk.specs.Replies.{IsReplyOf, Lends}
-use Rattle.desk.specs.declared.admission.RepoRequest.{RepoRequest}
-use Rattle.desk.specs.declared.outcomes.Answered.{Answered}
-use Rattle.desk.specs.declared.outcomes.AnswerFault.{AnswerFault}
 use Rattle.desk.specs.declared.outcomes.AnswerFault.TheVariants as fault
 use Rattle.desk.specs.declared.replies.Reply.{Reply}
 use Rattle.desk.proofs.Lent.{none_lent}
-use Rattle.service.specs.Messages.{Asks, IsRefused, IsRequestOf, target_asked, whole_message}
-use Rattle.service.specs.Responding.{RespondsBy}
-use Rattle.service.specs.Turns.{IsFirst, IsIncomplete, IsResponse, IsTurn, Responds, exchange, less_than_body}
 use Rattle.service.specs.declared.judging.Denied as refusing
-use Rattle.service.specs.declared.message.Asked.{Asked}
-use Rattle.service.specs.declared.responding.Response.{Response}
-use Rattle.wire.proofs.Streams.{head_more}
 use Rattle.service.proofs.Messages.{message_there, whole_first, cut_message}
 
 -- ---- the plan for a message

@@ -1,27 +1,17 @@
 -- The text of a reply, written in two parts: its front, and the content of an object.
-use Rattle.std.proofs.Common.{◌≡◌, ◌⊎◌, inl, inr, ◌∙◌, ◌+◌, ◌<◌, ◌≤◌, ℕ, Bool, List, [], ◌++◌, length, take, Option, Result, Ok, Err, OnOk, IfErr, refl, sym, ap, subst, append-nil, arith}
-use Rattle.std.specs.Io.KnownBytes.{Appends}
+use Rattle.service.proofs.Prelude.{◌≡◌, ◌⊎◌, inl, inr, ◌∙◌, ◌+◌, ◌<◌, ◌≤◌, ℕ, Bool, List, [], ◌++◌, length, take, Option, Result, Ok, Err, OnOk, refl, sym, ap, subst, append-nil, arith, Appends, take_all, IsBeginning, Object, Answer, offers, serves, stores, confirms, makes_lock, lists, splits, releases, reply_of, reply_text, head_lines, type_line, body_size, body_text, appends_both, Ghosts, Store, StoreFault, ShowsBody, Lends, front_text, Writes, EndsContent, BreaksOff, Sends}
+use Rattle.std.proofs.Common.{IfErr}
 use Rattle.std.proofs.Math.Numerals.{lt_of_le_of_ne}
-use Rattle.std.proofs.lemmas.List.{take_all}
-use Rattle.names.specs.Streams.{IsBeginning}
-use Rattle.model.specs.World.{Object}
-use Rattle.model.specs.Answers.{Answer, offers, serves, stores, confirms, makes_lock, lists, splits, releases}
-use Rattle.model.specs.Replies.{reply_of, reply_text, content_of, head_text, head_lines, type_line, body_size, body_text}
-use Rattle.wire.proofs.Appended.{appends_both}
+use Rattle.model.specs.Replies.{content_of, head_text}
 use Rattle.wire.proofs.Wholes.{begins_front, begins_back}
-use Rattle.sqlite_trees.specs.declared.store.Store.{Ghosts}
 use Rattle.tables.specs.Staging.{upload_number}
-use Rattle.tables.specs.declared.Store.{Store}
-use Rattle.tables.specs.declared.fault.StoreFault.{StoreFault}
 use Rattle.tables.specs.declared.rows.ObjectRow.{ObjectRow}
 use Rattle.refinement.specs.Staging.{Stores}
-use Rattle.desk.specs.Replies.{ShowsBody, Lends}
 use Rattle.desk.specs.declared.replies.ReplyBody.{ReplyBody}
 use Rattle.desk.specs.declared.replies.ReplyBody.TheVariants.{Content}
 use Rattle.chunks.specs.Pouring.{TookFront}
 use Rattle.chunks.specs.declared.pouring.PourCause.{PourCause}
 use Rattle.chunks.specs.declared.pouring.PourCause.TheVariants.{Store as ByStore, Device as ByDevice}
-use Rattle.service.specs.Sending.{front_text, Writes, EndsContent, BreaksOff, Sends}
 use Rattle.service.specs.declared.sending.SendFault.{SendFault}
 use Rattle.service.specs.declared.sending.SendFault.TheVariants.{Sink, Store as OfStore}
 

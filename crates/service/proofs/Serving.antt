@@ -1,33 +1,12 @@
 -- A connection, message by message.
-use Rattle.std.proofs.Common.{◌≡◌, ◌∙◌, ◌+◌, ◌<◌, ℕ, suc, Bool, true, false, List, [], ◌∷◌, ◌++◌, length, take, drop, get_or, map, Option, Some, None, Ok, is_some, option_map, refl, sym, ap, ap₂, subst, append-nil, append_assoc, add-zero}
+use Rattle.service.proofs.Prelude.{◌≡◌, ◌∙◌, ◌+◌, ◌<◌, ℕ, suc, Bool, true, false, List, [], ◌∷◌, ◌++◌, length, take, drop, get_or, map, Option, Some, None, Ok, is_some, option_map, refl, sym, ap, ap₂, subst, append-nil, append_assoc, add-zero, take-append-drop, map-append, Appends, Consumes, Ghosts, World, Object, Setting, Answer, serves, is_store_refusal, reply_of, head_text, Message, message, bad_head, Exchange, Event, exchanged, Run, allow, closes, closes_if, BeginsWith, IsUnfinished, bound_of_run, Session, IsSession, IsWritten, IsPartOf, BreaksInContent, session_text, text_of, text_if, reply_count, appends_both, Store, Holds, Leads, leads_none, run_takes, IsEarly, IsTurn, IsIncomplete, less_than_head, less_than_body, ClosesTurn, EndsTurn, IsServing, IsServed, IsRefusal, IsUnserved, IsLeftOpen, HasNoBadHead, LastRefused, IsClosedAs, closing, end_seen, End, Served}
 use Rattle.std.proofs.Math.Seq.{drop-cons}
-use Rattle.std.proofs.lemmas.List.{take-append-drop, map-append}
-use Rattle.std.specs.Io.KnownBytes.{Appends, Consumes}
-use Rattle.sqlite_trees.specs.declared.store.Store.{Ghosts}
-use Rattle.model.specs.World.{World, Object}
-use Rattle.model.specs.Cases.{Setting}
-use Rattle.model.specs.Answers.{Answer, serves, is_store_refusal}
-use Rattle.model.specs.Replies.{reply_of, head_text}
-use Rattle.model.specs.Steps.{Message, message, bad_head, Exchange, Event, exchanged, Run, allow, closes, closes_if}
-use Rattle.model.specs.Stream.{BeginsWith, IsUnfinished}
 use Rattle.model.specs.Progress.{IsProgress, fresh, with_exchange}
 use Rattle.model.specs.Views.{SameViews}
-use Rattle.model.specs.Bounds.{bound_of_run}
 use Rattle.model.specs.Laws.{NoneAsks}
 use Rattle.model.specs.Sessions as model
-use Rattle.model.specs.Sessions.{Session, IsSession, IsWritten, IsPartOf, BreaksInContent, session_text, text_of, text_if, reply_count}
 use Rattle.model.proofs.Progress.{run_append, begun, IsNextExchange, goes_on, ends_unfinished, ends_unread, ends_closed, breaks_off}
 use Rattle.model.proofs.Apart.{sessions_leave_views}
-use Rattle.wire.proofs.Appended.{appends_both}
-use Rattle.tables.specs.declared.Store.{Store}
-use Rattle.refinement.specs.Representation.{Holds}
-use Rattle.refinement.specs.Left.{Leads}
-use Rattle.refinement.proofs.Leading.{leads_none, run_takes}
-use Rattle.service.specs.Responding.{IsEarly}
-use Rattle.service.specs.Turns.{IsTurn, IsIncomplete, less_than_head, less_than_body, ClosesTurn, EndsTurn}
-use Rattle.service.specs.Served.{IsServing, IsServed, IsRefusal, IsUnserved, IsLeftOpen, HasNoBadHead, LastRefused, IsClosedAs, closing, end_seen}
-use Rattle.service.specs.declared.ends.End.{End}
-use Rattle.service.specs.declared.ends.Served.{Served}
 use Rattle.service.specs.declared.ends.End.TheVariants as end
 use Rattle.service.proofs.Messages.{none_unfinished, none_may_become}
 

@@ -1,25 +1,15 @@
 -- The caller, from the row of a token to the world.
-use Rattle.std.proofs.Common.{◌≡◌, ℕ, ◌<◌, ◌≤◌, true, false, nat_lt, List, find, Option, Some, None, option_map, Result, Ok, Err, refl, sym, ap, ◌∙◌, arith}
+use Rattle.tokens.proofs.Prelude.{◌≡◌, ℕ, ◌<◌, ◌≤◌, true, false, nat_lt, List, find, Option, Some, None, option_map, Result, Ok, Err, refl, sym, ap, ◌∙◌, arith, sha256, user_text, repo_text, A2, A3, World, IsWorld, Token, find_token, bearer, caller_by, Tables, has_digest, TokenFields, token_fields, read_token, token_kept, token_row, Represents, IsCalling, IsGoodAt}
 use Rattle.std.proofs.lemmas.Bool.Decides.{nat_tests}
 use Rattle.std.proofs.lemmas.Option.{none-some}
-use Rattle.sha2.specs.Sha256.{sha256}
-use Rattle.names.specs.Names.{user_text, repo_text}
-use Rattle.names.specs.declared.rules.Rule.TheVariants.{A2, A3}
-use Rattle.model.specs.World.{World, IsWorld, Token, find_token}
 use Rattle.model.specs.Callers as model
-use Rattle.model.specs.Callers.{bearer, caller_by}
 use Rattle.tables.specs.Rows as row
-use Rattle.tables.specs.Rows.{Tables}
-use Rattle.tables.specs.Statements.{has_digest}
-use Rattle.tables.specs.Steps.{TokenFields, token_fields, read_token}
 use Rattle.tables.specs.declared.rows.TokenRow.{TokenRow}
-use Rattle.refinement.specs.Representation.{token_kept, token_row, Represents}
 use Rattle.refinement.proofs.Lookups.{token_found}
 use Rattle.refinement.proofs.Same.{same_operation, same_pos}
 use Rattle.tokens.specs.declared.callers.Caller.{Caller}
 use Rattle.tokens.specs.declared.callers.CallerFault.{CallerFault}
 use Rattle.tokens.specs.declared.callers.CallerFault.TheVariants as fault
-use Rattle.tokens.specs.Callers.{IsCalling, IsGoodAt}
 
 none_of_map : {A B C : Type 0} (f : A → C) (g : B → C) (o : Option B) → option_map {T = A} {U = C} f None ≡ option_map g o → o ≡ None
 none_of_map f g None e = refl

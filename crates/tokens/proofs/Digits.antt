@@ -1,10 +1,7 @@
 -- The text of 32 bytes has 64 hexadecimal digits.
-use Rattle.std.proofs.Common.{◌≡◌, ℕ, ◌*◌, ◌/◌, ◌%◌, ◌<◌, Bool, true, false, List, [], ◌∷◌, length, get_or, refl, arith, IsTrue, suc}
-use Rattle.std.specs.List.{list_all}
-use Rattle.std.proofs.lemmas.Bool.{true≢false}
+use Rattle.tokens.proofs.Prelude.{◌≡◌, ℕ, ◌*◌, ◌/◌, ◌%◌, ◌<◌, Bool, true, false, List, [], ◌∷◌, length, get_or, refl, arith, IsTrue, suc, list_all, true≢false, is_hex_digit, is_hex_64}
 use Rattle.std.proofs.lemmas.List.Folds.{list_all_at}
 use Rattle.hex.specs.Hex.{encode_with, encode_lower, lower_digits}
-use Rattle.names.specs.Texts.{is_hex_digit, is_hex_64}
 
 -- each of the first sixteen digits is a hexadecimal digit
 digit : (k : ℕ) → k < 16 → is_hex_digit (get_or lower_digits k 0) ≡ true

@@ -1,29 +1,19 @@
 -- A requested token, in the tables and in the definitions.
-use Rattle.std.proofs.Common.{◌≡◌, ◌∙◌, ◌+◌, ◌≤◌, ℕ, pos, Bool, true, false, not, nat_le, List, length, filter, Option, Some, None, is_some, Result, Ok, Err, refl, sym, ap, subst, IsTrue, IfOk, OnOk, OnErr}
-use Rattle.std.specs.Prelude.{IsErrAnd, MatchResult}
-use Rattle.std.proofs.lemmas.Bool.{leb-true}
+use Rattle.tokens.proofs.Prelude.{◌≡◌, ◌∙◌, ◌+◌, ◌≤◌, ℕ, pos, Bool, true, false, not, nat_le, List, length, filter, Option, Some, None, is_some, Result, Ok, Err, refl, sym, ap, subst, IsTrue, IfOk, OnOk, OnErr, IsErrAnd, MatchResult, leb-true, last_moment, is_hex_64, World, Token, IsToken, find_token, with_token, without_expired, token_verdict, already_issued, expires_too_late, after_token, IsTokenRequest, by_success, by_fault, has_expired, has_token, after_add, IsHonest, IsOpen, shown, Makes, Fails, Holds, token_kept, token_row, token_known, none_is, some_is, would_add, holds_token, still_if_known, holds_pruned, expired_counted, expired_gone, Issues, Refuses, denial_of, report_of, token_asked, token_until}
 use Rattle.sqlite_trees.specs.declared.store.Store.{Ghosts}
-use Rattle.names.specs.Texts.{last_moment, is_hex_64}
-use Rattle.model.specs.World.{World, Token, IsToken, find_token, with_token, without_expired}
 use Rattle.model.specs.Reading.{◌>>=◌, check, none_or}
-use Rattle.model.specs.Operator.{token_verdict, already_issued, expires_too_late, after_token, IsTokenRequest, by_success, by_fault}
 use Rattle.model.specs.Steps.{IsStep, issues, prunes}
 use Rattle.model.specs.Bounds.{changed, unchanged, failed, is_changed, left_by, ending_of}
 use Rattle.model.proofs.Keeping.{keeps_without_expired}
 use Rattle.tables.specs.Rows as row
-use Rattle.tables.specs.Statements.{has_expired}
 use Rattle.tables.specs.Statements as tables
-use Rattle.tables.specs.Steps.{has_token, after_add}
-use Rattle.tables.specs.Shown.{IsHonest, IsOpen, shown, Makes, Fails}
 use Rattle.tables.specs.declared.Store.{Store}
 use Rattle.tables.proofs.Moved.{moves_then}
 use Rattle.tables.specs.declared.fault.StoreFault.{StoreFault}
-use Rattle.refinement.specs.Representation.{Holds, token_kept, token_row}
 use Rattle.refinement.specs.Left.{Leads, Ends, KeepsTables}
 use Rattle.refinement.proofs.Leading.{still_then, ends_made, ends_failed, takes_made, takes_failed, takes_still}
 use Rattle.refinement.proofs.Holding.{holds_still}
-use Rattle.refinement.proofs.Tokens.{token_known, none_is, some_is, would_add, holds_token, still_if_known, holds_pruned, expired_counted, expired_gone}
-use Rattle.tokens.specs.Issuing.{Keeps, Issues, Refuses, denial_of, report_of, token_asked, token_until}
+use Rattle.tokens.specs.Issuing.{Keeps}
 use Rattle.tokens.specs.Pruning.{Prunes}
 use Rattle.tokens.specs.declared.issuing.TokenFault.{TokenFault}
 use Rattle.tokens.specs.declared.issuing.TokenFault.TheVariants.{AlreadyIssued, ExpiresTooLate}

@@ -1,3 +1,4 @@
+mod Prelude
 pub mod Calling
 pub mod Visible
 pub mod Listed

@@ -1,16 +1,9 @@
 -- The rows of a user's tokens in a repository, and the tokens of the world.
-use Rattle.std.proofs.Common.{◌≡◌, ◌∙◌, ℕ, Bool, List, [], ◌∷◌, map, filter, refl, ap, subst, IsPermutation}
+use Rattle.tokens.proofs.Prelude.{◌≡◌, ◌∙◌, ℕ, Bool, List, [], ◌∷◌, map, filter, refl, ap, subst, IsPermutation, World, Token, Tables, is_held_by, TokenFields, token_fields, Represents, token_kept, token_row, filter_alike, is_of, fields_of_token}
 use Rattle.std.proofs.lemmas.List.Sorted.{IsPermutation-map}
 use Rattle.std.proofs.lemmas.Map.Text.{is_eq-slice_cmp}
 use Rattle.sqlite_trees.proofs.ListLemmas.{IsPermutation-filter, filter-map}
-use Rattle.model.specs.World.{World, Token}
 use Rattle.tables.specs.Rows as row
-use Rattle.tables.specs.Rows.{Tables}
-use Rattle.tables.specs.Statements.{is_held_by}
-use Rattle.tables.specs.Steps.{TokenFields, token_fields}
-use Rattle.refinement.specs.Representation.{Represents, token_kept, token_row}
-use Rattle.refinement.proofs.Tokens.{filter_alike}
-use Rattle.tokens.specs.Holding.{is_of, fields_of_token}
 
 twice : {A B C : Type 0} (f : B → C) (g : A → B) (xs : List A) → map f (map g xs) ≡ map (λ x. f (g x)) xs
 twice f g [] = refl

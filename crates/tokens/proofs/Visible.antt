@@ -1,10 +1,7 @@
 -- Visible characters are text.
-use Rattle.std.proofs.Common.{◌≡◌, ℕ, zero, suc, ◌<◌, Bool, true, false, ◌&&◌, List, [], ◌∷◌, refl, sym, arith}
-use Rattle.std.specs.List.{list_all}
+use Rattle.tokens.proofs.Prelude.{◌≡◌, ℕ, zero, suc, ◌<◌, Bool, true, false, ◌&&◌, List, [], ◌∷◌, refl, sym, arith, list_all, true≢false, leb-true, is_visible}
 use Rattle.std.specs.Str.{IsAscii, IsUtf8}
-use Rattle.std.proofs.lemmas.Bool.{true≢false, leb-true}
 use Rattle.std.proofs.lemmas.Str.{IsUtf8-from_ascii}
-use Rattle.model.specs.Callers.{is_visible}
 
 both : (v w : Bool) → (v && w) ≡ true → (v ≡ true) × (w ≡ true)
 both true true e = (refl, refl)

@@ -1,20 +1,9 @@
 -- An upload that is begun is staged.
-use Rattle.std.proofs.Common.{◌≤◌, ℕ, List, Option, Result, Ok, Err}
-use Rattle.sqlite_trees.specs.declared.store.Store.{Ghosts}
-use Rattle.names.specs.Texts.{largest_object}
+use Rattle.uploads.proofs.Prelude.{◌≤◌, ℕ, List, Option, Result, Ok, Err, Ghosts, largest_object, World, IsHonest, Store, StoreFault, UploadId, UploadRow, From, Keeps, Holds, leads_still, keeps_still, keeps_then}
 use Rattle.names.specs.declared.texts.RepoName.{RepoName}
-use Rattle.model.specs.World.{World}
 use Rattle.tables.specs.Shown as tables
-use Rattle.tables.specs.Shown.{IsHonest}
-use Rattle.tables.specs.declared.Store.{Store}
-use Rattle.tables.specs.declared.fault.StoreFault.{StoreFault}
 use Rattle.tables.specs.declared.new_rows.NewUpload.{NewUpload}
-use Rattle.tables.specs.declared.rows.UploadId.{UploadId}
-use Rattle.tables.specs.declared.rows.UploadRow.{UploadRow}
 use Rattle.tables.specs.Seeking.{Finds}
-use Rattle.refinement.specs.Left.{From, Keeps}
-use Rattle.refinement.specs.Representation.{Holds}
-use Rattle.refinement.proofs.Leading.{leads_still, keeps_still, keeps_then}
 use Rattle.refinement.proofs.Staged.{keeps_begun, stages_begun}
 use Rattle.uploads.specs.Beginning.{Begins}
 

@@ -1,23 +1,12 @@
 -- What a repository has in the database is at most the bytes of its objects and one largest object, for proofs in other crates.
-use Rattle.std.proofs.Common.{◌≡◌, ◌∙◌, inl, inr, ℕ, ◌+◌, ◌≤◌, Bool, true, false, not, List, [], ◌∷◌, map, filter, cond, length, bytes_eq, refl, sym, ap, subst, AllPairs, arith, sum_by}
-use Rattle.std.specs.List.{AllByRecursion}
+use Rattle.uploads.proofs.Prelude.{◌≡◌, ◌∙◌, inl, inr, ℕ, ◌+◌, ◌≤◌, Bool, true, false, not, List, [], ◌∷◌, map, filter, cond, length, bytes_eq, refl, sym, ap, subst, AllPairs, arith, sum_by, AllByRecursion, IsPermutation-filter, all-filter, filter_none, Ghosts, largest_object, World, Object, Tables, Upload, Chunk, is_complete, is_staged, shown, Store, bytes_of, object_in, HasSize, DiffersInRepo, IsAmong, IsBoundedBy, Represents, Holds}
 use Rattle.std.proofs.lemmas.Bool.{true≢false}
 use Rattle.std.proofs.lemmas.List.Sorted.{sum_by-IsPermutation}
 use Rattle.std.proofs.lemmas.List.Sums.{sum_by-cons}
-use Rattle.sqlite_trees.proofs.ListLemmas.{IsPermutation-filter, all-filter, filter_none}
-use Rattle.sqlite_trees.specs.declared.store.Store.{Ghosts}
-use Rattle.names.specs.Texts.{largest_object}
-use Rattle.model.specs.World.{World, Object, total}
+use Rattle.model.specs.World.{total}
 use Rattle.model.specs.Bounds.{Bound}
 use Rattle.model.proofs.Lists.{IsOnly, each_weaker}
 use Rattle.model.proofs.Views.{only_of}
-use Rattle.tables.specs.Rows.{Tables, Upload, Chunk}
-use Rattle.tables.specs.Statements.{is_complete, is_staged}
-use Rattle.tables.specs.Shown.{shown}
-use Rattle.tables.specs.declared.Store.{Store}
-use Rattle.refinement.specs.Objects.{bytes_of, object_in, HasSize, DiffersInRepo}
-use Rattle.refinement.specs.Left.{IsAmong, IsBoundedBy}
-use Rattle.refinement.specs.Representation.{Represents, Holds}
 use Rattle.refinement.proofs.Lookups.{same_is}
 use Rattle.uploads.specs.Bounds.{stored_in, AreWithin, StoresWithin, LeavesWithin}
 use Rattle.tables.proofs.Marked.{IsMarked, kept_marked, uploads_marked}

@@ -1,18 +1,8 @@
 -- The objects that are found are objects of the world.
-use Rattle.std.proofs.Common.{◌≡◌, ◌∙◌, ℕ, ℤ, pos, List, length, find, Option, Some, None, option_map, refl, sym, ap, subst}
-use Rattle.sqlite_trees.specs.declared.store.Store.{Ghosts}
-use Rattle.model.specs.World.{World, IsWorld, object_named}
+use Rattle.uploads.proofs.Prelude.{◌≡◌, ◌∙◌, ℕ, ℤ, pos, List, length, find, Option, Some, None, option_map, refl, sym, ap, subst, Ghosts, World, IsWorld, object_named, Tables, HasTables, Moves, shown, Sized, upload_sized, read_object, IsObjectOf, upload_number, Store, ObjectRow, bytes_of, pieces_of, object_in, IsStored, Represents, same_pos}
 use Rattle.tables.specs.Rows as row
-use Rattle.tables.specs.Rows.{Tables}
-use Rattle.tables.specs.Shown.{HasTables, Moves, shown}
-use Rattle.tables.specs.Staging.{Sized, upload_sized, read_object, IsObjectOf, upload_number}
 use Rattle.tables.specs.Statements.{is_object}
-use Rattle.tables.specs.declared.Store.{Store}
-use Rattle.tables.specs.declared.rows.ObjectRow.{ObjectRow}
-use Rattle.refinement.specs.Objects.{bytes_of, pieces_of, object_in, IsStored}
-use Rattle.refinement.specs.Representation.{Represents}
 use Rattle.refinement.proofs.Kept.{object_found, found_size}
-use Rattle.refinement.proofs.Same.{same_pos}
 use Rattle.uploads.specs.Finding.{Finds}
 
 -- the object of the upload that was found

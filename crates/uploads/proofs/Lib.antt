@@ -1,3 +1,4 @@
+mod Prelude
 pub mod Begun
 pub mod Bounds
 pub mod Found

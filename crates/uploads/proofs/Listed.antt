@@ -1,6 +1,5 @@
 -- The rows that are listed are the objects of the world.
-use Rattle.std.proofs.Common.{◌≡◌, ◌∙◌, ℕ, ℤ, pos, Bool, true, false, ◌&&◌, cond, List, [], ◌∷◌, map, filter, length, bytes_eq, Option, Some, None, Ordering, Less, Equal, Greater, is_gt, refl, sym, ap, subst, AllPairs, IsPermutation}
-use Rattle.std.specs.List.{AllByRecursion, AllZip}
+use Rattle.uploads.proofs.Prelude.{◌≡◌, ◌∙◌, ℕ, ℤ, pos, Bool, true, false, ◌&&◌, cond, List, [], ◌∷◌, map, filter, length, bytes_eq, Option, Some, None, Ordering, Less, Equal, Greater, is_gt, refl, sym, ap, subst, AllPairs, IsPermutation, AllByRecursion, AllZip, Ghosts, IsPermutation-filter, filter-map, filter_all, World, Object, Tables, HasTables, Moves, shown, UploadFields, upload_fields, read_upload, upload_number, AreUploadsOf, objects_of, is_complete, is_object_in, name_cmp, by_name, Store, UploadRow, HasSize, bytes_of, pieces_of, object_in, IsStored, Represents, same_pos, is_listed, IsNotAfter, IsRowOf, Lists}
 use Rattle.std.specs.Ordering.{nat_cmp, ordering_then}
 use Rattle.std.specs.Cmp.{IsTotalOrder}
 use Rattle.std.specs.Cmp.Lexicographic.{slice_cmp}
@@ -8,24 +7,11 @@ use Rattle.std.proofs.lemmas.Cmp.{on_total, then_total, int_cmp_total, nat_list_
 use Rattle.std.proofs.lemmas.List.Sorted.{IsPermutation-map, IsPermutation-trans}
 use Rattle.std.proofs.lemmas.Map.Text.{is_eq-slice_cmp}
 use Rattle.sqlite_trees.specs.Tree.{IsAscending}
-use Rattle.sqlite_trees.specs.declared.store.Store.{Ghosts}
-use Rattle.sqlite_trees.proofs.ListLemmas.{IsPermutation-filter, filter-map, filter_all}
 use Rattle.sqlite_keyed.proofs.ListLemmas.{ascending-map, ascending_weaker}
 use Rattle.sqlite_keyed.proofs.SortLemmas.{IsPermutation-sort_by}
-use Rattle.model.specs.World.{World, Object}
 use Rattle.model.proofs.Lists.{each_in, each_of, each_passes, in_before_filter}
 use Rattle.tables.specs.Rows as row
-use Rattle.tables.specs.Rows.{Tables}
-use Rattle.tables.specs.Shown.{HasTables, Moves, shown}
-use Rattle.tables.specs.Staging.{UploadFields, upload_fields, read_upload, upload_number, AreUploadsOf, objects_of}
-use Rattle.tables.specs.Statements.{is_complete, is_object_in, name_cmp, by_name}
-use Rattle.tables.specs.declared.Store.{Store}
-use Rattle.tables.specs.declared.rows.UploadRow.{UploadRow}
-use Rattle.refinement.specs.Objects.{HasSize, bytes_of, pieces_of, object_in, IsStored}
-use Rattle.refinement.specs.Representation.{Represents}
-use Rattle.refinement.proofs.Same.{same_pos}
 use Rattle.refinement.proofs.Sorting.{NotAfter, each_sorted, sorted_rises, into_pairs}
-use Rattle.uploads.specs.Listing.{is_listed, IsNotAfter, IsRowOf, Lists}
 
 -- ---- the order of the rows is that of the objects
 

@@ -1,29 +1,17 @@
 -- A staged upload whose bytes arrived is completed.
-use Rattle.std.proofs.Common.{◌≡◌, ◌∙◌, ◌⊎◌, inl, inr, ℕ, ◌+◌, ◌≤◌, true, None, add_comm, pos, List, ◌++◌, length, Some, is_some, Ok, Err, refl, sym, ap, subst}
-use Rattle.std.specs.List.{concat}
+use Rattle.uploads.proofs.Prelude.{◌≡◌, ◌∙◌, ◌⊎◌, inl, inr, ℕ, ◌+◌, ◌≤◌, true, None, add_comm, pos, List, ◌++◌, length, Some, is_some, Ok, Err, refl, sym, ap, subst, concat, Ghosts, largest_object, World, IsWorld, IsObject, name_of, object_named, with_object, Tables, IsHonest, IsOpen, Moves, Makes, Fails, shown, upload_number, completion_by, completion_of, after_complete, Store, StoreFault, UploadId, Represents, Holds, Keeps, holds_made, ends_made, ends_failed_or, ends_reported, keeps_failed}
 use Rattle.std.proofs.lemmas.Slice.Eq.{bytes_eq-Decides}
-use Rattle.sqlite_trees.specs.declared.store.Store.{Ghosts}
-use Rattle.names.specs.Texts.{largest_object}
-use Rattle.model.specs.World.{World, IsWorld, IsObject, name_of, object_named, total, with_object}
+use Rattle.model.specs.World.{total}
 use Rattle.model.specs.Bounds.{changed, unchanged}
 use Rattle.model.proofs.Keeping.{keeps_with_object}
 use Rattle.model.proofs.Quota.{total_with}
-use Rattle.tables.specs.Rows.{Tables}
-use Rattle.tables.specs.Shown.{IsHonest, IsOpen, Moves, Makes, Fails, shown}
-use Rattle.tables.specs.Staging.{upload_number, completion_by, completion_of, after_complete}
-use Rattle.tables.specs.declared.Store.{Store}
-use Rattle.tables.specs.declared.fault.StoreFault.{StoreFault}
 use Rattle.tables.specs.declared.rows.Completion.{Completion}
 use Rattle.tables.specs.declared.rows.Completion.TheVariants as completion
 use Rattle.tables.specs.declared.new_rows.LastChunk.{LastChunk}
-use Rattle.tables.specs.declared.rows.UploadId.{UploadId}
 use Rattle.tables.proofs.Moved.{moves_still}
-use Rattle.refinement.specs.Representation.{Represents, Holds}
-use Rattle.refinement.specs.Left.{Keeps}
 use Rattle.refinement.specs.Staging.{staged_row}
 use Rattle.refinement.proofs.Completing.{staged_in_range, Completed, completed, completed_by}
 use Rattle.refinement.proofs.Holding.{holds_still}
-use Rattle.refinement.proofs.Leading.{holds_made, ends_made, ends_failed_or, ends_reported, keeps_failed}
 use Rattle.refinement.proofs.Tokens.{none_is}
 use Rattle.uploads.specs.Completing.{Staged, bytes_in, object_of, IsAsBegun, Arrives, Completes}
 use Rattle.uploads.specs.declared.completing.Kept.TheVariants.{New}

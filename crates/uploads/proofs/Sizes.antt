@@ -1,15 +1,12 @@
 -- The sizes of a repository's objects, and its room, as its state has them, for proofs in other crates.
-use Rattle.std.proofs.Common.{◌≡◌, ◌∙◌, ℕ, ◌+◌, nat_le, List, length, Option, Some, None, option_map, refl, sym, ap}
+use Rattle.uploads.proofs.Prelude.{◌≡◌, ◌∙◌, ℕ, ◌+◌, nat_le, List, length, Option, Some, None, option_map, refl, sym, ap, Ghosts, World, IsWorld, Object, object_named, Store, ObjectRow}
 use Rattle.std.specs.Cmp.{both_ways}
 use Rattle.std.proofs.lemmas.Bool.{leb-true, le-leb}
-use Rattle.sqlite_trees.specs.declared.store.Store.{Ghosts}
 use Rattle.model.specs.Policy.{Repo}
-use Rattle.model.specs.World.{World, IsWorld, Object, object_named, total}
+use Rattle.model.specs.World.{total}
 use Rattle.model.specs.RepoState.{ObjectSize, object_size, repo_state, size_of, has_room}
 use Rattle.model.proofs.Rooms.{room_is_quota}
 use Rattle.model.proofs.Views.{size_stored}
-use Rattle.tables.specs.declared.Store.{Store}
-use Rattle.tables.specs.declared.rows.ObjectRow.{ObjectRow}
 use Rattle.uploads.specs.Finding.{Finds}
 
 size_twice : (o : Option Object) → option_map (λ (s : ObjectSize). s.size) (option_map object_size o) ≡ option_map (λ (p : Object). length p.bytes) o

@@ -1,27 +1,15 @@
 -- Staged uploads are removed one after the other.
-use Rattle.std.proofs.Common.{◌≡◌, ◌∙◌, ℕ, ℤ, pos, List, [], ◌∷◌, map, filter, length, Option, Some, None, Result, Ok, Err, OnOk, OnErr, refl, sym, ap}
+use Rattle.uploads.proofs.Prelude.{◌≡◌, ◌∙◌, ℕ, ℤ, pos, List, [], ◌∷◌, map, filter, length, Option, Some, None, Result, Ok, Err, OnOk, OnErr, refl, sym, ap, Ghosts, World, Tables, IsHonest, IsOpen, Moves, Makes, Fails, shown, UploadFields, upload_number, upload_fields, read_upload, AreUploadsOf, staged_with, without_staged, without_found_from, is_staged, Store, StoreFault, UploadId, UploadRow, Holds, From, Keeps, leads_none, leads_still, keeps_still, keeps_then, HasStaged, Shortens, Sweeps}
 use Rattle.std.proofs.lemmas.List.{length-map}
-use Rattle.sqlite_trees.specs.declared.store.Store.{Ghosts}
 use Rattle.sqlite_keyed.proofs.ListLemmas.{map-map}
-use Rattle.model.specs.World.{World}
 use Rattle.tables.specs.Rows as row
-use Rattle.tables.specs.Rows.{Tables}
 use Rattle.tables.specs.Shown as tables
-use Rattle.tables.specs.Shown.{IsHonest, IsOpen, Moves, Makes, Fails, shown}
-use Rattle.tables.specs.Staging.{UploadFields, upload_number, upload_fields, read_upload, AreUploadsOf, staged_with, without_staged, without_found_from, without_staged_from}
-use Rattle.tables.specs.Statements.{is_staged, without_chunks_from}
-use Rattle.tables.specs.declared.Store.{Store}
-use Rattle.tables.specs.declared.fault.StoreFault.{StoreFault}
+use Rattle.tables.specs.Staging.{without_staged_from}
+use Rattle.tables.specs.Statements.{without_chunks_from}
 use Rattle.tables.specs.declared.fault.StoreFault.TheVariants.{Refused}
-use Rattle.tables.specs.declared.rows.UploadId.{UploadId}
-use Rattle.tables.specs.declared.rows.UploadRow.{UploadRow}
-use Rattle.refinement.specs.Representation.{Holds}
-use Rattle.refinement.specs.Left.{From, Keeps}
 use Rattle.refinement.specs.Staging.{StagesNone}
-use Rattle.refinement.proofs.Leading.{leads_none, leads_still, keeps_still, keeps_then}
 use Rattle.refinement.proofs.Staged.{keeps_removed, keeps_shortened, stages_none}
 use Rattle.refinement.proofs.Swept.{first_gone}
-use Rattle.uploads.specs.Removing.{HasStaged, Shortens, Sweeps}
 
 -- the ids of the staged uploads
 abbrev pub staged_ids : Tables → List ℤ

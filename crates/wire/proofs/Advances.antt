@@ -1,21 +1,9 @@
 -- The ways in which a call for the next head ends.
-use Rattle.std.proofs.Common.{◌≡◌, ◌≢◌, ℕ, ◌+◌, ◌<◌, ◌≤◌, inl, inr, List, [], ◌++◌, length, drop, Option, Some, None, IfSome, IfErr, IfOk, OnOk, Result, Ok, Err, refl, sym, ap, subst, ◌∙◌, arith, append-nil, length-append}
-use Rattle.std.specs.Io.KnownBytes.{Consumes, IsAtEnd}
-use Rattle.std.proofs.KnownBytes.{Consumes-nil}
-use Rattle.httparse.specs.Grammar.{RequestHead, print_request}
+use Rattle.wire.proofs.Prelude.{◌≡◌, ◌≢◌, ℕ, ◌+◌, ◌<◌, ◌≤◌, inl, inr, List, [], ◌++◌, length, drop, Option, Some, None, IfSome, IfErr, IfOk, OnOk, Result, Ok, Err, refl, sym, ap, subst, ◌∙◌, arith, append-nil, length-append, Consumes, IsAtEnd, Consumes-nil, RequestHead, print_request, Ghosts, Rule, H1, BeginsWithHead, BeginsBadly, front, MayGoOn, waiting, IsAt, HasHead, HasStopped, IsStopped, repeated, Conn, Stop, End, Device, Unread}
 use Rattle.names.specs.Streams.{HasGrown}
-use Rattle.names.specs.declared.streams.Source.{Ghosts}
-use Rattle.names.specs.declared.rules.Rule.{Rule}
-use Rattle.names.specs.declared.rules.Rule.TheVariants.{H1}
 use Rattle.model.specs.Heads.{content_length, check_framing}
-use Rattle.model.specs.Stream.{BeginsWithHead, BeginsBadly}
-use Rattle.wire.specs.Buffers.{front}
-use Rattle.wire.specs.Halts.{MayGoOn}
-use Rattle.wire.specs.Connections.{waiting, IsAt, HasHead, HasStopped, IsStopped, repeated}
 use Rattle.wire.specs.declared.buffer.Buffer.{Buffer}
-use Rattle.wire.specs.declared.connection.Conn.{Conn}
-use Rattle.wire.specs.declared.connection.Stop.{Stop}
-use Rattle.wire.specs.declared.connection.Stop.TheVariants.{End, Rule as ByRule, Device, Unread}
+use Rattle.wire.specs.declared.connection.Stop.TheVariants.{Rule as ByRule}
 
 -- nothing of the front was handed out
 all_waits : (b : Buffer) → b.at ≡ 0 → drop b.at (front b) ≡ front b

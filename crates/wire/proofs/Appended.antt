@@ -1,6 +1,5 @@
 -- One text written after another, for proofs in other crates.
-use Rattle.std.proofs.Common.{ℕ, List, ◌++◌, Option, Some, None, ap, ◌∙◌, append_assoc}
-use Rattle.std.specs.Io.KnownBytes.{Appends}
+use Rattle.wire.proofs.Prelude.{ℕ, List, ◌++◌, Option, Some, None, ap, ◌∙◌, append_assoc, Appends}
 
 pub appends_both : (old mid new : Option (List ℕ)) (front back : List ℕ) → Appends old mid front → Appends mid new back → Appends old new (front ++ back)
 appends_both None mid new front back a b = tt

@@ -1,7 +1,6 @@
 -- Reads into a buffer, moves in it, and copies out of it.
-use Rattle.std.proofs.Common.{◌≡◌, ℕ, ◌+◌, ◌-◌, ◌≤◌, List, [], ◌∷◌, ◌++◌, length, take, drop, sym, ap, ◌∙◌, arith, append-nil, length-take-le, length-drop}
-use Rattle.std.proofs.lemmas.List.{take-append-drop, drop-take, drop-drop, take-append-le, take_at}
-use Rattle.std.proofs.Math.Seq.{take-append-add}
+use Rattle.wire.proofs.Prelude.{◌≡◌, ℕ, ◌+◌, ◌-◌, ◌≤◌, List, [], ◌∷◌, ◌++◌, length, take, drop, sym, ap, ◌∙◌, arith, append-nil, length-drop, take-append-drop, drop-take, drop-drop, take-append-le, take_at, take-append-add}
+use Rattle.std.proofs.Common.{length-take-le}
 
 -- the first bytes after a position are those after it in a longer front
 after : (xs : List ℕ) (at end : ℕ) → at ≤ end → take (end - at) (drop at xs) ≡ drop at (take end xs)

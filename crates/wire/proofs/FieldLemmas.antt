@@ -1,18 +1,10 @@
 -- The fields of a head, from the slices of its bytes.
-use Rattle.std.proofs.Common.{◌≡◌, ℕ, ◌≤◌, Bool, true, false, ◌&&◌, ◌||◌, nat_le, ◌==◌, List, [], ◌∷◌, length, map, filter, find, count_by, cond, codes, Option, Some, option_map, refl, sym, ap, ◌∙◌, arith}
-use Rattle.std.specs.List.{AllByRecursion, list_any, slice_split}
+use Rattle.wire.proofs.Prelude.{◌≡◌, ℕ, ◌≤◌, Bool, true, false, ◌&&◌, ◌||◌, nat_le, ◌==◌, List, [], ◌∷◌, length, map, filter, find, count_by, cond, codes, Option, Some, option_map, refl, sym, ap, ◌∙◌, arith, AllByRecursion, list_any, slice_split, recursion_from_All, length-map, nat_tests, RequestHead, Field, field_value, trim_ows, span_bytes, header_bytes, name_and_value, IsWithin, IsHeaderWithin, HeaderSpan, first}
 use Rattle.std.proofs.lemmas.List.Folds.{list_any-append}
 use Rattle.httparse.specs.Ascii.{comma}
 use Rattle.std.specs.Str.{str_eq_ignore_ascii_case}
-use Rattle.std.proofs.lemmas.List.Elements.{recursion_from_All}
-use Rattle.std.proofs.lemmas.List.{length-map}
 use Rattle.std.proofs.lemmas.List.Sums.{length-filter}
-use Rattle.std.proofs.lemmas.Bool.Decides.{nat_tests}
-use Rattle.httparse.specs.Grammar.{RequestHead, Field, field_value, trim_ows}
-use Rattle.httparse.specs.Spans.{span_bytes, header_bytes, name_and_value, IsWithin, IsHeaderWithin}
 use Rattle.httparse.specs.declared.spans.Span.{Span}
-use Rattle.httparse.specs.declared.spans.HeaderSpan.{HeaderSpan}
-use Rattle.model.specs.Orders.{first}
 use Rattle.model.specs.Heads.{values, items, asks_close}
 use Rattle.wire.specs.declared.head.Head.{Head}
 use Rattle.wire.specs.Fields.{bytes_of_span, is_named, values_at, Shows, head_bytes, field_spans, values_shown, lists_close, is_closing_field}

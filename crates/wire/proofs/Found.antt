@@ -1,10 +1,5 @@
 -- The head at the front of bytes that are not longer than the longest head.
-use Rattle.std.proofs.Common.{◌≡◌, ℕ, ◌≤◌, List, length, subst}
-use Rattle.std.proofs.lemmas.List.{take_all}
-use Rattle.httparse.specs.declared.spans.HeaderSpan.{HeaderSpan}
-use Rattle.model.specs.Stream.{head_limit}
-use Rattle.wire.specs.Cut.{Covers, IsCut}
-use Rattle.wire.specs.Halts.{IsCutOf}
+use Rattle.wire.proofs.Prelude.{◌≡◌, ℕ, ◌≤◌, List, length, subst, take_all, HeaderSpan, head_limit, Covers, IsCut, IsCutOf}
 use Rattle.wire.specs.declared.cut.Cut.{Cut}
 use Rattle.wire.specs.declared.cut.Cut.TheVariants.{Head, Bad, Unfinished}
 

@@ -1,20 +1,11 @@
 -- The head at the front of a stream, and at the front of its first bytes.
-use Rattle.std.proofs.Common.{◌≡◌, ◌≢◌, ℕ, ◌+◌, ◌-◌, ◌*◌, ◌<◌, ◌≤◌, List, [], ◌∷◌, ◌++◌, length, take, drop, refl, sym, ap, subst, ◌∙◌, inl, inr, append-nil, length-append, length-take, arith}
-use Rattle.std.specs.List.{flat_map}
-use Rattle.std.proofs.lemmas.List.{take-append-drop, take_all, drop_at, length-take-le, length-map}
+use Rattle.wire.proofs.Prelude.{◌≡◌, ◌≢◌, ℕ, ◌+◌, ◌-◌, ◌*◌, ◌<◌, ◌≤◌, List, [], ◌∷◌, ◌++◌, length, take, drop, refl, sym, ap, subst, ◌∙◌, inl, inr, append-nil, length-append, length-take, arith, flat_map, take-append-drop, take_all, drop_at, length-map, recursion_from_All, cases_lt, take-append-add, RequestHead, IsRequestHead, ReadsRequest, HasNoRequest, NeverHasRequest, Field, IsField, print_field, print_end, LineEnd, crlf, lf, RequestExceeds, RequestOverflows, AreFieldsAt, header_bytes, name_and_value, IsRequestOf, IsRequestWithin, Covers, HeaderSpan, ReadsRequest-append, IsHeadThen, HasNoHead, NeverIsHead, BeginsBadly, too_many_fields, too_long, hopeless, BeginsWithHead, head_limit, field_limit}
+use Rattle.std.proofs.lemmas.List.{length-take-le}
 use Rattle.std.specs.List.{AllByRecursion as ByRecursion}
-use Rattle.std.proofs.lemmas.List.Elements.{recursion_from_All}
-use Rattle.std.proofs.lemmas.Bool.{cases_lt}
 use Rattle.httparse.specs.declared.Error.{Error}
 use Rattle.httparse.specs.declared.Error.TheVariants as error
-use Rattle.std.proofs.Math.Seq.{take-append-add}
-use Rattle.httparse.specs.Grammar.{RequestHead, IsRequestHead, print_request, ReadsRequest, HasNoRequest, NeverHasRequest, Field, IsField, print_field, print_end, LineEnd, crlf, lf}
-use Rattle.httparse.specs.Spans.{RequestExceeds, RequestOverflows, AreFieldsAt, header_bytes, name_and_value, IsRequestOf, IsRequestWithin}
+use Rattle.httparse.specs.Grammar.{print_request}
 use Rattle.httparse.specs.declared.spans.RequestSpans.{RequestSpans}
-use Rattle.wire.specs.Cut.{Covers}
-use Rattle.httparse.specs.declared.spans.HeaderSpan.{HeaderSpan}
-use Rattle.httparse.proofs.GrammarLemmas.{ReadsRequest-append}
-use Rattle.model.specs.Stream.{IsHeadThen, HasNoHead, NeverIsHead, BeginsBadly, too_many_fields, too_long, hopeless, BeginsWithHead, head_limit, field_limit}
 
 pub head_fits : (bytes : List ℕ) (h : RequestHead) (rest : List ℕ) → ReadsRequest bytes h rest → length (print_request h) ≤ length bytes
 head_fits bytes h rest r = omega (arith, length-append (print_request h) rest, ap length r.1)

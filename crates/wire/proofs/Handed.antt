@@ -1,10 +1,7 @@
 -- Bytes of a body that were handed out, for proofs in other crates.
-use Rattle.std.proofs.Common.{◌≡◌, ◌≤◌, ℕ, ◌+◌, List, [], ◌++◌, length, take, Result, Ok, Err, IfOk, arith, length-append}
+use Rattle.wire.proofs.Prelude.{◌≡◌, ◌≤◌, ℕ, ◌+◌, List, [], ◌++◌, length, take, Result, Ok, Err, IfOk, arith, length-append, Ghosts, Conn, Moves, SameHead}
 use Rattle.std.proofs.lemmas.List.{length-take-le}
-use Rattle.names.specs.declared.streams.Source.{Ghosts}
-use Rattle.wire.specs.declared.connection.Conn.{Conn}
 use Rattle.wire.specs.States.{HandsOut, Hands, by_none, by_read, by_both}
-use Rattle.wire.specs.Connections.{Moves, SameHead}
 use Rattle.wire.proofs.Streams.{moves_none, moves_more, same_head_none, same_head_more}
 
 module _ {R : Type 0} {g : Ghosts R} where

@@ -1,18 +1,5 @@
 -- Bytes that a connection reads and hands out, and heads at the front of bytes, for proofs in other crates.
-use Rattle.std.proofs.Common.{◌≡◌, ℕ, ◌+◌, ◌-◌, ◌≤◌, inl, inr, List, [], ◌++◌, length, take, Option, Some, None, refl, sym, ap, subst, ◌∙◌, arith, append_assoc, append-nil, length-append}
-use Rattle.std.proofs.lemmas.List.{take_at}
-use Rattle.std.proofs.lemmas.Bool.{cases_lt}
-use Rattle.std.proofs.Math.Seq.{take-append-add}
-use Rattle.std.specs.Io.KnownBytes.{Consumes, prepend_known}
-use Rattle.std.proofs.KnownBytes.{Consumes-nil, Consumes-trans}
-use Rattle.httparse.specs.Grammar.{RequestHead, print_request}
-use Rattle.httparse.proofs.GrammarLemmas.{ReadsRequest-append}
-use Rattle.names.specs.declared.rules.Rule.{Rule}
-use Rattle.names.specs.declared.streams.Source.{Ghosts}
-use Rattle.model.specs.Stream.{IsHeadThen, HasNoHead, NeverIsHead, BeginsBadly, too_many_fields, too_long, hopeless, BeginsWithHead, head_limit}
-use Rattle.wire.specs.Connections.{Moves, SameHead, IsAt, HasHead, IsStopped, Refuses, waiting}
-use Rattle.wire.specs.declared.connection.Conn.{Conn}
-use Rattle.wire.specs.declared.connection.Stop.{Stop}
+use Rattle.wire.proofs.Prelude.{◌≡◌, ℕ, ◌+◌, ◌-◌, ◌≤◌, inl, inr, List, [], ◌++◌, length, take, Option, Some, None, refl, sym, ap, subst, ◌∙◌, arith, append_assoc, append-nil, length-append, take_at, cases_lt, take-append-add, Consumes, prepend_known, Consumes-nil, Consumes-trans, RequestHead, print_request, ReadsRequest-append, Rule, Ghosts, IsHeadThen, HasNoHead, NeverIsHead, BeginsBadly, too_many_fields, too_long, hopeless, BeginsWithHead, head_limit, Moves, SameHead, IsAt, HasHead, IsStopped, Refuses, waiting, Conn, Stop}
 
 -- ---- heads at the front of more bytes
 

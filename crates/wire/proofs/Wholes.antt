@@ -1,8 +1,5 @@
 -- A text of two parts, of which some bytes were written, for proofs in other crates.
-use Rattle.std.proofs.Common.{◌≡◌, ℕ, ◌+◌, List, ◌++◌, take, Option, sym, ap, subst, ◌∙◌, length, length-append, arith}
-use Rattle.std.specs.Io.KnownBytes.{Appends}
-use Rattle.std.proofs.Math.Seq.{take-append-add}
-use Rattle.std.proofs.lemmas.List.{take-append-le}
+use Rattle.wire.proofs.Prelude.{◌≡◌, ℕ, ◌+◌, List, ◌++◌, take, Option, sym, ap, subst, ◌∙◌, length, length-append, arith, Appends, take-append-add, take-append-le}
 use Rattle.names.specs.Streams.{IsBeginning}
 use Rattle.wire.proofs.Appended.{appends_both}
 

@@ -1,6 +1,4 @@
-use Rattle.std.proofs.Common.{◌∙◌, sym, ap}
-use Rattle.names.specs.Names.{user_text}
-use Rattle.cursor.specs.Owners.{is_owned}
+use Rattle.cursor.proofs.Prelude.{◌∙◌, sym, ap, user_text, is_owned}
 use Rattle.cursor.proofs.Parted.{moves, stays}
 use Rattle.cursor.proofs.splitting.part.Goals as goal
 use Rattle.cursor.proofs.splitting.part.Goals.{then-is_owned, else-is_owned}

@@ -1,6 +1,4 @@
-use Rattle.std.proofs.Common.{◌≡◌, ◌++◌, ◌≤◌, filter, take, drop, length}
-use Rattle.names.specs.Names.{user_text}
-use Rattle.cursor.specs.Owners.{is_owned, is_other}
+use Rattle.cursor.proofs.Prelude.{◌≡◌, ◌++◌, ◌≤◌, filter, take, drop, length, user_text, is_owned, is_other}
 use Rattle.cursor.proofs.splitting.part.Given as goal
 
 abbrev pub invariant-loop-i : goal.invariant-loop-i

@@ -1,8 +1,5 @@
-use Rattle.std.proofs.Common.{◌≡◌, ◌∙◌, true, false, refl, sym}
+use Rattle.cursor.proofs.Prelude.{◌≡◌, ◌∙◌, true, false, refl, sym, meets, lock_seen, form_of_filter}
 use Rattle.std.proofs.lemmas.Fn.{says_at}
-use Rattle.model.specs.Locks.{meets}
-use Rattle.locks.specs.Finding.{lock_seen}
-use Rattle.cursor.specs.Wanted.{form_of_filter}
 use Rattle.cursor.proofs.windows.is_wanted.Goals as goal
 
 pub returns-then-not-meets : goal.returns-then-not-meets

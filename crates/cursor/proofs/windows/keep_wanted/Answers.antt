@@ -1,8 +1,5 @@
-use Rattle.std.proofs.Common.{rules, ◌∙◌, map, ap, sym}
+use Rattle.cursor.proofs.Prelude.{rules, ◌∙◌, map, ap, sym, filter-map, lock_seen, is_wanted}
 use Rattle.std.proofs.lemmas.Fn.{filter_same}
-use Rattle.sqlite_trees.proofs.ListLemmas.{filter-map}
-use Rattle.locks.specs.Finding.{lock_seen}
-use Rattle.cursor.specs.Wanted.{is_wanted}
 use Rattle.cursor.proofs.windows.keep_wanted.Goals as goal
 
 pub returns : goal.returns

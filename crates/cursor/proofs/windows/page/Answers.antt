@@ -1,7 +1,4 @@
-use Rattle.std.proofs.Common.{rules}
-use Rattle.names.specs.Names.{repo_text}
-use Rattle.cursor.specs.Wanted.{wanted_locks}
-use Rattle.cursor.specs.Paging.{cursor_or_first}
+use Rattle.cursor.proofs.Prelude.{rules, repo_text, wanted_locks, cursor_or_first}
 use Rattle.cursor.proofs.Joined.{one_window_more}
 use Rattle.cursor.proofs.Read.{reads_then}
 use Rattle.cursor.proofs.windows.page.Goals as goal

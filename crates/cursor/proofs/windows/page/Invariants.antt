@@ -1,7 +1,4 @@
-use Rattle.names.specs.Names.{repo_text}
-use Rattle.refinement.specs.Left.{Reads}
-use Rattle.cursor.specs.Wanted.{Sees, Test, wanted_locks}
-use Rattle.cursor.specs.Paging.{cursor_or_first}
+use Rattle.cursor.proofs.Prelude.{repo_text, Reads, Sees, Test, wanted_locks, cursor_or_first}
 use Rattle.cursor.proofs.Joined.{HasPage}
 use Rattle.cursor.proofs.Ending.{ids_left}
 use Rattle.cursor.proofs.windows.page.Given as goal

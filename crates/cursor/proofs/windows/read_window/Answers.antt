@@ -1,7 +1,4 @@
-use Rattle.std.proofs.Common.{◌∙◌, ap}
-use Rattle.names.specs.Names.{repo_text}
-use Rattle.cursor.specs.Wanted.{is_wanted}
-use Rattle.cursor.specs.Paging.{next_start}
+use Rattle.cursor.proofs.Prelude.{◌∙◌, ap, repo_text, is_wanted, next_start}
 use Rattle.cursor.proofs.Joined.{window_kept}
 use Rattle.cursor.proofs.windows.read_window.Goals as goal
 

@@ -1,12 +1,6 @@
-use Rattle.std.proofs.Common.{◌≡◌, Ok, Err, Result, sym, subst}
-use Rattle.names.specs.Names.{repo_text}
-use Rattle.names.specs.declared.rules.Rule.{Rule}
-use Rattle.model.specs.Forms.{needs_upload, is_upload}
-use Rattle.policy.specs.Values.{policy_view, repo_view}
+use Rattle.desk.proofs.Prelude.{◌≡◌, Ok, Err, Result, sym, subst, repo_text, Rule, needs_upload, is_upload, policy_view, repo_view, request_asked, request_read}
 use Rattle.forms.specs.Given.{Gives}
-use Rattle.forms.specs.Requests.{request_asked}
 use Rattle.forms.specs.declared.request.Request.{Request}
-use Rattle.desk.specs.Asking.{request_read}
 use Rattle.desk.proofs.Admitting.{refused_form, uncovered, taken, is_own, not_covered, covered_by, not_needed}
 use Rattle.desk.proofs.admission.admit.Goals as goal
 use Rattle.desk.proofs.admission.admit.Goals.{else-needs_upload-via-then-needs_upload+else-not-is_for_upload, else-needs_upload-via-else-needs_upload}

@@ -1,9 +1,4 @@
-use Rattle.std.proofs.Common.{Ok, Err, refl, sym, subst}
-use Rattle.names.specs.declared.rules.Rule.{Rule}
-use Rattle.model.specs.Answers.{by_rule}
-use Rattle.tables.specs.declared.fault.StoreFault.TheVariants.{Memory}
-use Rattle.desk.specs.Asking.{request_seen, setting_of}
-use Rattle.desk.specs.Replies.{IsReplyOf}
+use Rattle.desk.proofs.Prelude.{Ok, Err, refl, sym, subst, Rule, by_rule, Memory, request_seen, setting_of, IsReplyOf}
 use Rattle.desk.proofs.Bounded.{IsAnswered, answered, answer_bounded, answer_world}
 use Rattle.desk.proofs.Early.{answered_after, denied_first, failed_first}
 use Rattle.desk.proofs.Verdicts.{held_by, held_by_none}

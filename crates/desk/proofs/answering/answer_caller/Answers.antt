@@ -1,15 +1,6 @@
-use Rattle.std.proofs.Common.{◌≡◌, ◌∙◌, Ok, Err, sym}
+use Rattle.desk.proofs.Prelude.{◌≡◌, ◌∙◌, Ok, Err, sym, repo_text, is_upload, by_rule, policy_view, repo_view, request_asked, Memory, reads_none, request_read, request_seen, setting_of, admission_result}
 use Rattle.std.specs.Bool.{⊤}
-use Rattle.names.specs.Names.{repo_text}
-use Rattle.model.specs.Forms.{is_upload}
-use Rattle.model.specs.Answers.{by_rule}
-use Rattle.policy.specs.Values.{policy_view, repo_view}
-use Rattle.forms.specs.Requests.{request_asked}
-use Rattle.tables.specs.declared.fault.StoreFault.TheVariants.{Memory}
-use Rattle.refinement.proofs.Leading.{reads_none}
 use Rattle.desk.specs.declared.outcomes.AnswerFault.TheVariants as fault
-use Rattle.desk.specs.Asking.{request_read, request_seen, setting_of}
-use Rattle.desk.specs.Admission.{admission_result}
 use Rattle.desk.proofs.Admitting.{admitted, own_name, same_uploads}
 use Rattle.desk.proofs.Early.{answered_after, denied_first, failed_first}
 use Rattle.desk.proofs.Verdicts.{taken_up, not_taken, admitted_alike}

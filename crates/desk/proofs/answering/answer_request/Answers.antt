@@ -1,10 +1,5 @@
-use Rattle.std.proofs.Common.{refl, sym, ap}
+use Rattle.desk.proofs.Prelude.{refl, sym, ap, plan_for, request_asked, reads_none, uploads, case_seen}
 use Rattle.std.specs.Bool.{⊤}
-use Rattle.model.specs.Verdict.{plan_for}
-use Rattle.forms.specs.Requests.{request_asked}
-use Rattle.refinement.proofs.Leading.{reads_none}
-use Rattle.desk.specs.Asking.{uploads}
-use Rattle.desk.specs.Rights.{case_seen}
 use Rattle.desk.proofs.Early.{answered_after, refused_before, replied_before, uploads_none}
 use Rattle.desk.proofs.Unchanged.{replied}
 use Rattle.desk.proofs.answering.answer_request.Goals as goal

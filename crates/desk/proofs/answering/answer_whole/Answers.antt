@@ -1,11 +1,5 @@
-use Rattle.std.proofs.Common.{ap, sym}
-use Rattle.model.specs.Batch.{batch_verdict}
-use Rattle.model.specs.Locks.{list_verdict, lock_verdict, unlock_verdict, verify_locks_verdict}
-use Rattle.model.specs.Objects.{verify_verdict}
-use Rattle.model.specs.Verdict.{plan_for}
-use Rattle.forms.specs.Requests.{batch_asked, list_asked, lock_asked, request_asked, unlock_asked, verify_asked, verify_locks_asked}
-use Rattle.desk.specs.Done.{verdict_by}
-use Rattle.desk.specs.Rights.{case_repo, case_seen}
+use Rattle.desk.proofs.Prelude.{ap, sym, batch_verdict, list_verdict, unlock_verdict, verify_locks_verdict, verify_verdict, plan_for, batch_asked, list_asked, lock_asked, request_asked, unlock_asked, verify_asked, verify_locks_asked, verdict_by, case_repo, case_seen}
+use Rattle.model.specs.Locks.{lock_verdict}
 use Rattle.desk.proofs.Unchanged.{answers_alike, whole_caller, whole_user}
 use Rattle.desk.proofs.answering.answer_whole.Goals as goal
 

@@ -1,5 +1,4 @@
-use Rattle.std.proofs.Common.{Err, refl}
-use Rattle.model.specs.Answers.{by_rule}
+use Rattle.desk.proofs.Prelude.{Err, refl, by_rule}
 use Rattle.desk.proofs.answering.refusal.Goals as goal
 
 pub returns-clause-shows : goal.returns-clause-shows

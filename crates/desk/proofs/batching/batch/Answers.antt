@@ -1,12 +1,5 @@
-use Rattle.std.proofs.Common.{◌≡◌, ◌∙◌, ℕ, List, Option, Ok, map, sym, ap, subst}
-use Rattle.names.specs.Names.{ref_text}
-use Rattle.model.specs.Locks.{ref_or_default}
-use Rattle.model.specs.Answers.{offers}
-use Rattle.forms.specs.Offers.{offer_at}
-use Rattle.forms.specs.Requests.{batch_asked}
+use Rattle.desk.proofs.Prelude.{◌≡◌, ◌∙◌, ℕ, List, Option, Ok, map, sym, ap, subst, ref_text, ref_or_default, offers, offer_at, batch_asked, case_repo, denial_view, IsReplyOf}
 use Rattle.forms.specs.declared.offers.Offer.{Offer}
-use Rattle.desk.specs.Rights.{case_repo, denial_view}
-use Rattle.desk.specs.Replies.{IsReplyOf}
 use Rattle.desk.proofs.Showing.{read_alike}
 use Rattle.desk.proofs.Unchanged.{denied_unread, refused_after, replied_after}
 use Rattle.desk.proofs.Offering.{batch_denied, offers_are_quiet, batch_allowed}

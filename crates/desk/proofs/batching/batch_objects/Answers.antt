@@ -1,9 +1,5 @@
-use Rattle.std.proofs.Common.{◌∙◌, ◌++◌, ◌∷◌, [], ◌≤◌, take, length, List, sym, ap, subst, rules}
-use Rattle.std.proofs.lemmas.List.{take_more, take_all}
-use Rattle.policy.specs.Values.{repo_view}
-use Rattle.forms.specs.Requests.{batch_asked}
+use Rattle.desk.proofs.Prelude.{◌∙◌, ◌++◌, ◌∷◌, [], ◌≤◌, take, length, List, sym, ap, subst, rules, take_more, take_all, repo_view, batch_asked, Reads}
 use Rattle.forms.specs.declared.batch.BatchObject.{BatchObject}
-use Rattle.refinement.specs.Left.{Reads}
 use Rattle.desk.proofs.Offering.{HasJudged, judged_more}
 use Rattle.desk.proofs.Placing.{reads_then, reads_weaker, none_ok}
 use Rattle.desk.proofs.batching.batch_objects.Goals as goal

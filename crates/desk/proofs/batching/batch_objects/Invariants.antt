@@ -1,7 +1,4 @@
-use Rattle.std.proofs.Common.{take}
-use Rattle.policy.specs.Values.{repo_view}
-use Rattle.forms.specs.Requests.{batch_asked}
-use Rattle.refinement.specs.Left.{Reads}
+use Rattle.desk.proofs.Prelude.{take, repo_view, batch_asked, Reads}
 use Rattle.desk.proofs.Offering.{HasJudged}
 use Rattle.desk.proofs.batching.batch_objects.Given as goal
 

@@ -1,9 +1,4 @@
-use Rattle.std.proofs.Common.{◌∙◌, ◌+◌, ℕ, List, Option, Ok, ap, subst}
-use Rattle.std.specs.Prelude.{nat_le, string_bytes}
-use Rattle.policy.specs.Values.{repo_view}
-use Rattle.forms.specs.Requests.{batch_asked, object_asked}
-use Rattle.uploads.specs.Finding.{Finds}
-use Rattle.desk.specs.Batching.{IsSound}
+use Rattle.desk.proofs.Prelude.{◌∙◌, ◌+◌, ℕ, List, Option, Ok, ap, subst, nat_le, string_bytes, repo_view, batch_asked, object_asked, Finds, IsSound}
 use Rattle.desk.proofs.Offering.{judged_found}
 use Rattle.desk.proofs.Placing.{reads_weaker}
 use Rattle.desk.proofs.Showing.{read_alike}

@@ -1,12 +1,4 @@
-use Rattle.std.proofs.Common.{◌≡◌, ◌∙◌, ℕ, List, Option, Ok, Err, sym, ap, subst}
-use Rattle.std.specs.Prelude.{option_map}
-use Rattle.names.specs.Names.{ref_text}
-use Rattle.model.specs.Locks.{ref_or_default}
-use Rattle.forms.specs.Requests.{verify_asked}
-use Rattle.refinement.specs.Left.{Reads}
-use Rattle.uploads.specs.Finding.{Finds}
-use Rattle.uploads.proofs.Sizes.{size_found}
-use Rattle.desk.specs.Rights.{case_repo, case_seen, denial_view}
+use Rattle.desk.proofs.Prelude.{◌≡◌, ◌∙◌, ℕ, List, Option, Ok, Err, sym, ap, subst, option_map, ref_text, ref_or_default, verify_asked, Reads, Finds, size_found, case_repo, case_seen, denial_view}
 use Rattle.desk.proofs.Showing.{read_alike}
 use Rattle.desk.proofs.Pushing.{confirmation_is_quiet, pushes, verify_by}
 use Rattle.desk.proofs.Unchanged.{denied_after, refused_after, replied_after}

@@ -1,9 +1,4 @@
-use Rattle.std.proofs.Common.{◌≡◌, ℕ, List, Ok, Err, None, Some, subst}
-use Rattle.model.specs.Answers.{permit}
-use Rattle.forms.specs.Requests.{get_asked}
-use Rattle.refinement.specs.Left.{Reads}
-use Rattle.uploads.specs.Finding.{Finds}
-use Rattle.desk.specs.Rights.{case_policy}
+use Rattle.desk.proofs.Prelude.{◌≡◌, ℕ, List, Ok, Err, None, Some, subst, permit, get_asked, Reads, Finds, case_policy}
 use Rattle.desk.proofs.Fetching.{got, got_none}
 use Rattle.desk.proofs.Unchanged.{refused_after}
 use Rattle.desk.proofs.downloading.get.Goals as goal

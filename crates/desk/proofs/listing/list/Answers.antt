@@ -1,13 +1,4 @@
-use Rattle.std.proofs.Common.{rules, ◌≡◌, ◌∙◌, Ok, Err, sym, ap, ap₂, subst}
-use Rattle.model.specs.Callers.{may_list}
-use Rattle.model.specs.Answers.{Page, lists}
-use Rattle.model.specs.Pages.{page_of}
-use Rattle.forms.specs.Requests.{list_asked}
-use Rattle.locks.specs.Finding.{lock_seen}
-use Rattle.cursor.specs.Paging.{cursor_or_first, page_seen}
-use Rattle.cursor.specs.Wanted.{wanted_locks}
-use Rattle.policy.specs.Values.{policy_view, question_view}
-use Rattle.desk.specs.Rights.{allow_on, case_policy, case_repo, case_user, denial_view}
+use Rattle.desk.proofs.Prelude.{rules, ◌≡◌, ◌∙◌, Ok, Err, sym, ap, ap₂, subst, may_list, Page, lists, page_of, list_asked, lock_seen, cursor_or_first, page_seen, wanted_locks, policy_view, question_view, allow_on, case_policy, case_repo, case_user, denial_view}
 use Rattle.desk.proofs.Showing.{list_by, list_is_quiet, listed_alike}
 use Rattle.desk.proofs.Unchanged.{denied_unread, refused_after, refused_unread, replied_after}
 use Rattle.desk.proofs.listing.list.Goals as goal

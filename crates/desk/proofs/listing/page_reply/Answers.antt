@@ -1,9 +1,4 @@
-use Rattle.std.proofs.Common.{Ok, map, refl, sym, subst}
-use Rattle.std.proofs.lemmas.Result.{IfOk-weaker}
-use Rattle.model.specs.Answers.{lists}
-use Rattle.forms.specs.ShownLocks.{AreOf}
-use Rattle.locks.specs.Finding.{lock_seen}
-use Rattle.cursor.specs.Paging.{page_seen}
+use Rattle.desk.proofs.Prelude.{Ok, map, refl, sym, subst, IfOk-weaker, lists, AreOf, lock_seen, page_seen}
 use Rattle.desk.proofs.listing.page_reply.Goals as goal
 
 pub returns : goal.returns

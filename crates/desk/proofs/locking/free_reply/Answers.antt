@@ -1,8 +1,4 @@
-use Rattle.std.proofs.Common.{◌∙◌, Ok, Err, refl, sym, subst}
-use Rattle.std.proofs.lemmas.Result.{IfOk-weaker}
-use Rattle.names.specs.declared.rules.Rule.TheVariants.{L5}
-use Rattle.model.specs.Answers.{makes_lock, by_rule}
-use Rattle.desk.specs.Replies.{IsReplyOf}
+use Rattle.desk.proofs.Prelude.{◌∙◌, Ok, Err, refl, sym, subst, IfOk-weaker, L5, makes_lock, by_rule, IsReplyOf}
 use Rattle.desk.proofs.Making.{free_is, free_is_not}
 use Rattle.desk.proofs.locking.free_reply.Goals as goal
 

@@ -1,6 +1,4 @@
-use Rattle.std.proofs.Common.{Err, refl}
-use Rattle.std.proofs.lemmas.Result.{IfOk-weaker}
-use Rattle.model.specs.Answers.{by_lock}
+use Rattle.desk.proofs.Prelude.{Err, refl, IfOk-weaker, by_lock}
 use Rattle.desk.proofs.locking.held_reply.Goals as goal
 
 pub returns : goal.returns

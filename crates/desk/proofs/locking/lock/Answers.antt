@@ -1,10 +1,5 @@
-use Rattle.std.proofs.Common.{◌∙◌, Result, sym, ap, subst}
+use Rattle.desk.proofs.Prelude.{◌∙◌, Result, sym, ap, subst, ◌>>=◌, Answer, Denial, permit, placed_verdict, AnswersAlone, case_policy}
 use Rattle.std.specs.Bool.{⊤}
-use Rattle.model.specs.Reading.{◌>>=◌}
-use Rattle.model.specs.Answers.{Answer, Denial, permit}
-use Rattle.locks.specs.Creating.{placed_verdict}
-use Rattle.desk.specs.Done.{AnswersAlone}
-use Rattle.desk.specs.Rights.{case_policy}
 use Rattle.desk.proofs.Unchanged.{denied_unread}
 use Rattle.desk.proofs.Verdicts.{verdict_alike}
 use Rattle.desk.proofs.locking.lock.Goals as goal

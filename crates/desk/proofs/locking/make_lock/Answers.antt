@@ -1,6 +1,4 @@
-use Rattle.std.proofs.Common.{Ok, Err}
-use Rattle.refinement.proofs.Leading.{reads_lead}
-use Rattle.tables.specs.declared.fault.StoreFault.TheVariants.{Memory}
+use Rattle.desk.proofs.Prelude.{Ok, Err, reads_lead, Memory}
 use Rattle.desk.proofs.Making.{held_done, made_done, unreported, used_done}
 use Rattle.desk.proofs.Verdicts.{granted_then, passed_on, refused_early}
 use Rattle.desk.proofs.locking.make_lock.Goals as goal

@@ -1,7 +1,4 @@
-use Rattle.std.proofs.Common.{◌∙◌, ℕ, List, Option, refl, ap}
-use Rattle.names.specs.Names.{ref_text}
-use Rattle.model.specs.Locks.{ref_or_default}
-use Rattle.desk.specs.Rights.{case_repo}
+use Rattle.desk.proofs.Prelude.{◌∙◌, ℕ, List, Option, refl, ap, ref_text, ref_or_default, case_repo}
 use Rattle.desk.proofs.Showing.{read_alike}
 use Rattle.desk.proofs.locking.wanted_by.Goals as goal
 

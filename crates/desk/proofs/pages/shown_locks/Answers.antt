@@ -1,9 +1,6 @@
-use Rattle.std.proofs.Common.{rules, ◌≡◌, map}
+use Rattle.desk.proofs.Prelude.{rules, ◌≡◌, map, IfOk-weaker, lock_shown, lock_part}
 use Rattle.std.proofs.lemmas.Iterator.{YieldsList-from_slice, YieldsList-from_map_by}
 use Rattle.std.proofs.lemmas.Iterator.Consumers.{map_from_collect}
-use Rattle.std.proofs.lemmas.Result.{IfOk-weaker}
-use Rattle.forms.specs.ShownLocks.{lock_shown}
-use Rattle.desk.specs.Locking.{lock_part}
 use Rattle.desk.proofs.Showing.{all_shown}
 use Rattle.desk.proofs.pages.shown_locks.Goals as goal
 

@@ -1,4 +1,4 @@
-use Rattle.refinement.proofs.Leading.{from_weaker}
+use Rattle.desk.proofs.Prelude.{from_weaker}
 use Rattle.desk.proofs.Arriving.{kept_none, swept_keeps}
 use Rattle.desk.proofs.receiving.clear.Goals as goal
 

@@ -1,8 +1,4 @@
-use Rattle.std.proofs.Common.{◌∙◌, [], sym, refl}
-use Rattle.std.proofs.lemmas.Result.{err_from_is_err_and}
-use Rattle.names.specs.Names.{repo_text}
-use Rattle.tables.specs.declared.fault.StoreFault.TheVariants.{Refused}
-use Rattle.refinement.proofs.Leading.{leads_none, keeps_still}
+use Rattle.desk.proofs.Prelude.{◌∙◌, [], sym, refl, err_from_is_err_and, repo_text, Refused, leads_none, keeps_still}
 use Rattle.desk.specs.declared.outcomes.AnswerFault.TheVariants as fault
 use Rattle.desk.proofs.Arriving.{read_none, received_none, received}
 use Rattle.desk.proofs.receiving.receive.Goals as goal

@@ -1,5 +1,4 @@
-use Rattle.std.proofs.Common.{Ok, Err}
-use Rattle.std.proofs.lemmas.Result.{err_from_is_err_and}
+use Rattle.desk.proofs.Prelude.{Ok, Err, err_from_is_err_and}
 use Rattle.desk.proofs.Arriving.{staged_part, staged_all}
 use Rattle.desk.proofs.receiving.receive_staged.Goals as goal
 

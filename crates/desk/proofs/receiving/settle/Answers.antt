@@ -1,4 +1,4 @@
-use Rattle.std.proofs.Common.{Ok, Err}
+use Rattle.desk.proofs.Prelude.{Ok, Err}
 use Rattle.uploads.specs.declared.completing.UploadFault.TheVariants as upload_fault
 use Rattle.desk.proofs.Arriving.{settled}
 use Rattle.desk.proofs.receiving.settle.Goals as goal

@@ -1,5 +1,4 @@
-use Rattle.std.proofs.Common.{◌++◌, ◌∙◌, [], take, rules, refl}
-use Rattle.std.proofs.lemmas.Result.{err_from_is_err_and}
+use Rattle.desk.proofs.Prelude.{◌++◌, ◌∙◌, [], take, rules, refl, err_from_is_err_and}
 use Rattle.desk.proofs.Arriving.{read_none, read_more, read_piece, takes_none, takes_failed, takes_more, takes_refused}
 use Rattle.desk.proofs.receiving.take_all.Goals as goal
 

@@ -1,7 +1,4 @@
-use Rattle.std.proofs.Common.{◌≡◌, ◌<◌, ℕ, List, length}
-use Rattle.refinement.specs.Left.{From}
-use Rattle.desk.specs.Contents.{HasRead}
-use Rattle.desk.specs.Receiving.{Takes}
+use Rattle.desk.proofs.Prelude.{◌≡◌, ◌<◌, ℕ, List, length, From, HasRead, Takes}
 use Rattle.desk.proofs.Arriving.{taken}
 use Rattle.desk.proofs.receiving.take_all.Given as goal
 

@@ -1,6 +1,4 @@
-use Rattle.std.proofs.Common.{Err}
-use Rattle.std.proofs.lemmas.Result.{IfOk-weaker}
-use Rattle.desk.specs.Rights.{denial_view}
+use Rattle.desk.proofs.Prelude.{Err, IfOk-weaker, denial_view}
 use Rattle.desk.proofs.rights.denial_reply.Goals as goal
 
 pub returns : goal.returns

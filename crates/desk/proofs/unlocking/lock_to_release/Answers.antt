@@ -1,7 +1,4 @@
-use Rattle.std.proofs.Common.{◌∙◌, sym}
-use Rattle.model.specs.Answers.{releases}
-use Rattle.locks.specs.Finding.{lock_seen}
-use Rattle.desk.specs.Rights.{case_repo}
+use Rattle.desk.proofs.Prelude.{◌∙◌, sym, releases, lock_seen, case_repo}
 use Rattle.desk.proofs.Releasing.{seen, passed_on}
 use Rattle.desk.proofs.unlocking.lock_to_release.Goals as goal
 

@@ -1,6 +1,4 @@
-use Rattle.model.specs.Answers.{releases}
-use Rattle.locks.specs.Finding.{lock_seen}
-use Rattle.desk.specs.Rights.{case_repo, denial_view}
+use Rattle.desk.proofs.Prelude.{releases, lock_seen, case_repo, denial_view}
 use Rattle.desk.proofs.Releasing.{refused_right, by_right, passed_on}
 use Rattle.desk.proofs.unlocking.may_release.Goals as goal
 

@@ -1,7 +1,4 @@
-use Rattle.std.proofs.Common.{Ok, Err, subst}
-use Rattle.names.specs.Names.{repo_text}
-use Rattle.locks.specs.Finding.{lock_seen}
-use Rattle.locks.specs.Removing.{Removes}
+use Rattle.desk.proofs.Prelude.{Ok, Err, subst, repo_text, lock_seen, Removes}
 use Rattle.desk.proofs.Releasing.{removed, not_removed, removal_refused}
 use Rattle.desk.proofs.Verdicts.{passed_on}
 use Rattle.desk.proofs.unlocking.release.Goals as goal

@@ -1,7 +1,4 @@
-use Rattle.std.proofs.Common.{Ok, refl}
-use Rattle.std.proofs.lemmas.Result.{IfOk-weaker}
-use Rattle.model.specs.Answers.{releases}
-use Rattle.locks.specs.Finding.{lock_seen}
+use Rattle.desk.proofs.Prelude.{Ok, refl, IfOk-weaker, releases, lock_seen}
 use Rattle.desk.proofs.unlocking.released_reply.Goals as goal
 
 pub returns : goal.returns

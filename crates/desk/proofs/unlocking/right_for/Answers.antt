@@ -1,6 +1,4 @@
-use Rattle.std.proofs.Common.{◌∙◌, sym}
-use Rattle.locks.specs.Finding.{lock_seen}
-use Rattle.desk.specs.Rights.{case_repo, case_user}
+use Rattle.desk.proofs.Prelude.{◌∙◌, sym, lock_seen, case_repo, case_user}
 use Rattle.desk.proofs.Releasing.{own_right, forced_right, no_right}
 use Rattle.desk.proofs.unlocking.right_for.Goals as goal
 

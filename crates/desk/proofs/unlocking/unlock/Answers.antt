@@ -1,12 +1,4 @@
-use Rattle.std.proofs.Common.{◌≡◌, ◌∙◌, Ok, Some, option_map, sym, ap, subst}
-use Rattle.model.specs.Answers.{Answer, releases}
-use Rattle.model.specs.Locks.{unlock_verdict}
-use Rattle.forms.specs.Requests.{unlock_asked}
-use Rattle.refinement.proofs.Leading.{reads_lead}
-use Rattle.locks.specs.Finding.{lock_seen, lock_with}
-use Rattle.desk.specs.Rights.{case_repo, case_seen}
-use Rattle.desk.specs.Unlocking.{found_verdict}
-use Rattle.desk.specs.Done.{AnswersAlone}
+use Rattle.desk.proofs.Prelude.{◌≡◌, ◌∙◌, Ok, Some, option_map, sym, ap, subst, Answer, releases, unlock_verdict, unlock_asked, reads_lead, lock_seen, lock_with, case_repo, case_seen, found_verdict, AnswersAlone}
 use Rattle.desk.proofs.Releasing.{verdict_on_found, id_found}
 use Rattle.desk.proofs.Showing.{read_alike}
 use Rattle.desk.proofs.Unchanged.{denied_after, refused_after}

@@ -1,8 +1,5 @@
-use Rattle.std.proofs.Common.{◌∙◌, ◌+◌, ℕ, List, sym, ap, subst}
-use Rattle.std.specs.Prelude.{nat_le}
+use Rattle.desk.proofs.Prelude.{◌∙◌, ◌+◌, ℕ, List, sym, ap, subst, nat_le, repo_view, Finds}
 use Rattle.model.specs.World.{total}
-use Rattle.policy.specs.Values.{repo_view}
-use Rattle.uploads.specs.Finding.{Finds}
 use Rattle.desk.proofs.Placing.{reads_then, reads_weaker, none_ok, room_is, place_fits, place_found}
 use Rattle.desk.proofs.uploading.has_place.Goals as goal
 

@@ -1,10 +1,5 @@
-use Rattle.std.proofs.Common.{◌∙◌, true, Ok, Err, ap, refl, sym}
+use Rattle.desk.proofs.Prelude.{◌∙◌, true, Ok, Err, ap, refl, sym, err_from_is_err_and, put_verdict, put_asked, Memory, case_seen, denial_view}
 use Rattle.std.proofs.lemmas.Bool.{true≢false}
-use Rattle.std.proofs.lemmas.Result.{err_from_is_err_and}
-use Rattle.model.specs.Objects.{put_verdict}
-use Rattle.forms.specs.Requests.{put_asked}
-use Rattle.tables.specs.declared.fault.StoreFault.TheVariants.{Memory}
-use Rattle.desk.specs.Rights.{case_seen, denial_view}
 use Rattle.desk.proofs.Early.{denied_first, failed_first}
 use Rattle.desk.proofs.Puts.{put_done, put_failed, put_unreported, received_put}
 use Rattle.desk.proofs.uploading.put.Goals as goal

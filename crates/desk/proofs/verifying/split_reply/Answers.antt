@@ -1,11 +1,5 @@
-use Rattle.std.proofs.Common.{◌∙◌, Ok, map, filter, not, refl, sym, ap, subst}
-use Rattle.std.proofs.lemmas.Result.{IfOk-weaker}
-use Rattle.names.specs.Names.{user_text}
-use Rattle.model.specs.Answers.{splits}
+use Rattle.desk.proofs.Prelude.{◌∙◌, Ok, map, filter, not, refl, sym, ap, subst, IfOk-weaker, user_text, splits, AreOf, lock_seen, page_seen}
 use Rattle.model.specs.Callers.{is_own}
-use Rattle.forms.specs.ShownLocks.{AreOf}
-use Rattle.locks.specs.Finding.{lock_seen}
-use Rattle.cursor.specs.Paging.{page_seen}
 use Rattle.desk.proofs.Showing.{own_rows, other_rows}
 use Rattle.desk.proofs.verifying.split_reply.Goals as goal
 

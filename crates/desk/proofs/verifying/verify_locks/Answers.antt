@@ -1,12 +1,4 @@
-use Rattle.std.proofs.Common.{rules, ◌≡◌, ◌∙◌, ℕ, true, List, Option, Ok, Err, sym, ap, ap₂, subst}
-use Rattle.names.specs.Names.{ref_text}
-use Rattle.model.specs.Answers.{Page, splits}
-use Rattle.model.specs.Locks.{ref_or_default}
-use Rattle.model.specs.Pages.{page_of}
-use Rattle.forms.specs.Requests.{verify_locks_asked}
-use Rattle.cursor.specs.Paging.{cursor_or_first, page_seen}
-use Rattle.cursor.specs.Wanted.{wanted_locks}
-use Rattle.desk.specs.Rights.{case_repo, case_user, denial_view}
+use Rattle.desk.proofs.Prelude.{rules, ◌≡◌, ◌∙◌, ℕ, true, List, Option, Ok, Err, sym, ap, ap₂, subst, ref_text, Page, splits, ref_or_default, page_of, verify_locks_asked, cursor_or_first, page_seen, wanted_locks, case_repo, case_user, denial_view}
 use Rattle.desk.proofs.Showing.{read_alike, ref_alike, split_is_quiet, verify_by}
 use Rattle.desk.proofs.Unchanged.{denied_unread, refused_after, replied_after}
 use Rattle.desk.proofs.verifying.verify_locks.Goals as goal

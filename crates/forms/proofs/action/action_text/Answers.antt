@@ -1,4 +1,4 @@
-use Rattle.std.proofs.Common.{rules}
+use Rattle.forms.proofs.Prelude.{rules}
 use Rattle.serde_json.proofs.OnLiterals.{serde_json_on_literals}
 use Rattle.forms.proofs.action.action_text.Goals as goal
 

@@ -1,4 +1,4 @@
-use Rattle.std.proofs.Common.{rules}
+use Rattle.forms.proofs.Prelude.{rules}
 use Rattle.serde_json.proofs.OnLiterals.{serde_json_on_literals}
 use Rattle.forms.proofs.answer.message_body.Goals as goal
 

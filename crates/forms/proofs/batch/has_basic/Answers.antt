@@ -1,5 +1,4 @@
-use Rattle.std.proofs.Common.{◌∙◌, ap, sym}
-use Rattle.serde_json.specs.View.{items_view}
+use Rattle.forms.proofs.Prelude.{◌∙◌, ap, sym, items_view}
 use Rattle.forms.proofs.Batches.{found_or, none_found}
 use Rattle.forms.proofs.batch.has_basic.Goals as goal
 

@@ -1,6 +1,4 @@
-use Rattle.std.proofs.Common.{◌≡◌, drop}
-use Rattle.serde_json.specs.View.{items_view}
-use Rattle.forms.specs.Given.{has_basic_in}
+use Rattle.forms.proofs.Prelude.{◌≡◌, drop, items_view, has_basic_in}
 use Rattle.forms.proofs.Batches.{found_or}
 use Rattle.forms.proofs.batch.has_basic.Given as goal
 

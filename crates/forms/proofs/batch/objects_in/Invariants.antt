@@ -1,9 +1,4 @@
-use Rattle.std.proofs.Common.{◌≡◌, ◌++◌, Ok, drop, map}
-use Rattle.serde_json.specs.View.{items_view}
-use Rattle.names.specs.declared.rules.Rule.TheVariants.{J1}
-use Rattle.model.specs.Reading.{◌>>=◌, ok_or}
-use Rattle.model.specs.Forms.{as_batch_object, each_as}
-use Rattle.forms.specs.Requests.{object_asked}
+use Rattle.forms.proofs.Prelude.{◌≡◌, ◌++◌, Ok, drop, map, items_view, J1, ◌>>=◌, ok_or, as_batch_object, each_as, object_asked}
 use Rattle.forms.proofs.batch.objects_in.Given as goal
 
 -- the objects so far, and the items still to come

@@ -1,6 +1,4 @@
-use Rattle.std.proofs.Common.{◌∙◌, refl, sym, subst}
-use Rattle.forms.specs.Given.{Reads}
-use Rattle.forms.specs.Requests.{batch_asked}
+use Rattle.forms.proofs.Prelude.{◌∙◌, refl, sym, subst, Reads, batch_asked}
 use Rattle.forms.specs.declared.refusal.Refusal.TheVariants as refusal
 use Rattle.forms.proofs.Bodies.{batch_by_value}
 use Rattle.forms.proofs.Refusals.{at_first, passed_on}

@@ -1,6 +1,4 @@
-use Rattle.std.proofs.Common.{Some, string_bytes}
-use Rattle.names.specs.Texts.{is_ref}
-use Rattle.model.specs.Forms.{is_if_given}
+use Rattle.forms.proofs.Prelude.{Some, string_bytes, is_ref, is_if_given}
 use Rattle.forms.proofs.Bodies.{fails}
 use Rattle.forms.proofs.body.ref_of.Goals as goal
 

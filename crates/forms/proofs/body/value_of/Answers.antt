@@ -1,6 +1,4 @@
-use Rattle.std.proofs.Common.{ap, sym}
-use Rattle.names.specs.declared.rules.Rule.TheVariants.{J1}
-use Rattle.model.specs.Reading.{ok_or}
+use Rattle.forms.proofs.Prelude.{ap, sym, J1, ok_or}
 use Rattle.forms.proofs.Bodies.{no_text, value_is}
 use Rattle.forms.proofs.Refusals.{by_rule}
 use Rattle.forms.proofs.body.value_of.Goals as goal

@@ -1,5 +1,4 @@
-use Rattle.std.proofs.Common.{◌∙◌, refl, append_assoc}
-use Rattle.std.proofs.lemmas.Result.{IfOk-weaker}
+use Rattle.forms.proofs.Prelude.{◌∙◌, refl, append_assoc, IfOk-weaker}
 use Rattle.forms.proofs.links.lfs_href.Goals as goal
 
 pub returns : goal.returns

@@ -1,4 +1,4 @@
-use Rattle.std.proofs.Common.{◌≡◌, ◌++◌, string_bytes}
+use Rattle.forms.proofs.Prelude.{◌≡◌, ◌++◌, string_bytes}
 use Rattle.form_urlencoded.specs.Serialize.{serialized_text}
 use Rattle.names.specs.Names.{ref_text}
 use Rattle.model.specs.Batch.{ref_query}

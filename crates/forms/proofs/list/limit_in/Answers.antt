@@ -1,4 +1,4 @@
-use Rattle.std.proofs.Common.{◌∙◌, None, sym, arith}
+use Rattle.forms.proofs.Prelude.{◌∙◌, None, sym, arith}
 use Rattle.std.proofs.lemmas.Str.Pattern.{strip_prefix_char}
 use Rattle.forms.proofs.Numbers.{no_minus}
 use Rattle.forms.proofs.list.limit_in.Goals as goal

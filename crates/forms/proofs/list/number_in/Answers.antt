@@ -1,7 +1,4 @@
-use Rattle.std.proofs.Common.{◌≡◌, ◌∙◌, ◌≤◌, length, sym, ap, arith, true}
-use Rattle.std.specs.Char.{is_ascii_digit}
-use Rattle.std.specs.List.{list_all}
-use Rattle.std.proofs.lemmas.Bool.Decides.{nat_tests}
+use Rattle.forms.proofs.Prelude.{◌≡◌, ◌∙◌, ◌≤◌, length, sym, ap, arith, true, is_ascii_digit, list_all, nat_tests}
 use Rattle.forms.proofs.Numbers.{number_parsed}
 use Rattle.forms.proofs.list.number_in.Goals as goal
 

@@ -1,5 +1,4 @@
-use Rattle.std.proofs.Common.{◌∙◌}
-use Rattle.forms.specs.Requests.{list_asked}
+use Rattle.forms.proofs.Prelude.{◌∙◌, list_asked}
 use Rattle.forms.specs.declared.refusal.Refusal.TheVariants as refusal
 use Rattle.forms.proofs.Queries.{list_by_keys}
 use Rattle.forms.proofs.Refusals.{at_first, passed_on}

@@ -1,5 +1,4 @@
-use Rattle.std.proofs.Common.{◌∙◌, refl, option_map}
-use Rattle.forms.specs.Requests.{lock_asked}
+use Rattle.forms.proofs.Prelude.{◌∙◌, refl, option_map, lock_asked}
 use Rattle.forms.proofs.Bodies.{joined}
 use Rattle.forms.proofs.Refusals.{at_first, passed_on}
 use Rattle.forms.proofs.lock.lock_of.Goals as goal

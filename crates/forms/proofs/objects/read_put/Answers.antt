@@ -1,5 +1,4 @@
-use Rattle.std.proofs.Common.{◌∙◌, refl}
-use Rattle.forms.specs.Requests.{put_asked}
+use Rattle.forms.proofs.Prelude.{◌∙◌, refl, put_asked}
 use Rattle.forms.specs.declared.refusal.Refusal.TheVariants as refusal
 use Rattle.forms.proofs.Queries.{put_by_name}
 use Rattle.forms.proofs.Refusals.{at_first, passed_on}

@@ -1,7 +1,4 @@
-use Rattle.std.proofs.Common.{◌∙◌, ap}
-use Rattle.std.proofs.lemmas.Result.{IfOk-weaker}
-use Rattle.serde_json.specs.Data.{array}
-use Rattle.model.specs.Replies.{items_of}
+use Rattle.forms.proofs.Prelude.{◌∙◌, ap, IfOk-weaker, array, items_of}
 use Rattle.forms.proofs.ShownOffers.{offers_are}
 use Rattle.forms.proofs.offers.objects_value.Goals as goal
 

@@ -1,6 +1,5 @@
-use Rattle.std.proofs.Common.{◌≡◌, map, take}
+use Rattle.forms.proofs.Prelude.{◌≡◌, map, take, offer_json}
 use Rattle.serde_json.specs.View.{view}
-use Rattle.forms.specs.Offers.{offer_json}
 use Rattle.forms.proofs.offers.offers_value.Given as goal
 
 abbrev pub invariant-loop-offer : goal.invariant-loop-offer

@@ -1,7 +1,4 @@
-use Rattle.std.proofs.Common.{◌∙◌, ap}
-use Rattle.std.proofs.lemmas.Result.{IfOk-weaker}
-use Rattle.serde_json.specs.Written.{compact_text, has_float}
-use Rattle.forms.specs.ShownLocks.{page_shown}
+use Rattle.forms.proofs.Prelude.{◌∙◌, ap, IfOk-weaker, compact_text, has_float, page_shown}
 use Rattle.forms.proofs.Pages.{list_has_none}
 use Rattle.forms.proofs.page.list_body.Goals as goal
 

@@ -1,7 +1,5 @@
-use Rattle.std.proofs.Common.{◌≡◌, map, take}
+use Rattle.forms.proofs.Prelude.{◌≡◌, map, take, lock_data, lock_shown}
 use Rattle.serde_json.specs.View.{view}
-use Rattle.model.specs.Replies.{lock_data}
-use Rattle.forms.specs.ShownLocks.{lock_shown}
 use Rattle.forms.proofs.page.locks_value.Given as goal
 
 abbrev pub invariant-loop-lock : goal.invariant-loop-lock

@@ -1,7 +1,4 @@
-use Rattle.std.proofs.Common.{◌∙◌, ap, map}
-use Rattle.std.proofs.lemmas.Result.{IfOk-weaker}
-use Rattle.serde_json.specs.Written.{compact_text, has_float}
-use Rattle.forms.specs.ShownLocks.{lock_shown}
+use Rattle.forms.proofs.Prelude.{◌∙◌, ap, map, IfOk-weaker, compact_text, has_float, lock_shown}
 use Rattle.forms.proofs.Pages.{split_has_none}
 use Rattle.forms.proofs.page.split_body.Goals as goal
 

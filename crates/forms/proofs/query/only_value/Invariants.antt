@@ -1,8 +1,5 @@
-use Rattle.std.proofs.Common.{◌≡◌, ◌++◌, option_map}
-use Rattle.std.specs.Cow.{cow_str_bytes}
-use Rattle.form_urlencoded.specs.Form.{raw_pairs}
+use Rattle.forms.proofs.Prelude.{◌≡◌, ◌++◌, option_map, cow_str_bytes, raw_pairs, values_among}
 use Rattle.form_urlencoded.specs.Parse.{raw_pairs_left}
-use Rattle.forms.specs.Given.{values_among}
 use Rattle.forms.proofs.Queries.{found_so_far}
 use Rattle.forms.proofs.query.only_value.Given as goal
 

@@ -1,5 +1,4 @@
-use Rattle.std.proofs.Common.{◌∙◌, Ok, ap, refl, sym, option_map, string_bytes}
-use Rattle.std.specs.Cow.{cow_str_bytes}
+use Rattle.forms.proofs.Prelude.{◌∙◌, Ok, ap, refl, sym, option_map, string_bytes, cow_str_bytes}
 use Rattle.forms.proofs.Queries.{by_only, empty_is_missing, other_is_given}
 use Rattle.forms.proofs.Refusals.{at_first, passed_on}
 use Rattle.forms.proofs.query.query_value.Goals as goal

@@ -1,7 +1,5 @@
-use Rattle.std.proofs.Common.{◌∙◌}
-use Rattle.std.proofs.lemmas.Result.{IfOk-weaker}
+use Rattle.forms.proofs.Prelude.{◌∙◌, IfOk-weaker, LockTexts}
 use Rattle.model.proofs.Moments.{moment_is_text}
-use Rattle.forms.specs.declared.shown_lock.LockTexts.{LockTexts}
 use Rattle.forms.proofs.Texts.{AreTextsOf, lock_is}
 use Rattle.forms.proofs.shown_lock.lock_value.Goals as goal
 

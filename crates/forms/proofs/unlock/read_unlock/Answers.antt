@@ -1,5 +1,4 @@
-use Rattle.std.proofs.Common.{◌∙◌, refl}
-use Rattle.forms.specs.Requests.{unlock_asked}
+use Rattle.forms.proofs.Prelude.{◌∙◌, refl, unlock_asked}
 use Rattle.forms.specs.declared.refusal.Refusal.TheVariants as refusal
 use Rattle.forms.proofs.Bodies.{unlock_by_value}
 use Rattle.forms.proofs.Refusals.{at_first, passed_on}

@@ -1,6 +1,4 @@
-use Rattle.std.proofs.Common.{arith}
-use Rattle.std.specs.Prelude.{⊤}
-use Rattle.refinement.proofs.ReadOnly.{reads_then}
+use Rattle.operator.proofs.Prelude.{arith, ⊤, reads_then}
 use Rattle.operator.proofs.checking.check_all.Goals.{then-branch+in_ok-line+in_ok-map_err, else-branch}
 use Rattle.operator.proofs.checking.check_all.Goals as goal
 

@@ -1,5 +1,4 @@
-use Rattle.std.specs.Prelude.{◌≤◌, ⊤}
-use Rattle.refinement.specs.Left.{Reads}
+use Rattle.operator.proofs.Prelude.{◌≤◌, ⊤, Reads}
 use Rattle.operator.proofs.checking.check_all.Given as goal
 
 abbrev pub invariant-loop-index : goal.invariant-loop-index

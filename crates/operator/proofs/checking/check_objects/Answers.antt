@@ -1,5 +1,4 @@
-use Rattle.std.specs.Prelude.{⊤}
-use Rattle.refinement.proofs.ReadOnly.{reads_then, reads_weaker}
+use Rattle.operator.proofs.Prelude.{⊤, reads_then, reads_weaker}
 use Rattle.operator.proofs.checking.check_objects.Goals as goal
 
 pub returns-in_err-rows : goal.returns-in_err-rows

@@ -1,6 +1,5 @@
-use Rattle.std.proofs.Common.{rules, ◌≡◌, true, false, [], ◌∷◌, ◌++◌}
+use Rattle.operator.proofs.Prelude.{rules, ◌≡◌, true, false, [], ◌∷◌, ◌++◌, escape, escaped, is_control}
 use Rattle.std.proofs.lemmas.List.{nil_from_length}
-use Rattle.operator.specs.Escapes.{escape, escaped, is_control}
 use Rattle.operator.proofs.Escaping.{escaped_control, escaped_other, escaped_last, escaped_step, escaped_end}
 use Rattle.operator.proofs.escapes.escaped.Goals as goal
 use Rattle.operator.proofs.escapes.escaped.Goals.{in_default-split_first-via-in-Some-split_first+else-is_control, in_default-split_first-via-in_default-split_first}

@@ -1,5 +1,4 @@
-use Rattle.std.proofs.Common.{◌≡◌, ◌++◌, length}
-use Rattle.operator.specs.Escapes.{escaped}
+use Rattle.operator.proofs.Prelude.{◌≡◌, ◌++◌, length, escaped}
 use Rattle.operator.proofs.escapes.escaped.Given as goal
 
 -- what was added, and then the escapes of the rest

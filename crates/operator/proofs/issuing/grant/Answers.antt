@@ -1,6 +1,4 @@
-use Rattle.std.proofs.Common.{string_bytes}
-use Rattle.std.proofs.lemmas.Result.{err_from_is_err_and}
-use Rattle.refinement.proofs.Leading.{reads_lead, takes_then}
+use Rattle.operator.proofs.Prelude.{string_bytes, err_from_is_err_and, reads_lead, takes_then}
 use Rattle.operator.proofs.Working.{from_reads, from_then, from_issues, from_refuses}
 use Rattle.operator.proofs.issuing.grant.Goals as goal
 

@@ -1,5 +1,4 @@
-use Rattle.std.proofs.Common.{◌≡◌, ◌∙◌, ap, refl, append_assoc}
-use Rattle.std.proofs.lemmas.Result.{IfOk-weaker}
+use Rattle.operator.proofs.Prelude.{◌≡◌, ◌∙◌, ap, refl, append_assoc, IfOk-weaker}
 use Rattle.serde_json.specs.Written.{compact_text}
 use Rattle.names.specs.Names.{repo_text}
 use Rattle.model.specs.Answers.{Action}

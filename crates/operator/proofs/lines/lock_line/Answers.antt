@@ -1,5 +1,4 @@
-use Rattle.std.proofs.Common.{◌∙◌, append_assoc, refl, string_bytes}
-use Rattle.std.proofs.lemmas.Result.{IfOk-weaker}
+use Rattle.operator.proofs.Prelude.{◌∙◌, append_assoc, refl, string_bytes, IfOk-weaker}
 use Rattle.operator.proofs.lines.lock_line.Goals as goal
 
 pub returns : goal.returns

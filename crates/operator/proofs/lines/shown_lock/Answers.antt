@@ -1,6 +1,4 @@
-use Rattle.std.proofs.Common.{◌∙◌, ap}
-use Rattle.std.proofs.lemmas.Result.{IfOk-weaker}
-use Rattle.operator.specs.Escapes.{shown}
+use Rattle.operator.proofs.Prelude.{◌∙◌, ap, IfOk-weaker, shown}
 use Rattle.operator.proofs.lines.shown_lock.Goals as goal
 
 pub returns : goal.returns

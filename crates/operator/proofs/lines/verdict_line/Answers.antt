@@ -1,5 +1,4 @@
-use Rattle.std.proofs.Common.{◌∙◌, append_assoc, refl}
-use Rattle.std.proofs.lemmas.Result.{IfOk-weaker}
+use Rattle.operator.proofs.Prelude.{◌∙◌, append_assoc, refl, IfOk-weaker}
 use Rattle.operator.proofs.lines.verdict_line.Goals as goal
 
 pub returns-in-Denied : goal.returns-in-Denied

@@ -1,4 +1,4 @@
-use Rattle.refinement.proofs.ReadOnly.{reads_weaker}
+use Rattle.operator.proofs.Prelude.{reads_weaker}
 use Rattle.operator.proofs.listing_locks.list_locks.Goals as goal
 
 pub returns-in_err-rows : goal.returns-in_err-rows

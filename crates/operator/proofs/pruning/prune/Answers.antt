@@ -1,7 +1,4 @@
-use Rattle.std.proofs.Common.{ℕ, Ok}
-use Rattle.std.proofs.lemmas.Result.{err_from_is_err_and}
-use Rattle.refinement.proofs.Leading.{from_weaker}
-use Rattle.tokens.specs.Pruning.{Prunes}
+use Rattle.operator.proofs.Prelude.{ℕ, Ok, err_from_is_err_and, from_weaker, Prunes}
 use Rattle.operator.proofs.Working.{prunes_work, from_either}
 use Rattle.operator.proofs.pruning.prune.Goals as goal
 

@@ -1,4 +1,4 @@
-use Rattle.refinement.proofs.ReadOnly.{reads_weaker}
+use Rattle.operator.proofs.Prelude.{reads_weaker}
 use Rattle.operator.proofs.pushing.check_push.Goals as goal
 
 pub returns-in_err-verdicts : goal.returns-in_err-verdicts

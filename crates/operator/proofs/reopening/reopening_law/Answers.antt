@@ -1,5 +1,4 @@
-use Rattle.std.proofs.Common.{[], ◌∷◌}
-use Rattle.operator.specs.Works.{bound_of_works, steps_of}
+use Rattle.operator.proofs.Prelude.{[], ◌∷◌, bound_of_works, steps_of}
 use Rattle.operator.proofs.Reached.{reached_then, works_reached, reached_held, works_leave_one}
 use Rattle.operator.proofs.reopening.reopening_law.Goals as goal
 

@@ -1,9 +1,5 @@
-use Rattle.std.proofs.Common.{◌∙◌, sym, ap, List, ◌++◌, map, ◌+◌}
-use Rattle.std.proofs.lemmas.List.{append-nil, at_drop_all}
-use Rattle.std.specs.List.{filter}
+use Rattle.policy.proofs.Prelude.{◌∙◌, sym, ap, List, ◌++◌, map, ◌+◌, append-nil, at_drop_all, filter, row_view, numbered_view, question_view, numbered_from, applies}
 use Rattle.policy.specs.declared.rows.Row.{Row}
-use Rattle.policy.specs.Values.{row_view, numbered_view, question_view}
-use Rattle.policy.specs.Applicable.{numbered_from, applies}
 use Rattle.policy.proofs.applicable.rows_for.Goals as goal
 
 pub returns : goal.returns

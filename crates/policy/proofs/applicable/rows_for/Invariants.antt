@@ -1,7 +1,4 @@
-use Rattle.std.proofs.Common.{◌≡◌, ◌+◌, ◌++◌, drop, map}
-use Rattle.std.specs.List.{filter}
-use Rattle.policy.specs.Applicable.{applies, numbered_from}
-use Rattle.policy.specs.Values.{row_view, numbered_view, question_view}
+use Rattle.policy.proofs.Prelude.{◌≡◌, ◌+◌, ◌++◌, drop, map, filter, applies, numbered_from, row_view, numbered_view, question_view}
 use Rattle.policy.proofs.applicable.rows_for.Given as goal
 
 -- the rows that apply are those that were chosen, and those that apply of the rest

@@ -1,7 +1,4 @@
-use Rattle.std.proofs.Common.{◌∙◌, sym, string_bytes}
-use Rattle.std.proofs.lemmas.List.Folds.{list_all-map}
-use Rattle.model.specs.Policy.{held_by}
-use Rattle.policy.specs.Ranges.{texts}
+use Rattle.policy.proofs.Prelude.{◌∙◌, sym, string_bytes, list_all-map, held_by, texts}
 use Rattle.policy.proofs.covering.hold_all.Goals as goal
 
 pub returns : goal.returns

@@ -1,6 +1,4 @@
-use Rattle.std.proofs.Common.{◌≡◌, ◌+◌, drop, map}
-use Rattle.model.specs.Policy.{decide_from}
-use Rattle.policy.specs.Values.{row_view, question_view}
+use Rattle.policy.proofs.Prelude.{◌≡◌, ◌+◌, drop, map, decide_from, row_view, question_view}
 use Rattle.policy.proofs.decisions.decide.Given as goal
 
 -- no row before this one matches

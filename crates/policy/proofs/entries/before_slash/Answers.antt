@@ -1,4 +1,4 @@
-use Rattle.std.proofs.Common.{lit<}
+use Rattle.policy.proofs.Prelude.{lit<}
 use Rattle.std.proofs.lemmas.Str.Pattern.{strip_suffix_char}
 use Rattle.policy.proofs.Slashes.{before_slash-from_strip}
 use Rattle.policy.proofs.entries.before_slash.Goals as goal

@@ -1,5 +1,4 @@
-use Rattle.std.proofs.Common.{◌∙◌, sym}
-use Rattle.policy.specs.Patterns.{pattern_view, pattern_holds, holds_every}
+use Rattle.policy.proofs.Prelude.{◌∙◌, sym, pattern_view, pattern_holds, holds_every}
 use Rattle.policy.proofs.Lists.{list_any-map}
 use Rattle.policy.proofs.patterns.hold_if_named.Goals as goal
 

@@ -1,6 +1,4 @@
-use Rattle.std.proofs.Common.{◌≡◌, map, take}
-use Rattle.policy.specs.Ranges.{texts}
-use Rattle.policy.specs.Patterns.{pattern_of, pattern_view}
+use Rattle.policy.proofs.Prelude.{◌≡◌, map, take, texts, pattern_of, pattern_view}
 use Rattle.policy.proofs.patterns.patterns_of.Given as goal
 
 -- the texts before this one were read

@@ -1,4 +1,4 @@
-use Rattle.std.proofs.Common.{◌∙◌}
+use Rattle.policy.proofs.Prelude.{◌∙◌}
 use Rattle.policy.proofs.Steps.{is_among-names_of}
 use Rattle.policy.proofs.reading.is_taken.Goals as goal
 

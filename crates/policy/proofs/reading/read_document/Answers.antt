@@ -1,8 +1,4 @@
-use Rattle.std.proofs.Common.{◌≡◌, ◌∙◌, length, map, arith}
-use Rattle.std.proofs.lemmas.List.{length-map}
-use Rattle.toml.specs.View.{view}
-use Rattle.policy.specs.Values.{repo_view, row_view}
-use Rattle.policy.specs.Reading.{repo_in, row_in, table_in}
+use Rattle.policy.proofs.Prelude.{◌≡◌, ◌∙◌, length, map, arith, length-map, view, repo_view, row_view, repo_in, row_in, table_in}
 use Rattle.policy.proofs.Lists.{length-maps}
 use Rattle.policy.proofs.reading.read_document.Goals as goal
 

@@ -1,7 +1,4 @@
-use Rattle.std.proofs.Common.{◌≡◌, ◌∙◌, sym, false, ◌<◌, length, arith}
-use Rattle.toml.specs.View.{view}
-use Rattle.names.specs.Names.{repo_text}
-use Rattle.policy.specs.Ranges.{is_among}
+use Rattle.policy.proofs.Prelude.{◌≡◌, ◌∙◌, sym, false, ◌<◌, length, arith, view, repo_text, is_among}
 use Rattle.policy.specs.Repos.{names_of}
 use Rattle.policy.proofs.Steps.{map-drop, repos_next}
 use Rattle.policy.proofs.reading.read_repos.Goals as goal

@@ -1,5 +1,4 @@
-use Rattle.std.proofs.Common.{drop, map}
-use Rattle.toml.specs.View.{view}
+use Rattle.policy.proofs.Prelude.{drop, map, view}
 use Rattle.policy.proofs.Steps.{ReposSoFar}
 use Rattle.policy.proofs.reading.read_repos.Given as goal
 

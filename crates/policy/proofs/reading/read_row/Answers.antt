@@ -1,4 +1,4 @@
-use Rattle.policy.specs.Ranges.{texts}
+use Rattle.policy.proofs.Prelude.{texts}
 use Rattle.policy.proofs.Rights.{is_count-rights_named}
 use Rattle.policy.proofs.reading.read_row.Goals as goal
 

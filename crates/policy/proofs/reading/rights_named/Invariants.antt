@@ -1,6 +1,4 @@
-use Rattle.std.proofs.Common.{◌≡◌, ◌++◌, drop}
-use Rattle.policy.specs.Ranges.{texts}
-use Rattle.policy.specs.Reading.{rights_named}
+use Rattle.policy.proofs.Prelude.{◌≡◌, ◌++◌, drop, texts, rights_named}
 use Rattle.policy.proofs.reading.rights_named.Given as goal
 
 -- the rights so far, and the names still to come

@@ -1,5 +1,4 @@
-use Rattle.std.proofs.Common.{◌∙◌, sym, string_bytes}
-use Rattle.model.specs.Policy.{holds}
+use Rattle.policy.proofs.Prelude.{◌∙◌, sym, string_bytes, holds}
 use Rattle.policy.proofs.Lists.{list_any-map}
 use Rattle.policy.proofs.rows.held_by.Goals as goal
 

@@ -1,5 +1,4 @@
-use Rattle.std.proofs.Common.{◌≡◌, ◌∙◌, sym, true, false}
-use Rattle.policy.specs.Ranges.{is_count}
+use Rattle.policy.proofs.Prelude.{◌≡◌, ◌∙◌, sym, true, false, is_count}
 use Rattle.policy.specs.Language.{kind_of, test_of}
 use Rattle.policy.proofs.Lists.{are_entries-texts}
 use Rattle.policy.proofs.tables.are_texts_for.Goals as goal

@@ -1,5 +1,4 @@
-use Rattle.std.proofs.Common.{◌∙◌, ap, map, Some}
-use Rattle.toml.specs.View.{view}
+use Rattle.policy.proofs.Prelude.{◌∙◌, ap, map, Some, view}
 use Rattle.policy.proofs.Documents.{as_values-from}
 use Rattle.policy.proofs.tables.as_values.Goals as goal
 

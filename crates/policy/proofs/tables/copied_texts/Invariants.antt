@@ -1,6 +1,4 @@
-use Rattle.std.proofs.Common.{◌≡◌, ◌++◌, drop, map, option_map}
-use Rattle.toml.specs.View.{view}
-use Rattle.policy.specs.Ranges.{texts}
+use Rattle.policy.proofs.Prelude.{◌≡◌, ◌++◌, drop, map, option_map, view, texts}
 use Rattle.policy.specs.Language.{all_texts}
 use Rattle.policy.proofs.tables.copied_texts.Given as goal
 

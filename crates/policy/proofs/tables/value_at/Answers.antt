@@ -1,7 +1,5 @@
-use Rattle.std.proofs.Common.{◌∙◌, ap}
+use Rattle.policy.proofs.Prelude.{◌∙◌, ap, get_member, table_view}
 use Rattle.toml.proofs.Views.{table_get}
-use Rattle.toml.specs.Data.{get_member}
-use Rattle.toml.specs.View.{table_view}
 use Rattle.policy.proofs.tables.value_at.Goals as goal
 
 pub returns : goal.returns

@@ -1,6 +1,4 @@
-use Rattle.std.proofs.Common.{inl, sym, ap, length, subst}
-use Rattle.std.proofs.Math.Logic.{∥∥₁_map}
-use Rattle.sqlite_trees.specs.Tree.{Trees}
+use Rattle.refinement.proofs.Prelude.{inl, sym, ap, length, subst, ∥∥₁_map, Trees}
 use Rattle.refinement.specs.Opening.{AreAmong}
 use Rattle.refinement.proofs.opening.open_from.Goals as goal
 

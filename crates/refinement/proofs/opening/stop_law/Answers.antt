@@ -1,7 +1,6 @@
-use Rattle.std.proofs.Common.{IsTrue, subst, arith}
+use Rattle.refinement.proofs.Prelude.{IsTrue, subst, arith, over_files}
 use Rattle.sqlite.specs.State.{HasCleanDisk}
 use Rattle.sqlite.specs.Held.{state}
-use Rattle.sqlite.specs.Files.{over_files}
 use Rattle.sqlite_store.specs.FileStore.{view}
 use Rattle.refinement.proofs.TakenUp.{left_image}
 use Rattle.refinement.proofs.opening.stop_law.Goals as goal

@@ -1,6 +1,5 @@
-use Rattle.std.proofs.Common.{lit<, Some, None, ◌∙◌, []}
+use Rattle.routes.proofs.Prelude.{lit<, Some, None, ◌∙◌, [], parts}
 use Rattle.std.proofs.lemmas.Str.Pattern.{split_once_first}
-use Rattle.names.specs.Texts.{parts}
 use Rattle.routes.proofs.Pieces.{some_parts, one_part, at_front, further}
 use Rattle.routes.proofs.target.+part_at.Goals as goal
 

@@ -1,5 +1,4 @@
-use Rattle.std.proofs.Common.{refl, sym}
-use Rattle.names.specs.declared.rules.Rule.TheVariants.{H6, H8}
+use Rattle.service.proofs.Prelude.{refl, sym, H6, H8}
 use Rattle.routes.specs.Routes.{route_seen}
 use Rattle.service.proofs.Judged.{not_framed, not_routed, not_served, not_accepted, asked, framing_rule, refused, unserved, puts}
 use Rattle.service.proofs.judging.judge.Goals as goal

@@ -1,5 +1,4 @@
-use Rattle.std.proofs.lemmas.Result.{err_from_is_err_and}
-use Rattle.service.specs.Judging.{target_seen}
+use Rattle.service.proofs.Prelude.{err_from_is_err_and, target_seen}
 use Rattle.service.proofs.Messages.{asks_copy}
 use Rattle.service.proofs.message.read_head.Goals as goal
 

@@ -1,11 +1,4 @@
-use Rattle.std.proofs.Common.{◌∙◌, ◌<◌, ◌++◌, ap, arith, length, length-append, sym}
-use Rattle.model.specs.Heads.{body_length}
-use Rattle.policy.proofs.InRange.{IsPolicy-policy_view}
-use Rattle.refinement.proofs.Leading.{leads_none}
-use Rattle.wire.specs.Connections.{waiting}
-use Rattle.wire.proofs.Streams.{head_more}
-use Rattle.desk.specs.Asking.{setting_of, is_put}
-use Rattle.service.specs.Messages.{target_asked}
+use Rattle.service.proofs.Prelude.{◌∙◌, ◌<◌, ◌++◌, ap, arith, length, length-append, sym, body_length, IsPolicy-policy_view, leads_none, waiting, head_more, setting_of, is_put, target_asked}
 use Rattle.service.proofs.Bodies.{both_handed, content_of, cut_off, turned}
 use Rattle.service.proofs.Messages.{body_is, cut_message, message_there}
 use Rattle.service.proofs.Responses.{unread_incomplete, unread_response}

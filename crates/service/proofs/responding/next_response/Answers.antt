@@ -1,12 +1,4 @@
-use Rattle.std.proofs.Common.{◌≡◌, ◌++◌, append_assoc, refl, rules, subst, List, ℕ}
-use Rattle.std.proofs.KnownBytes.{Consumes-trans}
-use Rattle.policy.proofs.InRange.{IsPolicy-policy_view}
-use Rattle.refinement.proofs.Leading.{from_weaker, leads_none}
-use Rattle.wire.specs.Connections.{waiting}
-use Rattle.wire.specs.States.{source_of}
-use Rattle.desk.specs.Asking.{setting_of}
-use Rattle.service.specs.declared.judging.Denied.{Denied}
-use Rattle.service.specs.Turns.{IsResponse, IsIncomplete}
+use Rattle.service.proofs.Prelude.{◌≡◌, ◌++◌, append_assoc, refl, rules, subst, List, ℕ, Consumes-trans, IsPolicy-policy_view, from_weaker, leads_none, waiting, source_of, setting_of, Denied, IsResponse, IsIncomplete}
 use Rattle.service.proofs.Messages.{stop_refused}
 use Rattle.service.proofs.Responses.{refused_response}
 use Rattle.service.proofs.responding.next_response.Goals as goal

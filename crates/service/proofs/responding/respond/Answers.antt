@@ -1,10 +1,4 @@
-use Rattle.std.proofs.Common.{◌++◌, [], true}
-use Rattle.model.specs.Steps.{message}
-use Rattle.policy.proofs.InRange.{IsPolicy-policy_view}
-use Rattle.refinement.proofs.Leading.{from_weaker, leads_none}
-use Rattle.wire.specs.Connections.{waiting}
-use Rattle.wire.proofs.Streams.{head_more, moves_none}
-use Rattle.desk.specs.Asking.{setting_of}
+use Rattle.service.proofs.Prelude.{◌++◌, [], true, message, IsPolicy-policy_view, from_weaker, leads_none, waiting, head_more, moves_none, setting_of}
 use Rattle.service.proofs.Bodies.{handed_none}
 use Rattle.service.proofs.Messages.{head_refused, message_there}
 use Rattle.service.proofs.Responses.{refused_response, unread_response}

@@ -1,4 +1,4 @@
-use Rattle.refinement.proofs.Leading.{reads_none}
+use Rattle.service.proofs.Prelude.{reads_none}
 use Rattle.service.proofs.Sent.{sends_content, front_fails}
 use Rattle.service.proofs.sending.send.Goals as goal
 

@@ -1,8 +1,4 @@
-use Rattle.std.proofs.Common.{◌∙◌, List, ℕ, sym, subst, arith}
-use Rattle.std.specs.Io.KnownBytes.{Appends}
-use Rattle.std.proofs.lemmas.List.{take_all}
-use Rattle.names.specs.Streams.{IsBeginning}
-use Rattle.service.specs.Sending.{Writes}
+use Rattle.service.proofs.Prelude.{◌∙◌, List, ℕ, sym, subst, arith, Appends, take_all, IsBeginning, Writes}
 use Rattle.service.proofs.Sent.{object_sent, content_cut, content_within, content_ended}
 use Rattle.service.proofs.sending.send_content.Goals as goal
 

@@ -1,10 +1,5 @@
-use Rattle.std.proofs.Common.{◌≡◌, ◌++◌, List, ℕ, ap₂, subst}
-use Rattle.std.specs.Io.KnownBytes.{Appends}
-use Rattle.names.specs.Streams.{IsBeginning}
-use Rattle.model.specs.Answers.{Answer}
+use Rattle.service.proofs.Prelude.{◌≡◌, ◌++◌, List, ℕ, ap₂, subst, Appends, IsBeginning, Answer, IsReplyOf, front_text}
 use Rattle.wire.specs.Replies.{head_of}
-use Rattle.desk.specs.Replies.{IsReplyOf}
-use Rattle.service.specs.Sending.{front_text}
 use Rattle.service.proofs.Sent.{on_ok, if_err}
 use Rattle.service.proofs.sending.send_front.Given.{Over}
 use Rattle.service.proofs.sending.send_front.Goals as goal

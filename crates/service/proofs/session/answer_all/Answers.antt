@@ -1,9 +1,4 @@
-use Rattle.std.proofs.Common.{◌∙◌, ◌+◌, ◌++◌, [], ℕ, arith, refl, subst, sym}
-use Rattle.std.proofs.KnownBytes.{Consumes-nil, Consumes-trans}
-use Rattle.wire.specs.Connections.{waiting}
-use Rattle.wire.specs.States.{source_of}
-use Rattle.desk.specs.Asking.{setting_of}
-use Rattle.service.specs.Served.{IsServed}
+use Rattle.service.proofs.Prelude.{◌∙◌, ◌+◌, ◌++◌, [], ℕ, arith, refl, subst, sym, Consumes-nil, Consumes-trans, waiting, source_of, setting_of, IsServed}
 use Rattle.service.proofs.Serving.{begins, answers, ends}
 use Rattle.service.proofs.session.answer_all.Goals as goal
 

@@ -1,10 +1,4 @@
-use Rattle.std.proofs.Common.{◌≡◌, ◌+◌, ◌≤◌, List, ℕ}
-use Rattle.std.specs.Io.KnownBytes.{Consumes}
-use Rattle.desk.specs.Asking.{setting_of}
-use Rattle.refinement.specs.Left.{From}
-use Rattle.wire.specs.Connections.{waiting, weight}
-use Rattle.wire.specs.States.{source_of, IsOpen}
-use Rattle.service.specs.Served.{IsServing}
+use Rattle.service.proofs.Prelude.{◌≡◌, ◌+◌, ◌≤◌, List, ℕ, Consumes, setting_of, From, waiting, weight, source_of, IsOpen, IsServing}
 use Rattle.service.proofs.session.answer_all.Given as goal
 
 abbrev pub invariant-messages : goal.invariant-messages

@@ -1,6 +1,4 @@
-use Rattle.std.proofs.Common.{refl, take}
-use Rattle.model.specs.Answers.{store_refusal}
-use Rattle.model.specs.Sessions.{refusal_text}
+use Rattle.service.proofs.Prelude.{refl, take, store_refusal, refusal_text}
 use Rattle.service.proofs.Serving.{is_part}
 use Rattle.service.proofs.session.refuse_all.Goals as goal
 

@@ -1,10 +1,4 @@
-use Rattle.std.proofs.Common.{◌≡◌, inl, inr, refl, rules, subst}
-use Rattle.wire.specs.States.{source_of}
-use Rattle.desk.specs.Asking.{setting_of}
-use Rattle.model.specs.Sessions.{WritesRefusal}
-use Rattle.refinement.proofs.Leading.{from_weaker}
-use Rattle.service.specs.Served.{unread_session, end_seen}
-use Rattle.service.specs.declared.ends.End.{End}
+use Rattle.service.proofs.Prelude.{◌≡◌, inl, inr, refl, rules, subst, source_of, setting_of, WritesRefusal, from_weaker, unread_session, end_seen, End}
 use Rattle.service.proofs.Bounded.{bounded}
 use Rattle.service.proofs.Serving.{unserved}
 use Rattle.service.proofs.session.serve.Goals as goal

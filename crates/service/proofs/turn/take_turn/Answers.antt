@@ -1,7 +1,4 @@
-use Rattle.std.proofs.Common.{◌++◌, refl}
-use Rattle.refinement.proofs.Leading.{from_weaker}
-use Rattle.wire.specs.Connections.{waiting}
-use Rattle.desk.specs.Asking.{setting_of}
+use Rattle.service.proofs.Prelude.{◌++◌, refl, from_weaker, waiting, setting_of}
 use Rattle.service.proofs.Answered.{sent, unanswered}
 use Rattle.service.proofs.turn.take_turn.Goals as goal
 

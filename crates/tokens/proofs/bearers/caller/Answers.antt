@@ -1,10 +1,5 @@
-use Rattle.std.proofs.Common.{◌≡◌, ◌∷◌, [], sym, ap, ◌∙◌, option_map, subst, List, ℕ, Err}
-use Rattle.names.specs.declared.rules.Rule.TheVariants.{A2}
-use Rattle.model.specs.Callers.{caller_by}
-use Rattle.tables.specs.Shown.{shown}
-use Rattle.tables.specs.Steps.{read_token}
+use Rattle.tokens.proofs.Prelude.{◌≡◌, ◌∷◌, [], sym, ap, ◌∙◌, option_map, subst, List, ℕ, Err, A2, caller_by, shown, read_token, IsCalling}
 use Rattle.tokens.specs.Bearers.{single_value}
-use Rattle.tokens.specs.Callers.{IsCalling}
 use Rattle.tokens.proofs.Calling.{unknown_token, known_token}
 use Rattle.tokens.proofs.bearers.caller.Goals as goal
 

@@ -1,4 +1,4 @@
-use Rattle.std.proofs.Common.{◌∙◌, sym}
+use Rattle.tokens.proofs.Prelude.{◌∙◌, sym}
 use Rattle.tokens.proofs.Visible.{visible_is_text}
 use Rattle.tokens.proofs.bearers.visible_text.Goals as goal
 

@@ -1,10 +1,5 @@
-use Rattle.std.proofs.Common.{List, map, filter, subst, IfOk, IsPermutation, sym}
+use Rattle.tokens.proofs.Prelude.{List, map, filter, subst, IfOk, IsPermutation, sym, user_text, repo_text, shown, IsOpen, is_held_by, TokenFields, AreTokensOf, read_token, is_of, fields_of_token}
 use Rattle.std.proofs.lemmas.Result.{IfOk-weaker}
-use Rattle.names.specs.Names.{user_text, repo_text}
-use Rattle.tables.specs.Shown.{shown, IsOpen}
-use Rattle.tables.specs.Statements.{is_held_by}
-use Rattle.tables.specs.Steps.{TokenFields, AreTokensOf, read_token}
-use Rattle.tokens.specs.Holding.{is_of, fields_of_token}
 use Rattle.tokens.proofs.Listed.{held_listed}
 use Rattle.tokens.proofs.holding.of.Goals as goal
 

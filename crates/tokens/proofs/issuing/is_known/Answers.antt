@@ -1,9 +1,4 @@
-use Rattle.std.proofs.Common.{◌∙◌, ap, find, is_some, List, ℕ}
-use Rattle.sha2.specs.Sha256.{sha256}
-use Rattle.tables.specs.Shown.{shown}
-use Rattle.tables.specs.Statements.{has_digest}
-use Rattle.tables.specs.Steps.{read_token, token_fields}
-use Rattle.refinement.proofs.Tokens.{some_alike, token_known}
+use Rattle.tokens.proofs.Prelude.{◌∙◌, ap, find, is_some, List, ℕ, sha256, shown, has_digest, read_token, token_fields, some_alike, token_known}
 use Rattle.tokens.proofs.issuing.is_known.Goals as goal
 
 pub returns : goal.returns

@@ -1,8 +1,7 @@
-use Rattle.std.proofs.Common.{◌≡◌, ◌∙◌, ℕ, List, Ok, sym, subst, Bool}
-use Rattle.model.specs.Operator.{token_verdict}
+use Rattle.tokens.proofs.Prelude.{◌≡◌, ◌∙◌, ℕ, List, Ok, sym, subst, Bool, token_verdict, token_asked, token_until}
 use Rattle.tables.proofs.Moved.{moves_none}
 use Rattle.refinement.proofs.Leading.{leads_none, reads_lead}
-use Rattle.tokens.specs.Issuing.{Keeps, token_asked, token_until}
+use Rattle.tokens.specs.Issuing.{Keeps}
 use Rattle.tokens.specs.declared.issuing.TokenFault.TheVariants as fault
 use Rattle.tokens.proofs.Kept.{issues_by, refuses_by, fails_by, refused_early}
 use Rattle.tokens.proofs.issuing.issue.Goals as goal

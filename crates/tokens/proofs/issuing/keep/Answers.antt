@@ -1,8 +1,5 @@
-use Rattle.std.proofs.Common.{◌∙◌, ℕ, List, ap, pos}
-use Rattle.sha2.specs.Sha256.{sha256}
-use Rattle.names.specs.Names.{user_text, repo_text}
+use Rattle.tokens.proofs.Prelude.{◌∙◌, ℕ, List, ap, pos, sha256, user_text, repo_text, code_of}
 use Rattle.tables.specs.Rows as row
-use Rattle.tables.specs.Steps.{code_of}
 use Rattle.refinement.proofs.Leading.{was_by}
 use Rattle.tokens.proofs.Kept.{keeps_by}
 use Rattle.tokens.proofs.issuing.keep.Goals as goal

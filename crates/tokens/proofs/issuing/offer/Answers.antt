@@ -1,5 +1,4 @@
-use Rattle.std.proofs.Common.{◌∙◌}
-use Rattle.tokens.specs.Issuing.{token_until}
+use Rattle.tokens.proofs.Prelude.{◌∙◌, token_until}
 use Rattle.tokens.proofs.issuing.offer.Goals as goal
 
 pub returns : goal.returns

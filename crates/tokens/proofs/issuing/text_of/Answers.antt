@@ -1,4 +1,4 @@
-use Rattle.std.proofs.Common.{rules}
+use Rattle.tokens.proofs.Prelude.{rules}
 use Rattle.tokens.proofs.Digits.{hex_64}
 use Rattle.tokens.proofs.issuing.text_of.Goals as goal
 

@@ -1,6 +1,5 @@
-use Rattle.std.proofs.Common.{◌≤◌, Ok, Err, rules}
+use Rattle.tokens.proofs.Prelude.{◌≤◌, Ok, Err, rules, last_moment}
 use Rattle.std.proofs.lemmas.Result.{err_from_is_err_and}
-use Rattle.names.specs.Texts.{last_moment}
 use Rattle.tokens.proofs.Kept.{prunes_by}
 use Rattle.tokens.proofs.pruning.prune.Goals as goal
 

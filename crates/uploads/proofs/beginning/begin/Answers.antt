@@ -1,6 +1,4 @@
-use Rattle.std.proofs.Common.{rules, ◌≤◌}
-use Rattle.std.proofs.lemmas.Result.{err_from_is_err_and}
-use Rattle.names.specs.Texts.{largest_object}
+use Rattle.uploads.proofs.Prelude.{rules, ◌≤◌, err_from_is_err_and, largest_object}
 use Rattle.uploads.proofs.Begun.{begun_from, begun_then}
 use Rattle.uploads.proofs.beginning.begin.Goals as goal
 

@@ -1,5 +1,4 @@
-use Rattle.names.specs.Names.{repo_text}
-use Rattle.refinement.proofs.Leading.{from_weaker}
+use Rattle.uploads.proofs.Prelude.{repo_text, from_weaker}
 use Rattle.uploads.proofs.Begun.{finds_keeps, kept_then}
 use Rattle.uploads.proofs.beginning.shorten_staged.Goals as goal
 

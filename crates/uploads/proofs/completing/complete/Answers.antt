@@ -1,6 +1,4 @@
-use Rattle.std.proofs.Common.{subst}
-use Rattle.std.proofs.lemmas.Result.{err_from_is_err_and}
-use Rattle.refinement.proofs.Leading.{keeps_then}
+use Rattle.uploads.proofs.Prelude.{subst, err_from_is_err_and, keeps_then}
 use Rattle.uploads.proofs.Received.{Reported, completes_by, refused, unremoved}
 use Rattle.uploads.proofs.completing.complete.Goals as goal
 

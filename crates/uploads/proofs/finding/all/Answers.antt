@@ -1,9 +1,4 @@
-use Rattle.std.proofs.Common.{option_map}
-use Rattle.std.proofs.lemmas.Result.{IfOk-weaker}
-use Rattle.names.specs.Names.{repo_text}
-use Rattle.tables.specs.Shown.{shown, IsOpen}
-use Rattle.tables.specs.Staging.{AreUploadsOf, objects_of}
-use Rattle.uploads.specs.Listing.{Lists}
+use Rattle.uploads.proofs.Prelude.{option_map, IfOk-weaker, repo_text, shown, IsOpen, AreUploadsOf, objects_of, Lists}
 use Rattle.uploads.proofs.Listed.{lists_by}
 use Rattle.uploads.proofs.finding.all.Goals as goal
 

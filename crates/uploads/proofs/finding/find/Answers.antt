@@ -1,9 +1,5 @@
-use Rattle.std.proofs.Common.{find}
-use Rattle.std.proofs.lemmas.Result.{IfOk-weaker}
-use Rattle.names.specs.Names.{repo_text}
-use Rattle.tables.specs.Shown.{shown, IsOpen}
+use Rattle.uploads.proofs.Prelude.{find, IfOk-weaker, repo_text, shown, IsOpen, IsObjectOf}
 use Rattle.tables.specs.Statements.{is_object}
-use Rattle.tables.specs.Staging.{IsObjectOf}
 use Rattle.uploads.specs.Finding.{Finds}
 use Rattle.uploads.proofs.Found.{finds_by}
 use Rattle.uploads.proofs.finding.find.Goals as goal

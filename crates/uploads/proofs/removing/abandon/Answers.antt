@@ -1,8 +1,5 @@
-use Rattle.std.proofs.Common.{Result, Ok, Err}
-use Rattle.std.proofs.lemmas.Result.{err_from_is_err_and}
-use Rattle.tables.specs.declared.fault.StoreFault.{StoreFault}
+use Rattle.uploads.proofs.Prelude.{Result, Ok, Err, err_from_is_err_and, StoreFault, from_weaker}
 use Rattle.uploads.proofs.Swept.{abandons}
-use Rattle.refinement.proofs.Leading.{from_weaker}
 use Rattle.uploads.proofs.removing.abandon.Goals as goal
 
 pub returns-in_err-shorten : goal.returns-in_err-shorten

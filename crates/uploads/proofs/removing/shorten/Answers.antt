@@ -1,4 +1,4 @@
-use Rattle.std.proofs.Common.{rules}
+use Rattle.uploads.proofs.Prelude.{rules}
 use Rattle.uploads.proofs.Swept.{shortens_none, shortens_more, shortens_failed}
 use Rattle.uploads.proofs.removing.shorten.Goals as goal
 

@@ -1,6 +1,4 @@
-use Rattle.std.proofs.Common.{◌≤◌, ◌/◌}
-use Rattle.refinement.specs.Left.{From}
-use Rattle.uploads.specs.Removing.{Shortens}
+use Rattle.uploads.proofs.Prelude.{◌≤◌, ◌/◌, From, Shortens}
 use Rattle.uploads.proofs.removing.shorten.Given as goal
 
 abbrev pub invariant-parts : goal.invariant-parts

@@ -1,8 +1,5 @@
-use Rattle.std.proofs.Common.{◌≤◌, ◌+◌, ◌∙◌, ◌∷◌, drop, length, List, ap, subst, sym, rules}
+use Rattle.uploads.proofs.Prelude.{◌≤◌, ◌+◌, ◌∙◌, ◌∷◌, drop, length, List, ap, subst, sym, rules, err_from_is_err_and, UploadRow, From}
 use Rattle.std.proofs.lemmas.List.{drop_more, drop_all}
-use Rattle.std.proofs.lemmas.Result.{err_from_is_err_and}
-use Rattle.tables.specs.declared.rows.UploadRow.{UploadRow}
-use Rattle.refinement.specs.Left.{From}
 use Rattle.uploads.proofs.Swept.{IsSwept, swept_none, unread, swept_cut, cut_fails, swept_more, sweep_fails, swept_all}
 use Rattle.uploads.proofs.removing.sweep.Goals as goal
 

@@ -1,5 +1,4 @@
-use Rattle.std.proofs.Common.{drop, length}
-use Rattle.refinement.specs.Left.{From}
+use Rattle.uploads.proofs.Prelude.{drop, length, From}
 use Rattle.uploads.proofs.Swept.{IsSwept}
 use Rattle.uploads.proofs.removing.sweep.Given as goal
 

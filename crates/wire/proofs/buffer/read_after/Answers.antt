@@ -1,4 +1,5 @@
-use Rattle.std.proofs.Common.{arith, take, length-take-le, length-append}
+use Rattle.wire.proofs.Prelude.{arith, take, length-append}
+use Rattle.std.proofs.Common.{length-take-le}
 use Rattle.wire.proofs.Buffers.{read_at}
 use Rattle.wire.proofs.buffer.read_after.Goals as goal
 

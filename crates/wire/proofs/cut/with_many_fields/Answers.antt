@@ -1,6 +1,4 @@
-use Rattle.std.proofs.Common.{subst, ap, lit≤, List, ℕ, Err}
-use Rattle.httparse.specs.Grammar.{NeverHasRequest}
-use Rattle.httparse.specs.Spans.{RequestExceeds}
+use Rattle.wire.proofs.Prelude.{subst, ap, lit≤, List, ℕ, Err, NeverHasRequest, RequestExceeds}
 use Rattle.wire.proofs.Fronts.{bad_for_err, bad_of_many}
 use Rattle.wire.proofs.cut.with_many_fields.Goals as goal
 

@@ -1,6 +1,4 @@
-use Rattle.std.proofs.Common.{◌≤◌, subst, arith, length}
-use Rattle.std.proofs.lemmas.List.{take_all}
-use Rattle.httparse.specs.Grammar.{MayBecomeRequest}
+use Rattle.wire.proofs.Prelude.{◌≤◌, subst, arith, length, take_all, MayBecomeRequest}
 use Rattle.wire.proofs.Fronts.{bad_for_size, no_head}
 use Rattle.wire.proofs.cut.without_head.Goals as goal
 

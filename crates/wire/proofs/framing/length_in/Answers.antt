@@ -1,7 +1,4 @@
-use Rattle.std.proofs.Common.{◌≡◌, ◌∙◌, ◌≤◌, length, sym, arith, true}
-use Rattle.std.specs.Char.{is_ascii_digit}
-use Rattle.std.specs.List.{list_all}
-use Rattle.std.proofs.lemmas.Bool.Decides.{nat_tests}
+use Rattle.wire.proofs.Prelude.{◌≡◌, ◌∙◌, ◌≤◌, length, sym, arith, true, is_ascii_digit, list_all, nat_tests}
 use Rattle.wire.proofs.Lengths.{digits_are_text, length_read}
 use Rattle.wire.proofs.framing.length_in.Goals as goal
 

@@ -1,6 +1,4 @@
-use Rattle.std.proofs.Common.{rules, ◌==◌}
-use Rattle.std.proofs.lemmas.Iterator.Search.{any_from_yields_List}
-use Rattle.std.proofs.lemmas.Iterator.Splits.{YieldsList-from_slice_split}
+use Rattle.wire.proofs.Prelude.{rules, ◌==◌, any_from_yields_List, YieldsList-from_slice_split}
 use Rattle.wire.specs.Fields.{is_close}
 use Rattle.wire.proofs.head.lists_close.Goals as goal
 

@@ -1,5 +1,4 @@
-use Rattle.std.proofs.Common.{◌≡◌, length, reverse}
-use Rattle.httparse.specs.Grammar.{skip_ows}
+use Rattle.wire.proofs.Prelude.{◌≡◌, length, reverse, skip_ows}
 use Rattle.wire.proofs.ows.trim_back.Given as goal
 
 abbrev pub invariant-bytes : goal.invariant-bytes

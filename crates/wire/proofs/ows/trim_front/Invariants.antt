@@ -1,5 +1,4 @@
-use Rattle.std.proofs.Common.{◌≡◌, length}
-use Rattle.httparse.specs.Grammar.{skip_ows}
+use Rattle.wire.proofs.Prelude.{◌≡◌, length, skip_ows}
 use Rattle.wire.proofs.ows.trim_front.Given as goal
 
 abbrev pub invariant-bytes : goal.invariant-bytes

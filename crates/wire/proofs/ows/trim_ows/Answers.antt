@@ -1,6 +1,5 @@
-use Rattle.std.proofs.Common.{◌∙◌, sym, ap, reverse, List, ℕ}
-use Rattle.std.proofs.lemmas.List.{reverse-reverse}
-use Rattle.httparse.specs.Grammar.{skip_ows, trim_ows}
+use Rattle.wire.proofs.Prelude.{◌∙◌, sym, ap, reverse, List, ℕ, reverse-reverse, skip_ows}
+use Rattle.httparse.specs.Grammar.{trim_ows}
 use Rattle.wire.proofs.ows.trim_ows.Goals as goal
 
 pub returns : goal.returns

@@ -1,5 +1,4 @@
-use Rattle.std.proofs.Common.{arith, length-take}
-use Rattle.wire.specs.Buffers.{front}
+use Rattle.wire.proofs.Prelude.{arith, length-take, front}
 use Rattle.wire.proofs.Found.{cut_found}
 use Rattle.wire.proofs.reading.cut_front.Goals as goal
 

@@ -1,6 +1,4 @@
-use Rattle.std.proofs.Common.{arith, sym, subst}
-use Rattle.wire.specs.Buffers.{front}
-use Rattle.wire.specs.Halts.{MayGoOn}
+use Rattle.wire.proofs.Prelude.{arith, sym, subst, front, MayGoOn}
 use Rattle.wire.proofs.Buffers.{none_more}
 use Rattle.wire.proofs.reading.read_head.Goals as goal
 

@@ -1,6 +1,4 @@
-use Rattle.std.proofs.Common.{◌≡◌, ℕ, List, ◌++◌, ◌+◌, ◌-◌, ◌≤◌, length}
-use Rattle.std.specs.Io.KnownBytes.{Consumes}
-use Rattle.wire.specs.Buffers.{front}
+use Rattle.wire.proofs.Prelude.{◌≡◌, ℕ, List, ◌++◌, ◌+◌, ◌-◌, ◌≤◌, length, Consumes, front}
 use Rattle.wire.proofs.reading.read_head.Given as goal
 
 abbrev pub invariant-reading : goal.invariant-reading

@@ -1,4 +1,4 @@
-use Rattle.std.proofs.Common.{length, refl}
+use Rattle.wire.proofs.Prelude.{length, refl}
 use Rattle.wire.proofs.Wholes.{begins_back}
 use Rattle.wire.proofs.write.write_each.Goals as goal
 

@@ -1,5 +1,4 @@
-use Rattle.std.proofs.Common.{rules, Err, refl, sym, ap}
-use Rattle.model.specs.Answers.{by_rule}
+use Rattle.desk.proofs.Prelude.{rules, Err, refl, sym, ap, by_rule}
 use Rattle.model.specs.Replies.{json}
 use Rattle.desk.proofs.replies.Reply.head_refused.Goals as goal
 

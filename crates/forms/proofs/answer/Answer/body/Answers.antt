@@ -1,4 +1,4 @@
-use Rattle.std.proofs.lemmas.Result.{IfOk-weaker}
+use Rattle.forms.proofs.Prelude.{IfOk-weaker}
 use Rattle.forms.proofs.Pages.{listed, split}
 use Rattle.forms.proofs.answer.Answer.body.Goals as goal
 

@@ -1,9 +1,5 @@
-use Rattle.std.proofs.Common.{◌∙◌, sym, List, map, option_map}
-use Rattle.std.proofs.lemmas.List.{at_drop_all}
-use Rattle.names.specs.Names.{ref_text, path_text}
-use Rattle.policy.specs.Applicable.{decide_among, question_on}
+use Rattle.policy.proofs.Prelude.{◌∙◌, sym, List, map, option_map, at_drop_all, ref_text, path_text, decide_among, question_on, question_view, numbered_view}
 use Rattle.policy.specs.declared.numbered.NumberedRow.{NumberedRow}
-use Rattle.policy.specs.Values.{question_view, numbered_view}
 use Rattle.policy.proofs.Applying.{chosen_decide, place_decides}
 use Rattle.policy.proofs.applicable.ApplicableRows.decide.Goals as goal
 

@@ -1,6 +1,4 @@
-use Rattle.std.proofs.Common.{◌≡◌, drop, map}
-use Rattle.policy.specs.Applicable.{decide_among}
-use Rattle.policy.specs.Values.{numbered_view, question_view}
+use Rattle.policy.proofs.Prelude.{◌≡◌, drop, map, decide_among, numbered_view, question_view}
 use Rattle.policy.proofs.applicable.ApplicableRows.decide.Given as goal
 
 -- no row before this one holds the ref and the path

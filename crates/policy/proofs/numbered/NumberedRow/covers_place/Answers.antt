@@ -1,7 +1,4 @@
-use Rattle.std.proofs.Common.{◌∙◌, ◌&&◌, sym, ap, map}
-use Rattle.model.specs.Policy.{held_if_named}
-use Rattle.policy.specs.Patterns.{pattern_view}
-use Rattle.policy.specs.Values.{question_view, row_view}
+use Rattle.policy.proofs.Prelude.{◌∙◌, ◌&&◌, sym, ap, map, held_if_named, pattern_view, question_view, row_view}
 use Rattle.policy.proofs.Patterned.{as_spelled}
 use Rattle.policy.proofs.numbered.NumberedRow.covers_place.Goals as goal
 

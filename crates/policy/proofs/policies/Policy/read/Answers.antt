@@ -1,6 +1,5 @@
-use Rattle.toml.specs.View.{table_view}
+use Rattle.policy.proofs.Prelude.{table_view, policy_view}
 use Rattle.policy.proofs.WholeText.{fault_in-document, Spells-from, refused-from}
-use Rattle.policy.specs.Values.{policy_view}
 use Rattle.policy.proofs.policies.Policy.read.Goals as goal
 
 pub returns-in-Ok-clause-spelled : goal.returns-in-Ok-clause-spelled

@@ -1,7 +1,4 @@
-use Rattle.std.proofs.Common.{◌∙◌, sym, ap, option_map, bytes_eq}
-use Rattle.std.specs.List.{find}
-use Rattle.names.specs.Names.{repo_text}
-use Rattle.policy.specs.Values.{repo_view}
+use Rattle.policy.proofs.Prelude.{◌∙◌, sym, ap, option_map, bytes_eq, find, repo_text, repo_view}
 use Rattle.policy.proofs.Lists.{find-map, option_map-then}
 use Rattle.policy.proofs.InRange.{IsPolicy-policy_view}
 use Rattle.policy.proofs.policies.Policy.repo.Goals as goal

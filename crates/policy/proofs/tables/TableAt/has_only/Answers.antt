@@ -1,4 +1,4 @@
-use Rattle.std.proofs.Common.{◌∙◌, sym, refl}
+use Rattle.policy.proofs.Prelude.{◌∙◌, sym, refl}
 use Rattle.policy.proofs.Documents.{has_only-members_view}
 use Rattle.policy.proofs.tables.TableAt.has_only.Goals as goal
 

@@ -1,9 +1,6 @@
-use Rattle.std.proofs.Common.{◌≡◌, false, IsTrue, sym, subst}
-use Rattle.std.proofs.lemmas.Bool.{true≢false, false_from_ne_true}
-use Rattle.names.specs.Texts.{is_ref}
+use Rattle.policy.proofs.Prelude.{◌≡◌, false, sym, subst, true≢false, false_from_ne_true, is_ref, PolicyFault, IfRefused, at_key}
+use Rattle.std.proofs.Common.{IsTrue}
 use Rattle.policy.specs.declared.faults.FaultCode.TheVariants.{Y3}
-use Rattle.policy.specs.declared.faults.PolicyFault.{PolicyFault}
-use Rattle.policy.specs.Reading.{IfRefused, at_key}
 use Rattle.policy.proofs.tables.TableAt.ref_name.Goals as goal
 
 pub returns-in-None : goal.returns-in-None

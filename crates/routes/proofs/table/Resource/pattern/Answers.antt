@@ -1,4 +1,4 @@
-use Rattle.std.proofs.Common.{refl}
+use Rattle.routes.proofs.Prelude.{refl}
 use Rattle.matchit.proofs.OnLiterals.{matchit_on_literals}
 use Rattle.routes.proofs.table.Resource.pattern.Goals as goal
 

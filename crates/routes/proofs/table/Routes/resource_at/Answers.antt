@@ -1,5 +1,4 @@
-use Rattle.std.proofs.Common.{ap, sym, ◌∙◌, rules}
-use Rattle.matchit.specs.Router.{map_key}
+use Rattle.routes.proofs.Prelude.{ap, sym, ◌∙◌, rules, map_key}
 use Rattle.routes.proofs.Finds.{found-resource}
 use Rattle.routes.proofs.table.Routes.resource_at.Goals as goal
 

@@ -1,6 +1,4 @@
-use Rattle.std.proofs.Common.{None, Some, ◌∙◌, drop, refl}
-use Rattle.std.specs.List.{slice_get}
-use Rattle.names.specs.Texts.{parts}
+use Rattle.routes.proofs.Prelude.{None, Some, ◌∙◌, drop, refl, slice_get, parts}
 use Rattle.routes.proofs.Targets.{by_parts, no_resource, no_git, with_git}
 use Rattle.routes.proofs.table.Routes.route_of.Goals as goal
 

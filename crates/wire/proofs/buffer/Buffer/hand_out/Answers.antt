@@ -1,4 +1,4 @@
-use Rattle.wire.specs.Buffers.{front}
+use Rattle.wire.proofs.Prelude.{front}
 use Rattle.wire.proofs.Buffers.{copied}
 use Rattle.wire.proofs.buffer.Buffer.hand_out.Goals as goal
 

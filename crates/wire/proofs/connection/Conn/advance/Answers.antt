@@ -1,6 +1,5 @@
-use Rattle.std.proofs.Common.{arith, refl}
-use Rattle.wire.specs.declared.connection.Stop.TheVariants.{End, Rule as ByRule}
-use Rattle.names.specs.declared.rules.Rule.TheVariants.{H1}
+use Rattle.wire.proofs.Prelude.{arith, refl, End, H1}
+use Rattle.wire.specs.declared.connection.Stop.TheVariants.{Rule as ByRule}
 use Rattle.wire.proofs.Advances.{stays_unread, stays_over, reads_from, takes, refuses, remembers, has_ended, is_bad, fails}
 use Rattle.wire.proofs.connection.Conn.advance.Goals as goal
 

@@ -1,5 +1,4 @@
-use Rattle.std.proofs.Common.{rules, arith, ◌++◌, ◌-◌, ◌∙◌, sym, subst, take, drop, length, List, ℕ}
-use Rattle.wire.specs.Connections.{Moves}
+use Rattle.wire.proofs.Prelude.{rules, arith, ◌++◌, ◌-◌, ◌∙◌, sym, subst, take, drop, length, List, ℕ, Moves}
 use Rattle.wire.proofs.Buffers.{read_at}
 use Rattle.wire.proofs.Streams.{moves_more, same_head_more}
 use Rattle.wire.proofs.connection.Conn.fill_body.Goals as goal

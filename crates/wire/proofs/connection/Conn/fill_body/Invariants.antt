@@ -1,5 +1,4 @@
-use Rattle.std.proofs.Common.{◌≡◌, ℕ, ◌+◌, ◌≤◌, List, length, take}
-use Rattle.wire.specs.Connections.{Moves, SameHead}
+use Rattle.wire.proofs.Prelude.{◌≡◌, ℕ, ◌+◌, ◌≤◌, List, length, take, Moves, SameHead}
 use Rattle.wire.proofs.connection.Conn.fill_body.Given as goal
 
 abbrev pub invariant-pieces : goal.invariant-pieces

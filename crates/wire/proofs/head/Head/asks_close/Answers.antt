@@ -1,4 +1,4 @@
-use Rattle.std.proofs.Common.{sym}
+use Rattle.wire.proofs.Prelude.{sym}
 use Rattle.wire.proofs.FieldLemmas.{closes_shown}
 use Rattle.wire.proofs.head.Head.asks_close.Goals as goal
 

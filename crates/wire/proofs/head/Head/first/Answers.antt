@@ -1,4 +1,4 @@
-use Rattle.std.proofs.Common.{Some, None, ◌∙◌, ap}
+use Rattle.wire.proofs.Prelude.{Some, None, ◌∙◌, ap}
 use Rattle.wire.proofs.FieldLemmas.{first_shown}
 use Rattle.wire.proofs.head.Head.first.Goals as goal
 

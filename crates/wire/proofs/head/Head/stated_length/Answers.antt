@@ -1,4 +1,4 @@
-use Rattle.std.proofs.Common.{◌≤◌, length, arith}
+use Rattle.wire.proofs.Prelude.{◌≤◌, length, arith}
 use Rattle.model.specs.Heads.{lengths}
 use Rattle.wire.proofs.Lengths.{stated_some, stated_none}
 use Rattle.wire.proofs.head.Head.stated_length.Goals as goal

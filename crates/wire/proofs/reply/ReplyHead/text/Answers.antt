@@ -1,8 +1,7 @@
-use Rattle.std.proofs.Common.{◌++◌, ◌∙◌, ap, not, codes, decimal, ◌==◌}
+use Rattle.wire.proofs.Prelude.{◌++◌, ◌∙◌, ap, not, codes, decimal, ◌==◌, is_empty}
 use Rattle.httparse.specs.Ascii.{crlf_bytes}
 use Rattle.model.specs.Replies.{line, line_if, phrases, phrase_in}
 use Rattle.wire.specs.Replies.{type_of}
-use Rattle.names.specs.Texts.{is_empty}
 use Rattle.wire.proofs.Heads.{joined, empty_is}
 use Rattle.wire.proofs.reply.ReplyHead.text.Goals as goal
 
