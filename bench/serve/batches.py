@@ -18,7 +18,7 @@ import tempfile
 import time
 
 from objects import exchange
-from run import TOP, start_custody
+from run import TOP, read_reply, start_custody
 
 BASE = "/studio/film.git/info/lfs"
 OBJECTS, LOCKS, SMALL = 10_000, 2_000, 4096
@@ -32,19 +32,11 @@ def request(client, method, target, value=None):
     head += f"Content-Length: {len(body)}\r\n" if value is not None else ""
     begun = time.monotonic()
     client.sendall(head.encode() + b"\r\n" + body)
-    text = b""
-    while b"\r\n\r\n" not in text:
-        text += client.recv(65536)
-    head, text = text.split(b"\r\n\r\n", 1)
-    length = next(int(line.split(b":")[1]) for line in head.split(b"\r\n") if line.lower().startswith(b"content-length:"))
-    pieces, left = [text], length - len(text)
-    while left > 0:
-        pieces.append(client.recv(1 << 20))
-        left -= len(pieces[-1])
+    status, body = read_reply(client)
     taken = time.monotonic() - begun
-    if int(head.split()[1]) != 200:
-        sys.exit(f"{method} {target} replied {head!r}")
-    return json.loads(b"".join(pieces)), taken
+    if status != 200:
+        sys.exit(f"{method} {target} replied {status} {body!r}")
+    return json.loads(body), taken
 
 
 def show(what, found):

@@ -24,7 +24,7 @@ import tempfile
 import time
 from pathlib import Path
 
-from run import TOP, start_custody, start_peer
+from run import TOP, read_head, start_custody, start_peer
 
 BASE = "/studio/film.git/info/lfs"
 BLOCK, USUAL = 1 << 24, 256 << 20
@@ -52,19 +52,6 @@ def head(method, target, size=None):
     return (text + ("" if size is None else f"Content-Length: {size}\r\n") + "\r\n").encode()
 
 
-def reply(client):
-    """The status of a reply, the length of its body, and what was read of the body."""
-    text = b""
-    while b"\r\n\r\n" not in text:
-        piece = client.recv(65536)
-        if not piece:
-            sys.exit(f"closed after {text!r}")
-        text += piece
-    lines, rest = text.split(b"\r\n\r\n", 1)
-    lengths = [line.split(b":")[1] for line in lines.split(b"\r\n") if line.lower().startswith(b"content-length:")]
-    return int(lines.split()[1]), int(lengths[0]) if lengths else 0, rest
-
-
 def put(server, content):
     """Uploads the content, and returns the time."""
     begun = time.monotonic()
@@ -72,7 +59,7 @@ def put(server, content):
         client.sendall(head("PUT", f"content/{content.name}", content.size))
         for piece in content.pieces(content.size):
             client.sendall(piece)
-        status = reply(client)[0]
+        status = read_head(client)[0]
     if status not in (200, 201):
         sys.exit(f"PUT replied {status}")
     return time.monotonic() - begun
@@ -83,7 +70,7 @@ def get(server, content):
     begun, digest, buffer = time.monotonic(), hashlib.sha256(), bytearray(1 << 20)
     with server.connect() as client:
         client.sendall(head("GET", f"content/{content.name}"))
-        status, left, rest = reply(client)
+        status, left, rest = read_head(client)
         digest.update(rest)
         left -= len(rest)
         while left > 0:
@@ -102,7 +89,7 @@ def ask(server):
     begun = time.monotonic()
     with server.connect() as client:
         client.sendall(head("GET", "locks"))
-        status = reply(client)[0]
+        status = read_head(client)[0]
     if status != 200:
         sys.exit(f"GET locks replied {status}")
     return time.monotonic() - begun

@@ -19,7 +19,7 @@ import sys
 import tempfile
 import time
 
-from run import TOP, start_custody, start_peer
+from run import TOP, read_reply, start_custody, start_peer
 
 BASE = "/studio/film.git/info/lfs/content"
 TOKEN = "a" * 64
@@ -33,23 +33,7 @@ def exchange(client, method, oid, body=b""):
         head += f"Content-Length: {len(body)}\r\n"
     client.sendall(head.encode() + b"\r\n")
     client.sendall(body)
-    reply = b""
-    while b"\r\n\r\n" not in reply:
-        piece = client.recv(65536)
-        if not piece:
-            sys.exit(f"closed after {reply!r}")
-        reply += piece
-    head, rest = reply.split(b"\r\n\r\n", 1)
-    lengths = [line.split(b":")[1] for line in head.split(b"\r\n") if line.lower().startswith(b"content-length:")]
-    left = int(lengths[0]) - len(rest) if lengths else 0
-    pieces = [rest]
-    while left > 0:
-        piece = client.recv(1 << 20)
-        if not piece:
-            sys.exit("closed within a body")
-        pieces.append(piece)
-        left -= len(piece)
-    return int(head.split()[1]), b"".join(pieces)
+    return read_reply(client)
 
 
 def put(client, data):

@@ -44,6 +44,32 @@ rights = ["pull", "push", "list", "lock"]
 """
 
 
+def read_head(client):
+    """The status of a reply, the length of its body, and the bytes of the body that came with the head."""
+    text = b""
+    while b"\r\n\r\n" not in text:
+        piece = client.recv(65536)
+        if not piece:
+            sys.exit(f"closed after {text!r}")
+        text += piece
+    lines, rest = text.split(b"\r\n\r\n", 1)
+    lengths = [line.split(b":")[1] for line in lines.split(b"\r\n") if line.lower().startswith(b"content-length:")]
+    return int(lines.split()[1]), int(lengths[0]) if lengths else 0, rest
+
+
+def read_reply(client):
+    """The status and the body of a reply."""
+    status, length, rest = read_head(client)
+    pieces, left = [rest], length - len(rest)
+    while left > 0:
+        piece = client.recv(1 << 20)
+        if not piece:
+            sys.exit("closed within a body")
+        pieces.append(piece)
+        left -= len(piece)
+    return status, b"".join(pieces)
+
+
 class Server:
     """A server with a database of its own, and the locks that it was asked for so far."""
 
@@ -75,14 +101,9 @@ class Server:
         body = b'{"path":"art/shot/%08d/hero.psd"}' % self.asked
         head = f"POST {TARGET} HTTP/1.1\r\nHost: studio\r\nAuthorization: Bearer {'a' * 64}\r\nContent-Length: {len(body)}"
         client.sendall(head.encode() + b"\r\n\r\n" + body)
-        reply = b""
-        while b"\r\n\r\n" not in reply or not reply.endswith(b"}}"):
-            piece = client.recv(65536)
-            if not piece:
-                sys.exit(f"{self.name} closed the connection")
-            reply += piece
-        if not reply.startswith(b"HTTP/1.1 201 "):
-            sys.exit(f"{self.name} replied {reply!r}")
+        status, body = read_reply(client)
+        if status != 201:
+            sys.exit(f"{self.name} replied {status} {body!r}")
 
     def rate_kept(self):
         """Locks a second over a connection that is kept alive."""
