@@ -1,5 +1,5 @@
 -- After an answer a repository has at most its quota and one largest object in the database.
-use Rattle.desk.proofs.Prelude.{◌≡◌, ◌≤◌, ℕ, true, List, ◌∷◌, ◌++◌, length, replicate, Result, Ok, Err, Some, refl, arith, length-append, AllByRecursion, length-replicate, Ghosts, World, Answer, Denial, Plan, Bound, failed, left_by, answer_ending, policy_view, Store, From, IsBoundedBy, from_weaker, Holds, is_put, plan_seen, request_seen, setting_of, HasRead, AnswersIf, AnswersRequest, IsAnsweredAs, LeavesOthers, LeavesWorld, StaysWithin, verdict_by, Answered, AnswerFault}
+use Rattle.desk.proofs.Prelude.{◌≡◌, ◌≤◌, ℕ, true, List, ◌∷◌, ◌++◌, length, replicate, Result, Ok, Err, Some, refl, arith, length-append, AllByRecursion, length-replicate, Ghosts, World, Answer, Denial, Plan, Bound, failed, left_by, answer_ending, policy_view, Store, From, IsBoundedBy, from_weaker, Holds, IsHonest, is_put, plan_seen, request_seen, setting_of, HasRead, AnswersIf, AnswersRequest, IsAnsweredAs, LeavesOthers, LeavesWorld, StaysWithin, verdict_by, Answered, AnswerFault}
 use Rattle.std.specs.Bool.{⊤}
 use Rattle.names.specs.declared.bodies.Body.{Ghosts as BodyGhosts}
 use Rattle.model.specs.World.{total}
@@ -9,7 +9,6 @@ use Rattle.model.proofs.Apart.{differ_by_bytes, desk_leaves_views}
 use Rattle.model.proofs.Left.{all_left}
 use Rattle.model.proofs.Quota.{desk_stays}
 use Rattle.policy.specs.declared.policies.Policy.{Policy}
-use Rattle.tables.specs.Shown.{IsHonest}
 use Rattle.uploads.proofs.Bounds.{leaves_within, stores_within}
 use Rattle.desk.specs.declared.admission.RepoRequest.{RepoRequest}
 use Rattle.desk.specs.declared.outcomes.AnswerFault.TheVariants as fault

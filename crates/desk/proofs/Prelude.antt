@@ -53,6 +53,7 @@ pub use Rattle.std.proofs.lemmas.Bool.Decides.{nat_tests}
 pub use Rattle.std.proofs.lemmas.List.{length-replicate, map-append, nil_from_length, take_all, take_more}
 pub use Rattle.std.proofs.lemmas.Result.{IfOk-weaker, err_from_is_err_and}
 pub use Rattle.std.specs.List.{AllByRecursion, AllZip}
+pub use Rattle.tables.specs.Shown.{IsHonest}
 pub use Rattle.tables.specs.declared.Store.{Store}
 pub use Rattle.tables.specs.declared.fault.StoreFault.{StoreFault}
 pub use Rattle.tables.specs.declared.fault.StoreFault.TheVariants.{Memory, Refused}

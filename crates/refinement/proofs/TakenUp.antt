@@ -9,14 +9,12 @@ use Rattle.sqlite.specs.Effect.{Database}
 use Rattle.sqlite.specs.Schema.{Schema}
 use Rattle.sqlite.proofs.Theorems.{opens_again}
 use Rattle.model.proofs.Keeping.{makes_world}
-use Rattle.tables.specs.Layout.{custody}
-use Rattle.tables.specs.Making.{no_schema}
-use Rattle.tables.proofs.Opened.{kept_is_sound}
+use Rattle.tables.specs.Runs.{IsKept}
+use Rattle.tables.specs.Rows.{tables_under}
+use Rattle.tables.specs.Six.{HasAll}
+use Rattle.tables.proofs.Opened.{kept_is_sound, kept_some, all_of, shown_once}
 use Rattle.refinement.specs.Opening.{HoldsAmong, IsAt, IsAtOne}
 use Rattle.refinement.proofs.Changes.{fresh_represented}
-
-has_tables : custody ≡ no_schema → ⊥
-has_tables e = let t = ap (λ (s : Schema). s.tables) e in cc
 
 module _ {S : Type 0} (g : Ghosts S) (old new : Store S) where
   -- the contract of `create_or_check` on a store that it accepted
@@ -32,7 +30,7 @@ module _ {S : Type 0} (g : Ghosts S) (old new : Store S) where
   accepts (Err e) ready ok safe only = tt
 
   both_none : HasNoTable g old → HasOurs g old → ⊥
-  both_none none ours = has_tables (sym ours.schema ∙ none)
+  both_none none ours = kept_some _ none ours.kept
 
   pub is_new : Accepts → HasNoTable g old → IsAt g new nothing
   is_new a none = record {
@@ -41,7 +39,7 @@ module _ {S : Type 0} (g : Ghosts S) (old new : Store S) where
       laws = makes_world [] nothing refl;
       shows = λ k o. elim (a.ok k) [
         | inl made ↦ subst (λ (t : Tables). Represents t nothing) (sym made.1) fresh_represented
-        | inr rests ↦ absurd (has_tables (sym (a.ready.ready k o).schema ∙ ap (λ (d : Database). d.schema) (rests.now o) ∙ none))
+        | inr rests ↦ absurd (kept_some _ none (subst IsKept (rests.now o) (a.ready.ready k o)))
       ];
     };
     left = record {
@@ -60,7 +58,7 @@ module _ {S : Type 0} (g : Ghosts S) (old new : Store S) where
       laws = laws;
       shows = λ k o. elim (a.ok k) [
         | inl made ↦ absurd (both_none made.0 (was k).0)
-        | inr rests ↦ subst (λ (d : Database). Represents (tables_of d.trees) world) (sym (rests.now o)) (was k).1
+        | inr rests ↦ subst (λ (d : Database). Represents (tables_of d) world) (sym (rests.now o)) (was k).1
       ];
     };
     left = record {
@@ -72,21 +70,25 @@ module _ {S : Type 0} (g : Ghosts S) (old new : Store S) where
     };
   }
 
-  pub is_one : Accepts → HasOurs g old → (bound : Bound) → IsAmong (tables_of (committed g old)) bound → IsAtOne g new bound
+  pub is_one : Accepts → HasOurs g old → (bound : Bound) → IsAmong (shown g old) bound → IsAtOne g new bound
   is_one a ours [] among = among
-  is_one a ours (world ∷ bound) (inl here) = inl (is_found a world here.0 (λ _. (ours, subst (λ (d : Database). Represents (tables_of d.trees) world) (sym ours.settled) here.1)))
+  is_one a ours (world ∷ bound) (inl here) = inl (is_found a world here.0 (λ _. (ours, here.1)))
   is_one a ours (world ∷ bound) (inr rest) = inr (is_one a ours bound rest)
+
+  -- what the committed trees show is what the store shows
+  pub committed_among : (schema : Schema) (bound : Bound) → HasOurs g old → IsSound schema (committed g old) → IsAmong (tables_under schema (committed g old)) bound → IsAmong (shown g old) bound
+  committed_among schema bound ours sound = subst (λ (t : Tables). IsAmong t bound) (shown_once schema (committed g old) _ sound ours.kept (ap (λ (d : Database). d.trees) (sym ours.settled)))
 
 -- the next open can read what a stop leaves of a store
 pub left_image : {D : Type 0} {g : disk.Ghosts D} (s : Store (FileStore D g)) (bound : Bound) → IsHonest over_files s → IsBoundedBy over_files s bound → IsTrue (files.view s.conn.store).is_numbered
     → (image : Image) → (files.state s.conn.store).may_leave image → HoldsAmong image bound
 left_image s bound honest b numbered image may =
-    let sound : (db : Trees) → files.recovers s.conn.store db → IsSound custody db =
-    λ db found. let kept = b.safe honest db found in subst (λ (t : Trees). IsSound custody t) (sym kept.2) (kept_is_sound kept.0 kept.1) in
-    ∥∥₁_map (opens_again s.conn.store numbered (λ db found. (custody, sound db found)) image may) (λ db.
-    let kept = b.safe honest db.0 db.1 in
-    let left : Leaves over_files s (tables_of db.0) = (kept.0, kept.1, subst (files.recovers s.conn.store) kept.2 db.1, ap tables_of kept.2) in
-    (db.0, db.2, (sound db.0 db.1, b.among honest (tables_of db.0) left)))
+    let sound : (db : Trees) → files.recovers s.conn.store db → (schema : Schema) × HasAll schema × IsSound schema db × IsAmong (tables_under schema db) bound =
+    λ db found.
+    let kept = b.safe honest db found in
+    let left : Leaves over_files s (tables_of kept.0) = (kept.0, kept.1, subst (files.recovers s.conn.store) kept.2 found, refl) in
+    (kept.0.schema, all_of kept.0 kept.1, subst (IsSound kept.0.schema) (sym kept.2) (kept_is_sound kept.0 kept.1), subst (λ (t : Trees). IsAmong (tables_under kept.0.schema t) bound) (sym kept.2) (b.among honest (tables_of kept.0) left)) in
+    ∥∥₁_map (opens_again s.conn.store numbered (λ db found. let it = sound db found in (it.0, it.2)) image may) (λ db. (db.0, db.2, sound db.0 db.1))
 
 pub both_ok : {T E P Q R : Type 0} (r : Result T E) → (P → Q → R) → OnOk r P → OnOk r Q → OnOk r R
 both_ok (Ok x) f p q = f p q

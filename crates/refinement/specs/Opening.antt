@@ -7,15 +7,16 @@ use Rattle.sqlite_wal.specs.Recovery.{Image}
 use Rattle.sqlite.specs.Files.{HoldsDatabase}
 use Rattle.model.specs.World.{World}
 use Rattle.model.specs.Bounds.{Bound}
-use Rattle.tables.specs.Layout.{custody}
-use Rattle.tables.specs.Rows.{tables_of}
+use Rattle.sqlite.specs.Schema.{Schema}
+use Rattle.tables.specs.Six.{HasAll}
+use Rattle.tables.specs.Rows.{tables_under}
 use Rattle.tables.specs.declared.Store.{Store}
 use Rattle.refinement.specs.Representation.{Holds}
 use Rattle.refinement.specs.Left.{IsAmong, IsBoundedBy}
 
--- the trees have our tables, which represent one of these worlds
+-- the trees list a schema that has our tables, which represent one of these worlds
 abbrev pub AreAmong : Trees → Bound → Type 0
-AreAmong db bound = IsSound custody db × IsAmong (tables_of db) bound
+AreAmong db bound = (schema : Schema) × HasAll schema × IsSound schema db × IsAmong (tables_under schema db) bound
 
 -- the same for the database that the files hold
 abbrev pub HoldsAmong : Image → Bound → Type 0

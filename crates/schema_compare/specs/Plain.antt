@@ -1,4 +1,4 @@
--- The schemas that the comparison decides: no float, no foreign key, no default that reads the time and no view.
+-- The tables that the comparison decides: no float, no foreign key, and no default that reads the time.
 use Rattle.std.specs.Prelude.{ℕ, Bool, true, false, ◌&&◌, List, [], ◌∷◌}
 use Rattle.std.specs.List.{list_all}
 use Rattle.sqlite_value.specs.declared.value.Value.{Value}
@@ -7,7 +7,6 @@ use Rattle.sqlite_sql.specs.Term.{Term, lit, col, op1, op2, case}
 use Rattle.sqlite_schema.specs.declared.schema.Column.{Column}
 use Rattle.sqlite_schema.specs.declared.schema.Table.{Table}
 use Rattle.sqlite_schema.specs.declared.schema.Stamps.{Stamps}
-use Rattle.sqlite_schema.specs.declared.schema.Schema.{Schema}
 
 -- the list is empty
 abbrev pub is_none : {X : Type 0} → List X → Bool
@@ -41,7 +40,3 @@ is_plain_stamps s = list_all is_plain_term s.terms && is_none s.formats
 -- the table has no float, no foreign key, and no default that reads the time
 abbrev pub is_plain_table : Table → Bool
 is_plain_table t = list_all is_plain_column t.columns && (list_all is_plain_term t.checks && (is_none t.references && is_plain_stamps t.stamps))
-
--- the comparison decides the schema: its tables are plain, and it has no view
-abbrev pub is_plain : Schema → Bool
-is_plain s = list_all is_plain_table s.tables && is_none s.views

@@ -1,23 +1,26 @@
 //! Compares the tables of two databases.
 //!
-//! A custody server keeps a studio's locks, tokens and large files in one database file. Before it uses a file that it
-//! did not make itself, it compares the tables that the file defines with its own: names, columns and their types,
-//! keys, unique constraints and checks. A file of another program, or of another version, is then refused before
-//! anything is read from it or written to it.
+//! A custody server keeps a studio's locks, tokens and large files in one database file, which may have tables of other
+//! programs too. Before it uses a file that it did not make itself, it compares the definitions of its tables with its
+//! own: names, columns and their types, keys, unique constraints and checks. A file in which another program, or
+//! another version, has defined one of them is then refused before anything is read from it or written to it.
 //!
-//! If the result is that two schemas are the same, they are equal in every part. If they are equal, that is the result,
-//! unless they have floats, foreign keys, defaults that read the time or views, which never count as the same.
+//! If the result is that two definitions are the same, they are equal in every part but the number of the tree that has
+//! the table's rows. If they are, that is the result, unless they have floats, foreign keys or defaults that read the
+//! time, which never count as the same.
 #![tactic(auto)]
 
 ghost use Rattle.std.specs.Prelude.{◌≡◌, ◌↔◌, ◌-◌, true, IsTrue};
-ghost use Rattle.std.specs.List.{list_all};
+ghost use Rattle.std.specs.List.{list_all, list_any};
+ghost use Rattle.sqlite_schema.specs.Names.{same_name as same_name'};
 ghost use Rattle.sqlite_value.specs.declared.value.Value.TheVariants.{Null};
 ghost use Rattle.sqlite_schema.specs.Code.{op_term, term_to, terms_in};
-ghost use Rattle.schema_compare.specs.Plain.{is_plain_value, is_plain_term, is_plain_column, is_plain_stamps, is_plain_table, is_plain};
+ghost use Rattle.schema_compare.specs.Plain.{is_plain_value, is_plain_term, is_plain_column, is_plain_stamps, is_plain_table};
 
 use sqlite_items::Items;
 use sqlite_schema::code::{Op, Terms};
-use sqlite_schema::schema::{Column, Index, Schema, Stamps, Table};
+use sqlite_schema::names::same_name;
+use sqlite_schema::schema::{Column, Reference, Stamps, Table};
 use sqlite_value::keys::Order;
 use sqlite_value::value::Value;
 
@@ -213,13 +216,12 @@ fn same_orders(a: &[Order], b: &[Order]) -> bool
 
 fn same_head(a: &Table, b: &Table) -> bool
     ensures name { IsTrue result → a.now.name ≡ b.now.name }
-    ensures tree { IsTrue result → a.now.tree ≡ b.now.tree }
     ensures columns { IsTrue result → a.now.columns ≡ b.now.columns }
     ensures key { IsTrue result → a.now.key ≡ b.now.key }
-    ensures complete { list_all is_plain_column a.now.columns ≡ true → a.now ≡ b.now → IsTrue result }
+    ensures complete { list_all is_plain_column a.now.columns ≡ true → record a.now { tree = b.now.tree } ≡ b.now
+        → IsTrue result }
 {
     a.name.as_slice() == b.name.as_slice()
-        && a.tree == b.tree
         && same_columns(a.columns.as_slice(), b.columns.as_slice())
         && a.key == b.key
 }
@@ -228,7 +230,7 @@ fn same_keys(a: &Table, b: &Table) -> bool
     ensures primary { IsTrue result → a.now.primary ≡ b.now.primary }
     ensures uniques { IsTrue result → a.now.uniques ≡ b.now.uniques }
     ensures orders { IsTrue result → a.now.orders ≡ b.now.orders }
-    ensures complete { a.now ≡ b.now → IsTrue result }
+    ensures complete { record a.now { tree = b.now.tree } ≡ b.now → IsTrue result }
 {
     same_numbers(&a.primary, &b.primary)
         && same_places(a.uniques.as_slice(), b.uniques.as_slice())
@@ -242,7 +244,8 @@ fn same_rules(a: &Table, b: &Table) -> bool
     ensures computed { IsTrue result → a.now.computed ≡ b.now.computed }
     ensures stamps { IsTrue result → a.now.stamps ≡ b.now.stamps }
     ensures is_counted { IsTrue result → a.now.is_counted ≡ b.now.is_counted }
-    ensures complete { is_plain_table a.now ≡ true → a.now ≡ b.now → IsTrue result }
+    ensures complete { is_plain_table a.now ≡ true → record a.now { tree = b.now.tree } ≡ b.now
+        → IsTrue result }
 {
     same_terms(&a.checks, &b.checks)
         && a.references.is_empty()
@@ -252,54 +255,34 @@ fn same_rules(a: &Table, b: &Table) -> bool
         && a.is_counted == b.is_counted
 }
 
-fn same_table(a: &Table, b: &Table) -> bool
-    ensures same { IsTrue result → a.now ≡ b.now }
-    ensures complete { is_plain_table a.now ≡ true → a.now ≡ b.now → IsTrue result }
+/// Whether the tables are equal but for the trees that have their rows.
+pub fn same_definition(a: &Table, b: &Table) -> bool
+    ensures same { IsTrue result → record a.now { tree = b.now.tree } ≡ b.now }
+    ensures complete { is_plain_table a.now ≡ true → record a.now { tree = b.now.tree } ≡ b.now
+        → IsTrue result }
 {
     same_head(a, b) && same_keys(a, b) && same_rules(a, b)
 }
 
-fn same_tables(a: &[Table], b: &[Table]) -> bool
-    ensures same { IsTrue result → a.now ≡ b.now }
-    ensures complete { list_all is_plain_table a.now ≡ true → a.now ≡ b.now → IsTrue result }
+fn refers(references: &[Reference], name: &[u8]) -> bool
+    ensures { result ≡ list_any (λ r. same_name' name.now r.parent) references.now }
 {
-    match (a, b) {
-        ([], []) => true,
-        ([x, xs @ ..], [y, ys @ ..]) => same_table(x, y) && same_tables(xs, ys),
-        _ => false,
+    match references {
+        [] => false,
+        [reference, rest @ ..] => {
+            same_name(name, reference.parent.as_slice()) || refers(rest, name)
+        }
     }
 }
 
-fn same_index(a: &Index, b: &Index) -> bool
-    ensures same { IsTrue result → a.now ≡ b.now }
-    ensures complete { a.now ≡ b.now → IsTrue result }
+/// Whether some foreign key of the tables refers to a table of this name.
+pub fn is_referred(tables: &[Table], name: &[u8]) -> bool
+    ensures { result ≡ list_any (λ t. list_any (λ r. same_name' name.now r.parent) t.references) tables.now }
 {
-    a.name.as_slice() == b.name.as_slice()
-        && a.tree == b.tree
-        && a.table == b.table
-        && a.columns.as_slice() == b.columns.as_slice()
-        && a.order == b.order
-        && a.is_unique == b.is_unique
-}
-
-fn same_indexes(a: &[Index], b: &[Index]) -> bool
-    ensures same { IsTrue result → a.now ≡ b.now }
-    ensures complete { a.now ≡ b.now → IsTrue result }
-{
-    match (a, b) {
-        ([], []) => true,
-        ([x, xs @ ..], [y, ys @ ..]) => same_index(x, y) && same_indexes(xs, ys),
-        _ => false,
+    match tables {
+        [] => false,
+        [table, rest @ ..] => {
+            refers(table.references.as_slice(), name) || is_referred(rest, name)
+        }
     }
-}
-
-/// Whether both have the same tables and indexes, in the same order, and no views.
-pub fn same_schema(a: &Schema, b: &Schema) -> bool
-    ensures same { IsTrue result → a.now ≡ b.now }
-    ensures complete { is_plain a.now ≡ true → a.now ≡ b.now → IsTrue result }
-{
-    same_tables(a.tables.as_slice(), b.tables.as_slice())
-        && same_indexes(a.indexes.as_slice(), b.indexes.as_slice())
-        && a.views.is_empty()
-        && b.views.is_empty()
 }

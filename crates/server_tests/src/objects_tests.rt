@@ -218,6 +218,50 @@ fn pieces_become_full_chunks(rt: HostRuntime) {
     }
 }
 
+/// The SHA-256 of 65,536 bytes `a` and 65,536 bytes `b`, by `sha256sum`.
+const A_AND_B: &str = "c00a557361a4abc1bf897d3ebff6cc4ce5cc1c3cebf8b314b7f96b062fedf74c";
+
+/// What another program does to that object: its first row has chunk 1 then, and its second row chunk 0, and its name is
+/// the SHA-256 of 65,536 bytes `b` and 65,536 bytes `a`, by `sha256sum`.
+const EXCHANGED: &str =
+    "UPDATE chunks SET n = n + 2; UPDATE chunks SET n = 3 - n; UPDATE uploads SET oid = 'c804b27e6ba0353ff3d428440380dd9267a16d7dfa9b0df1a892ea650848f79d'";
+
+const B_AND_A: &str = "c804b27e6ba0353ff3d428440380dd9267a16d7dfa9b0df1a892ea650848f79d";
+
+/// 65,536 bytes `first`, and then as many `second`.
+fn two_chunks(rt: &impl Tester, first: u8, second: u8) -> Vec<u8> {
+    let mut bytes = unwrap(rt, vec![in rt.alloc(); first; 131_072]);
+    let (_, last) = bytes.as_mut_slice().split_at_mut(65_536);
+    last.fill(second);
+    bytes
+}
+
+#[test]
+fn chunks_are_joined_by_number(rt: HostRuntime) {
+    let mut store = in_memory(&rt);
+    let bytes = two_chunks(&rt, b'a', b'b');
+    let kept = upload(
+        &rt,
+        &mut store,
+        "studio/film",
+        A_AND_B,
+        bytes.as_slice(),
+        65_536,
+    );
+    assert!(rt; kept == Ok(Kept::New));
+    let mut conn = store.into_connection();
+    unwrap(&rt, conn.execute_batch(EXCHANGED));
+    let mut store = Store::adopt(conn);
+    unwrap(&rt, store.create_or_check(rt.alloc()));
+    let found = unwrap(
+        &rt,
+        uploads::find(&mut store, &repo(&rt, "studio/film"), &oid(&rt, B_AND_A)),
+    );
+    let row = unwrap(&rt, found.ok_or(()));
+    let bytes = two_chunks(&rt, b'b', b'a');
+    expect_bytes(&rt, &mut store, row.id, bytes.as_slice(), 2, 65_536);
+}
+
 #[test]
 fn an_abandoned_upload_leaves_no_row(rt: HostRuntime) {
     let mut store = in_memory(&rt);

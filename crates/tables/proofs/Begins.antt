@@ -1,29 +1,8 @@
 -- A store that learns which uploads are staged, and begins one.
-use Rattle.std.proofs.Common.{◌≡◌, ◌≢◌, inl, inr, filter, Some, None, Option, option_map, IfSome, Result, Ok, Err, IsErr, refl, sym, ap, subst, ◌∙◌}
-use Rattle.std.specs.List.{AllByRecursion}
-use Rattle.std.specs.Global.{Vec}
-use Rattle.std.proofs.lemmas.Bool.{true≢false}
-use Rattle.std.proofs.lemmas.Result.{IfOk-weaker}
-use Rattle.sqlite.specs.Effect.{Database}
-use Rattle.sqlite.specs.Held.{Held, state}
-use Rattle.sqlite_trees.specs.declared.store.Store.{Ghosts}
-use Rattle.sqlite_keyed.proofs.ListLemmas.{all_kept}
-use Rattle.names.specs.Names.{repo_text}
-use Rattle.tables.specs.declared.Store.{Store}
-use Rattle.tables.specs.declared.staged.Remembered.{Remembered}
-use Rattle.tables.specs.declared.new_rows.NewUpload.{NewUpload}
-use Rattle.tables.specs.declared.rows.UploadId.{UploadId}
-use Rattle.tables.specs.declared.fault.StoreFault.{StoreFault}
-use Rattle.tables.specs.Rows.{Tables, tables_of}
-use Rattle.tables.specs.Statements.{is_staged}
-use Rattle.tables.specs.Staging.{upload_number, asked_upload, IsAbove, after_begin}
-use Rattle.tables.specs.Remembered.{remembered_in, IsLast, KnowsStaged, IsNoted, IsLastOf, HasLast}
-use Rattle.tables.specs.Runs.{IsKept}
-use Rattle.tables.specs.Calls.{Looks}
+use Rattle.tables.proofs.Prelude.{◌≡◌, inl, inr, filter, Some, None, Option, option_map, IfSome, Result, Ok, Err, IsErr, refl, sym, ap, subst, ◌∙◌, AllByRecursion, Vec, true≢false, IfOk-weaker, Database, Held, state, Ghosts, all_kept, repo_text, Store, Remembered, NewUpload, UploadId, StoreFault, Tables, tables_of, is_staged, upload_number, asked_upload, IsAbove, after_begin, remembered_in, IsLast, IsNoted, IsLastOf, HasLast, IsKept, Looks, Chooses, IsHonest, IsOpen, HasTables, Moves, AddsNothing, Begins, shown, Learns}
+use Rattle.tables.proofs.Once.{same_tables}
+use Rattle.tables.specs.Remembered.{KnowsStaged}
 use Rattle.tables.specs.Calls as call
-use Rattle.tables.specs.Choosing.{Chooses}
-use Rattle.tables.specs.Shown.{IsHonest, IsOpen, HasTables, Moves, AddsNothing, Begins, shown}
-use Rattle.tables.specs.Learning.{Learns}
 use Rattle.tables.proofs.Replacing.{last_is_remembered, begun_is_remembered}
 use Rattle.tables.proofs.Stores.{was_open, keeps_moves, reads_from}
 
@@ -102,7 +81,7 @@ module _ {S : Type 0} (g : Ghosts S) where
             was_open = opened;
             is_open = commits.is_open;
             durable = λ had. record {
-              only = λ k t left. left.3 ∙ ap tables_of (commits.saved k left.0.trees left.2);
+              only = λ k t left. left.3 ∙ same_tables left.0 (state g conn).now left.1 (commits.ok k (given had)).1.kept (commits.saved k left.0.trees left.2);
               safe = λ k trees left. ((state g conn).now, (commits.ok k (given had)).1.kept, commits.saved k trees left);
             };
           };
@@ -120,9 +99,9 @@ module _ {S : Type 0} (g : Ghosts S) where
           was_open = λ k o. learned.same.was_open (it.clean k) ((it.err k).was_open o);
           ready = λ had. record {
             ready = λ clean o. let kept = it.err clean in subst IsKept (sym (kept.now o)) ((learned.same.ready had).ready (it.clean clean) (kept.was_open o));
-            known = λ clean o. let kept = it.err clean in subst (λ (d : Database). KnowsStaged (Some known) (tables_of d.trees).uploads) (sym (kept.now o)) (learned.answers (it.clean clean) had (kept.was_open o));
+            known = λ clean o. let kept = it.err clean in subst (λ (d : Database). KnowsStaged (Some known) (tables_of d).uploads) (sym (kept.now o)) (learned.answers (it.clean clean) had (kept.was_open o));
           };
-          shows = λ k had o. ap (λ (d : Database). tables_of d.trees) ((it.err k).now o) ∙ learned.same.shows (it.clean k) had ((it.err k).was_open o);
+          shows = λ k had o. ap tables_of ((it.err k).now o) ∙ learned.same.shows (it.clean k) had ((it.err k).was_open o);
         };
         adds = λ had. record {
           was_honest = λ k. learned.same.was_honest (it.clean k);
@@ -131,7 +110,7 @@ module _ {S : Type 0} (g : Ghosts S) where
             | inr after ↦
                 let same : shown g mid ≡ shown g old = learned.same.shows (it.clean k) had after.2.1 in
                 let id = upload_number after.0 in
-                inr (learned.same.was_open (it.clean k) after.2.1, (id, subst (λ (u : Tables). IsAbove u id) same after.1, left.3 ∙ ap tables_of after.2.3 ∙ after.2.2.tables ∙ ap (after_begin (asked_upload asked id)) same))
+                inr (learned.same.was_open (it.clean k) after.2.1, (id, subst (λ (u : Tables). IsAbove u id) same after.1, left.3 ∙ same_tables left.0 after.2.0 left.1 after.2.2.kept after.2.3 ∙ after.2.2.tables ∙ ap (after_begin (asked_upload asked id)) same))
           ];
           safe = λ k safe trees left. elim ((it.stop (given had)).crash k trees left) [ inl before ↦ learned.adds.safe (it.clean k) safe trees before | inr after ↦ (after.2.0, after.2.2.kept, after.2.3) ];
         };

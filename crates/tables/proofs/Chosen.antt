@@ -1,17 +1,6 @@
 -- A call that makes the step of the value that it returns, in a transaction of its own.
-use Rattle.std.proofs.Common.{◌≡◌, true, Ok, Result, IfOk, IsTrue, refl, sym, subst}
-use Rattle.std.proofs.lemmas.Result.{IfOk-weaker}
-use Rattle.sqlite.specs.State.{HasCleanDisk}
-use Rattle.sqlite.specs.Held.{Held, state}
-use Rattle.sqlite.proofs.StateLemmas.{survives_weaker}
+use Rattle.tables.proofs.Prelude.{◌≡◌, true, Ok, Result, IfOk, IsTrue, refl, sym, subst, IfOk-weaker, HasCleanDisk, Held, state, survives_weaker, Ghosts, Inside, StoreFault, Tables, Steps, Leads, tables_in, Finishes, Commits, LeadsSome, Chooses}
 use Rattle.sqlite_trees.specs.Tree.{Trees}
-use Rattle.sqlite_trees.specs.declared.store.Store.{Ghosts}
-use Rattle.typed_rows.specs.Transactions.{Inside}
-use Rattle.tables.specs.declared.fault.StoreFault.{StoreFault}
-use Rattle.tables.specs.Rows.{Tables}
-use Rattle.tables.specs.Runs.{Steps, Leads, tables_in}
-use Rattle.tables.specs.Calls.{Finishes, Commits}
-use Rattle.tables.specs.Choosing.{LeadsSome, Chooses}
 use Rattle.tables.proofs.Calls.{before, commits_from}
 
 module _ {S T : Type 0} (g : Ghosts S) (old begun mid last : Held S) (r : Result T StoreFault) (x : T) (same : begun ≡ record old { in_transaction = true }) (ends : Finishes g mid last r) where

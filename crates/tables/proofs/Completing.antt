@@ -1,12 +1,7 @@
 -- The result of completing or removing an upload, from what its statements found and did.
-use Rattle.std.proofs.Common.{arith, ◌≡◌, ℕ, ℤ, pos, Bool, true, false, cond, List, find, option_map, is_some, Option, Some, None, refl, sym, ap, ◌∙◌, ◌<◌, [], ◌∷◌, length}
-use Rattle.tables.specs.declared.new_rows.LastChunk.{LastChunk}
-use Rattle.tables.specs.declared.rows.UploadRow.{UploadRow}
-use Rattle.tables.specs.declared.rows.Completion.{Completion}
+use Rattle.tables.proofs.Prelude.{arith, ◌≡◌, ℕ, ℤ, pos, Bool, true, false, cond, List, find, option_map, is_some, Option, Some, None, refl, sym, ap, ◌∙◌, ◌<◌, [], ◌∷◌, length, LastChunk, UploadRow, Completion, Upload, Tables, is_object, with_chunk, without_chunks_from, UploadFields, upload_fields, read_upload, begun_as, IsUploadOf, without_upload, without_found, without_found_from, asked_chunk, with_bytes, is_as_begun, settled_as, completion_by, completion_of, after_completion, after_found}
 use Rattle.tables.specs.declared.rows.Completion.TheVariants as completion
-use Rattle.tables.specs.Rows.{Upload, Tables}
-use Rattle.tables.specs.Statements.{is_object, with_chunk, without_chunks_from}
-use Rattle.tables.specs.Staging.{UploadFields, upload_fields, read_upload, begun_as, IsUploadOf, staged_with, without_upload, without_found, without_found_from, without_staged, without_staged_from, asked_chunk, with_bytes, with_last, with_kept, is_as_begun, settled_as, completion_by, completion_of, after_completion, after_settling, after_found, after_complete}
+use Rattle.tables.specs.Staging.{staged_with, without_staged, without_staged_from, with_last, with_kept, after_settling, after_complete}
 
 -- ---- the row that was found
 

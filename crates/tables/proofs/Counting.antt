@@ -1,21 +1,12 @@
 -- The row of a repository, as the statements set its numbers.
-use Rattle.std.proofs.Common.{◌≡◌, ℕ, ℤ, ◌<ℤ◌, Bool, true, false, cond, List, [], ◌∷◌, ◌++◌, find, Option, Some, None, refl, sym, ap, subst, arith}
-use Rattle.std.proofs.lemmas.Int.{ints}
-use Rattle.std.specs.List.{AllByRecursion}
-use Rattle.std.specs.Ordering.{int_eq}
-use Rattle.sqlite_keyed.specs.Keyed.{IsKeyedBy, next_key}
-use Rattle.sqlite_keyed.specs.Lists.{update_where}
-use Rattle.sqlite.specs.State.{State}
-use Rattle.tables.specs.declared.locks.Count.{Count}
+use Rattle.tables.proofs.Prelude.{◌≡◌, ℕ, ℤ, ◌<ℤ◌, Bool, true, false, cond, List, [], ◌∷◌, ◌++◌, find, Option, Some, None, refl, sym, ap, subst, arith, ints, AllByRecursion, int_eq, IsKeyedBy, update_where, State, Count, Repo, repo_row, repo_in, repos, Tables, tree_of, is_named, IsKept, Steps, tables_in, RepoCount, repo_count, read_count, IsCountOf, set_first, RepoTotal, repo_total, read_total, IsTotalOf, keys_rise}
 use Rattle.tables.specs.declared.uploads.Total.{Total}
-use Rattle.tables.specs.Rows.{Repo, repo_row, repo_in, repos, Tables, tables_of}
-use Rattle.tables.specs.Statements.{is_named, with_repo, with_made_at, with_used_row, with_used_at}
-use Rattle.tables.specs.Runs.{IsKept, Steps, tables_in}
-use Rattle.tables.specs.Steps.{RepoCount, repo_count, read_count, IsCountOf, set_first, with_made}
-use Rattle.tables.specs.Staging.{RepoTotal, repo_total, read_total, IsTotalOf, with_used}
+use Rattle.tables.specs.Rows.{tables_under}
+use Rattle.tables.specs.Statements.{with_repo, with_made_at, with_used_row, with_used_at}
+use Rattle.tables.specs.Steps.{with_made}
+use Rattle.tables.specs.Staging.{with_used}
 use Rattle.tables.proofs.Calls.{same_steps}
 use Rattle.tables.proofs.Parts.{typed_at}
-use Rattle.typed_rows.proofs.Typed.{keys_rise}
 
 abbrev key : Repo → ℤ
 key r = r.rowid
@@ -71,8 +62,8 @@ module _ (name : List ℕ) (change : Repo → Repo) (new : Repo) where
 
 -- the rowids of the repositories rise
 rises : (s : State) → IsKept s.now → IsKeyedBy key (tables_in s).repos
-unfolding tables_of
-rises s kept = keys_rise key repo_row repo_in (λ _. refl) (λ _. refl) (s.now.trees 1) (typed_at repos s.now.trees kept.typed)
+unfolding tables_under
+rises s kept = keys_rise key repo_row repo_in (λ _. refl) (λ _. refl) (s.now.trees (tree_of s.now.schema repos)) (typed_at repos s.now.schema s.now.trees kept.typed)
 
 -- ---- the number of locks made
 

@@ -1,16 +1,7 @@
 -- The result of making a lock, from what its statements found and did.
-use Rattle.std.proofs.Common.{◌≡◌, ℤ, true, false, find, option_map, Option, Some, None, Ok, IsTrue, refl, sym, ap, ◌∙◌}
-use Rattle.sqlite.specs.Held.{Held, state}
-use Rattle.sqlite_trees.specs.declared.store.Store.{Ghosts}
+use Rattle.tables.proofs.Prelude.{◌≡◌, ℤ, true, false, find, option_map, Option, Some, None, Ok, IsTrue, refl, sym, ap, ◌∙◌, Held, state, Ghosts, StoreFault, Count, Repo, Token, Lock, Tables, is_named, with_token, tables_in, IfReady, Does, IsLockOf, IsCountOf, lock_fields, read_lock, Outcome, held, next_outcome, outcome_by, held_at, outcome_of, made_in, made_of, after_outcome, has_token, clean_before}
 use Rattle.tables.specs.declared.rows.LockRow.{LockRow}
-use Rattle.tables.specs.declared.fault.StoreFault.{StoreFault}
-use Rattle.tables.specs.declared.locks.Count.{Count}
-use Rattle.tables.specs.Rows.{Repo, Token, Lock, Tables}
-use Rattle.tables.specs.Statements.{is_named, with_token}
-use Rattle.tables.specs.Runs.{tables_in}
-use Rattle.tables.specs.Calls.{IfReady, Does}
-use Rattle.tables.specs.Steps.{IsLockOf, IsCountOf, lock_fields, read_lock, Outcome, held, next_outcome, outcome_by, held_at, outcome_of, made_in, made_of, after_outcome, after_create, has_token, after_add}
-use Rattle.typed_rows.proofs.Transactions.{clean_before}
+use Rattle.tables.specs.Steps.{after_create, after_add}
 use Rattle.tables.proofs.Calls.{ready_after}
 
 held_by : (row : LockRow) (found : Option Lock) (m : ℤ) → Some (read_lock row) ≡ option_map lock_fields found → outcome_by found m ≡ held (read_lock row)

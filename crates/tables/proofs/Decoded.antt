@@ -1,11 +1,6 @@
 -- The rows of `meta`, decoded.
-use Rattle.std.proofs.Common.{◌≡◌, ℕ, ◌<◌, ◌≤◌, ℤ, pos, List, [], ◌∷◌, length, map, get_or, sym, ap, ◌∙◌, arith}
-use Rattle.sqlite.specs.declared.types.Value.{Value}
-use Rattle.sqlite.specs.declared.types.Value.TheVariants.{Int}
-use Rattle.sqlite_value.specs.Order.{Row, column}
-use Rattle.tables.specs.Rows.{Meta}
-use Rattle.tables.specs.Statements.{show_meta}
-use Rattle.tables.specs.Runs.{first_meta}
+use Rattle.tables.proofs.Prelude.{◌≡◌, ℕ, ◌<◌, ◌≤◌, ℤ, pos, List, [], ◌∷◌, length, map, get_or, sym, ap, ◌∙◌, arith, Value, Int, column, Meta, show_meta, first_meta}
+use Rattle.sqlite_value.specs.Order.{Row}
 
 same_int : {a b : ℤ} → ◌≡◌ {A = Value} (Int a) (Int b) → a ≡ b
 same_int h = cc

@@ -1,20 +1,8 @@
 -- The first entry of a repository, and how it changes.
-use Rattle.std.proofs.Common.{◌≡◌, ◌≢◌, ℕ, suc, ◌<◌, ◌+◌, ℤ, Bool, true, false, List, [], ◌∷◌, ◌++◌, length, take, drop, set, get_or, find, map, Some, None, Option, is_some, option_map, refl, sym, ap, subst, ◌∙◌, arith}
+use Rattle.tables.proofs.Prelude.{◌≡◌, ◌≢◌, ℕ, suc, ◌<◌, ◌+◌, ℤ, Bool, true, false, List, [], ◌∷◌, ◌++◌, length, take, drop, set, get_or, find, map, Some, None, Option, is_some, option_map, refl, sym, ap, subst, ◌∙◌, arith, AllByRecursion, is_eq-slice_cmp, bytes_eq-Decides, all_weaker, all-append, element, repo_text, Remembered, UploadId, Upload, same_bytes, upload_number, is_entry_of, remembered_in, IsLast, IsEntryOf, IsFirst, IsNoted}
 use Rattle.std.specs.Option.{option_or}
-use Rattle.std.specs.List.{AllByRecursion}
 use Rattle.std.proofs.lemmas.List.{set_split, set-get_or, take_more}
 use Rattle.std.proofs.lemmas.List.Folds.{find-append}
-use Rattle.std.proofs.lemmas.Map.Text.{is_eq-slice_cmp}
-use Rattle.std.proofs.lemmas.Slice.Eq.{bytes_eq-Decides}
-use Rattle.sqlite_keyed.proofs.ListLemmas.{all_weaker, all-append}
-use Rattle.typed_rows.proofs.Found.{element}
-use Rattle.names.specs.Names.{repo_text}
-use Rattle.tables.specs.declared.staged.Remembered.{Remembered}
-use Rattle.tables.specs.declared.rows.UploadId.{UploadId}
-use Rattle.tables.specs.Rows.{Upload}
-use Rattle.tables.specs.Statements.{same_bytes}
-use Rattle.tables.specs.Staging.{upload_number}
-use Rattle.tables.specs.Remembered.{is_entry_of, remembered_in, IsLast, IsEntryOf, IsFirst, IsNoted}
 
 -- ---- texts
 

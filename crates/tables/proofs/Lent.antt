@@ -1,10 +1,6 @@
 -- The bytes in the first of the rows.
-use Rattle.std.proofs.Common.{◌≡◌, ℕ, ◌<◌, List, [], ◌∷◌, map, length, slice_get, slice_index_or, option_map, Some, None, arith, refl, ap, ◌∙◌}
+use Rattle.tables.proofs.Prelude.{◌≡◌, ◌<◌, List, [], ◌∷◌, map, length, slice_get, slice_index_or, option_map, Some, None, arith, refl, ap, ◌∙◌, column, bytes_of, Chunk, show_bytes}
 use Rattle.sqlite.specs.Order.{Row}
-use Rattle.sqlite_value.specs.Order.{column}
-use Rattle.typed_rows.specs.Rows.{bytes_of}
-use Rattle.tables.specs.Rows.{Chunk}
-use Rattle.tables.specs.Statements.{show_bytes}
 
 pub none_lent : (rows : List Row) (chunks : List Chunk) → rows ≡ map show_bytes chunks → length rows ≡ 0 → None ≡ option_map (λ (c : Chunk). c.bytes) (slice_get chunks 0)
 none_lent rows [] all none = refl

@@ -1,25 +1,14 @@
 -- Each upload of a store is staged or complete, as its table demands, for proofs in other crates.
-use Rattle.std.proofs.Common.{◌≡◌, ◌∙◌, ◌⊎◌, inl, inr, ◌≤ℤ◌, ◌<ℤ◌, ℤ, pos, negsuc, zero, suc, Bool, true, false, not, ◌&&◌, List, [], ◌∷◌, map, Some, Ordering, Less, Equal, Greater, int_cmp, is_ge, is_le, refl, sym, ap, subst, arith}
+use Rattle.tables.proofs.Prelude.{◌≡◌, ◌∙◌, ◌⊎◌, inl, inr, ◌≤ℤ◌, ◌<ℤ◌, ℤ, pos, negsuc, zero, suc, Bool, true, false, not, ◌&&◌, List, [], ◌∷◌, map, Some, Ordering, Less, Equal, Greater, int_cmp, is_ge, is_le, refl, sym, ap, subst, arith, AllByRecursion, MatchOrdering, true≢false, ints, Database, state, Int, value_cmp, value_cmp-Int, Ghosts, uploads_at, Upload, tables_of, tree_of, upload_row, upload_in, uploads, IsKept, HasTables, IsHonest, IsOpen, shown, Store}
 use Rattle.std.specs.Cmp.{int_ranks}
-use Rattle.std.specs.List.{AllByRecursion}
-use Rattle.std.specs.Ordering.{MatchOrdering}
-use Rattle.std.proofs.lemmas.Bool.{true≢false}
-use Rattle.std.proofs.lemmas.Int.{ints}
-use Rattle.sqlite.specs.Effect.{Database}
-use Rattle.sqlite.specs.Held.{state}
-use Rattle.sqlite.specs.declared.types.Value.TheVariants.{Int}
-use Rattle.sqlite_value.specs.Order.{Row, value_cmp}
-use Rattle.sqlite_value.proofs.OrderLemmas.{value_cmp-Int}
+use Rattle.sqlite_value.specs.Order.{Row}
 use Rattle.sqlite_sql.specs.Ops.{binary, from_truth, is_false}
 use Rattle.sqlite_sql.specs.declared.ops.BinaryOp.TheVariants.{And}
 use Rattle.sqlite_schema.specs.Rules.{passes_checks}
 use Rattle.sqlite_schema.specs.declared.schema.Constraint.TheVariants.{Check}
-use Rattle.sqlite_trees.specs.declared.store.Store.{Ghosts}
-use Rattle.tables.specs.Layout.{uploads_at}
-use Rattle.tables.specs.Rows.{Upload, AreTyped, tables_of, upload_row, upload_in, uploads}
-use Rattle.tables.specs.Runs.{IsKept}
-use Rattle.tables.specs.Shown.{HasTables, IsHonest, IsOpen, shown}
-use Rattle.tables.specs.declared.Store.{Store}
+use Rattle.tables.specs.Rows.{tables_under}
+use Rattle.sqlite.specs.Table.{Table}
+use Rattle.tables.proofs.Parts.{six_of, each, typed_at}
 use Rattle.tables.proofs.Opened.{kept_is_sound}
 
 -- the upload is staged or complete
@@ -27,7 +16,7 @@ abbrev pub IsMarked : Upload → Type 0
 IsMarked u = (u.done ≡ pos 0) ⊎ (u.done ≡ pos 1)
 
 abbrev PassesChecks : Row → Type 0
-PassesChecks row = passes_checks (uploads_at 5) row ≡ true
+PassesChecks row = passes_checks (uploads_at 0) row ≡ true
 
 -- a CHECK of two tests holds only if both do
 both_tests : (v w : Bool) → (not (is_false (binary And (from_truth (Some v)) (from_truth (Some w)))) && true) ≡ true → (v ≡ true) × (w ≡ true)
@@ -69,10 +58,12 @@ all_marked : (us : List Upload) → AllByRecursion PassesChecks (map upload_row 
 all_marked [] all = tt
 all_marked (u ∷ us) all = (mark u all.0, all_marked us all.1)
 
-pub kept_marked : (db : Database) → IsKept db → AllByRecursion IsMarked (tables_of db.trees).uploads
-unfolding tables_of AreTyped
+pub kept_marked : (db : Database) → IsKept db → AllByRecursion IsMarked (tables_of db).uploads
+unfolding tables_under
 kept_marked db kept =
-    all_marked (map upload_in (db.trees 5)) (subst (AllByRecursion PassesChecks) (kept.typed uploads).same ((kept_is_sound db kept).obeys.rules Check).1.1.1.0)
+    let tree = tree_of db.schema uploads in
+    all_marked (map upload_in (db.trees tree)) (subst (AllByRecursion PassesChecks) (typed_at uploads db.schema db.trees kept.typed).same
+    (each db.schema (six_of db kept) (λ (t : Table). AllByRecursion (λ row. passes_checks t row ≡ true) (db.trees t.tree)) ((kept_is_sound db kept).obeys.rules Check) uploads))
 
 pub uploads_marked : {S : Type 0} (g : Ghosts S) (s : Store S) → HasTables g s → IsHonest g s → IsOpen g s → AllByRecursion IsMarked (shown g s).uploads
 uploads_marked g s has honest opened = kept_marked (state g s.conn).now (has.ready honest opened)

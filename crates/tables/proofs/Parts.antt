@@ -1,17 +1,13 @@
 -- Properties of each of the six tables.
-use Rattle.std.proofs.lemmas.Bool.{cases_eq}
-use Rattle.std.proofs.Common.{◌≡◌, ◌≢◌, inl, inr, ℕ, List, [], Some, cond, eqb, map, slice_get, refl, sym, ap, subst, ◌∙◌}
-use Rattle.std.specs.List.{AllByRecursion}
-use Rattle.sqlite.specs.declared.types.Value.TheVariants.{Int}
-use Rattle.sqlite.specs.Order.{Row}
+use Rattle.tables.proofs.Prelude.{cases_eq, arith, ◌≡◌, ◌≢◌, ◌<◌, ◌^◌, inl, inr, ℕ, true, false, List, [], ◌∷◌, Some, Bool, cond, eqb, nat_lt, nat_le, map, find, refl, sym, ap, subst, ◌∙◌, eq-eqb, ne_eqb, AllByRecursion, Int, rowid, overlay, IsAscending, Schema, all_has, has_got, has_found, list_any, to_ascii_lowercase, nat_cmp, is_eq, slice_cmp, Reference, at_first, is_eq-slice_cmp, bytes_eq-Decides, HasSix, is_parent, counts_name, Part, repos, tokens, uploads, chunks, locks, name_of, table_for, place_of, tree_of, RowOf, encode, decode, rows_of, rows_in, with_rows, IsTyped, StayBut, Database, IsSound, IsKept, IsTypedBy}
 use Rattle.sqlite.specs.Table.{Table}
-use Rattle.sqlite_trees.specs.Tree.{Trees, rowid}
-use Rattle.sqlite_schema.specs.declared.schema.Keys.TheVariants.{Enforced}
-use Rattle.sqlite_rules.specs.Action.{works}
-use Rattle.sqlite.specs.Program.{overlay}
-use Rattle.tables.specs.Layout.{custody}
-use Rattle.tables.specs.Rows.{Part, meta, repos, tokens, uploads, chunks, locks, place_of, table_at, tree_of, RowOf, encode, decode, id_of, rows_of, rows_in, with_rows, tables_of, IsTyped, AreTyped, StayBut}
-use Rattle.typed_rows.specs.Rows.{IsTypedBy}
+use Rattle.sqlite_trees.specs.Tree.{Trees}
+use Rattle.sqlite_rules.specs.Lists.{Has}
+use Rattle.sqlite_schema.specs.Names.{same_name}
+use Rattle.sqlite_rules.proofs.RuleLemmas.{same_table}
+use Rattle.typed_rows.proofs.Alone.{IsAlone, alone_if}
+use Rattle.tables.specs.Rows.{meta, id_of, tables_under, AreTyped}
+use Rattle.tables.specs.Runs.{IsOurs, IsSix}
 
 pub keyed : (p : Part) (x : RowOf p) → rowid (encode p x) ≡ Int (id_of p x)
 keyed meta x = refl
@@ -29,90 +25,167 @@ back uploads x = refl
 back chunks x = refl
 back locks x = refl
 
-pub found : (p : Part) → slice_get custody.tables (place_of p) ≡ Some (table_at p)
-found meta = refl
-found repos = refl
-found tokens = refl
-found uploads = refl
-found chunks = refl
-found locks = refl
+pub tree_is : (p : Part) (n : ℕ) → (table_for p n).tree ≡ n
+tree_is meta n = refl
+tree_is repos n = refl
+tree_is tokens n = refl
+tree_is uploads n = refl
+tree_is chunks n = refl
+tree_is locks n = refl
+
+pub name_is : (p : Part) (n : ℕ) → (table_for p n).name ≡ name_of p
+name_is meta n = refl
+name_is repos n = refl
+name_is tokens n = refl
+name_is uploads n = refl
+name_is chunks n = refl
+name_is locks n = refl
+
+-- the first letters of the six names differ
+pub by_name : List ℕ → Part
+by_name [] = locks
+by_name (c ∷ cs) = cond (eqb c 109) meta (cond (eqb c 114) repos (cond (eqb c 116) tokens (cond (eqb c 117) uploads (cond (eqb c 99) chunks locks))))
+
+pub by_name_is : (p : Part) → by_name (name_of p) ≡ p
+unfolding by_name
+by_name_is meta = refl
+by_name_is repos = refl
+by_name_is tokens = refl
+by_name_is uploads = refl
+by_name_is chunks = refl
+by_name_is locks = refl
+
+found_by_tree : (tables : List Table) (t : Table) → IsAscending (λ a b. a.tree ≢ b.tree) tables → Has tables t → find (λ (u : Table). eqb u.tree t.tree) tables ≡ Some t
+found_by_tree [] t apart h = absurd h
+found_by_tree (u ∷ tables) t apart (inl e) = rw (← e, eq-eqb t.tree t.tree refl) refl
+found_by_tree (u ∷ tables) t apart (inr h) = rw (ne_eqb u.tree t.tree (all_has _ tables t apart.0 h)) (found_by_tree tables t apart.1 h)
+
+is_low : (n : ℕ) → n < 65536 → (nat_lt n (2 ^ 31) ≡ true) × (nat_le (2 ^ 31) n ≡ false)
+is_low n h = (grind arith, grind arith)
+
+module _ (schema : Schema) (six : HasSix schema) (p : Part) where
+  abbrev pub part : Table
+  part = table_for p (tree_of schema p)
+
+  pub listed : Has schema.tables part
+  listed = has_got schema.tables (place_of schema p) part (six.parts p).found
+
+  pub low : nat_lt part.tree (2 ^ 31) ≡ true
+  low = (is_low part.tree (all_has (λ (t : Table). t.tree < 65536) schema.tables part six.laid.low listed)).0
+
+  pub high : nat_le (2 ^ 31) part.tree ≡ false
+  high = (is_low part.tree (all_has (λ (t : Table). t.tree < 65536) schema.tables part six.laid.low listed)).1
+
+  pub by_tree : find (λ (t : Table). eqb t.tree part.tree) schema.tables ≡ Some part
+  by_tree = found_by_tree schema.tables part six.laid.apart listed
+
+  pub own : (db : Trees) → overlay db [] (tree_of schema p) ≡ db (tree_of schema p)
+  own db = let h = subst (λ n. nat_le (2 ^ 31) n ≡ false) (tree_is p (tree_of schema p)) high in rw h refl
+
+  pub alone_at : IsAlone schema part.tree
+  alone_at = alone_if schema part listed six.laid.apart (subst (λ n. is_parent schema n ≡ false) (sym (name_is p (tree_of schema p))) (six.parts p).unreferred)
+
+  pub alone : IsAlone schema (tree_of schema p)
+  alone = subst (IsAlone schema) (tree_is p (tree_of schema p)) alone_at
+
+-- the table that counts the ids is none of the six
+module _ (schema : Schema) (six : HasSix schema) where
+  abbrev pub counters : Table
+  counters = six.counts.table
+
+  counters_found : Has schema.tables counters × (same_name counters.name counts_name ≡ true)
+  counters_found = has_found (λ (t : Table). same_name t.name counts_name) schema.tables counters (sym (at_first (λ (t : Table). same_name t.name counts_name) schema.tables) ∙ six.counts.found)
+
+  same_named : (a b c : List ℕ) → same_name a b ≡ true → same_name a c ≡ same_name b c
+  unfolding same_name
+  same_named a b c h = ap (λ l. is_eq (slice_cmp nat_cmp l (map to_ascii_lowercase c))) ((bytes_eq-Decides (map to_ascii_lowercase a) (map to_ascii_lowercase b)).0 (sym (is_eq-slice_cmp (map to_ascii_lowercase a) (map to_ascii_lowercase b)) ∙ h))
+
+  pub lonely : IsAlone schema counters.tree
+  lonely = alone_if schema counters counters_found.0 six.laid.apart
+      (ap (λ (p : Table → Bool). list_any p schema.tables) (λ i (t : Table). list_any (λ (r : Reference). same_named counters.name counts_name r.parent counters_found.1 i) t.references) ∙ six.counts.unreferred)
+
+  not_counts : (p : Part) → same_name (name_of p) counts_name ≡ false
+  unfolding same_name
+  not_counts meta = refl
+  not_counts repos = refl
+  not_counts tokens = refl
+  not_counts uploads = refl
+  not_counts chunks = refl
+  not_counts locks = refl
+
+  pub counters_apart : (p : Part) → tree_of schema p ≢ counters.tree
+  counters_apart p e =
+      let same = same_table schema.tables (table_for p (tree_of schema p)) counters six.laid.apart (listed schema six p) counters_found.0 (tree_is p (tree_of schema p) ∙ e) in
+      let named : name_of p ≡ counters.name = sym (name_is p (tree_of schema p)) ∙ ap (λ (t : Table). t.name) same in
+      let it : true ≡ false = sym counters_found.1 ∙ ap (λ n. same_name n counts_name) (sym named) ∙ not_counts p in
+      cc
 
 -- a property of all tables of the schema, as one of each of the six
-pub each : (P : Table → Type 0) → AllByRecursion P custody.tables → (p : Part) → P (table_at p)
-each P all meta = all.0
-each P all repos = all.1.0
-each P all tokens = all.1.1.0
-each P all uploads = all.1.1.1.0
-each P all chunks = all.1.1.1.1.1.0
-each P all locks = all.1.1.1.1.1.1.0
+pub each : (schema : Schema) → HasSix schema → (P : Table → Type 0) → AllByRecursion P schema.tables → (p : Part) → P (table_for p (tree_of schema p))
+each schema six P all p = all_has P schema.tables (table_for p (tree_of schema p)) all (listed schema six p)
 
--- no foreign key makes further work
-pub alone : (p : Part) (olds news : List Row) → works custody Enforced 0 (tree_of p) olds news ≡ []
-alone meta olds news = refl
-alone repos olds news = refl
-alone tokens olds news = refl
-alone uploads olds news = refl
-alone chunks olds news = refl
-alone locks olds news = refl
+pub rows_are : (p : Part) (schema : Schema) (db : Trees) → rows_of p (tables_under schema db) ≡ rows_in p schema db
+unfolding tables_under
+rows_are meta schema db = refl
+rows_are repos schema db = refl
+rows_are tokens schema db = refl
+rows_are uploads schema db = refl
+rows_are chunks schema db = refl
+rows_are locks schema db = refl
 
-pub own : (p : Part) (db : Trees) → overlay db [] (tree_of p) ≡ db (tree_of p)
-own meta db = refl
-own repos db = refl
-own tokens db = refl
-own uploads db = refl
-own chunks db = refl
-own locks db = refl
+-- two of the six with the same tree are one
+same_part : (schema : Schema) → HasSix schema → (p q : Part) → tree_of schema p ≡ tree_of schema q → p ≡ q
+same_part schema six p q e =
+    let trees = tree_is p (tree_of schema p) ∙ e ∙ sym (tree_is q (tree_of schema q)) in
+    let same = same_table schema.tables (table_for p (tree_of schema p)) (table_for q (tree_of schema q)) six.laid.apart (listed schema six p) (listed schema six q) trees in
+    sym (by_name_is p) ∙ ap by_name (sym (name_is p (tree_of schema p)) ∙ ap (λ (t : Table). t.name) same ∙ name_is q (tree_of schema q)) ∙ by_name_is q
 
-pub rows_are : (p : Part) (db : Trees) → rows_of p (tables_of db) ≡ rows_in p db
-unfolding tables_of
-rows_are meta db = refl
-rows_are repos db = refl
-rows_are tokens db = refl
-rows_are uploads db = refl
-rows_are chunks db = refl
-rows_are locks db = refl
-
--- two tables with the same tree are one table
-by_tree : ℕ → Part
-by_tree n = cond (eqb n 0) meta (cond (eqb n 1) repos (cond (eqb n 3) tokens (cond (eqb n 5) uploads (cond (eqb n 8) chunks locks))))
-
-by_tree_is : (p : Part) → by_tree (tree_of p) ≡ p
-unfolding by_tree
-by_tree_is meta = refl
-by_tree_is repos = refl
-by_tree_is tokens = refl
-by_tree_is uploads = refl
-by_tree_is chunks = refl
-by_tree_is locks = refl
-
-same_part : (p q : Part) → tree_of p ≡ tree_of q → p ≡ q
-same_part p q e = sym (by_tree_is p) ∙ ap by_tree e ∙ by_tree_is q
-
-pub typed_at : (p : Part) (db : Trees) → AreTyped db → IsTyped p db
+pub typed_at : (p : Part) (schema : Schema) (db : Trees) → AreTyped schema db → IsTyped p schema db
 unfolding AreTyped
-typed_at p db typed = typed p
+typed_at p schema db typed = typed p
 
 -- ---- if one table changes, the others stay
 
-module _ (p : Part) (old new : Trees) (stay : StayBut (tree_of p) old new) where
-  stays : (q : Part) → tree_of q ≢ tree_of p → new (tree_of q) ≡ old (tree_of q)
-  stays = each (λ (t : Table). t.tree ≢ tree_of p → new t.tree ≡ old t.tree) stay
+module _ (schema : Schema) (six : HasSix schema) (p : Part) (old new : Trees) (stay : StayBut schema (tree_of schema p) old new) where
+  stays : (q : Part) → tree_of schema q ≢ tree_of schema p → new (tree_of schema q) ≡ old (tree_of schema q)
+  stays q apart = let same = tree_is q (tree_of schema q) in
+      subst (λ n. new n ≡ old n) same (each schema six (λ (t : Table). t.tree ≢ tree_of schema p → new t.tree ≡ old t.tree) stay q (λ e. apart (sym same ∙ e)))
 
-  pub typed_after : AreTyped old → IsTyped p new → AreTyped new
+  pub typed_after : AreTyped schema old → IsTyped p schema new → AreTyped schema new
   unfolding AreTyped
-  typed_after typed here q = elim (cases_eq (tree_of q) (tree_of p)) [
-    | inl same ↦ subst (λ r. IsTyped r new) (sym (same_part q p same)) here
+  typed_after typed here q = elim (cases_eq (tree_of schema q) (tree_of schema p)) [
+    | inl same ↦ subst (λ r. IsTyped r schema new) (sym (same_part schema six q p same)) here
     | inr apart ↦ subst (IsTypedBy (encode q) (decode q)) (sym (stays q apart)) (typed q)
   ]
 
-  still : (q : Part) → tree_of q ≢ tree_of p → rows_in q new ≡ rows_in q old
-  still q apart = ap (map (decode q)) (stays q apart)
+  still : (q : Part) → (q ≡ p → ⊥) → rows_in q schema new ≡ rows_in q schema old
+  still q other = ap (map (decode q)) (stays q (λ e. other (same_part schema six q p e)))
 
-pub tables_after : (p : Part) (old new : Trees) → StayBut (tree_of p) old new → tables_of new ≡ with_rows p (rows_in p new) (tables_of old)
-unfolding tables_of
-tables_after meta old new stay = λ i. record { meta = rows_in meta new; repos = still meta old new stay repos (λ e. cc) i; tokens = still meta old new stay tokens (λ e. cc) i; uploads = still meta old new stay uploads (λ e. cc) i; chunks = still meta old new stay chunks (λ e. cc) i; locks = still meta old new stay locks (λ e. cc) i }
-tables_after repos old new stay = λ i. record { meta = still repos old new stay meta (λ e. cc) i; repos = rows_in repos new; tokens = still repos old new stay tokens (λ e. cc) i; uploads = still repos old new stay uploads (λ e. cc) i; chunks = still repos old new stay chunks (λ e. cc) i; locks = still repos old new stay locks (λ e. cc) i }
-tables_after tokens old new stay = λ i. record { meta = still tokens old new stay meta (λ e. cc) i; repos = still tokens old new stay repos (λ e. cc) i; tokens = rows_in tokens new; uploads = still tokens old new stay uploads (λ e. cc) i; chunks = still tokens old new stay chunks (λ e. cc) i; locks = still tokens old new stay locks (λ e. cc) i }
-tables_after uploads old new stay = λ i. record { meta = still uploads old new stay meta (λ e. cc) i; repos = still uploads old new stay repos (λ e. cc) i; tokens = still uploads old new stay tokens (λ e. cc) i; uploads = rows_in uploads new; chunks = still uploads old new stay chunks (λ e. cc) i; locks = still uploads old new stay locks (λ e. cc) i }
-tables_after chunks old new stay = λ i. record { meta = still chunks old new stay meta (λ e. cc) i; repos = still chunks old new stay repos (λ e. cc) i; tokens = still chunks old new stay tokens (λ e. cc) i; uploads = still chunks old new stay uploads (λ e. cc) i; chunks = rows_in chunks new; locks = still chunks old new stay locks (λ e. cc) i }
-tables_after locks old new stay = λ i. record { meta = still locks old new stay meta (λ e. cc) i; repos = still locks old new stay repos (λ e. cc) i; tokens = still locks old new stay tokens (λ e. cc) i; uploads = still locks old new stay uploads (λ e. cc) i; chunks = still locks old new stay chunks (λ e. cc) i; locks = rows_in locks new }
+is_code : Part → ℕ
+is_code meta = 0
+is_code repos = 1
+is_code tokens = 2
+is_code uploads = 3
+is_code chunks = 4
+is_code locks = 5
+
+differ : (p q : Part) → eqb (is_code p) (is_code q) ≡ false → p ≡ q → ⊥
+differ p q h e = absurd (let k : eqb (is_code p) (is_code p) ≡ false = subst (λ r. eqb (is_code p) (is_code r) ≡ false) (sym e) h in let m = eq-eqb (is_code p) (is_code p) refl in cc)
+
+pub tables_after : (schema : Schema) (six : HasSix schema) (p : Part) (old new : Trees) → StayBut schema (tree_of schema p) old new → tables_under schema new ≡ with_rows p (rows_in p schema new) (tables_under schema old)
+unfolding tables_under is_code
+tables_after schema six meta old new stay = λ i. record { meta = rows_in meta schema new; repos = still schema six meta old new stay repos (differ repos meta refl) i; tokens = still schema six meta old new stay tokens (differ tokens meta refl) i; uploads = still schema six meta old new stay uploads (differ uploads meta refl) i; chunks = still schema six meta old new stay chunks (differ chunks meta refl) i; locks = still schema six meta old new stay locks (differ locks meta refl) i }
+tables_after schema six repos old new stay = λ i. record { meta = still schema six repos old new stay meta (differ meta repos refl) i; repos = rows_in repos schema new; tokens = still schema six repos old new stay tokens (differ tokens repos refl) i; uploads = still schema six repos old new stay uploads (differ uploads repos refl) i; chunks = still schema six repos old new stay chunks (differ chunks repos refl) i; locks = still schema six repos old new stay locks (differ locks repos refl) i }
+tables_after schema six tokens old new stay = λ i. record { meta = still schema six tokens old new stay meta (differ meta tokens refl) i; repos = still schema six tokens old new stay repos (differ repos tokens refl) i; tokens = rows_in tokens schema new; uploads = still schema six tokens old new stay uploads (differ uploads tokens refl) i; chunks = still schema six tokens old new stay chunks (differ chunks tokens refl) i; locks = still schema six tokens old new stay locks (differ locks tokens refl) i }
+tables_after schema six uploads old new stay = λ i. record { meta = still schema six uploads old new stay meta (differ meta uploads refl) i; repos = still schema six uploads old new stay repos (differ repos uploads refl) i; tokens = still schema six uploads old new stay tokens (differ tokens uploads refl) i; uploads = rows_in uploads schema new; chunks = still schema six uploads old new stay chunks (differ chunks uploads refl) i; locks = still schema six uploads old new stay locks (differ locks uploads refl) i }
+tables_after schema six chunks old new stay = λ i. record { meta = still schema six chunks old new stay meta (differ meta chunks refl) i; repos = still schema six chunks old new stay repos (differ repos chunks refl) i; tokens = still schema six chunks old new stay tokens (differ tokens chunks refl) i; uploads = still schema six chunks old new stay uploads (differ uploads chunks refl) i; chunks = rows_in chunks schema new; locks = still schema six chunks old new stay locks (differ locks chunks refl) i }
+tables_after schema six locks old new stay = λ i. record { meta = still schema six locks old new stay meta (differ meta locks refl) i; repos = still schema six locks old new stay repos (differ repos locks refl) i; tokens = still schema six locks old new stay tokens (differ tokens locks refl) i; uploads = still schema six locks old new stay uploads (differ uploads locks refl) i; chunks = still schema six locks old new stay chunks (differ chunks locks refl) i; locks = rows_in locks schema new }
+
+-- a database with these tables, which are typed and obey it, has the six
+pub kept_under : (db : Database) (schema : Schema) → db.schema ≡ schema → HasSix schema → AreTyped schema db.trees → IsSound schema db.trees → IsKept db
+unfolding IsOurs IsSix
+kept_under db schema same six typed sound = record { schema = subst HasSix (sym same) six; typed = subst (λ s. AreTyped s db.trees) (sym same) typed; ours = subst (λ s. IsSound s db.trees) (sym same) sound }
+
+pub six_of : (db : Database) → IsKept db → HasSix db.schema
+unfolding IsSix
+six_of db kept = kept.schema

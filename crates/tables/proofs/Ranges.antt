@@ -1,16 +1,12 @@
 -- Texts in range are UTF-8, so a column that has one can be read.
-use Rattle.std.proofs.Common.{◌≡◌, ◌≢◌, ℕ, zero, suc, ◌<◌, Bool, true, false, ◌&&◌, ◌==◌, cond, List, [], ◌∷◌, IsAscii, IsUtf8, IsTrue, IsErrAnd, Result, Ok, Err, length, codes, nat_le, not, refl, sym, ap, subst, ◌∙◌, arith}
+use Rattle.tables.proofs.Prelude.{◌≡◌, ◌≢◌, ℕ, zero, suc, ◌<◌, Bool, true, false, ◌&&◌, ◌==◌, cond, List, [], ◌∷◌, IsAscii, IsUtf8, IsTrue, IsErrAnd, Result, Ok, Err, length, codes, nat_le, not, refl, sym, ap, subst, ◌∙◌, arith, list_all, onto_first, and_parts, and_from, Text, Error, column, StoreFault}
 use Rattle.std.specs.Str.{is_utf8}
-use Rattle.std.specs.List.{list_all, onto_first}
-use Rattle.std.proofs.lemmas.Bool.{and_parts, and_from, eqb-true}
+use Rattle.std.proofs.lemmas.Bool.{eqb-true}
 use Rattle.std.proofs.lemmas.Bool.Decides.{nat_tests}
 use Rattle.std.proofs.lemmas.Str.{IsUtf8-from_ascii, IsUtf8-from_is_utf8}
-use Rattle.sqlite.specs.declared.types.Value.TheVariants.{Text}
 use Rattle.sqlite.specs.declared.error.ErrorCode.TheVariants.{OutOfMemory}
-use Rattle.sqlite.specs.declared.error.Error.{Error}
 use Rattle.sqlite.specs.declared.error.Error.TheVariants.{SqliteFailure}
-use Rattle.sqlite_value.specs.Order.{Row, column}
-use Rattle.tables.specs.declared.fault.StoreFault.{StoreFault}
+use Rattle.sqlite_value.specs.Order.{Row}
 use Rattle.tables.specs.declared.fault.StoreFault.TheVariants.{Refused}
 use Rattle.tables.specs.Faults.{fault_of}
 use Rattle.names.specs.Texts.{parts, is_name_byte, is_ref_byte, is_path_byte, is_path_part, is_empty, has_two_dots, begins, between, is_user, is_repo, is_ref, is_lock_path, are_owner_and_name}

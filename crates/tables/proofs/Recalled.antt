@@ -1,17 +1,10 @@
 -- What a store remembers of staged uploads stays true.
-use Rattle.std.proofs.Common.{◌≡◌, ℕ, ℤ, pos, Bool, true, false, cond, not, List, [], ◌∷◌, Some, None, Option, refl, sym, subst}
-use Rattle.std.specs.Global.{Vec}
-use Rattle.sqlite_keyed.specs.Lists.{update_where, delete_where}
-use Rattle.sqlite_keyed.proofs.ListLemmas.{all-filter, all_map, all_weaker}
-use Rattle.tables.specs.declared.staged.Remembered.{Remembered}
-use Rattle.tables.specs.declared.new_rows.LastChunk.{LastChunk}
-use Rattle.tables.specs.Rows.{Token, Upload, Chunk, Lock, Tables}
-use Rattle.tables.specs.Statements.{is_upload, with_chunk, without_lock, without_expired, with_lock, with_token, without_row, without_chunks, without_chunks_from, with_done}
-use Rattle.tables.specs.Steps.{Outcome, held, used_up, created, outcome_of, after_outcome, after_create, with_made, with_new_lock, has_token, after_add}
-use Rattle.tables.specs.Staging.{without_upload, without_found, without_found_from, without_staged, without_staged_from, staged_with, with_used, with_bytes, with_last, with_kept, completion_by, after_completion, after_found, after_complete}
-use Rattle.tables.specs.declared.rows.Completion.{Completion}
+use Rattle.tables.proofs.Prelude.{◌≡◌, ℕ, ℤ, pos, Bool, true, false, cond, not, List, [], ◌∷◌, Some, None, Option, refl, sym, subst, Vec, update_where, delete_where, all-filter, all_map, all_weaker, Remembered, LastChunk, Token, Upload, Chunk, Lock, Tables, is_upload, Outcome, held, used_up, outcome_of, after_outcome, has_token, without_found, without_found_from, with_bytes, completion_by, after_completion, after_found, Completion, IsRemembered}
+use Rattle.tables.specs.Statements.{with_chunk, without_lock, without_expired, with_lock, with_token, without_row, without_chunks, without_chunks_from, with_done}
+use Rattle.tables.specs.Steps.{created, after_create, with_made, with_new_lock, after_add}
+use Rattle.tables.specs.Staging.{without_upload, without_staged, without_staged_from, staged_with, with_used, with_last, with_kept, after_complete}
 use Rattle.tables.specs.declared.rows.Completion.TheVariants as completion
-use Rattle.tables.specs.Remembered.{IsRemembered, KnowsStaged}
+use Rattle.tables.specs.Remembered.{KnowsStaged}
 
 -- the step keeps what is remembered true
 abbrev pub KeepsKnown : (Tables → Tables) → Type 0

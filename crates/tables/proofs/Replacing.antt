@@ -1,22 +1,11 @@
 -- An upload that is begun replaces the staged one of its repository, which the store remembers.
-use Rattle.std.proofs.Common.{◌≡◌, ◌≢◌, ℕ, ℤ, ◌<ℤ◌, Bool, true, false, cond, not, List, [], ◌∷◌, find, filter, Some, None, Option, IfSome, IsTrue, refl, sym, ap, subst, ◌∙◌, arith}
-use Rattle.std.specs.List.{AllByRecursion}
-use Rattle.std.specs.Global.{Vec}
-use Rattle.std.specs.Ordering.{int_eq}
-use Rattle.std.proofs.lemmas.Int.{ints}
+use Rattle.tables.proofs.Prelude.{◌≡◌, ◌≢◌, ℕ, ℤ, ◌<ℤ◌, Bool, true, false, cond, not, List, [], ◌∷◌, find, filter, Some, None, Option, IfSome, IsTrue, refl, sym, ap, subst, ◌∙◌, arith, AllByRecursion, Vec, int_eq, ints, all_weaker, all_kept, all_both, all-append, Held, state, Ghosts, NewUpload, Remembered, Upload, Tables, same_bytes, is_upload, is_staged, is_staged_in, is_staged_with, asked_upload, IsAbove, without_found, repo_text, remembered_in, IsRemembered, IsNoted, IsLastOf, HasLast, true≢false}
 use Rattle.sqlite_keyed.proofs.KeyedLemmas.{same_int}
-use Rattle.sqlite_keyed.proofs.ListLemmas.{all_of, all_weaker, all_kept, all_both, all-append}
+use Rattle.sqlite_keyed.proofs.ListLemmas.{all_of}
 use Rattle.sqlite_keyed.proofs.RuleLemmas.{first_of_both, second_of_both}
-use Rattle.sqlite.specs.Held.{Held, state}
-use Rattle.sqlite_trees.specs.declared.store.Store.{Ghosts}
-use Rattle.tables.specs.declared.new_rows.NewUpload.{NewUpload}
-use Rattle.tables.specs.declared.staged.Remembered.{Remembered}
-use Rattle.tables.specs.Rows.{Upload, Tables}
-use Rattle.tables.specs.Statements.{same_bytes, is_upload, is_staged, is_staged_in, is_staged_with, with_upload, without_row, without_chunks}
-use Rattle.tables.specs.Staging.{asked_upload, staged_with, IsAbove, without_upload, without_found, without_staged_in, after_begin}
-use Rattle.names.specs.Names.{repo_text}
-use Rattle.tables.specs.Remembered.{remembered_in, IsRemembered, KnowsStaged, IsNoted, IsLastOf, HasLast}
-use Rattle.std.proofs.lemmas.Bool.{true≢false}
+use Rattle.tables.specs.Statements.{with_upload, without_row, without_chunks}
+use Rattle.tables.specs.Staging.{staged_with, without_upload, without_staged_in, after_begin}
+use Rattle.tables.specs.Remembered.{KnowsStaged}
 use Rattle.tables.proofs.Recalled.{found_keeps}
 use Rattle.tables.proofs.Entries.{same_text, itself}
 

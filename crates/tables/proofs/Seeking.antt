@@ -1,25 +1,6 @@
 -- The staged upload of a repository is found.
-use Rattle.std.proofs.Common.{◌≡◌, ◌∙◌, inl, inr, ℕ, true, List, option_map, Option, Some, None, Result, Ok, Err, arith, refl, sym, ap, subst}
-use Rattle.std.specs.Prelude.{IfOk}
-use Rattle.std.specs.Global.{Vec}
-use Rattle.std.proofs.lemmas.Result.{IfOk-weaker}
-use Rattle.sqlite.specs.Effect.{Database}
-use Rattle.sqlite.specs.Held.{Held, state}
-use Rattle.sqlite_trees.specs.declared.store.Store.{Ghosts}
-use Rattle.tables.specs.declared.Store.{Store}
-use Rattle.tables.specs.declared.staged.Remembered.{Remembered}
-use Rattle.tables.specs.declared.rows.UploadId.{UploadId}
-use Rattle.tables.specs.declared.rows.UploadRow.{UploadRow}
-use Rattle.tables.specs.declared.fault.StoreFault.{StoreFault}
-use Rattle.tables.specs.Rows.{Tables, tables_of}
-use Rattle.tables.specs.Runs.{IsKept, tables_in}
-use Rattle.tables.specs.Statements.{same_bytes}
-use Rattle.tables.specs.Staging.{UploadFields, upload_number, upload_fields, read_upload, staged_with, IsUploadOf}
-use Rattle.tables.specs.Remembered.{remembered_in, KnowsStaged, IsLastOf}
-use Rattle.tables.specs.Calls.{Looks}
-use Rattle.tables.specs.Shown.{IsHonest, Moves, AddsNothing, shown}
-use Rattle.tables.specs.Learning.{Learns}
-use Rattle.tables.specs.Seeking.{IsStagedOf, Seeks, Finds}
+use Rattle.tables.proofs.Prelude.{◌≡◌, ◌∙◌, inl, inr, ℕ, true, List, option_map, Option, Some, None, Result, Ok, Err, arith, refl, sym, ap, subst, IfOk, Vec, IfOk-weaker, Database, Held, state, Ghosts, Store, Remembered, UploadId, UploadRow, StoreFault, Tables, tables_of, IsKept, tables_in, same_bytes, UploadFields, upload_number, upload_fields, read_upload, IsUploadOf, remembered_in, KnowsStaged, IsLastOf, Looks, IsHonest, Moves, AddsNothing, shown, Learns, IsStagedOf, Seeks, Finds}
+use Rattle.tables.specs.Staging.{staged_with}
 use Rattle.tables.proofs.Completing.{none_found, one_found}
 use Rattle.tables.proofs.Replacing.{no_last, none_found_last, found_last, last_is_remembered}
 
@@ -80,7 +61,7 @@ module _ {S : Type 0} (g : Ghosts S) (repo : List ℕ) where
         answers = λ k had. IfOk-weaker r _ _
             (λ found says is_open.
             let kept = it.same k in
-            let same : shown g mid ≡ shown g new = sym (ap (λ (d : Database). tables_of d.trees) (kept.now is_open)) in
+            let same : shown g mid ≡ shown g new = sym (ap tables_of (kept.now is_open)) in
             subst (λ (t : Tables). IsStagedOf repo t found) same
             (says (subst (λ l. IsLastOf l repo (shown g mid)) (sym is_last) (last_is_remembered known repo (shown g mid) (learned.answers (clean k) had (kept.was_open is_open))))))
             (it.answers k (learned.same.ready had).ready);
@@ -89,9 +70,9 @@ module _ {S : Type 0} (g : Ghosts S) (repo : List ℕ) where
           was_open = λ k o. learned.same.was_open (clean k) ((it.same k).was_open o);
           ready = λ had. record {
             ready = λ k o. let kept = it.same k in subst IsKept (sym (kept.now o)) ((learned.same.ready had).ready (clean k) (kept.was_open o));
-            known = λ k o. let kept = it.same k in subst (λ (d : Database). KnowsStaged (Some known) (tables_of d.trees).uploads) (sym (kept.now o)) (learned.answers (clean k) had (kept.was_open o));
+            known = λ k o. let kept = it.same k in subst (λ (d : Database). KnowsStaged (Some known) (tables_of d).uploads) (sym (kept.now o)) (learned.answers (clean k) had (kept.was_open o));
           };
-          shows = λ k had o. ap (λ (d : Database). tables_of d.trees) ((it.same k).now o) ∙ learned.same.shows (clean k) had ((it.same k).was_open o);
+          shows = λ k had o. ap tables_of ((it.same k).now o) ∙ learned.same.shows (clean k) had ((it.same k).was_open o);
         };
         adds = record {
           was_honest = λ k. learned.same.was_honest (clean k);

@@ -1,18 +1,8 @@
 -- From the contract of a function on a connection to that of a call on the store.
-use Rattle.std.proofs.Common.{◌≡◌, ◌≢◌, List, Bool, true, false, None, Result, Ok, Err, OnOk, IsTrue, arith, inl, inr, refl, sym, ap, subst, ◌∙◌}
-use Rattle.std.proofs.lemmas.Bool.{true≢false}
-use Rattle.sqlite.specs.Effect.{Database}
-use Rattle.sqlite.specs.Held.{Held, state}
-use Rattle.sqlite_trees.specs.declared.store.Store.{Ghosts}
-use Rattle.tables.specs.declared.Store.{Store}
-use Rattle.tables.specs.declared.fault.StoreFault.{StoreFault}
-use Rattle.tables.specs.Rows.{Tables, Upload, tables_of}
-use Rattle.tables.specs.Runs.{IsReady, IsKept}
+use Rattle.tables.proofs.Prelude.{◌≡◌, List, Bool, true, false, None, Result, Ok, Err, OnOk, IsTrue, arith, inl, inr, refl, sym, ap, subst, ◌∙◌, true≢false, Database, Held, state, Ghosts, Store, StoreFault, Tables, Upload, tables_of, IsReady, IsKept, Keeps, Looks, Commits, Transacts, IsHonest, IsOpen, HasTables, Moves, Adds, Makes, Reads, Changes, shown}
+use Rattle.tables.proofs.Once.{same_tables}
 use Rattle.tables.specs.Remembered.{KnowsStaged}
-use Rattle.typed_rows.specs.Transactions.{Keeps}
-use Rattle.tables.specs.Calls.{Looks, Commits, Transacts}
 use Rattle.tables.specs.Calls as call
-use Rattle.tables.specs.Shown.{IsHonest, IsOpen, HasTables, Moves, Adds, Makes, Reads, Changes, shown}
 use Rattle.tables.proofs.Recalled.{KeepsKnown}
 
 module _ {S : Type 0} (g : Ghosts S) (old new : Store S) where
@@ -28,9 +18,9 @@ module _ {S : Type 0} (g : Ghosts S) (old new : Store S) where
     ready = λ had. record {
       ready = λ clean is_open. let same = keeps clean in subst IsKept (sym (same.now is_open)) (had.ready (honest clean) (same.was_open is_open));
       known = λ clean is_open. let same = keeps clean in
-          recalls (shown g new).uploads (subst (λ (d : Database). KnowsStaged old.staged (tables_of d.trees).uploads) (sym (same.now is_open)) (had.known (honest clean) (same.was_open is_open)));
+          recalls (shown g new).uploads (subst (λ (d : Database). KnowsStaged old.staged (tables_of d).uploads) (sym (same.now is_open)) (had.known (honest clean) (same.was_open is_open)));
     };
-    shows = λ k _ is_open. ap (λ (d : Database). tables_of d.trees) ((keeps k).now is_open);
+    shows = λ k _ is_open. ap tables_of ((keeps k).now is_open);
   }
 
   -- the same, if what it leaves is no more than before
@@ -62,7 +52,7 @@ module _ {S : Type 0} (g : Ghosts S) (old new : Store S) where
       was_honest = commits.clean;
       outcomes = λ k t left. elim ((commits.stop had.ready).crash k left.0.trees left.2) [
         | inl before ↦ inl (left.0, left.1, before, left.3)
-        | inr after ↦ inr (after.1, left.3 ∙ ap tables_of after.3 ∙ after.2.tables)
+        | inr after ↦ inr (after.1, left.3 ∙ same_tables left.0 after.0 left.1 after.2.kept after.3 ∙ after.2.tables)
       ];
       safe = λ k safe trees left. elim ((commits.stop had.ready).crash k trees left) [ inl before ↦ safe trees before | inr after ↦ (after.0, after.2.kept, after.3) ];
     }
@@ -84,7 +74,7 @@ module _ {S : Type 0} (g : Ghosts S) (old new : Store S) where
           was_open = opened;
           is_open = commits.is_open;
           durable = λ had. record {
-            only = λ k t left. left.3 ∙ ap tables_of (commits.saved k left.0.trees left.2);
+            only = λ k t left. left.3 ∙ same_tables left.0 (state g new.conn).now left.1 (commits.ok k had.ready).1.kept (commits.saved k left.0.trees left.2);
             safe = λ k trees left. ((state g new.conn).now, (commits.ok k had.ready).1.kept, commits.saved k trees left);
           };
         }

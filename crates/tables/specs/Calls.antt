@@ -1,13 +1,12 @@
 -- The contracts of the functions on a connection, each as one definition.
-use Rattle.std.specs.Prelude.{◌≡◌, false, Result, IfOk, OnOk, OnErr, IsTrue}
+use Rattle.std.specs.Prelude.{◌≡◌, false, List, Result, IfOk, OnOk, OnErr, IsTrue}
 use Rattle.sqlite.specs.Tree.{Trees}
 use Rattle.sqlite.specs.State.{State, HasCleanDisk, Shows, IsRolledBack, Survives}
-use Rattle.sqlite.specs.Schema.{Schema}
 use Rattle.sqlite.specs.Held.{Held, state}
 use Rattle.sqlite_trees.specs.declared.store.Store.{Ghosts}
 use Rattle.typed_rows.specs.Transactions.{Keeps, Inside}
 use Rattle.tables.specs.declared.fault.StoreFault.{StoreFault}
-use Rattle.tables.specs.Rows.{Tables}
+use Rattle.tables.specs.Rows.{Part, Tables}
 use Rattle.tables.specs.Making.{IsBlank}
 use Rattle.tables.specs.Runs.{IsReady, IsAfter, Blanks, Leads, Steps, tables_in, with_fresh}
 
@@ -32,16 +31,16 @@ module _ {S : Type 0} (g : Ghosts S) where
     pub within : Inside g old new result
     pub ok : MakesStep old new result step
 
-  -- if the result is Ok, a database blank under one schema became blank under the other
-  abbrev pub MakesBlank : {T E : Type 0} → Held S → Held S → Result T E → Schema → Schema → Type 0
+  -- if the result is Ok, a database with some of the six tables, and no rows in them, got more
+  abbrev pub MakesBlank : {T E : Type 0} → Held S → Held S → Result T E → List Part → List Part → Type 0
   MakesBlank old new result before after =
       HasCleanDisk (state g new) → IsTrue old.in_transaction
       → OnOk result (Blanks before after (state g old) (state g new))
 
   -- if the result is Ok, a blank database got the fresh tables
-  abbrev pub MakesFresh : {T E : Type 0} → Held S → Held S → Result T E → Schema → Type 0
-  MakesFresh old new result schema =
-      HasCleanDisk (state g new) → IsTrue old.in_transaction → IsBlank schema (state g old).now
+  abbrev pub MakesFresh : {T E : Type 0} → Held S → Held S → Result T E → List Part → Type 0
+  MakesFresh old new result done =
+      HasCleanDisk (state g new) → IsTrue old.in_transaction → (IsTrue (state g old).is_open → IsBlank done (state g old).now)
       → OnOk result (Steps with_fresh (state g old) (state g new))
 
   -- ---- a transaction of its own

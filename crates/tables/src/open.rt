@@ -7,7 +7,7 @@ ghost use Rattle.sqlite.specs.Steps.{over_memory};
 ghost use Rattle.sqlite.specs.Files.{over_files, file_state, IsNothing};
 ghost use Rattle.sqlite_catalog.specs.Listing.{IsSound};
 ghost use Rattle.sqlite_trees.specs.Objects.{catalog_tree};
-ghost use Rattle.tables.specs.Layout.{custody};
+ghost use Rattle.tables.specs.Six.{HasAll};
 ghost use Rattle.tables.specs.Runs.{first_meta, fresh};
 ghost use Rattle.tables.specs.Shown.{connection, committed, IsHonest, IsOpen, HasNoTable, HasOurs, IsForeign, HasTables, shown, Leaves, IsSafe, Rests, AddsFresh};
 
@@ -80,13 +80,13 @@ impl<S: Alter> Store<S> {
 }
 
 impl<S: Storage> Store<S> {
-    /// Gives a database with no table the six tables of version 1, all or none, and leaves one that has them. The
-    /// result holds whatever the file held before.
+    /// Gives a database that has none of the six tables the six of version 1, all or none, and leaves one that has
+    /// them, whatever other tables it has. The result holds whatever the file held before.
     ///
     /// # Errors
     ///
     /// `UnknownSchema` for any other database; `Store` of `Refused` or `Memory`. The database is unchanged, but if it
-    /// had no table, a stop may still leave the six tables.
+    /// had none of the six, a stop may still leave them.
     pub fn create_or_check(&mut self, alloc: Global) -> Result<(), OpenFault>
         ensures ready { OnOk result (HasTables S.Store self.new) }
         ensures version { IsHonest S.Store self.new
@@ -100,7 +100,8 @@ impl<S: Storage> Store<S> {
             → OnOk result ((t : _) → Leaves S.Store self.new t
             → (HasNoTable S.Store self.old × (t ≡ fresh))
             ⊎ (HasOurs S.Store self.old × (t ≡ shown S.Store self.old))) }
-        ensures ours { IsHonest S.Store self.new → IsSound custody (committed S.Store self.old)
+        ensures ours { IsHonest S.Store self.new → (schema : _) → HasAll schema
+            → IsSound schema (committed S.Store self.old)
             → OnOk result (HasOurs S.Store self.old) }
         ensures empty { IsHonest S.Store self.new → committed S.Store self.old catalog_tree ≡ []
             → OnOk result (HasNoTable S.Store self.old) }

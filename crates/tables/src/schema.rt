@@ -1,15 +1,19 @@
-//! The six tables: creates them in an empty database, and detects any other schema.
+//! The six tables: creates them in a database that has none of them, and detects any other schema. Other tables do not
+//! matter.
 
-ghost use Rattle.std.specs.Prelude.{◌≡◌, ◌↔◌, [], ◌∷◌, map, IfOk, OnErr, OnOk, IsTrue};
+ghost use Rattle.std.specs.Prelude.{false, ◌≡◌, ◌↔◌, [], ◌∷◌, map, IfOk, IsSome, OnErr, OnOk, IsTrue};
 ghost use Rattle.sqlite.specs.State.{HasCleanDisk, Survives};
 ghost use Rattle.sqlite.specs.Held.{state};
 ghost use Rattle.sqlite_catalog.specs.Listing.{IsSound};
 ghost use Rattle.sqlite_trees.specs.Objects.{catalog_tree};
-ghost use Rattle.tables.specs.Rows.{Part};
-ghost use Rattle.tables.specs.Layout.{custody};
-ghost use Rattle.tables.specs.Making.{text_for, before, after, no_schema, with_tokens, with_locks, IsBlank};
+ghost use Rattle.tables.specs.Rows as part;
+ghost use Rattle.tables.specs.Rows.{Part, name_of};
+ghost use Rattle.tables.specs.Six.{HasPart, HasNone, HasAll, is_parent, counts_name};
+ghost use Rattle.typed_rows.specs.Queries.{IsFree};
+ghost use Rattle.sqlite_schema.specs.Names.{table_named};
+ghost use Rattle.tables.specs.Making.{text_for, before, after, all_six, IsBlank};
 ghost use Rattle.tables.specs.Statements.{show_meta};
-ghost use Rattle.tables.specs.Runs.{HasNoTable, IsForeign, HasOurs, IsReady, with_fresh, first_meta, tables_in, LeadsIfBlank, LeavesOurs, LeavesOnly, MakesOrKeeps};
+ghost use Rattle.tables.specs.Runs.{IsOurs, Steps, HasNoTable, IsForeign, HasOurs, IsReady, with_fresh, first_meta, tables_in, LeadsIfBlank, LeavesOurs, LeavesOnly, MakesOrKeeps};
 ghost use Rattle.typed_rows.specs.Transactions.{Inside, Keeps};
 ghost use Rattle.tables.specs.Calls.{MakesBlank, MakesFresh, Commits, Looks};
 
@@ -17,7 +21,7 @@ use crate::fault::{OpenFault, StoreFault};
 use crate::read::read;
 use crate::storage::Storage;
 use crate::write::finish;
-use schema_compare::same_schema;
+use schema_compare::{is_referred, same_definition};
 use sqlite::{Alter, Connection, Error, Row, Transaction};
 use sqlite_schema::schema::Schema;
 use std::alloc::Global;
@@ -34,7 +38,7 @@ fn table_into<S: Alter>(tx: &mut Transaction<'_, S>, sql: &str) -> Result<usize,
 
 fn first_tables_into<S: Alter>(tx: &mut Transaction<'_, S>) -> Result<(), Error>
     ensures same_reference { tx.new.conn.ghost_name ≡ tx.old.conn.ghost_name }
-    ensures ok { MakesBlank S.Store tx.old.conn.now tx.new.conn.now result no_schema with_tokens }
+    ensures ok { MakesBlank S.Store tx.old.conn.now tx.new.conn.now result (before part.meta) (after part.tokens) }
     ensures within { Inside S.Store tx.old.conn.now tx.new.conn.now result }
 {
     table_into(
@@ -54,7 +58,7 @@ fn first_tables_into<S: Alter>(tx: &mut Transaction<'_, S>) -> Result<(), Error>
 
 fn last_tables_into<S: Alter>(tx: &mut Transaction<'_, S>) -> Result<(), Error>
     ensures same_reference { tx.new.conn.ghost_name ≡ tx.old.conn.ghost_name }
-    ensures ok { MakesBlank S.Store tx.old.conn.now tx.new.conn.now result with_tokens with_locks }
+    ensures ok { MakesBlank S.Store tx.old.conn.now tx.new.conn.now result (before part.uploads) (after part.locks) }
     ensures within { Inside S.Store tx.old.conn.now tx.new.conn.now result }
 {
     table_into(
@@ -74,7 +78,10 @@ fn last_tables_into<S: Alter>(tx: &mut Transaction<'_, S>) -> Result<(), Error>
 
 fn version_into<S: Alter>(tx: &mut Transaction<'_, S>) -> Result<usize, Error>
     ensures same_reference { tx.new.conn.ghost_name ≡ tx.old.conn.ghost_name }
-    ensures ok { MakesFresh S.Store tx.old.conn.now tx.new.conn.now result with_locks }
+    ensures ok { HasCleanDisk (state S.Store tx.new.conn.now) → IsTrue tx.old.conn.now.in_transaction
+        → IsBlank all_six (state S.Store tx.old.conn.now).now
+        → IsOurs (state S.Store tx.old.conn.now).now
+        → OnOk result (Steps with_fresh (state S.Store tx.old.conn.now) (state S.Store tx.new.conn.now)) }
     ensures within { Inside S.Store tx.old.conn.now tx.new.conn.now result }
 {
     tx.execute("INSERT INTO meta (one, version) VALUES (1, 1)", &[])
@@ -82,7 +89,7 @@ fn version_into<S: Alter>(tx: &mut Transaction<'_, S>) -> Result<usize, Error>
 
 fn fresh_into<S: Alter>(tx: &mut Transaction<'_, S>) -> Result<(), Error>
     ensures same_reference { tx.new.conn.ghost_name ≡ tx.old.conn.ghost_name }
-    ensures ok { MakesFresh S.Store tx.old.conn.now tx.new.conn.now result no_schema }
+    ensures ok { MakesFresh S.Store tx.old.conn.now tx.new.conn.now result [] }
     ensures within { Inside S.Store tx.old.conn.now tx.new.conn.now result }
 {
     first_tables_into(tx)?;
@@ -91,10 +98,11 @@ fn fresh_into<S: Alter>(tx: &mut Transaction<'_, S>) -> Result<(), Error>
     Ok(())
 }
 
-/// Gives a database with no table the six tables and their version, all or none.
+/// Gives a database that has none of the six tables the six and their version, all or none.
 #[tactic(auto, using(crate::proofs::Calls::led))]
 fn create<S: Alter>(conn: &mut Connection<S>) -> Result<(), StoreFault>
-    ensures { Commits S.Store (IsBlank no_schema (state S.Store conn.old).now) conn.old conn.new result with_fresh }
+    ensures { Commits S.Store (IsTrue (state S.Store conn.old).is_open
+        → IsBlank [] (state S.Store conn.old).now) conn.old conn.new result with_fresh }
 {
     if !conn.is_autocommit() {
         return Err(StoreFault::Refused);
@@ -104,21 +112,102 @@ fn create<S: Alter>(conn: &mut Connection<S>) -> Result<(), StoreFault>
     finish(tx)
 }
 
-fn is_blank(schema: &Schema) -> bool
-    ensures { IsTrue result ↔ (schema.now ≡ no_schema) }
+/// Whether nothing has the name, and no foreign key refers to a table of the name.
+fn is_free(schema: &Schema, name: &[u8]) -> bool
+    ensures { IsTrue result ↔ (IsFree schema.now name.now × (is_parent schema.now name.now ≡ false)) }
 {
-    schema.tables.is_empty() && schema.indexes.is_empty() && schema.views.is_empty()
+    schema.table_named(name).is_none()
+        && schema.index_named(name).is_none()
+        && schema.view_named(name).is_none()
+        && !is_referred(schema.tables.as_slice(), name)
 }
 
-/// Whether the schema is the one that `create` makes.
-fn is_ours(alloc: Global, schema: &Schema) -> Result<bool, StoreFault>
-    ensures { IfOk result (λ same. IsTrue same ↔ (schema.now ≡ custody)) }
+/// Whether the schema has none of the six tables.
+fn has_none(schema: &Schema) -> bool
+    ensures meta { IsTrue result → IsFree schema.now (name_of part.meta)
+        × (is_parent schema.now (name_of part.meta) ≡ false) }
+    ensures repos { IsTrue result → IsFree schema.now (name_of part.repos)
+        × (is_parent schema.now (name_of part.repos) ≡ false) }
+    ensures tokens { IsTrue result → IsFree schema.now (name_of part.tokens)
+        × (is_parent schema.now (name_of part.tokens) ≡ false) }
+    ensures uploads { IsTrue result → IsFree schema.now (name_of part.uploads)
+        × (is_parent schema.now (name_of part.uploads) ≡ false) }
+    ensures chunks { IsTrue result → IsFree schema.now (name_of part.chunks)
+        × (is_parent schema.now (name_of part.chunks) ≡ false) }
+    ensures locks { IsTrue result → IsFree schema.now (name_of part.locks)
+        × (is_parent schema.now (name_of part.locks) ≡ false) }
+    ensures unreferred { IsTrue result → is_parent schema.now counts_name ≡ false }
+    ensures complete { IsFree schema.now (name_of part.meta) × (is_parent schema.now (name_of part.meta) ≡ false)
+        → IsFree schema.now (name_of part.repos) × (is_parent schema.now (name_of part.repos) ≡ false)
+        → IsFree schema.now (name_of part.tokens) × (is_parent schema.now (name_of part.tokens) ≡ false)
+        → IsFree schema.now (name_of part.uploads) × (is_parent schema.now (name_of part.uploads) ≡ false)
+        → IsFree schema.now (name_of part.chunks) × (is_parent schema.now (name_of part.chunks) ≡ false)
+        → IsFree schema.now (name_of part.locks) × (is_parent schema.now (name_of part.locks) ≡ false)
+        → is_parent schema.now counts_name ≡ false → IsTrue result }
 {
-    let Ok(mut ours) = Connection::open_in_memory(alloc) else {
+    is_free(schema, b"meta")
+        && is_free(schema, b"repos")
+        && is_free(schema, b"tokens")
+        && is_free(schema, b"uploads")
+        && is_free(schema, b"chunks")
+        && is_free(schema, b"locks")
+        && !is_referred(schema.tables.as_slice(), b"sqlite_sequence")
+}
+
+/// Whether both schemas have a table of the name, with one definition, and no foreign key of the first refers to it.
+fn has_part(schema: &Schema, ours: &Schema, name: &[u8]) -> bool
+    ensures { (part : Part) → name.now ≡ name_of part → HasPart ours.now part
+        → IsTrue result ↔ HasPart schema.now part }
+{
+    let (Some(at), Some(own)) = (schema.table_named(name), ours.table_named(name)) else {
+        return false;
+    };
+    match (schema.tables.get(at), ours.tables.get(own)) {
+        (Some(table), Some(wanted)) => {
+            same_definition(wanted, table) && !is_referred(schema.tables.as_slice(), name)
+        }
+        _ => false,
+    }
+}
+
+/// Whether the schema has the six tables, as the other schema has them.
+fn has_all(schema: &Schema, ours: &Schema) -> bool
+    ensures meta { HasPart ours.now part.meta → IsTrue result → HasPart schema.now part.meta }
+    ensures repos { HasPart ours.now part.repos → IsTrue result → HasPart schema.now part.repos }
+    ensures tokens { HasPart ours.now part.tokens → IsTrue result → HasPart schema.now part.tokens }
+    ensures uploads { HasPart ours.now part.uploads → IsTrue result → HasPart schema.now part.uploads }
+    ensures chunks { HasPart ours.now part.chunks → IsTrue result → HasPart schema.now part.chunks }
+    ensures locks { HasPart ours.now part.locks → IsTrue result → HasPart schema.now part.locks }
+    ensures counted { IsTrue result → IsSome (table_named schema.now counts_name) }
+    ensures unreferred { IsTrue result → is_parent schema.now counts_name ≡ false }
+    ensures complete { HasPart ours.now part.meta → HasPart schema.now part.meta
+        → HasPart ours.now part.repos → HasPart schema.now part.repos
+        → HasPart ours.now part.tokens → HasPart schema.now part.tokens
+        → HasPart ours.now part.uploads → HasPart schema.now part.uploads
+        → HasPart ours.now part.chunks → HasPart schema.now part.chunks
+        → HasPart ours.now part.locks → HasPart schema.now part.locks
+        → IsSome (table_named schema.now counts_name)
+        → is_parent schema.now counts_name ≡ false → IsTrue result }
+{
+    has_part(schema, ours, b"meta")
+        && has_part(schema, ours, b"repos")
+        && has_part(schema, ours, b"tokens")
+        && has_part(schema, ours, b"uploads")
+        && has_part(schema, ours, b"chunks")
+        && has_part(schema, ours, b"locks")
+        && schema.table_named(b"sqlite_sequence").is_some()
+        && !is_referred(schema.tables.as_slice(), b"sqlite_sequence")
+}
+
+/// Whether the schema has the six tables as `create` makes them.
+fn has_six(alloc: Global, schema: &Schema) -> Result<bool, StoreFault>
+    ensures { IfOk result (λ six. IsTrue six ↔ HasAll schema.now) }
+{
+    let Ok(mut made) = Connection::open_in_memory(alloc) else {
         return Err(StoreFault::Memory);
     };
-    create(&mut ours)?;
-    Ok(same_schema(schema, ours.schema()))
+    create(&mut made)?;
+    Ok(has_all(schema, made.schema()))
 }
 
 /// Whether `meta` has exactly the row of version 1.
@@ -142,18 +231,18 @@ fn has_version_one<S: Alter>(conn: &mut Connection<S>) -> Result<bool, StoreFaul
     is_version_one(rows.as_slice())
 }
 
-/// Whether the tables are those that `create` makes.
+/// Whether the database has the six tables.
 fn has_our_tables<S: Storage>(alloc: Global, conn: &Connection<S>) -> Result<bool, StoreFault>
     requires { IsTrue (state S.Store conn.now).is_open
         → (state S.Store conn.now).now ≡ (state S.Store conn.now).committed }
     ensures ready { IfOk result (λ found. IsTrue found → IsReady (state S.Store conn.now)) }
     ensures same { IfOk result
-        (λ found. IsTrue found ↔ ((state S.Store conn.now).now.schema ≡ custody)) }
+        (λ found. IsTrue found ↔ HasAll (state S.Store conn.now).now.schema) }
 {
-    is_ours(alloc, conn.schema())
+    has_six(alloc, conn.schema())
 }
 
-/// Gives a database with no table the six, leaves one that has them, and refuses any other.
+/// Gives a database that has none of the six tables the six, leaves one that has them, and refuses any other.
 pub(crate) fn create_or_check<S: Storage>(
     alloc: Global,
     conn: &mut Connection<S>,
@@ -173,7 +262,7 @@ pub(crate) fn create_or_check<S: Storage>(
     ensures only { HasCleanDisk (state S.Store conn.new)
         → OnOk result (LeavesOnly (state S.Store conn.old) (state S.Store conn.new)) }
     ensures ours { HasCleanDisk (state S.Store conn.new)
-        → IsSound custody (state S.Store conn.old).committed.trees
+        → (schema : _) → HasAll schema → IsSound schema (state S.Store conn.old).committed.trees
         → OnOk result (HasOurs (state S.Store conn.old)) }
     ensures empty { HasCleanDisk (state S.Store conn.new)
         → (state S.Store conn.old).committed.trees catalog_tree ≡ []
@@ -184,7 +273,7 @@ pub(crate) fn create_or_check<S: Storage>(
     if !conn.is_autocommit() {
         return Err(StoreFault::Refused.into());
     }
-    if is_blank(conn.schema()) {
+    if has_none(conn.schema()) {
         return Ok(create(conn)?);
     }
     if has_our_tables(alloc, conn)? && has_version_one(conn)? {

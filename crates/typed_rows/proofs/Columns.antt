@@ -1,20 +1,13 @@
 -- The rows of a table that obeys its definition are rows of its type.
-use Rattle.std.proofs.Common.{arith, ◌≡◌, ℕ, zero, suc, ◌+◌, Bool, true, false, cond, not, ◌&&◌, ◌||◌, List, [], ◌∷◌, drop, map, Option, IsTrue, refl, sym, ap, ap₂, subst, ◌∙◌}
-use Rattle.std.specs.List.{AllByRecursion}
-use Rattle.sqlite.specs.declared.types.Value.{Value}
-use Rattle.sqlite.specs.declared.types.Value.TheVariants.{Null, Int, Real, Text, Blob}
+use Rattle.typed_rows.proofs.Prelude.{arith, ◌≡◌, ℕ, zero, suc, ◌+◌, Bool, true, false, cond, not, ◌&&◌, ◌||◌, List, [], ◌∷◌, drop, map, Option, IsTrue, refl, sym, ap, ap₂, subst, ◌∙◌, AllByRecursion, Value, Null, Int, Real, Text, Blob, rowid, is_key, first_of_both, second_of_both, int_of, bytes_of, Rises, IsTypedBy}
 use Rattle.sqlite_value.specs.Order.{Row, column}
-use Rattle.sqlite_trees.specs.Tree.{rowid}
 use Rattle.sqlite_trees.specs.View.{is_int}
 use Rattle.sqlite_sql.specs.Ops.{is_null}
 use Rattle.sqlite.specs.Kind.{Kind}
 use Rattle.sqlite.specs.Kind.TheVariants as kind
 use Rattle.sqlite_schema.specs.declared.schema.Column.{Column}
-use Rattle.sqlite_schema.specs.Names.{is_key}
 use Rattle.sqlite_schema.specs.Rules.{is_of, are_typed, are_present, has_computed}
-use Rattle.sqlite_keyed.proofs.RuleLemmas.{first_of_both, second_of_both}
 use Rattle.sqlite_schema.specs.declared.schema.Table.{Table}
-use Rattle.typed_rows.specs.Rows.{int_of, bytes_of, Rises, IsTypedBy}
 
 -- a value, rebuilt from its parts as a value of this kind
 abbrev pub recode : Kind → Value → Value

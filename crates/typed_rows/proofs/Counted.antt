@@ -1,34 +1,14 @@
 -- The effect of an INSERT of literal rows into a table with AUTOINCREMENT, whose next rowid a row of another table counts.
-use Rattle.std.proofs.Common.{arith, ◌≡◌, ◌≢◌, ◌⊎◌, inl, inr, ℕ, ℤ, pos, ◌+ℤ◌, ◌<ℤ◌, ◌≤ℤ◌, ◌/◌, Bool, true, false, cond, is_lt, List, [], ◌∷◌, ◌++◌, length, map, fold, slice_get, Some, None, Option, unwrap_or, Ok, MatchBool, int_cmp, Ordering, Less, Equal, Greater, sym, ap, subst, refl, ◌∙◌}
-use Rattle.std.proofs.lemmas.Int.{ints}
-use Rattle.std.specs.List.{AllByRecursion}
-use Rattle.sqlite.specs.declared.types.Value.TheVariants.{Int}
+use Rattle.typed_rows.proofs.Prelude.{arith, ◌≡◌, ◌≢◌, ◌⊎◌, inl, inr, ℕ, ℤ, pos, ◌+ℤ◌, ◌<ℤ◌, ◌≤ℤ◌, ◌/◌, Bool, true, false, cond, is_lt, List, [], ◌∷◌, ◌++◌, length, map, fold, slice_get, Some, None, Option, unwrap_or, Ok, MatchBool, int_cmp, Ordering, Less, Equal, Greater, sym, ap, subst, refl, ◌∙◌, ints, AllByRecursion, Int, Values, Enforced, rowid, IsTable, put_row, IsTable-put_row, IsKeyedBy, insert_by, next_key, above_all, Less-from_lt, all_of, all_weaker, edit_of, taken_by, at_least, next_rowid, Applies, works, Chosen, Above, puts-map, Database, value_rows, IsSound, Written, Outcome, Task, Edited, Sourced, Counts, CountsIn, counting, stamped, rowids_for, count_of, higher, last_id, sequence, Tally, Does, OnRows, AtPlace, understood, mode_of, Shows, Executes, IsPlain, command_of, statement_of, runs_as, one_step, IsTypedBy}
 use Rattle.sqlite.specs.Order.{Row}
 use Rattle.sqlite.specs.Tree.{Trees}
 use Rattle.sqlite.specs.Term.{Term}
 use Rattle.sqlite.specs.Table.{Table}
 use Rattle.sqlite.specs.Schema.{Schema}
 use Rattle.sqlite_schema.specs.declared.command.Source.{Source}
-use Rattle.sqlite.specs.Source.TheVariants.{Values}
 use Rattle.sqlite.specs.Command.TheVariants.{Insert}
-use Rattle.sqlite_schema.specs.declared.schema.Keys.TheVariants.{Enforced}
-use Rattle.sqlite_trees.specs.Tree.{rowid, IsTable, put_row}
-use Rattle.sqlite_trees.proofs.TreeLemmas.{IsTable-put_row}
-use Rattle.sqlite_keyed.specs.Keyed.{IsKeyedBy, insert_by, next_key}
-use Rattle.sqlite_keyed.proofs.KeyedLemmas.{above_all, Less-from_lt}
-use Rattle.sqlite_keyed.proofs.ListLemmas.{all_of, all_weaker}
-use Rattle.sqlite_rules.specs.Edit.{edit_of, taken_by, at_least, next_rowid, Applies}
-use Rattle.sqlite_rules.specs.Action.{works}
-use Rattle.sqlite_rules.specs.declared.error.Rowids.TheVariants.{Chosen, Above}
-use Rattle.sqlite_typed.proofs.RowLemmas.{puts-map}
-use Rattle.sqlite.specs.Effect.{Database, value_rows}
-use Rattle.sqlite_catalog.specs.Listing.{IsSound}
-use Rattle.sqlite.specs.Rows.{Written, Outcome, Task, Edited, Sourced, Counts, CountsIn, counting, stamped, rowids_for, count_of, higher, last_id, sequence, Inserts as DoesInsert}
-use Rattle.sqlite.specs.Does.{Tally, Does, OnRows, AtPlace}
-use Rattle.sqlite.specs.Listing.{understood}
-use Rattle.sqlite.specs.State.{State, mode_of, Shows, Executes}
-use Rattle.sqlite.proofs.Callers.{IsPlain, command_of, statement_of, runs_as, one_step}
-use Rattle.typed_rows.specs.Rows.{IsTypedBy}
+use Rattle.sqlite.specs.Rows.{Inserts as DoesInsert}
+use Rattle.sqlite.specs.State.{State}
 use Rattle.typed_rows.proofs.Inserts.{went, same_value}
 use Rattle.typed_rows.proofs.Typed.{keys_rise, next_is, retyped, IsAppended}
 

@@ -1,8 +1,7 @@
 -- From the rows that a statement returns to the result of a call.
-use Rattle.std.proofs.Common.{◌≡◌, ℕ, suc, ne_eqb, arith, Bool, true, false, not, cond, eqb, is_some, length, Some, refl, List, [], ◌∷◌, map, filter, find, slice_get, option_map, Option, Result, Ok, Err, IfOk, OnOk, sym, ap, ◌∙◌}
-use Rattle.std.proofs.Common.{ℕ, zero, ◌+◌, ◌<◌, ◌++◌, take, get_or, subst}
+use Rattle.typed_rows.proofs.Prelude.{◌≡◌, ℕ, suc, ne_eqb, arith, Bool, true, false, not, cond, eqb, is_some, length, Some, refl, List, [], ◌∷◌, map, find, slice_get, option_map, Option, Result, Ok, Err, IfOk, OnOk, sym, ap, ◌∙◌, ℕ, zero, ◌+◌, ◌<◌, ◌++◌, take, get_or, subst, slice_get-filter}
+use Rattle.std.proofs.Common.{filter}
 use Rattle.std.proofs.lemmas.List.{map-append}
-use Rattle.sqlite_keyed.proofs.ListLemmas.{slice_get-filter}
 
 -- a fact holds in particular if a result is Ok
 pub always : {A E : Type 0} (P : Type 0) → P → (r : Result A E) → OnOk r P

@@ -1,3 +1,4 @@
+mod Prelude
 pub mod Typed
 pub mod Casts
 pub mod Inserts
@@ -9,3 +10,10 @@ pub mod Columns
 pub mod Found
 pub mod Transactions
 pub mod Nothing
+pub mod Scopes
+pub mod ScopedWrites
+pub mod ScopedReads
+pub mod ScopedSelects
+pub mod Meant
+pub mod Alone
+pub mod Places

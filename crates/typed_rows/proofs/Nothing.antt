@@ -1,6 +1,6 @@
 -- An empty file has no table.
-use Rattle.std.proofs.Common.{◌≡◌, ℕ, ◌<◌, ◌≤◌, false, true, List, [], ◌∷◌, ◌++◌, codes, length, filter, take, slice_index, Option, Some, unwrap_or, inl, inr, refl, sym, ap, ◌∙◌, arith, get_or-take}
-use Rattle.std.specs.List.{AllZip}
+use Rattle.typed_rows.proofs.Prelude.{◌≡◌, ℕ, ◌<◌, ◌≤◌, false, true, List, [], ◌∷◌, ◌++◌, codes, length, take, slice_index, Option, Some, unwrap_or, inl, inr, refl, sym, ap, ◌∙◌, arith, get_or-take, AllZip, IsTableRow, IsIndexRow, IsViewRow, is_table_row, is_index_row, is_view_row, Database, Opens, IsLive}
+use Rattle.std.proofs.Common.{filter}
 use Rattle.std.proofs.lemmas.List.{length-take}
 use Rattle.std.proofs.Math.Logic.{∥∥₁_elim}
 use Rattle.sqlite_pages.specs.PageMap.{PageMap}
@@ -14,9 +14,7 @@ use Rattle.sqlite_pool.specs.File.{header_in, IsSoundFile}
 use Rattle.sqlite_pool.proofs.ProbeLemmas.{first_byte}
 use Rattle.sqlite_trees.specs.Tree.{Trees}
 use Rattle.sqlite_trees.specs.Objects.{catalog_tree}
-use Rattle.sqlite_catalog.specs.Listing.{IsTableRow, IsIndexRow, IsViewRow, is_table_row, is_index_row, is_view_row}
-use Rattle.sqlite.specs.Effect.{Database}
-use Rattle.sqlite.specs.State.{State, Opens, IsLive}
+use Rattle.sqlite.specs.State.{State}
 use Rattle.sqlite.specs.Files.{IsNothing, IsEmpty, AreFoundIn}
 use Rattle.sqlite.specs.Start.{FindsIn}
 

@@ -1,22 +1,12 @@
 -- The result of a SELECT over one table, ordered by rowid, for any table.
-use Rattle.std.proofs.Common.{◌≡◌, ℕ, ℤ, Bool, false, int_cmp, List, [], ◌∷◌, map, filter, map-id, refl, sym, subst, ◌∙◌}
-use Rattle.std.specs.List.{list_all}
-use Rattle.sqlite.specs.declared.types.Value.TheVariants.{Null, Int}
+use Rattle.typed_rows.proofs.Prelude.{◌≡◌, ℕ, ℤ, Bool, false, int_cmp, List, [], ◌∷◌, map, map-id, refl, sym, subst, ◌∙◌, list_all, Null, Int, value_cmp, value_cmp-Int, rowid, eval_all, holds, overlay, understood, reads_listing, IsPlain, command_of, reads_as, IsTypedBy, at_end, last_table, answer_by_keys}
+use Rattle.std.proofs.Common.{filter}
 use Rattle.sqlite.specs.Order.{Row}
-use Rattle.sqlite_value.specs.Order.{value_cmp}
-use Rattle.sqlite_value.proofs.OrderLemmas.{value_cmp-Int}
-use Rattle.sqlite_trees.specs.Tree.{rowid}
 use Rattle.sqlite.specs.Term.{Term}
-use Rattle.sqlite_sql.specs.Term.{eval_all, holds}
-use Rattle.sqlite.specs.Program.{overlay}
 use Rattle.sqlite.specs.Schema.{Schema}
 use Rattle.sqlite.specs.Command.TheVariants.{Select}
-use Rattle.sqlite.specs.Listing.{understood, reads_listing}
 use Rattle.sqlite.specs.State.{State, Shown}
-use Rattle.sqlite.proofs.Callers.{IsPlain, command_of, reads_as}
-use Rattle.typed_rows.specs.Rows.{IsTypedBy}
 use Rattle.typed_rows.specs.Queries.{query_of}
-use Rattle.sqlite_typed.proofs.AnswerLemmas.{at_end, last_table, answer_by_keys}
 use Rattle.sqlite_typed.proofs.TestLemmas.{last_key}
 use Rattle.typed_rows.proofs.Typed.{keys_rise}
 

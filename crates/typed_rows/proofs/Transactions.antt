@@ -1,16 +1,13 @@
 -- The state of a connection after calls, whatever their statements.
-use Rattle.std.proofs.Common.{arith, ◌≡◌, ◌⊎◌, inl, inr, ℕ, List, None, Some, Option, Ok, Err, Result, IfOk, IfErr, OnOk, IsTrue, true, cond, sym, ap, subst, ◌∙◌}
+use Rattle.typed_rows.proofs.Prelude.{arith, ◌≡◌, ◌⊎◌, inl, inr, ℕ, List, None, Some, Option, Ok, Err, Result, IfOk, IfErr, OnOk, IsTrue, true, cond, sym, ap, subst, ◌∙◌, understood, HasCleanDisk, IsUnchanged, FailsToShow, ShowsRows, Survives, KeepsCommit, ExecutesInside, IsTooLate, RunsCommand, IsRolledBack, IsPlain, HasCleanDisk, Survives, ExecutesInside}
 use Rattle.sqlite.specs.Order.{Row}
 use Rattle.sqlite.specs.declared.error.Error.{Error}
-use Rattle.sqlite.specs.Listing.{understood}
-use Rattle.sqlite.specs.State.{State, HasCleanDisk, IsUnchanged, IsNotRun, FailsToQuery, FailsToShow, ShowsRows, Shown, Survives, KeepsCommit, ExecutesInside, IsTooLate, RunsCommand, IsRolledBack}
+use Rattle.sqlite.specs.State.{State, IsNotRun, FailsToQuery, Shown}
 use Rattle.sqlite_schema.specs.declared.command.Returning.{Returning}
 use Rattle.sqlite.specs.Clock.{timed}
 use Rattle.sqlite.proofs.StateLemmas.{survives_then}
-use Rattle.sqlite.proofs.Callers.{IsPlain}
 use Rattle.sqlite_trees.specs.declared.store.Store.{Ghosts}
 use Rattle.sqlite.specs.Held.{Held, state}
-use Rattle.sqlite.specs.State.{HasCleanDisk, Survives, ExecutesInside}
 use Rattle.typed_rows.specs.Transactions.{Keeps, Inside}
 use Rattle.typed_rows.proofs.Found.{always}
 

@@ -1,6 +1,9 @@
 -- The queries of the statements.
 use Rattle.std.proofs.Common.{ℕ, ℤ, pos, negsuc, List, [], ◌∷◌, None, false, map}
 use Rattle.sqlite.specs.declared.types.Value.TheVariants.{Int}
+use Rattle.std.specs.Prelude.{◌≡◌}
+use Rattle.sqlite.specs.Schema.{Schema}
+use Rattle.sqlite_schema.specs.Names.{table_named, index_named, view_named}
 use Rattle.sqlite.specs.Term.{Term, lit, col, op2}
 use Rattle.sqlite.specs.Query.{Query, inner, end}
 use Rattle.sqlite_sql.specs.declared.ops.BinaryOp.TheVariants.{Compare}
@@ -37,3 +40,9 @@ ordered_by places tests project tree = record (query_of tests project tree) { or
 -- the test that the column has the value of the parameter
 abbrev pub is_given : ℕ → ℕ → Term
 is_given column parameter = op2 (Compare Eq Binary) (col 1 column) (col 0 parameter)
+
+-- the name is free for a table
+pub record IsFree (schema : Schema) (name : List ℕ) : Type 0 where
+  pub table : table_named schema name ≡ None
+  pub index : index_named schema name ≡ None
+  pub view : view_named schema name ≡ None

@@ -198,6 +198,10 @@ pub(crate) fn last_locks<S: Alter>(rt: &impl Tester, store: &mut Store<S>) -> (u
     )
 }
 
+/// A table of another program, with an index and a row.
+const SHOTS: &str =
+    "CREATE TABLE shots (name TEXT PRIMARY KEY, frames INTEGER); CREATE INDEX by_frames ON shots (frames); INSERT INTO shots VALUES ('sh010', 240)";
+
 /// Files, and the steps for each.
 const FILES: &[(&str, &[Step])] = &[
     // A file is read again.
@@ -220,6 +224,39 @@ const FILES: &[(&str, &[Step])] = &[
             ),
             Step::Leave,
         ],
+    ),
+    // Tables of another program may be there before ours, come later, and go again. Their rows are kept.
+    (
+        "beside.db",
+        &[
+            Step::Run(SHOTS),
+            Step::Fill,
+            Step::Find(1, 1, 100),
+            Step::Rows("SELECT name FROM shots WHERE frames = 240", 1),
+        ],
+    ),
+    (
+        "added.db",
+        &[
+            Step::Fill,
+            Step::Run(SHOTS),
+            Step::Find(1, 1, 100),
+            Step::Rows("SELECT name FROM shots WHERE frames = 240", 1),
+        ],
+    ),
+    (
+        "dropped.db",
+        &[
+            Step::Run(SHOTS),
+            Step::Fill,
+            Step::Run("DROP TABLE shots"),
+            Step::Find(1, 1, 100),
+        ],
+    ),
+    // A table of another program whose name differs from one of ours only in case is in the way.
+    (
+        "capital.db",
+        &[Step::Run("CREATE TABLE Locks (a INTEGER)"), Step::Leave],
     ),
     // Tables without their version are refused.
     (
@@ -274,10 +311,29 @@ fn is_taken_over(rt: &impl Tester, sql: &str) -> bool {
     store.create_or_check(rt.alloc()).is_ok() && lock(rt, &mut store, "a") == 1
 }
 
+/// Statements of another program, and whether the database is given the six tables after them.
+const OTHERS: &[(&str, bool)] = &[
+    ("", true),
+    ("CREATE TABLE a (b INTEGER)", true),
+    (
+        "CREATE TABLE a (b INTEGER PRIMARY KEY AUTOINCREMENT); INSERT INTO a VALUES (7)",
+        true,
+    ),
+    ("CREATE VIEW v AS SELECT 1 AS a", true),
+    ("CREATE TABLE tokens (a INTEGER)", false),
+    ("CREATE VIEW locks AS SELECT 1 AS a", false),
+    (
+        "CREATE TABLE a (b INTEGER); CREATE INDEX chunks ON a (b)",
+        false,
+    ),
+    ("CREATE TABLE a (b INTEGER REFERENCES uploads (id))", false),
+];
+
 #[test]
 fn a_connection_is_taken_over(rt: HostRuntime) {
-    assert!(rt; is_taken_over(&rt, ""));
-    assert!(rt; !is_taken_over(&rt, "CREATE TABLE a (b INTEGER)"));
+    for (sql, want) in OTHERS {
+        assert!(rt; is_taken_over(&rt, sql) == *want, "{sql}");
+    }
 }
 
 const FAULTS: &[(OpenFault, &str)] = &[

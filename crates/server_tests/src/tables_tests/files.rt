@@ -17,6 +17,8 @@ pub(crate) enum Step {
     Write(&'static str),
     /// Another program runs these statements on it.
     Run(&'static str),
+    /// Another program finds this number of rows by this query.
+    Rows(&'static str, usize),
     /// A store is opened over it, and creates or checks its tables.
     Check(Result<(), OpenFault>),
     /// The same for a file of another schema, which is left unchanged.
@@ -61,17 +63,24 @@ pub(crate) fn run<S: Alter>(conn: &mut Connection<S>, sql: &str) -> Result<(), E
     conn.execute_batch(sql)
 }
 
-/// Runs the statements on the connection.
-fn run_on<S: Alter + Drop>(rt: &impl Tester, opened: Result<Connection<S>, Error>, sql: &str) {
+/// Runs the statements on the connection, or counts the rows that a query finds.
+fn run_on<S: Alter + Drop>(rt: &impl Tester, opened: Result<Connection<S>, Error>, step: &Step) {
     let mut conn = unwrap(rt, opened);
-    unwrap(rt, run(&mut conn, sql));
+    match step {
+        Step::Run(sql) => unwrap(rt, run(&mut conn, sql)),
+        Step::Rows(sql, count) => {
+            let rows = unwrap(rt, conn.query_all(sql, &[]));
+            assert!(rt; rows.len() == *count, "{sql}");
+        }
+        _ => {}
+    }
 }
 
 /// Takes a step over the file.
 fn open(rt: &impl Tester, host: &HostRuntime, path: &str, step: &Step) -> Result<(), OpenFault> {
-    if let Step::Run(sql) = step {
+    if let Step::Run(_) | Step::Rows(_, _) = step {
         let opened: Result<Connection<FileStore<File>>, Error> = Connection::open(host, path);
-        run_on(rt, opened, sql);
+        run_on(rt, opened, step);
         return Ok(());
     }
     let opened: Result<Store<FileStore<FileFrom<Wary>>>, StoreFault> = Store::open_from(

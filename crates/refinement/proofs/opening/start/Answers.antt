@@ -1,5 +1,5 @@
 use Rattle.std.proofs.lemmas.Result.{on_ok_weaker}
-use Rattle.refinement.proofs.TakenUp.{accepts, is_new, is_found, is_one, both_ok}
+use Rattle.refinement.proofs.TakenUp.{accepts, is_new, is_found, is_one, committed_among, both_ok}
 use Rattle.refinement.proofs.opening.start.Goals as goal
 
 pub returns-clause-fresh : goal.returns-clause-fresh
@@ -21,5 +21,5 @@ returns-clause-empty g c honest listed =
 pub returns-clause-again : goal.returns-clause-again
 returns-clause-again g c honest bound among =
     let e = c.create_or_check.ensures in
-    both_ok c.create_or_check.result (λ a ours. is_one g.S.Store c.args.store.now c.create_or_check.new.self a ours bound among.1)
-    (accepts g.S.Store c.args.store.now c.create_or_check.new.self c.create_or_check.result e.ready e.ok e.safe e.only) (e.ours honest among.0)
+    both_ok c.create_or_check.result (λ a ours. is_one g.S.Store c.args.store.now c.create_or_check.new.self a ours bound (committed_among g.S.Store c.args.store.now c.create_or_check.new.self among.0 bound ours among.2 among.3))
+    (accepts g.S.Store c.args.store.now c.create_or_check.new.self c.create_or_check.result e.ready e.ok e.safe e.only) (e.ours honest among.0 among.1 among.2)

@@ -1,4 +1,4 @@
-use Rattle.tables.specs.Staging.{asked_chunk}
+use Rattle.tables.proofs.Prelude.{asked_chunk}
 use Rattle.tables.proofs.Recalled.{chunk_keeps}
 use Rattle.tables.proofs.Stores.{transacts_changes}
 use Rattle.tables.proofs.Store.add_chunk.Goals as goal

@@ -1,4 +1,4 @@
-use Rattle.tables.specs.Steps.{asked_token}
+use Rattle.tables.proofs.Prelude.{asked_token}
 use Rattle.tables.proofs.Recalled.{add_keeps}
 use Rattle.tables.proofs.Stores.{transacts_changes}
 use Rattle.tables.proofs.Store.add_token.Goals as goal

@@ -1,9 +1,5 @@
-use Rattle.std.proofs.Common.{pos, filter, option_map, refl, ap, w64, ◌∙◌, rules}
-use Rattle.std.proofs.lemmas.Int.{to_z-of_z}
-use Rattle.sqlite_keyed.proofs.ListLemmas.{slice_get-filter}
-use Rattle.tables.specs.Rows.{Chunk}
-use Rattle.tables.specs.Statements.{chunk_at, is_chunk, reading}
-use Rattle.tables.specs.Shown.{shown}
+use Rattle.tables.proofs.Prelude.{pos, filter, option_map, refl, ap, w64, ◌∙◌, rules, to_z-of_z, slice_get-filter, Chunk, chunk_at, is_chunk, shown}
+use Rattle.tables.specs.Statements.{reading}
 use Rattle.tables.proofs.Stores.{looks_reads}
 use Rattle.tables.proofs.Store.chunk.Goals as goal
 

@@ -1,4 +1,4 @@
-use Rattle.std.proofs.Common.{pos}
+use Rattle.tables.proofs.Prelude.{pos}
 use Rattle.tables.proofs.Recalled.{complete_keeps}
 use Rattle.tables.proofs.Stores.{transacts_changes}
 use Rattle.tables.proofs.Store.complete_upload.Goals as goal

@@ -1,4 +1,5 @@
-use Rattle.tables.specs.Steps.{IsOutcomeOf, asked_lock}
+use Rattle.tables.proofs.Prelude.{asked_lock}
+use Rattle.tables.specs.Steps.{IsOutcomeOf}
 use Rattle.tables.proofs.Recalled.{create_keeps}
 use Rattle.tables.proofs.Stores.{transacts_changes}
 use Rattle.tables.proofs.Store.create_lock.Goals as goal

@@ -1,6 +1,5 @@
-use Rattle.std.proofs.Common.{refl, arith, inl, inr, ap, ◌∙◌}
-use Rattle.std.proofs.lemmas.Result.{IfOk-weaker}
-use Rattle.tables.specs.Rows.{tables_of}
+use Rattle.tables.proofs.Prelude.{refl, arith, inl, inr, ◌∙◌, IfOk-weaker}
+use Rattle.tables.proofs.Once.{same_tables}
 use Rattle.tables.specs.Runs.{with_fresh}
 use Rattle.tables.proofs.Stores.{ready_unknown}
 use Rattle.tables.proofs.Store.create_or_check.Goals as goal
@@ -15,9 +14,12 @@ returns-clause-stop g c = record {
   was_honest = λ clean. omega (arith, clean, c.create_or_check.ensures.survives.clean);
   outcomes = λ clean t left. elim (c.create_or_check.ensures.survives.crash clean left.0.trees left.2) [
     | inl old ↦ inl (left.0, left.1, old, left.3)
-    | inr new ↦ inr (new.0, left.3 ∙ ap tables_of new.1.3 ∙ new.1.2.tables)
+    | inr new ↦ inr (new.0, left.3 ∙ same_tables left.0 new.1.0 left.1 new.1.2.kept new.1.3 ∙ new.1.2.tables)
   ];
 }
 
 pub returns-clause-ready : goal.returns-clause-ready
 returns-clause-ready g c = ready_unknown g.S.Store _ c.create_or_check.result refl c.create_or_check.ensures.ready
+
+pub returns-clause-only : goal.returns-clause-only
+returns-clause-only g c clean = IfOk-weaker c.create_or_check.result _ _ (λ _ h t left. elim (h left.0 left.1 left.2) [ inl made ↦ inl (made.0, left.3 ∙ made.1) | inr ours ↦ inr (ours.0, left.3 ∙ ours.1) ]) (c.create_or_check.ensures.only clean)

@@ -1,9 +1,5 @@
-use Rattle.std.proofs.Common.{filter, refl, ◌∙◌}
-use Rattle.names.specs.Names.{repo_text, ref_text, path_text}
-use Rattle.tables.specs.Statements.{lock_at, is_at, reading}
-use Rattle.tables.specs.Steps.{read_lock, lock_fields}
-use Rattle.tables.specs.Shown.{shown}
-use Rattle.typed_rows.proofs.Found.{with_fact, first_found}
+use Rattle.tables.proofs.Prelude.{filter, refl, ◌∙◌, repo_text, ref_text, path_text, lock_at, is_at, read_lock, lock_fields, shown, with_fact, first_found}
+use Rattle.tables.specs.Statements.{reading}
 use Rattle.tables.proofs.Stores.{looks_reads}
 use Rattle.tables.proofs.Store.lock_at.Goals as goal
 

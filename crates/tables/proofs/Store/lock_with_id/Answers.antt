@@ -1,9 +1,5 @@
-use Rattle.std.proofs.Common.{filter, refl, ◌∙◌, pos}
-use Rattle.names.specs.Names.{repo_text}
-use Rattle.tables.specs.Statements.{lock_with_id, has_id, reading}
-use Rattle.tables.specs.Steps.{read_lock, lock_fields}
-use Rattle.tables.specs.Shown.{shown}
-use Rattle.typed_rows.proofs.Found.{with_fact, first_found}
+use Rattle.tables.proofs.Prelude.{filter, refl, ◌∙◌, pos, repo_text, lock_with_id, read_lock, lock_fields, shown, with_fact, first_found}
+use Rattle.tables.specs.Statements.{has_id, reading}
 use Rattle.tables.proofs.Stores.{looks_reads}
 use Rattle.tables.proofs.Store.lock_with_id.Goals as goal
 

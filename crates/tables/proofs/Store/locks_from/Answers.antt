@@ -1,8 +1,5 @@
-use Rattle.std.proofs.Common.{filter, take, pos, refl, ◌∙◌}
-use Rattle.names.specs.Names.{repo_text}
-use Rattle.tables.specs.Statements.{locks_from, is_from, by_id, reading}
-use Rattle.tables.specs.Shown.{shown}
-use Rattle.typed_rows.proofs.Found.{with_fact}
+use Rattle.tables.proofs.Prelude.{filter, take, pos, refl, ◌∙◌, repo_text, locks_from, is_from, by_id, shown, with_fact}
+use Rattle.tables.specs.Statements.{reading}
 use Rattle.tables.proofs.Stores.{looks_reads}
 use Rattle.tables.proofs.Store.locks_from.Goals as goal
 

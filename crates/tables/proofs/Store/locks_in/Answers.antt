@@ -1,8 +1,5 @@
-use Rattle.std.proofs.Common.{filter, refl, ◌∙◌}
-use Rattle.names.specs.Names.{repo_text}
-use Rattle.tables.specs.Statements.{locks_in, is_in, by_id, reading}
-use Rattle.tables.specs.Shown.{shown}
-use Rattle.typed_rows.proofs.Found.{with_fact}
+use Rattle.tables.proofs.Prelude.{filter, refl, ◌∙◌, repo_text, locks_in, by_id, shown, with_fact}
+use Rattle.tables.specs.Statements.{is_in, reading}
 use Rattle.tables.proofs.Stores.{looks_reads}
 use Rattle.tables.proofs.Store.locks_in.Goals as goal
 

@@ -1,9 +1,5 @@
-use Rattle.std.proofs.Common.{filter, slice_get, refl, ap, ◌∙◌, rules}
-use Rattle.sqlite_keyed.proofs.ListLemmas.{slice_get-filter}
-use Rattle.names.specs.Names.{repo_text}
-use Rattle.tables.specs.Statements.{made_by, is_named, reading}
-use Rattle.tables.specs.Steps.{made_in}
-use Rattle.tables.specs.Shown.{shown}
+use Rattle.tables.proofs.Prelude.{filter, slice_get, refl, ap, ◌∙◌, slice_get-filter, repo_text, made_by, is_named, made_in, shown}
+use Rattle.tables.specs.Statements.{reading}
 use Rattle.tables.proofs.Stores.{looks_reads}
 use Rattle.tables.proofs.Store.made.Goals as goal
 

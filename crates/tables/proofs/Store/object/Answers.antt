@@ -1,9 +1,5 @@
-use Rattle.std.proofs.Common.{filter, refl, ◌∙◌}
-use Rattle.names.specs.Names.{repo_text}
-use Rattle.tables.specs.Statements.{object, is_object, reading}
-use Rattle.tables.specs.Staging.{read_object, upload_sized}
-use Rattle.tables.specs.Shown.{shown}
-use Rattle.typed_rows.proofs.Found.{with_fact, first_found}
+use Rattle.tables.proofs.Prelude.{filter, refl, ◌∙◌, repo_text, object, is_object, read_object, upload_sized, shown, with_fact, first_found}
+use Rattle.tables.specs.Statements.{reading}
 use Rattle.tables.proofs.Stores.{looks_reads}
 use Rattle.tables.proofs.Store.object.Goals as goal
 

@@ -1,8 +1,4 @@
-use Rattle.std.proofs.Common.{option_map, ◌∙◌}
-use Rattle.names.specs.Names.{repo_text}
-use Rattle.tables.specs.Staging.{objects_of}
-use Rattle.tables.specs.Shown.{shown}
-use Rattle.typed_rows.proofs.Found.{with_fact}
+use Rattle.tables.proofs.Prelude.{option_map, ◌∙◌, repo_text, objects_of, shown, with_fact}
 use Rattle.tables.proofs.Stores.{looks_reads}
 use Rattle.tables.proofs.Store.objects.Goals as goal
 

@@ -1,4 +1,4 @@
-use Rattle.std.proofs.Common.{pos}
+use Rattle.tables.proofs.Prelude.{pos}
 use Rattle.tables.proofs.Recalled.{prune_keeps}
 use Rattle.tables.proofs.Stores.{transacts_changes}
 use Rattle.tables.proofs.Store.remove_expired.Goals as goal

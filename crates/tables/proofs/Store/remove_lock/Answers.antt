@@ -1,5 +1,4 @@
-use Rattle.std.proofs.Common.{pos}
-use Rattle.names.specs.Names.{repo_text}
+use Rattle.tables.proofs.Prelude.{pos, repo_text}
 use Rattle.tables.proofs.Recalled.{release_keeps}
 use Rattle.tables.proofs.Stores.{transacts_changes}
 use Rattle.tables.proofs.Store.remove_lock.Goals as goal

@@ -1,6 +1,4 @@
-use Rattle.std.proofs.Common.{ap, ◌∙◌}
-use Rattle.names.specs.Names.{repo_text}
-use Rattle.tables.specs.Remembered.{remembered_in}
+use Rattle.tables.proofs.Prelude.{ap, ◌∙◌, repo_text, remembered_in}
 use Rattle.tables.proofs.Seeking.{finds}
 use Rattle.tables.proofs.Store.staged_upload.Goals as goal
 

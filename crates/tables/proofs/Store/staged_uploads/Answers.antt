@@ -1,7 +1,5 @@
-use Rattle.std.proofs.Common.{filter, refl, ◌∙◌}
-use Rattle.tables.specs.Statements.{staged, is_staged, reading}
-use Rattle.tables.specs.Shown.{shown}
-use Rattle.typed_rows.proofs.Found.{with_fact}
+use Rattle.tables.proofs.Prelude.{filter, refl, ◌∙◌, staged, is_staged, shown, with_fact}
+use Rattle.tables.specs.Statements.{reading}
 use Rattle.tables.proofs.Stores.{looks_reads}
 use Rattle.tables.proofs.Store.staged_uploads.Goals as goal
 

@@ -1,7 +1,5 @@
-use Rattle.std.proofs.Common.{filter, refl, sym, ◌∙◌}
-use Rattle.tables.specs.Statements.{staged, is_staged, reading}
-use Rattle.tables.specs.Shown.{shown}
-use Rattle.typed_rows.proofs.Found.{with_fact}
+use Rattle.tables.proofs.Prelude.{filter, refl, sym, ◌∙◌, staged, is_staged, shown, with_fact}
+use Rattle.tables.specs.Statements.{reading}
 use Rattle.tables.proofs.Begins.{learns_known, learns_read}
 use Rattle.tables.proofs.Store.take_staged.Goals as goal
 

@@ -1,8 +1,5 @@
-use Rattle.std.proofs.Common.{filter, refl, ◌∙◌}
-use Rattle.tables.specs.Statements.{token, has_digest, reading}
-use Rattle.tables.specs.Steps.{read_token, token_fields}
-use Rattle.tables.specs.Shown.{shown}
-use Rattle.typed_rows.proofs.Found.{with_fact, first_found}
+use Rattle.tables.proofs.Prelude.{filter, refl, ◌∙◌, token, has_digest, read_token, token_fields, shown, with_fact, first_found}
+use Rattle.tables.specs.Statements.{reading}
 use Rattle.tables.proofs.Stores.{looks_reads}
 use Rattle.tables.proofs.Store.token.Goals as goal
 

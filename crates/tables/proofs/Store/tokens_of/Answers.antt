@@ -1,8 +1,5 @@
-use Rattle.std.proofs.Common.{filter, refl, ◌∙◌}
-use Rattle.names.specs.Names.{user_text, repo_text}
-use Rattle.tables.specs.Statements.{tokens_of, is_held_by, reading}
-use Rattle.tables.specs.Shown.{shown}
-use Rattle.typed_rows.proofs.Found.{with_fact}
+use Rattle.tables.proofs.Prelude.{filter, refl, ◌∙◌, user_text, repo_text, tokens_of, is_held_by, shown, with_fact}
+use Rattle.tables.specs.Statements.{reading}
 use Rattle.tables.proofs.Stores.{looks_reads}
 use Rattle.tables.proofs.Store.tokens_of.Goals as goal
 

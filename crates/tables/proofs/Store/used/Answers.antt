@@ -1,11 +1,5 @@
-use Rattle.std.proofs.Common.{filter, slice_get, refl, ap, w64, ◌∙◌, rules}
-use Rattle.std.proofs.lemmas.Int.{to_z-of_z}
-use Rattle.sqlite_keyed.proofs.ListLemmas.{slice_get-filter}
-use Rattle.std.proofs.lemmas.Result.{IfOk-weaker}
-use Rattle.names.specs.Names.{repo_text}
-use Rattle.tables.specs.Statements.{used_by, is_named, reading}
-use Rattle.tables.specs.Steps.{used_in}
-use Rattle.tables.specs.Shown.{shown}
+use Rattle.tables.proofs.Prelude.{filter, slice_get, refl, ap, w64, ◌∙◌, rules, to_z-of_z, slice_get-filter, IfOk-weaker, repo_text, used_by, is_named, used_in, shown}
+use Rattle.tables.specs.Statements.{reading}
 use Rattle.tables.proofs.Stores.{looks_reads}
 use Rattle.tables.proofs.Store.used.Goals as goal
 

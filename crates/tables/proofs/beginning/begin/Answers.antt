@@ -1,9 +1,4 @@
-use Rattle.std.proofs.Common.{refl, rules, option_map}
-use Rattle.names.specs.Names.{repo_text}
-use Rattle.sqlite.specs.Held.{state}
-use Rattle.typed_rows.proofs.Transactions.{clean_before}
-use Rattle.tables.specs.Staging.{upload_number, asked_upload, IsAbove, after_begin}
-use Rattle.tables.specs.Remembered.{HasLast}
+use Rattle.tables.proofs.Prelude.{refl, rules, option_map, repo_text, state, clean_before, upload_number, asked_upload, IsAbove, after_begin, HasLast}
 use Rattle.tables.proofs.Chosen.{chooses_from}
 use Rattle.tables.proofs.Replacing.{has_last_begun}
 use Rattle.tables.proofs.beginning.begin.Goals as goal

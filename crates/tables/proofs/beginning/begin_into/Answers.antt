@@ -1,10 +1,5 @@
-use Rattle.std.proofs.Common.{option_map, ap, subst}
-use Rattle.sqlite.specs.Held.{state}
-use Rattle.names.specs.Names.{repo_text}
-use Rattle.tables.specs.Runs.{tables_in}
-use Rattle.tables.specs.Statements.{with_upload}
-use Rattle.tables.specs.Staging.{upload_number, asked_upload, after_begin}
-use Rattle.tables.specs.Remembered.{IsLastIn}
+use Rattle.tables.proofs.Prelude.{option_map, ap, subst, state, repo_text, tables_in, with_upload, upload_number, asked_upload, IsLastIn}
+use Rattle.tables.specs.Staging.{after_begin}
 use Rattle.tables.proofs.Calls.{same_steps}
 use Rattle.tables.proofs.Replacing.{none_last}
 use Rattle.tables.proofs.beginning.begin_into.Goals as goal

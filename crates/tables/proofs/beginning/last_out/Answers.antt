@@ -1,11 +1,5 @@
-use Rattle.std.proofs.Common.{option_map, sym, ap, ◌∙◌}
-use Rattle.std.proofs.lemmas.Result.{IfOk-weaker}
-use Rattle.sqlite.specs.Held.{state}
-use Rattle.names.specs.Names.{repo_text}
-use Rattle.tables.specs.Runs.{tables_in}
-use Rattle.tables.specs.Statements.{same_bytes}
-use Rattle.tables.specs.Staging.{UploadFields, read_upload, staged_with, without_upload, without_staged_in}
-use Rattle.typed_rows.proofs.Transactions.{clean_before}
+use Rattle.tables.proofs.Prelude.{option_map, sym, ap, ◌∙◌, IfOk-weaker, state, repo_text, tables_in, same_bytes, UploadFields, read_upload, without_upload, without_staged_in, clean_before}
+use Rattle.tables.specs.Staging.{staged_with}
 use Rattle.tables.proofs.Calls.{steps_then, same_steps, ready_after}
 use Rattle.tables.proofs.Completing.{none_found, one_found}
 use Rattle.tables.proofs.Replacing.{not_staged, last_staged}

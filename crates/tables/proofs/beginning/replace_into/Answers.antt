@@ -1,11 +1,5 @@
-use Rattle.std.proofs.Common.{subst}
-use Rattle.sqlite.specs.Held.{state}
-use Rattle.names.specs.Names.{repo_text}
-use Rattle.tables.specs.Rows.{Tables}
-use Rattle.tables.specs.Runs.{tables_in}
-use Rattle.tables.specs.Statements.{with_upload}
-use Rattle.tables.specs.Staging.{asked_upload, IsAbove, without_staged_in, after_begin}
-use Rattle.typed_rows.proofs.Transactions.{clean_before, goes_on, inside_then}
+use Rattle.tables.proofs.Prelude.{subst, state, repo_text, Tables, tables_in, with_upload, asked_upload, IsAbove, without_staged_in, clean_before, goes_on, inside_then}
+use Rattle.tables.specs.Staging.{after_begin}
 use Rattle.tables.proofs.Calls.{steps_then, ready_after}
 use Rattle.tables.proofs.Replacing.{above_all}
 use Rattle.tables.proofs.beginning.replace_into.Goals as goal

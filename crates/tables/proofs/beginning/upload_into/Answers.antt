@@ -1,6 +1,4 @@
-use Rattle.std.proofs.Common.{arith, w64, Ok}
-use Rattle.std.proofs.lemmas.Int.{to_z-of_z}
-use Rattle.sqlite.specs.Held.{state}
+use Rattle.tables.proofs.Prelude.{arith, w64, Ok, to_z-of_z, state}
 use Rattle.tables.proofs.Inserting.{inserted_inside}
 use Rattle.tables.proofs.beginning.upload_into.Goals as goal
 

@@ -1,7 +1,5 @@
+use Rattle.tables.proofs.Prelude.{Ok, refl, rules, with_chunk, asked_chunk}
 use Rattle.std.specs.Prelude.{⊤}
-use Rattle.std.proofs.Common.{Ok, refl, rules}
-use Rattle.tables.specs.Statements.{with_chunk}
-use Rattle.tables.specs.Staging.{asked_chunk}
 use Rattle.tables.proofs.Calls.{transacts_from, does_on}
 use Rattle.tables.proofs.chunks.add_chunk.Goals as goal
 

@@ -1,7 +1,5 @@
-use Rattle.std.proofs.Common.{refl, rules, w64}
-use Rattle.std.proofs.lemmas.Int.{to_z-of_z}
-use Rattle.tables.specs.Staging.{upload_number, asked_chunk}
-use Rattle.tables.specs.Statements.{add_chunk, writing}
+use Rattle.tables.proofs.Prelude.{refl, rules, w64, to_z-of_z, upload_number, asked_chunk, add_chunk}
+use Rattle.tables.specs.Statements.{writing}
 use Rattle.tables.proofs.chunks.chunk_into.Goals as goal
 
 pub returns-clause-does : goal.returns-clause-does

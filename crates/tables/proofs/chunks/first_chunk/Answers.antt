@@ -1,4 +1,4 @@
-use Rattle.std.proofs.Common.{◌≡◌, ◌<◌, length, rules}
+use Rattle.tables.proofs.Prelude.{rules}
 use Rattle.tables.proofs.Lent.{none_lent, first_lent}
 use Rattle.tables.proofs.chunks.first_chunk.Goals as goal
 

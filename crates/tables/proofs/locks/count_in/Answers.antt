@@ -1,10 +1,5 @@
-use Rattle.std.proofs.Common.{filter, refl, ◌∙◌}
-use Rattle.sqlite.specs.Held.{state}
-use Rattle.names.specs.Names.{repo_text}
-use Rattle.tables.specs.Statements.{made_by, is_named, reading}
-use Rattle.tables.specs.Steps.{read_count, repo_count}
-use Rattle.tables.specs.Runs.{tables_in}
-use Rattle.typed_rows.proofs.Found.{with_fact, first_found}
+use Rattle.tables.proofs.Prelude.{filter, refl, ◌∙◌, state, repo_text, made_by, is_named, read_count, repo_count, tables_in, with_fact, first_found}
+use Rattle.tables.specs.Statements.{reading}
 use Rattle.tables.proofs.Calls.{does_on}
 use Rattle.tables.proofs.locks.count_in.Goals as goal
 

@@ -1,5 +1,4 @@
-use Rattle.std.proofs.Common.{refl, rules}
-use Rattle.tables.specs.Steps.{IsOutcomeOf, asked_lock, after_create}
+use Rattle.tables.proofs.Prelude.{refl, rules, IsOutcomeOf, asked_lock, after_create}
 use Rattle.tables.proofs.Calls.{transacts_from}
 use Rattle.tables.proofs.locks.create.Goals as goal
 

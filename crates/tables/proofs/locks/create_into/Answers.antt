@@ -1,10 +1,5 @@
-use Rattle.std.proofs.Common.{pos, find, option_map, ap, sym, subst, ◌∙◌}
-use Rattle.sqlite.specs.Held.{state}
-use Rattle.tables.specs.Rows.{Tables}
-use Rattle.tables.specs.Statements.{is_named}
-use Rattle.tables.specs.Runs.{tables_in}
-use Rattle.tables.specs.Steps.{IsCountOf, IsOutcomeOf, read_lock, asked_lock, held, used_up, created, with_new_lock, after_create}
-use Rattle.typed_rows.proofs.Transactions.{clean_before, goes_on, inside_then}
+use Rattle.tables.proofs.Prelude.{pos, find, option_map, ap, sym, subst, ◌∙◌, state, Tables, is_named, tables_in, IsCountOf, read_lock, asked_lock, held, used_up, with_new_lock, after_create, clean_before, goes_on, inside_then}
+use Rattle.tables.specs.Steps.{IsOutcomeOf, created}
 use Rattle.tables.proofs.Calls.{ready_after, steps_then, same_steps, does_on, does_then, does_as}
 use Rattle.tables.proofs.Creating.{step_by, outcome_held, outcome_free}
 use Rattle.tables.proofs.locks.create_into.Goals as goal

@@ -1,9 +1,5 @@
-use Rattle.std.proofs.Common.{filter, refl, ◌∙◌}
-use Rattle.sqlite.specs.Held.{state}
-use Rattle.tables.specs.Statements.{lock_at, is_at, reading}
-use Rattle.tables.specs.Steps.{read_lock, lock_fields, asked_lock}
-use Rattle.tables.specs.Runs.{tables_in}
-use Rattle.typed_rows.proofs.Found.{with_fact, first_found}
+use Rattle.tables.proofs.Prelude.{filter, refl, ◌∙◌, state, lock_at, is_at, read_lock, lock_fields, asked_lock, tables_in, with_fact, first_found}
+use Rattle.tables.specs.Statements.{reading}
 use Rattle.tables.proofs.Calls.{does_on}
 use Rattle.tables.proofs.locks.held_in.Goals as goal
 

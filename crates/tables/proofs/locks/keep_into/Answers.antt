@@ -1,11 +1,6 @@
-use Rattle.std.proofs.Common.{arith, ℕ, pos, find, sym, subst}
-use Rattle.sqlite.specs.Held.{state}
-use Rattle.names.specs.Names.{repo_text}
-use Rattle.sqlite.specs.State.{HasCleanDisk}
-use Rattle.tables.specs.Rows.{Tables}
-use Rattle.tables.specs.Runs.{Steps}
-use Rattle.tables.specs.Statements.{is_named, with_lock}
-use Rattle.tables.specs.Steps.{IsCountOf, asked_lock, with_made, with_new_lock}
+use Rattle.tables.proofs.Prelude.{arith, ℕ, pos, find, sym, subst, state, repo_text, HasCleanDisk, Tables, Steps, is_named, IsCountOf, asked_lock, with_made}
+use Rattle.tables.specs.Statements.{with_lock}
+use Rattle.tables.specs.Steps.{with_new_lock}
 use Rattle.tables.proofs.Calls.{steps_then, ready_after}
 use Rattle.tables.proofs.locks.keep_into.Goals as goal
 

@@ -1,7 +1,5 @@
-use Rattle.std.proofs.Common.{pos, refl, w64}
-use Rattle.std.proofs.lemmas.Int.{to_z-of_z}
-use Rattle.tables.specs.Statements.{add_lock, writing}
-use Rattle.tables.specs.Steps.{asked_lock}
+use Rattle.tables.proofs.Prelude.{pos, refl, w64, to_z-of_z, add_lock, asked_lock}
+use Rattle.tables.specs.Statements.{writing}
 use Rattle.tables.proofs.locks.lock_into.Goals as goal
 
 pub returns-clause-does : goal.returns-clause-does

@@ -1,6 +1,5 @@
-use Rattle.std.proofs.Common.{refl}
-use Rattle.names.specs.Names.{repo_text}
-use Rattle.tables.specs.Statements.{remove_lock, writing}
+use Rattle.tables.proofs.Prelude.{refl, repo_text, remove_lock}
+use Rattle.tables.specs.Statements.{writing}
 use Rattle.tables.proofs.locks.remove_into.Goals as goal
 
 pub returns-clause-count : goal.returns-clause-count

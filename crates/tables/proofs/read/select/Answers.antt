@@ -1,8 +1,4 @@
-use Rattle.std.proofs.Common.{arith}
-use Rattle.std.proofs.lemmas.Result.{IfOk-weaker}
-use Rattle.sqlite.specs.Values.{bound}
-use Rattle.sqlite.specs.Held.{state}
-use Rattle.typed_rows.proofs.Transactions.{query_inside_keeps, query_stays, shown_open}
+use Rattle.tables.proofs.Prelude.{arith, IfOk-weaker, bound, state, query_inside_keeps, query_stays, shown_open}
 use Rattle.tables.proofs.Reading.{answered, read_steps}
 use Rattle.tables.proofs.read.select.Goals as goal
 

@@ -1,7 +1,4 @@
-use Rattle.std.proofs.Common.{rules}
-use Rattle.tables.specs.Statements.{show_lock}
-use Rattle.tables.specs.Steps.{lock_fields, read_lock}
-use Rattle.typed_rows.proofs.Found.{one_more}
+use Rattle.tables.proofs.Prelude.{rules, show_lock, lock_fields, read_lock, one_more}
 use Rattle.tables.proofs.rows.all_locks.Goals as goal
 
 pub loop-row-preserved : goal.loop-row-preserved

@@ -1,7 +1,4 @@
-use Rattle.std.proofs.Common.{◌≡◌, List, map, take}
-use Rattle.tables.specs.Rows.{Lock}
-use Rattle.tables.specs.Statements.{show_lock}
-use Rattle.tables.specs.Steps.{lock_fields, read_lock}
+use Rattle.tables.proofs.Prelude.{◌≡◌, List, map, take, Lock, show_lock, lock_fields, read_lock}
 use Rattle.tables.proofs.rows.all_locks.Given as goal
 
 abbrev pub invariant-loop-row : goal.invariant-loop-row

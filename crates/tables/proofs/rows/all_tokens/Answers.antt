@@ -1,7 +1,4 @@
-use Rattle.std.proofs.Common.{rules}
-use Rattle.tables.specs.Statements.{show_token}
-use Rattle.tables.specs.Steps.{token_fields, read_token}
-use Rattle.typed_rows.proofs.Found.{one_more}
+use Rattle.tables.proofs.Prelude.{rules, show_token, token_fields, read_token, one_more}
 use Rattle.tables.proofs.rows.all_tokens.Goals as goal
 
 pub loop-row-preserved : goal.loop-row-preserved

@@ -1,7 +1,4 @@
-use Rattle.std.proofs.Common.{◌≡◌, List, map, take}
-use Rattle.tables.specs.Rows.{Token}
-use Rattle.tables.specs.Statements.{show_token}
-use Rattle.tables.specs.Steps.{token_fields, read_token}
+use Rattle.tables.proofs.Prelude.{◌≡◌, List, map, take, Token, show_token, token_fields, read_token}
 use Rattle.tables.proofs.rows.all_tokens.Given as goal
 
 abbrev pub invariant-loop-row : goal.invariant-loop-row

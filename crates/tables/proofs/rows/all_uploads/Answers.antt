@@ -1,7 +1,4 @@
-use Rattle.std.proofs.Common.{rules}
-use Rattle.tables.specs.Statements.{show_upload}
-use Rattle.tables.specs.Staging.{upload_fields, read_upload}
-use Rattle.typed_rows.proofs.Found.{one_more}
+use Rattle.tables.proofs.Prelude.{rules, show_upload, upload_fields, read_upload, one_more}
 use Rattle.tables.proofs.rows.all_uploads.Goals as goal
 
 pub loop-row-preserved : goal.loop-row-preserved

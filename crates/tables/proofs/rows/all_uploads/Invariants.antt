@@ -1,7 +1,4 @@
-use Rattle.std.proofs.Common.{◌≡◌, List, map, take}
-use Rattle.tables.specs.Rows.{Upload}
-use Rattle.tables.specs.Statements.{show_upload}
-use Rattle.tables.specs.Staging.{upload_fields, read_upload}
+use Rattle.tables.proofs.Prelude.{◌≡◌, List, map, take, Upload, show_upload, upload_fields, read_upload}
 use Rattle.tables.proofs.rows.all_uploads.Given as goal
 
 abbrev pub invariant-loop-row : goal.invariant-loop-row

@@ -1,5 +1,4 @@
-use Rattle.std.proofs.Common.{arith, refl}
-use Rattle.tables.specs.Statements.{show_lock}
+use Rattle.tables.proofs.Prelude.{arith, refl, show_lock}
 use Rattle.tables.proofs.Ranges.{is_read, ref_text_is, path_text_is, user_text_is}
 use Rattle.tables.proofs.rows.lock_from.Goals as goal
 

@@ -1,5 +1,4 @@
-use Rattle.std.proofs.Common.{arith, refl}
-use Rattle.tables.specs.Statements.{show_token}
+use Rattle.tables.proofs.Prelude.{arith, refl, show_token}
 use Rattle.tables.proofs.Ranges.{is_read, user_text_is, repo_text_is}
 use Rattle.tables.proofs.rows.token_from.Goals as goal
 

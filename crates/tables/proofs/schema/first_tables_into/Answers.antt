@@ -1,7 +1,5 @@
-use Rattle.std.proofs.Common.{arith, refl}
-use Rattle.sqlite.specs.Held.{state}
-use Rattle.sqlite.specs.State.{HasCleanDisk}
-use Rattle.tables.specs.Rows.{meta, repos, tokens}
+use Rattle.tables.proofs.Prelude.{arith, refl, state, HasCleanDisk, repos, tokens}
+use Rattle.tables.specs.Rows.{meta}
 use Rattle.tables.proofs.Stages.{first_three}
 use Rattle.tables.proofs.schema.first_tables_into.Goals as goal
 

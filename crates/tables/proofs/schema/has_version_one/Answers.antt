@@ -1,8 +1,5 @@
-use Rattle.std.proofs.Common.{refl, ◌∙◌}
-use Rattle.sqlite.specs.Held.{state}
-use Rattle.tables.specs.Runs.{tables_in}
+use Rattle.tables.proofs.Prelude.{refl, ◌∙◌, state, tables_in, with_fact}
 use Rattle.tables.specs.Statements.{meta, reading}
-use Rattle.typed_rows.proofs.Found.{with_fact}
 use Rattle.tables.proofs.schema.has_version_one.Goals as goal
 
 pub returns : goal.returns

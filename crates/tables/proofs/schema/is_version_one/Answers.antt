@@ -1,4 +1,4 @@
-use Rattle.std.proofs.Common.{arith, rules}
+use Rattle.tables.proofs.Prelude.{arith, rules}
 use Rattle.tables.proofs.Decoded.{one_meta, meta_one}
 use Rattle.tables.proofs.schema.is_version_one.Goals as goal
 

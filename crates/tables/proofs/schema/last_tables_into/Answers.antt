@@ -1,7 +1,4 @@
-use Rattle.std.proofs.Common.{arith, refl}
-use Rattle.sqlite.specs.Held.{state}
-use Rattle.sqlite.specs.State.{HasCleanDisk}
-use Rattle.tables.specs.Rows.{uploads, chunks, locks}
+use Rattle.tables.proofs.Prelude.{arith, refl, state, HasCleanDisk, uploads, chunks, locks}
 use Rattle.tables.proofs.Stages.{last_three}
 use Rattle.tables.proofs.schema.last_tables_into.Goals as goal
 

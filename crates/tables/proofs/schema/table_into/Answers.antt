@@ -1,11 +1,10 @@
-use Rattle.sqlite.specs.Held.{state}
-use Rattle.typed_rows.proofs.Transactions.{executed}
-use Rattle.tables.proofs.Stages.{part_inside}
+use Rattle.tables.proofs.Prelude.{state, executed}
+use Rattle.tables.proofs.Stages.{before_inside}
 use Rattle.tables.proofs.schema.table_into.Goals as goal
 
 pub returns-clause-ok : goal.returns-clause-ok
 returns-clause-ok g c part is clean inside =
-    part_inside (state g.S.Store c.args.tx.now.conn.now) (state g.S.Store c.execute.new.self.conn.now) part c.args.sql.now c.execute.result is inside (c.execute.ensures.runs clean inside)
+    before_inside (state g.S.Store c.args.tx.now.conn.now) (state g.S.Store c.execute.new.self.conn.now) part c.args.sql.now c.execute.result is inside (c.execute.ensures.runs clean inside)
 
 pub returns-clause-within : goal.returns-clause-within
 returns-clause-within g c = executed g.S.Store c.args.tx.now.conn.now c.execute.new.self.conn.now _ _ c.execute.result c.execute.ensures.survives c.execute.ensures.runs

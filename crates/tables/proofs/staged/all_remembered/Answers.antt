@@ -1,7 +1,4 @@
-use Rattle.std.proofs.Common.{sym, ap, rules, ◌∙◌}
-use Rattle.names.specs.Names.{repo_text}
-use Rattle.tables.specs.Statements.{show_upload}
-use Rattle.tables.specs.Remembered.{remembered_in}
+use Rattle.tables.proofs.Prelude.{sym, ap, rules, ◌∙◌, repo_text, show_upload, remembered_in}
 use Rattle.tables.proofs.Entries.{last_more, none_known}
 use Rattle.tables.proofs.staged.all_remembered.Goals as goal
 

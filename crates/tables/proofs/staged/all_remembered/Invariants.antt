@@ -1,8 +1,4 @@
-use Rattle.std.proofs.Common.{◌≡◌, List, map, take}
-use Rattle.std.specs.List.{AllByRecursion}
-use Rattle.tables.specs.Rows.{Upload}
-use Rattle.tables.specs.Statements.{show_upload}
-use Rattle.tables.specs.Remembered.{IsLast}
+use Rattle.tables.proofs.Prelude.{◌≡◌, List, map, take, AllByRecursion, Upload, show_upload, IsLast}
 use Rattle.tables.proofs.staged.all_remembered.Given as goal
 
 abbrev pub invariant-loop-row : goal.invariant-loop-row

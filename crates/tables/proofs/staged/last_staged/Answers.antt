@@ -1,10 +1,4 @@
-use Rattle.std.proofs.Common.{◌∙◌, None, Some, Option, Ok, ap, sym, subst}
-use Rattle.names.specs.Names.{repo_text}
-use Rattle.tables.specs.declared.rows.UploadId.{UploadId}
-use Rattle.tables.specs.declared.rows.UploadRow.{UploadRow}
-use Rattle.tables.specs.Statements.{same_bytes}
-use Rattle.tables.specs.Staging.{UploadFields}
-use Rattle.tables.specs.Seeking.{Seeks}
+use Rattle.tables.proofs.Prelude.{◌∙◌, None, Some, Option, Ok, ap, sym, subst, repo_text, UploadId, UploadRow, same_bytes, UploadFields, Seeks}
 use Rattle.tables.proofs.Seeking.{IsRow, seeks_none, seeks_nothing, seeks_one}
 use Rattle.tables.proofs.staged.last_staged.Goals as goal
 

@@ -1,6 +1,4 @@
-use Rattle.std.proofs.Common.{sym, ◌∙◌}
-use Rattle.names.specs.Names.{repo_text}
-use Rattle.tables.specs.Remembered.{is_entry_of}
+use Rattle.tables.proofs.Prelude.{sym, ◌∙◌, repo_text, is_entry_of}
 use Rattle.tables.proofs.Entries.{none_more}
 use Rattle.tables.proofs.staged.place_of.Goals as goal
 

@@ -1,6 +1,4 @@
-use Rattle.std.proofs.Common.{◌≡◌, find, take, None}
-use Rattle.names.specs.Names.{repo_text}
-use Rattle.tables.specs.Remembered.{is_entry_of}
+use Rattle.tables.proofs.Prelude.{◌≡◌, find, take, None, repo_text, is_entry_of}
 use Rattle.tables.proofs.staged.place_of.Given as goal
 
 abbrev pub invariant-loop-at : goal.invariant-loop-at

@@ -1,6 +1,4 @@
-use Rattle.std.proofs.Common.{◌≡◌, ◌++◌, ◌∷◌, [], refl, rules}
-use Rattle.names.specs.Names.{repo_text}
-use Rattle.tables.specs.declared.staged.Remembered.{Remembered}
+use Rattle.tables.proofs.Prelude.{◌≡◌, ◌++◌, ◌∷◌, [], refl, rules, repo_text, Remembered}
 use Rattle.tables.proofs.Entries.{noted_at, noted_new}
 use Rattle.tables.proofs.staged.remember.Goals as goal
 

@@ -1,8 +1,4 @@
-use Rattle.std.proofs.Common.{sym, ap, option_map, Some, ◌∙◌}
-use Rattle.names.specs.Names.{repo_text}
-use Rattle.tables.specs.declared.staged.Remembered.{Remembered}
-use Rattle.tables.specs.Staging.{upload_number}
-use Rattle.tables.specs.Remembered.{is_entry_of}
+use Rattle.tables.proofs.Prelude.{sym, ap, option_map, Some, ◌∙◌, repo_text, Remembered, upload_number, is_entry_of}
 use Rattle.tables.proofs.Entries.{first_is}
 use Rattle.tables.proofs.staged.remembered_in.Goals as goal
 

@@ -1,9 +1,4 @@
-use Rattle.std.proofs.Common.{ap, not, ◌∙◌}
-use Rattle.sqlite.specs.Held.{state}
-use Rattle.tables.specs.Statements.{with_token}
-use Rattle.tables.specs.Steps.{asked_token, after_add}
-use Rattle.tables.specs.Runs.{tables_in}
-use Rattle.typed_rows.proofs.Transactions.{clean_before}
+use Rattle.tables.proofs.Prelude.{ap, not, ◌∙◌, state, with_token, asked_token, after_add, tables_in, clean_before}
 use Rattle.tables.proofs.Calls.{does_on, does_then, does_as}
 use Rattle.tables.proofs.Creating.{kept_if_there, added_if_new}
 use Rattle.tables.proofs.tokens.add_into.Goals as goal

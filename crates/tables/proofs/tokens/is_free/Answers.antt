@@ -1,8 +1,5 @@
-use Rattle.std.proofs.Common.{refl, rules}
-use Rattle.sqlite.specs.Held.{state}
-use Rattle.tables.specs.Statements.{token, has_digest, show_token, reading}
-use Rattle.tables.specs.Runs.{tables_in}
-use Rattle.typed_rows.proofs.Found.{none_shown}
+use Rattle.tables.proofs.Prelude.{refl, rules, state, token, has_digest, show_token, tables_in, none_shown}
+use Rattle.tables.specs.Statements.{reading}
 use Rattle.tables.proofs.Calls.{does_on}
 use Rattle.tables.proofs.tokens.is_free.Goals as goal
 

@@ -1,6 +1,5 @@
-use Rattle.std.proofs.Common.{pos, refl, w64}
-use Rattle.std.proofs.lemmas.Int.{to_z-of_z}
-use Rattle.tables.specs.Statements.{remove_expired, writing}
+use Rattle.tables.proofs.Prelude.{pos, refl, w64, to_z-of_z, remove_expired}
+use Rattle.tables.specs.Statements.{writing}
 use Rattle.tables.proofs.tokens.remove_expired_into.Goals as goal
 
 pub returns-clause-count : goal.returns-clause-count

@@ -1,7 +1,5 @@
-use Rattle.std.proofs.Common.{refl, w64}
-use Rattle.std.proofs.lemmas.Int.{to_z-of_z}
-use Rattle.tables.specs.Statements.{add_token, writing}
-use Rattle.tables.specs.Steps.{asked_token}
+use Rattle.tables.proofs.Prelude.{refl, w64, to_z-of_z, add_token, asked_token}
+use Rattle.tables.specs.Statements.{writing}
 use Rattle.tables.proofs.tokens.token_into.Goals as goal
 
 pub returns-clause-does : goal.returns-clause-does

@@ -1,5 +1,4 @@
-use Rattle.std.proofs.Common.{◌≡◌, Some, pos, refl, rules}
-use Rattle.tables.specs.Staging.{completion_of, after_complete}
+use Rattle.tables.proofs.Prelude.{◌≡◌, Some, pos, refl, rules, completion_of, after_complete}
 use Rattle.tables.proofs.Calls.{transacts_from}
 use Rattle.tables.proofs.uploads.complete.Goals as goal
 

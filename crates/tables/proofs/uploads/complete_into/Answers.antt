@@ -1,9 +1,4 @@
-use Rattle.std.proofs.Common.{◌≡◌, pos, true, false, Some, option_map, ap, sym, ◌∙◌, rules}
-use Rattle.std.proofs.lemmas.Result.{IfOk-weaker}
-use Rattle.sqlite.specs.Held.{state}
-use Rattle.tables.specs.Runs.{tables_in}
-use Rattle.tables.specs.Staging.{begun_as, read_upload, is_as_begun, settled_as, after_settling, after_complete}
-use Rattle.typed_rows.proofs.Transactions.{clean_before}
+use Rattle.tables.proofs.Prelude.{◌≡◌, pos, true, false, Some, option_map, ap, sym, ◌∙◌, rules, IfOk-weaker, state, tables_in, begun_as, read_upload, is_as_begun, settled_as, after_settling, after_complete, clean_before}
 use Rattle.tables.proofs.Calls.{ready_after, does_on, does_then, does_as}
 use Rattle.tables.proofs.Completing.{differs, settles}
 use Rattle.tables.proofs.uploads.complete_into.Goals as goal

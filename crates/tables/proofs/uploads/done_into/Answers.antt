@@ -1,6 +1,5 @@
-use Rattle.std.proofs.Common.{refl, rules, w64}
-use Rattle.std.proofs.lemmas.Int.{to_z-of_z}
-use Rattle.tables.specs.Statements.{set_done, writing}
+use Rattle.tables.proofs.Prelude.{refl, rules, w64, to_z-of_z, set_done}
+use Rattle.tables.specs.Statements.{writing}
 use Rattle.tables.proofs.uploads.done_into.Goals as goal
 
 pub returns-clause-does : goal.returns-clause-does

@@ -1,5 +1,4 @@
-use Rattle.std.proofs.Common.{sym, ◌∙◌}
-use Rattle.std.proofs.lemmas.Map.Text.{is_eq-slice_cmp}
+use Rattle.tables.proofs.Prelude.{sym, ◌∙◌, is_eq-slice_cmp}
 use Rattle.tables.proofs.uploads.is_same_name.Goals as goal
 
 pub returns : goal.returns

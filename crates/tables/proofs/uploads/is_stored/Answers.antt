@@ -1,9 +1,5 @@
-use Rattle.std.proofs.Common.{not, refl, rules, ap, ◌∙◌}
-use Rattle.sqlite.specs.Held.{state}
-use Rattle.names.specs.Names.{repo_text}
-use Rattle.tables.specs.Statements.{object, is_object, show_upload, reading}
-use Rattle.tables.specs.Runs.{tables_in}
-use Rattle.typed_rows.proofs.Found.{none_shown}
+use Rattle.tables.proofs.Prelude.{refl, rules, state, repo_text, object, is_object, show_upload, tables_in, none_shown}
+use Rattle.tables.specs.Statements.{reading}
 use Rattle.tables.proofs.Calls.{does_on}
 use Rattle.tables.proofs.uploads.is_stored.Goals as goal
 

@@ -1,8 +1,4 @@
-use Rattle.std.proofs.Common.{◌≡◌, ◌<◌, length, refl, sym, ap, rules}
-use Rattle.sqlite.specs.Held.{state}
-use Rattle.tables.specs.Statements.{with_chunk}
-use Rattle.tables.specs.Runs.{tables_in}
-use Rattle.tables.specs.Staging.{upload_number, asked_chunk, begun_as, with_last, with_kept}
+use Rattle.tables.proofs.Prelude.{◌≡◌, ◌<◌, length, sym, ap, rules, state, with_chunk, tables_in, asked_chunk, begun_as, with_last, with_kept}
 use Rattle.tables.proofs.Calls.{does_then, does_as}
 use Rattle.tables.proofs.Completing.{no_last, some_last}
 use Rattle.tables.proofs.uploads.keep_all_into.Goals as goal

@@ -1,12 +1,6 @@
-use Rattle.std.proofs.Common.{◌≡◌, ◌+ℤ◌, w64, rules, find, ap, sym, subst}
-use Rattle.std.proofs.lemmas.Int.{to_z-of_z}
-use Rattle.sqlite.specs.Held.{state}
-use Rattle.tables.specs.Rows.{Tables}
-use Rattle.tables.specs.Statements.{is_named, with_done}
-use Rattle.tables.specs.Runs.{tables_in}
-use Rattle.tables.specs.Steps.{used_of}
-use Rattle.tables.specs.Staging.{begun_as, IsTotalOf, with_used, with_kept}
-use Rattle.typed_rows.proofs.Transactions.{clean_before, goes_on, inside_then}
+use Rattle.tables.proofs.Prelude.{◌≡◌, ◌+ℤ◌, w64, rules, find, ap, sym, subst, to_z-of_z, state, Tables, is_named, tables_in, used_of, begun_as, IsTotalOf, with_used, clean_before, goes_on, inside_then}
+use Rattle.tables.specs.Statements.{with_done}
+use Rattle.tables.specs.Staging.{with_kept}
 use Rattle.tables.proofs.Calls.{ready_after, steps_then, same_steps, does_then}
 use Rattle.tables.proofs.uploads.keep_into.Goals as goal
 

@@ -1,10 +1,5 @@
-use Rattle.std.proofs.Common.{map, option_map, refl, sym, ap, ◌∙◌}
-use Rattle.std.proofs.lemmas.Result.{IfOk-weaker}
-use Rattle.sqlite.specs.Held.{state}
-use Rattle.names.specs.Names.{repo_text}
-use Rattle.tables.specs.Runs.{tables_in}
-use Rattle.tables.specs.Statements.{objects_in, objects, show_upload, reading}
-use Rattle.tables.specs.Staging.{objects_of}
+use Rattle.tables.proofs.Prelude.{map, option_map, refl, sym, ap, ◌∙◌, IfOk-weaker, state, repo_text, tables_in, objects_in, objects, show_upload, objects_of}
+use Rattle.tables.specs.Statements.{reading}
 use Rattle.tables.proofs.uploads.object_rows.Goals as goal
 
 pub returns-in-Some : goal.returns-in-Some

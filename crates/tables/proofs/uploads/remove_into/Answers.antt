@@ -1,8 +1,4 @@
-use Rattle.std.proofs.Common.{Ok, ap, sym, ◌∙◌}
-use Rattle.sqlite.specs.Held.{state}
-use Rattle.tables.specs.Runs.{tables_in}
-use Rattle.tables.specs.Staging.{begun_as, read_upload, without_upload, without_staged}
-use Rattle.typed_rows.proofs.Transactions.{clean_before}
+use Rattle.tables.proofs.Prelude.{Ok, ap, sym, ◌∙◌, state, tables_in, begun_as, read_upload, without_upload, without_staged, clean_before}
 use Rattle.tables.proofs.Calls.{does_on, does_then, does_as}
 use Rattle.tables.proofs.Completing.{removed, is_there, nothing_removed, is_not_there}
 use Rattle.tables.proofs.uploads.remove_into.Goals as goal

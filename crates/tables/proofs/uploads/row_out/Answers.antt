@@ -1,6 +1,5 @@
-use Rattle.std.proofs.Common.{refl, rules, w64}
-use Rattle.std.proofs.lemmas.Int.{to_z-of_z}
-use Rattle.tables.specs.Statements.{remove_row, writing}
+use Rattle.tables.proofs.Prelude.{refl, rules, w64, to_z-of_z, remove_row}
+use Rattle.tables.specs.Statements.{writing}
 use Rattle.tables.proofs.uploads.row_out.Goals as goal
 
 pub returns-clause-does : goal.returns-clause-does

@@ -1,9 +1,5 @@
-use Rattle.std.proofs.Common.{arith, rules, refl, w64}
-use Rattle.std.proofs.lemmas.Int.{to_z-of_z}
-use Rattle.std.proofs.lemmas.Result.{IfOk-weaker}
-use Rattle.sqlite.specs.Held.{state}
-use Rattle.names.specs.Names.{repo_text}
-use Rattle.tables.specs.Statements.{add_used, set_used, writing}
+use Rattle.tables.proofs.Prelude.{arith, rules, refl, w64, to_z-of_z, IfOk-weaker, state, repo_text, add_used, set_used}
+use Rattle.tables.specs.Statements.{writing}
 use Rattle.tables.proofs.Counting.{total_new, total_at}
 use Rattle.tables.proofs.uploads.set_used.Goals as goal
 

@@ -1,9 +1,4 @@
-use Rattle.std.proofs.Common.{true, false, sym, ◌∙◌}
-use Rattle.sqlite.specs.Held.{state}
-use Rattle.tables.specs.Rows.{Tables}
-use Rattle.tables.specs.Runs.{tables_in}
-use Rattle.tables.specs.Staging.{begun_as, with_last, with_kept, after_settling}
-use Rattle.typed_rows.proofs.Transactions.{clean_before}
+use Rattle.tables.proofs.Prelude.{true, false, sym, ◌∙◌, state, Tables, tables_in, begun_as, with_last, with_kept, after_settling, clean_before}
 use Rattle.tables.proofs.Calls.{does_on, does_then, does_as}
 use Rattle.tables.proofs.Completing.{settled, after_settled}
 use Rattle.tables.proofs.uploads.settle_into.Goals as goal

@@ -1,5 +1,5 @@
-use Rattle.std.proofs.Common.{◌≡◌, pos, is_some, refl, rules}
-use Rattle.tables.specs.Staging.{staged_with, without_staged_from}
+use Rattle.tables.proofs.Prelude.{◌≡◌, pos, is_some, refl, rules, without_staged_from}
+use Rattle.tables.specs.Staging.{staged_with}
 use Rattle.tables.proofs.Calls.{transacts_from}
 use Rattle.tables.proofs.uploads.shorten.Goals as goal
 

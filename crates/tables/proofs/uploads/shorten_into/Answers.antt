@@ -1,9 +1,4 @@
-use Rattle.std.proofs.Common.{pos, ap, sym, ◌∙◌}
-use Rattle.sqlite.specs.Held.{state}
-use Rattle.tables.specs.Runs.{tables_in}
-use Rattle.tables.specs.Statements.{without_chunks_from}
-use Rattle.tables.specs.Staging.{begun_as, read_upload, without_staged_from}
-use Rattle.typed_rows.proofs.Transactions.{clean_before}
+use Rattle.tables.proofs.Prelude.{pos, ap, sym, ◌∙◌, state, tables_in, without_chunks_from, begun_as, read_upload, without_staged_from, clean_before}
 use Rattle.tables.proofs.Calls.{does_on, does_then, does_as}
 use Rattle.tables.proofs.Completing.{shortened, is_there, nothing_shortened, is_not_there}
 use Rattle.tables.proofs.uploads.shorten_into.Goals as goal

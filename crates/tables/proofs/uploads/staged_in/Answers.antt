@@ -1,10 +1,5 @@
-use Rattle.std.proofs.Common.{filter, refl, rules, w64, ◌∙◌}
-use Rattle.std.proofs.lemmas.Int.{to_z-of_z}
-use Rattle.sqlite.specs.Held.{state}
-use Rattle.tables.specs.Statements.{staged_with, is_staged_with, reading}
-use Rattle.tables.specs.Staging.{read_upload, upload_fields}
-use Rattle.tables.specs.Runs.{tables_in}
-use Rattle.typed_rows.proofs.Found.{with_fact, first_found}
+use Rattle.tables.proofs.Prelude.{filter, refl, rules, w64, ◌∙◌, to_z-of_z, state, is_staged_with, read_upload, upload_fields, tables_in, with_fact, first_found}
+use Rattle.tables.specs.Statements.{staged_with, reading}
 use Rattle.tables.proofs.Calls.{does_on}
 use Rattle.tables.proofs.uploads.staged_in.Goals as goal
 

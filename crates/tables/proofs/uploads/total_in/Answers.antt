@@ -1,10 +1,5 @@
-use Rattle.std.proofs.Common.{filter, refl, ◌∙◌}
-use Rattle.sqlite.specs.Held.{state}
-use Rattle.names.specs.Names.{repo_text}
-use Rattle.tables.specs.Statements.{used_by, is_named, reading}
-use Rattle.tables.specs.Staging.{read_total, repo_total}
-use Rattle.tables.specs.Runs.{tables_in}
-use Rattle.typed_rows.proofs.Found.{with_fact, first_found}
+use Rattle.tables.proofs.Prelude.{filter, refl, ◌∙◌, state, repo_text, used_by, is_named, read_total, repo_total, tables_in, with_fact, first_found}
+use Rattle.tables.specs.Statements.{reading}
 use Rattle.tables.proofs.Calls.{does_on}
 use Rattle.tables.proofs.uploads.total_in.Goals as goal
 

@@ -1,4 +1,4 @@
-use Rattle.tables.specs.Statements.{without_row, without_chunks}
+use Rattle.tables.proofs.Prelude.{without_row, without_chunks}
 use Rattle.tables.specs.Staging.{without_upload}
 use Rattle.tables.proofs.Calls.{does_on, does_then}
 use Rattle.tables.proofs.uploads.upload_out.Goals as goal

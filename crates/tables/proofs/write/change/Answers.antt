@@ -1,9 +1,5 @@
-use Rattle.std.proofs.Common.{arith}
-use Rattle.std.proofs.lemmas.Result.{IfOk-weaker}
-use Rattle.sqlite.specs.Values.{bound}
-use Rattle.sqlite.specs.Held.{state}
+use Rattle.tables.proofs.Prelude.{arith, IfOk-weaker, bound, state, executed}
 use Rattle.tables.proofs.Changes.{written_inside}
-use Rattle.typed_rows.proofs.Transactions.{executed}
 use Rattle.tables.proofs.write.change.Goals as goal
 
 pub returns-clause-ok : goal.returns-clause-ok
