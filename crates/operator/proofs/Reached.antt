@@ -43,8 +43,8 @@ one_of t (world ∷ bound) all (inr there) = one_of t bound all.1 there
 -- files that hold one of these worlds
 pub reached_held : (image : Image) (bound : Bound) → AreReached bound → HoldsAmong image bound → HoldsReached image
 reached_held image bound all held =
-    ∥∥₁_elim held squash₁ (λ found. let one = one_of _ bound all found.2.1 in
-    ∣ (one.0, one.1, ∣ (found.0, found.1, (found.2.0, inl one.2)) ∣₁) ∣₁)
+    ∥∥₁_elim held squash₁ (λ found. let one = one_of _ bound all found.2.3 in
+    ∣ (one.0, one.1, ∣ (found.0, found.1, (found.2.0, found.2.1, found.2.2, inl one.2)) ∣₁) ∣₁)
 
 -- ---- the bound of calls, and that of their steps
 
