@@ -1,6 +1,7 @@
 //! Objects: uploads that are begun, filled, completed, found, written out and removed.
 
 use crate::harness::{Tester, in_memory, repo, unwrap};
+use crate::server::joined;
 use chunks::{Intake, pour};
 use names::{FailAfter, Oid, Size, SliceSource, VecSink};
 use sqlite::MemStore;
@@ -230,10 +231,9 @@ const B_AND_A: &str = "c804b27e6ba0353ff3d428440380dd9267a16d7dfa9b0df1a892ea650
 
 /// 65,536 bytes `first`, and then as many `second`.
 fn two_chunks(rt: &impl Tester, first: u8, second: u8) -> Vec<u8> {
-    let mut bytes = unwrap(rt, vec![in rt.alloc(); first; 131_072]);
-    let (_, last) = bytes.as_mut_slice().split_at_mut(65_536);
-    last.fill(second);
-    bytes
+    let first = unwrap(rt, vec![in rt.alloc(); first; 65_536]);
+    let second = unwrap(rt, vec![in rt.alloc(); second; 65_536]);
+    joined(rt, first.as_slice(), second.as_slice())
 }
 
 #[test]
