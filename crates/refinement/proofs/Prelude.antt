@@ -40,7 +40,7 @@ pub use Rattle.std.specs.Prelude.{int_le}
 pub use Rattle.tables.proofs.Moved.{moves_none, moves_still, moves_then, nothing_none, nothing_then}
 pub use Rattle.tables.specs.Rows.{Repo, Tables, tables_of}
 pub use Rattle.tables.specs.Runs.{fresh}
-pub use Rattle.tables.specs.Shown.{AddsNothing, Begins, Fails, FailsAny, HasNoTable, HasOurs, HasTables, IsDurable, IsHonest, IsOpen, IsSafe, Leaves, Makes, Moves, Rests, committed, shown}
+pub use Rattle.tables.specs.Shown.{AddsNothing, Begins, Fails, FailsAny, HasNoTable, HasOurs, HasTables, IsDurable, IsHonest, IsOpen, IsSafe, Leaves, Makes, Moves, Rests, committed, fresh_on, shown}
 pub use Rattle.tables.specs.Staging.{IsAbove, IsBegun, after_begin, after_completion, after_found, asked_chunk, asked_upload, completion_by, completion_of, is_as_begun, set_used, settled_as, staged_with, upload_number, with_last, without_found_from, without_staged, without_staged_from}
 pub use Rattle.tables.specs.Statements.{by_id, has_digest, has_expired, has_id, id_cmp, is_at, is_chunk, is_complete, is_from, is_in, is_object, is_of, is_of_from, is_staged, is_staged_in, is_staged_with, is_upload, same_bytes, with_chunk}
 pub use Rattle.tables.specs.Steps.{LockFields, Outcome, after_outcome, code_of, created, greatest_id, has_token, held, lock_fields, made_in, made_of, outcome_by, outcome_of, set_first, set_made, used_in, used_of, used_up, with_new_lock}

@@ -1,5 +1,5 @@
 -- A store that `start` accepted is in a world, and a stop leaves that world.
-use Rattle.refinement.proofs.Prelude.{◌≡◌, ◌∙◌, ◌⊎◌, inl, inr, IsTrue, [], ◌∷◌, Result, Ok, Err, OnOk, refl, sym, ap, subst, ∥∥₁_map, Ghosts, Trees, over_files, World, IsWorld, nothing, Bound, Tables, tables_of, fresh, IsHonest, IsSafe, HasTables, shown, committed, HasNoTable, HasOurs, Rests, Leaves, Store, Represents, IsAmong, IsBoundedBy}
+use Rattle.refinement.proofs.Prelude.{◌≡◌, ◌∙◌, ◌⊎◌, inl, inr, IsTrue, [], ◌∷◌, Result, Ok, Err, OnOk, refl, sym, ap, subst, ∥∥₁_map, Ghosts, Trees, over_files, World, IsWorld, nothing, Bound, Tables, tables_of, fresh_on, IsHonest, IsSafe, HasTables, shown, committed, HasNoTable, HasOurs, Rests, Leaves, Store, Represents, IsAmong, IsBoundedBy}
 use Rattle.sqlite_disk.specs.declared.Disk as disk
 use Rattle.sqlite_catalog.specs.Listing.{IsSound}
 use Rattle.sqlite_wal.specs.Recovery.{Image}
@@ -20,12 +20,12 @@ module _ {S : Type 0} (g : Ghosts S) (old new : Store S) where
   -- the contract of `create_or_check` on a store that it accepted
   pub record Accepts : Type 0 where
     pub ready : HasTables g new
-    pub ok : IsHonest g new → (HasNoTable g old × (shown g new ≡ fresh)) ⊎ Rests g old new
+    pub ok : IsHonest g new → (HasNoTable g old × (shown g new ≡ fresh_on g old)) ⊎ Rests g old new
     pub safe : IsHonest g new → IsSafe g new
-    pub only : IsHonest g new → (t : Tables) → Leaves g new t → (HasNoTable g old × (t ≡ fresh)) ⊎ (HasOurs g old × (t ≡ shown g old))
+    pub only : IsHonest g new → (t : Tables) → Leaves g new t → (HasNoTable g old × (t ≡ fresh_on g old)) ⊎ (HasOurs g old × (t ≡ shown g old))
 
-  pub accepts : {T E : Type 0} (r : Result T E) → OnOk r (HasTables g new) → (IsHonest g new → OnOk r ((HasNoTable g old × (shown g new ≡ fresh)) ⊎ Rests g old new)) → (IsHonest g new → OnOk r (IsSafe g new))
-      → (IsHonest g new → OnOk r ((t : Tables) → Leaves g new t → (HasNoTable g old × (t ≡ fresh)) ⊎ (HasOurs g old × (t ≡ shown g old)))) → OnOk r Accepts
+  pub accepts : {T E : Type 0} (r : Result T E) → OnOk r (HasTables g new) → (IsHonest g new → OnOk r ((HasNoTable g old × (shown g new ≡ fresh_on g old)) ⊎ Rests g old new)) → (IsHonest g new → OnOk r (IsSafe g new))
+      → (IsHonest g new → OnOk r ((t : Tables) → Leaves g new t → (HasNoTable g old × (t ≡ fresh_on g old)) ⊎ (HasOurs g old × (t ≡ shown g old)))) → OnOk r Accepts
   accepts (Ok x) ready ok safe only = record { ready = ready; ok = ok; safe = safe; only = only }
   accepts (Err e) ready ok safe only = tt
 
@@ -38,14 +38,14 @@ module _ {S : Type 0} (g : Ghosts S) (old new : Store S) where
       ready = a.ready;
       laws = makes_world [] nothing refl;
       shows = λ k o. elim (a.ok k) [
-        | inl made ↦ subst (λ (t : Tables). Represents t nothing) (sym made.1) fresh_represented
+        | inl made ↦ subst (λ (t : Tables). Represents t nothing) (sym made.1) (fresh_represented _)
         | inr rests ↦ absurd (kept_some _ none (subst IsKept (rests.now o) (a.ready.ready k o)))
       ];
     };
     left = record {
       safe = a.safe;
       among = λ k t left. elim (a.only k t left) [
-        | inl made ↦ inl (makes_world [] nothing refl, subst (λ (u : Tables). Represents u nothing) (sym made.1) fresh_represented)
+        | inl made ↦ inl (makes_world [] nothing refl, subst (λ (u : Tables). Represents u nothing) (sym made.1) (fresh_represented _))
         | inr ours ↦ absurd (both_none none ours.0)
       ];
     };

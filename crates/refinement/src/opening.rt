@@ -26,8 +26,8 @@ use tables::{Alter, OpenFault, Storage, Store};
 ///
 /// # Errors
 ///
-/// Those of `Store::create_or_check`, which leave the database unchanged; if it had no table, a stop may still leave
-/// the tables of a new server.
+/// Those of `Store::create_or_check`, which leave the database unchanged; if it had none of the six tables, a stop may
+/// still leave those of a new server.
 pub fn start<S: Storage>(alloc: Global, store: &mut Store<S>) -> Result<(), OpenFault>
     ensures honest { IsHonest S.Store store.new → IsHonest S.Store store.old }
     ensures fresh { HasNoTable S.Store store.old → OnOk result (IsAt S.Store store.new nothing) }

@@ -9,7 +9,7 @@ use Rattle.sqlite_rules.specs.declared.error.Rowids.TheVariants.{Above}
 use Rattle.tables.specs.Rows.{meta, tables_under, AreTyped}
 use Rattle.tables.specs.Statements.{with_upload}
 use Rattle.tables.specs.Inserting.{insert_text, insert_params, IsInserted}
-use Rattle.tables.proofs.Meanings.{IsCommand, tells}
+use Rattle.tables.proofs.Meanings.{IsCommand, has_meaning}
 use Rattle.tables.proofs.Parts.{six_of, each, alone, counters, lonely, counters_apart, tree_is, kept_under, typed_at, typed_after, tables_after}
 use Rattle.typed_rows.proofs.Counted.{inserts_counted, given_above, appended_above}
 
@@ -29,7 +29,7 @@ module _ (schema : Schema) (six : HasSix schema) (mid new : Trees) (rest : StayB
 
   same_tables : tables_under schema new ≡ tables_under schema mid
   unfolding tables_under
-  same_tables = λ i. record { meta = same_rows meta i; repos = same_rows repos i; tokens = same_rows tokens i; uploads = same_rows uploads i; chunks = same_rows chunks i; locks = same_rows locks i }
+  same_tables = λ i. record { meta = same_rows meta i; repos = same_rows repos i; tokens = same_rows tokens i; uploads = same_rows uploads i; chunks = same_rows chunks i; locks = same_rows locks i; schema = schema }
 
 -- ---- the statement
 
@@ -38,7 +38,7 @@ upload_terms = lit Null ∷ lit Null ∷ col 0 0 ∷ col 0 1 ∷ col 0 2 ∷ lit
 
 insert_is : (schema : Schema) → HasSix schema → IsCommand schema insert_text (Insert (place_of schema uploads) (Values upload_terms 6))
 unfolding everything
-insert_is schema six = tells schema six uploads _ _ (refl, (refl, refl, refl))
+insert_is schema six = has_meaning schema six uploads _ _ (refl, (refl, refl, refl))
 
 abbrev id_of : Upload → ℤ
 id_of u = u.id

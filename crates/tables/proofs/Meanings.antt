@@ -76,8 +76,8 @@ module _ (schema : Schema) (six : HasSix schema) where
   asks : (p : Part) (sql : List ℕ) (q : Query) (names : List (List ℕ)) → Says p sql (Select (record { lets = []; body = q }) names) → IsQuery schema sql q
   asks p sql q names says = let it = meant p sql (Select (record { lets = []; body = q }) names) says in record { names = names; plain = it.plain; unlisted = it.unlisted; command = it.command }
 
-  pub tells : (p : Part) (sql : List ℕ) (command : Command) → Says p sql command → IsCommand schema sql command
-  tells p sql command says = let it = meant p sql command says in record { plain = it.plain; is = it.command }
+  pub has_meaning : (p : Part) (sql : List ℕ) (command : Command) → Says p sql command → IsCommand schema sql command
+  has_meaning p sql command says = let it = meant p sql command says in record { plain = it.plain; is = it.command }
 
   pub meta_is : IsQuery schema (read_text meta) (query_of [] (col 1 0 ∷ col 1 2 ∷ []) (tree_of schema part.meta))
   unfolding reading everything
@@ -141,52 +141,52 @@ module _ (schema : Schema) (six : HasSix schema) where
 
   pub add_lock_is : (l : Lock) → IsCommand schema (write_text (add_lock l)) (Insert (place_of schema part.locks) (Values lock_terms 7))
   unfolding writing everything
-  add_lock_is l = tells part.locks _ _ (refl, (refl, refl, refl))
+  add_lock_is l = has_meaning part.locks _ _ (refl, (refl, refl, refl))
 
   pub add_repo_is : (name : List ℕ) (made : ℤ) → IsCommand schema (write_text (add_repo name made)) (Insert (place_of schema part.repos) (Values repo_terms 4))
   unfolding writing everything
-  add_repo_is name made = tells part.repos _ _ (refl, (refl, refl, refl))
+  add_repo_is name made = has_meaning part.repos _ _ (refl, (refl, refl, refl))
 
   pub set_made_is : (rowid made : ℤ) → IsCommand schema (write_text (set_made rowid made)) (Update (place_of schema part.repos) (record { lets = []; body = plain_query (is_given 0 0 ∷ []) made_columns (tree_of schema part.repos) }))
   unfolding writing everything
-  set_made_is rowid made = tells part.repos _ _ (refl, (refl, refl, refl, (refl, refl)))
+  set_made_is rowid made = has_meaning part.repos _ _ (refl, (refl, refl, refl, (refl, refl)))
 
   pub remove_lock_is : (repo : List ℕ) (id : ℕ) → IsCommand schema (write_text (remove_lock repo id)) (Delete (place_of schema part.locks) (record { lets = []; body = plain_query (is_given 1 0 ∷ is_given 2 1 ∷ []) (col 1 0 ∷ []) (tree_of schema part.locks) }))
   unfolding writing everything
-  remove_lock_is repo id = tells part.locks _ _ (refl, (refl, refl, (refl, refl)))
+  remove_lock_is repo id = has_meaning part.locks _ _ (refl, (refl, refl, (refl, refl)))
 
   pub add_token_is : (t : Token) → IsCommand schema (write_text (add_token t)) (Insert (place_of schema part.tokens) (Values token_terms 6))
   unfolding writing everything
-  add_token_is t = tells part.tokens _ _ (refl, (refl, refl, refl))
+  add_token_is t = has_meaning part.tokens _ _ (refl, (refl, refl, refl))
 
   pub remove_expired_is : (moment : ℤ) → IsCommand schema (write_text (remove_expired moment)) (Delete (place_of schema part.tokens) (record { lets = []; body = plain_query (op2 (Compare Le Binary) (col 1 5) (col 0 0) ∷ []) (col 1 0 ∷ []) (tree_of schema part.tokens) }))
   unfolding writing everything
-  remove_expired_is moment = tells part.tokens _ _ (refl, (refl, refl, (refl, refl)))
+  remove_expired_is moment = has_meaning part.tokens _ _ (refl, (refl, refl, (refl, refl)))
 
   pub add_chunk_is : (c : Chunk) → IsCommand schema (write_text (add_chunk c)) (Insert (place_of schema part.chunks) (Values chunk_terms 4))
   unfolding writing everything
-  add_chunk_is c = tells part.chunks _ _ (refl, (refl, refl, refl))
+  add_chunk_is c = has_meaning part.chunks _ _ (refl, (refl, refl, refl))
 
   pub remove_row_is : (id : ℤ) → IsCommand schema (write_text (remove_row id)) (Delete (place_of schema part.uploads) (record { lets = []; body = plain_query (is_given 0 0 ∷ []) (col 1 0 ∷ []) (tree_of schema part.uploads) }))
   unfolding writing everything
-  remove_row_is id = tells part.uploads _ _ (refl, (refl, refl, (refl, refl)))
+  remove_row_is id = has_meaning part.uploads _ _ (refl, (refl, refl, (refl, refl)))
 
   pub remove_chunks_is : (upload : ℤ) → IsCommand schema (write_text (remove_chunks upload)) (Delete (place_of schema part.chunks) (record { lets = []; body = plain_query (is_given 1 0 ∷ []) (col 1 0 ∷ []) (tree_of schema part.chunks) }))
   unfolding writing everything
-  remove_chunks_is upload = tells part.chunks _ _ (refl, (refl, refl, (refl, refl)))
+  remove_chunks_is upload = has_meaning part.chunks _ _ (refl, (refl, refl, (refl, refl)))
 
   pub remove_chunks_from_is : (upload : ℤ) (n : ℕ) → IsCommand schema (write_text (remove_chunks_from upload n)) (Delete (place_of schema part.chunks) (record { lets = []; body = plain_query (is_given 1 0 ∷ op2 (Compare Ge Binary) (col 1 2) (col 0 1) ∷ []) (col 1 0 ∷ []) (tree_of schema part.chunks) }))
   unfolding writing everything
-  remove_chunks_from_is upload n = tells part.chunks _ _ (refl, (refl, refl, (refl, refl)))
+  remove_chunks_from_is upload n = has_meaning part.chunks _ _ (refl, (refl, refl, (refl, refl)))
 
   pub set_done_is : (id : ℤ) → IsCommand schema (write_text (set_done id)) (Update (place_of schema part.uploads) (record { lets = []; body = plain_query (is_given 0 0 ∷ []) done_columns (tree_of schema part.uploads) }))
   unfolding writing everything
-  set_done_is id = tells part.uploads _ _ (refl, (refl, refl, refl, (refl, refl)))
+  set_done_is id = has_meaning part.uploads _ _ (refl, (refl, refl, refl, (refl, refl)))
 
   pub add_used_is : (name : List ℕ) (used : ℤ) → IsCommand schema (write_text (add_used name used)) (Insert (place_of schema part.repos) (Values used_terms 4))
   unfolding writing everything
-  add_used_is name used = tells part.repos _ _ (refl, (refl, refl, refl))
+  add_used_is name used = has_meaning part.repos _ _ (refl, (refl, refl, refl))
 
   pub set_used_is : (rowid used : ℤ) → IsCommand schema (write_text (set_used rowid used)) (Update (place_of schema part.repos) (record { lets = []; body = plain_query (is_given 0 0 ∷ []) used_columns (tree_of schema part.repos) }))
   unfolding writing everything
-  set_used_is rowid used = tells part.repos _ _ (refl, (refl, refl, refl, (refl, refl)))
+  set_used_is rowid used = has_meaning part.repos _ _ (refl, (refl, refl, refl, (refl, refl)))

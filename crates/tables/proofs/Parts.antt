@@ -174,12 +174,12 @@ differ p q h e = absurd (let k : eqb (is_code p) (is_code p) ≡ false = subst (
 
 pub tables_after : (schema : Schema) (six : HasSix schema) (p : Part) (old new : Trees) → StayBut schema (tree_of schema p) old new → tables_under schema new ≡ with_rows p (rows_in p schema new) (tables_under schema old)
 unfolding tables_under is_code
-tables_after schema six meta old new stay = λ i. record { meta = rows_in meta schema new; repos = still schema six meta old new stay repos (differ repos meta refl) i; tokens = still schema six meta old new stay tokens (differ tokens meta refl) i; uploads = still schema six meta old new stay uploads (differ uploads meta refl) i; chunks = still schema six meta old new stay chunks (differ chunks meta refl) i; locks = still schema six meta old new stay locks (differ locks meta refl) i }
-tables_after schema six repos old new stay = λ i. record { meta = still schema six repos old new stay meta (differ meta repos refl) i; repos = rows_in repos schema new; tokens = still schema six repos old new stay tokens (differ tokens repos refl) i; uploads = still schema six repos old new stay uploads (differ uploads repos refl) i; chunks = still schema six repos old new stay chunks (differ chunks repos refl) i; locks = still schema six repos old new stay locks (differ locks repos refl) i }
-tables_after schema six tokens old new stay = λ i. record { meta = still schema six tokens old new stay meta (differ meta tokens refl) i; repos = still schema six tokens old new stay repos (differ repos tokens refl) i; tokens = rows_in tokens schema new; uploads = still schema six tokens old new stay uploads (differ uploads tokens refl) i; chunks = still schema six tokens old new stay chunks (differ chunks tokens refl) i; locks = still schema six tokens old new stay locks (differ locks tokens refl) i }
-tables_after schema six uploads old new stay = λ i. record { meta = still schema six uploads old new stay meta (differ meta uploads refl) i; repos = still schema six uploads old new stay repos (differ repos uploads refl) i; tokens = still schema six uploads old new stay tokens (differ tokens uploads refl) i; uploads = rows_in uploads schema new; chunks = still schema six uploads old new stay chunks (differ chunks uploads refl) i; locks = still schema six uploads old new stay locks (differ locks uploads refl) i }
-tables_after schema six chunks old new stay = λ i. record { meta = still schema six chunks old new stay meta (differ meta chunks refl) i; repos = still schema six chunks old new stay repos (differ repos chunks refl) i; tokens = still schema six chunks old new stay tokens (differ tokens chunks refl) i; uploads = still schema six chunks old new stay uploads (differ uploads chunks refl) i; chunks = rows_in chunks schema new; locks = still schema six chunks old new stay locks (differ locks chunks refl) i }
-tables_after schema six locks old new stay = λ i. record { meta = still schema six locks old new stay meta (differ meta locks refl) i; repos = still schema six locks old new stay repos (differ repos locks refl) i; tokens = still schema six locks old new stay tokens (differ tokens locks refl) i; uploads = still schema six locks old new stay uploads (differ uploads locks refl) i; chunks = still schema six locks old new stay chunks (differ chunks locks refl) i; locks = rows_in locks schema new }
+tables_after schema six meta old new stay = λ i. record { meta = rows_in meta schema new; repos = still schema six meta old new stay repos (differ repos meta refl) i; tokens = still schema six meta old new stay tokens (differ tokens meta refl) i; uploads = still schema six meta old new stay uploads (differ uploads meta refl) i; chunks = still schema six meta old new stay chunks (differ chunks meta refl) i; locks = still schema six meta old new stay locks (differ locks meta refl) i; schema = schema }
+tables_after schema six repos old new stay = λ i. record { meta = still schema six repos old new stay meta (differ meta repos refl) i; repos = rows_in repos schema new; tokens = still schema six repos old new stay tokens (differ tokens repos refl) i; uploads = still schema six repos old new stay uploads (differ uploads repos refl) i; chunks = still schema six repos old new stay chunks (differ chunks repos refl) i; locks = still schema six repos old new stay locks (differ locks repos refl) i; schema = schema }
+tables_after schema six tokens old new stay = λ i. record { meta = still schema six tokens old new stay meta (differ meta tokens refl) i; repos = still schema six tokens old new stay repos (differ repos tokens refl) i; tokens = rows_in tokens schema new; uploads = still schema six tokens old new stay uploads (differ uploads tokens refl) i; chunks = still schema six tokens old new stay chunks (differ chunks tokens refl) i; locks = still schema six tokens old new stay locks (differ locks tokens refl) i; schema = schema }
+tables_after schema six uploads old new stay = λ i. record { meta = still schema six uploads old new stay meta (differ meta uploads refl) i; repos = still schema six uploads old new stay repos (differ repos uploads refl) i; tokens = still schema six uploads old new stay tokens (differ tokens uploads refl) i; uploads = rows_in uploads schema new; chunks = still schema six uploads old new stay chunks (differ chunks uploads refl) i; locks = still schema six uploads old new stay locks (differ locks uploads refl) i; schema = schema }
+tables_after schema six chunks old new stay = λ i. record { meta = still schema six chunks old new stay meta (differ meta chunks refl) i; repos = still schema six chunks old new stay repos (differ repos chunks refl) i; tokens = still schema six chunks old new stay tokens (differ tokens chunks refl) i; uploads = still schema six chunks old new stay uploads (differ uploads chunks refl) i; chunks = rows_in chunks schema new; locks = still schema six chunks old new stay locks (differ locks chunks refl) i; schema = schema }
+tables_after schema six locks old new stay = λ i. record { meta = still schema six locks old new stay meta (differ meta locks refl) i; repos = still schema six locks old new stay repos (differ repos locks refl) i; tokens = still schema six locks old new stay tokens (differ tokens locks refl) i; uploads = still schema six locks old new stay uploads (differ uploads locks refl) i; chunks = still schema six locks old new stay chunks (differ chunks locks refl) i; locks = rows_in locks schema new; schema = schema }
 
 -- a database with these tables, which are typed and obey it, has the six
 pub kept_under : (db : Database) (schema : Schema) → db.schema ≡ schema → HasSix schema → AreTyped schema db.trees → IsSound schema db.trees → IsKept db

@@ -41,7 +41,7 @@ module _ {S : Type 0} (g : Ghosts S) where
   abbrev pub MakesFresh : {T E : Type 0} → Held S → Held S → Result T E → List Part → Type 0
   MakesFresh old new result done =
       HasCleanDisk (state g new) → IsTrue old.in_transaction → (IsTrue (state g old).is_open → IsBlank done (state g old).now)
-      → OnOk result (Steps with_fresh (state g old) (state g new))
+      → OnOk result (Steps (with_fresh (state g old).now.schema) (state g old) (state g new))
 
   -- ---- a transaction of its own
 

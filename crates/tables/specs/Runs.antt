@@ -8,7 +8,7 @@ use Rattle.sqlite_catalog.specs.Listing.{IsSound}
 use Rattle.std.specs.Prelude.{pos}
 use Rattle.typed_rows.specs.Transactions.{Keeps}
 use Rattle.tables.specs.Layout.{Version, version_one}
-use Rattle.tables.specs.Making.{IsBlank}
+use Rattle.tables.specs.Making.{IsBlank, all_six, with_parts}
 use Rattle.tables.specs.Six.{HasAll, HasSix, HasNone}
 use Rattle.tables.specs.Rows.{Part, Meta, AreTyped, Tables, tables_of}
 use Rattle.tables.specs.Statements.{Write, HasRemoved, after}
@@ -62,6 +62,7 @@ pub record Blanks (before after : List Part) (old new : State) : Type 0 where
   pub was_open : IsTrue old.is_open
   pub is_open : IsTrue new.is_open
   pub blank : IsBlank before old.now → IsBlank after new.now × IsOurs new.now
+  pub grown : IsBlank before old.now → (from : Schema) → old.now.schema ≡ with_parts before from → new.now.schema ≡ with_parts after from
   pub inside : new.in_transaction ≡ true
 
 -- the only row of `meta`
@@ -72,13 +73,13 @@ meta_of v = record { one = pos 1; version = v.number }
 abbrev pub first_meta : Meta
 first_meta = meta_of version_one
 
--- the tables of a new database
-abbrev pub fresh : Tables
-fresh = record { meta = first_meta ∷ []; repos = []; tokens = []; uploads = []; chunks = []; locks = [] }
+-- the tables of a new database: the six, made beside those of this schema, and the row of `meta`
+abbrev pub fresh : Schema → Tables
+fresh schema = record { meta = first_meta ∷ []; repos = []; tokens = []; uploads = []; chunks = []; locks = []; schema = with_parts all_six schema }
 
 -- the step to the tables of a new database
-unfoldable pub with_fresh : Tables → Tables
-with_fresh _ = fresh
+unfoldable pub with_fresh : Schema → Tables → Tables
+with_fresh schema _ = fresh schema
 
 -- the database has none of the six tables
 abbrev pub HasNoTable : State → Type 0
@@ -95,11 +96,11 @@ IsForeign = IsNotOf version_one
 
 -- the trees of a new database, if the old one had none of the six tables
 abbrev pub LeadsIfBlank : State → Trees → Type 0
-LeadsIfBlank old trees = HasNoTable old × Leads with_fresh old trees
+LeadsIfBlank old trees = HasNoTable old × Leads (with_fresh old.now.schema) old trees
 
 -- a database with none of the six tables got them, or nothing was changed
 abbrev pub MakesOrKeeps : State → State → Type 0
-MakesOrKeeps old new = (HasNoTable old × IsTrue old.is_open × IsAfter with_fresh old.now new.now) ⊎ Keeps old new
+MakesOrKeeps old new = (HasNoTable old × IsTrue old.is_open × IsAfter (with_fresh old.now.schema) old.now new.now) ⊎ Keeps old new
 
 -- after a crash now, the next open finds a database with our tables
 abbrev pub LeavesOurs : State → Type 0
@@ -120,4 +121,4 @@ HasOurs = HasVersion version_one
 abbrev pub LeavesOnly : State → State → Type 0
 LeavesOnly old new =
     (db : Database) → IsKept db → new.may_leave db.trees
-    → (HasNoTable old × (tables_of db ≡ fresh)) ⊎ (HasOurs old × (tables_of db ≡ tables_in old))
+    → (HasNoTable old × (tables_of db ≡ fresh old.now.schema)) ⊎ (HasOurs old × (tables_of db ≡ tables_in old))

@@ -8,8 +8,8 @@ ghost use Rattle.sqlite.specs.Files.{over_files, file_state, IsNothing};
 ghost use Rattle.sqlite_catalog.specs.Listing.{IsSound};
 ghost use Rattle.sqlite_trees.specs.Objects.{catalog_tree};
 ghost use Rattle.tables.specs.Six.{HasAll};
-ghost use Rattle.tables.specs.Runs.{first_meta, fresh};
-ghost use Rattle.tables.specs.Shown.{connection, committed, IsHonest, IsOpen, HasNoTable, HasOurs, IsForeign, HasTables, shown, Leaves, IsSafe, Rests, AddsFresh};
+ghost use Rattle.tables.specs.Runs.{first_meta};
+ghost use Rattle.tables.specs.Shown.{connection, committed, IsHonest, IsOpen, HasNoTable, HasOurs, IsForeign, fresh_on, HasTables, shown, Leaves, IsSafe, Rests, AddsFresh};
 
 use crate::fault::{OpenFault, StoreFault};
 use crate::storage::Storage;
@@ -93,12 +93,12 @@ impl<S: Storage> Store<S> {
             → OnOk result (IsOpen S.Store self.new
             → (shown S.Store self.new).meta ≡ first_meta ∷ []) }
         ensures ok { IsHonest S.Store self.new
-            → OnOk result ((HasNoTable S.Store self.old × (shown S.Store self.new ≡ fresh))
+            → OnOk result ((HasNoTable S.Store self.old × (shown S.Store self.new ≡ fresh_on S.Store self.old))
             ⊎ Rests S.Store self.old self.new) }
         ensures safe { IsHonest S.Store self.new → OnOk result (IsSafe S.Store self.new) }
         ensures only { IsHonest S.Store self.new
             → OnOk result ((t : _) → Leaves S.Store self.new t
-            → (HasNoTable S.Store self.old × (t ≡ fresh))
+            → (HasNoTable S.Store self.old × (t ≡ fresh_on S.Store self.old))
             ⊎ (HasOurs S.Store self.old × (t ≡ shown S.Store self.old))) }
         ensures ours { IsHonest S.Store self.new → (schema : _) → HasAll schema
             → IsSound schema (committed S.Store self.old)

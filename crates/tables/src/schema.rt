@@ -11,7 +11,7 @@ ghost use Rattle.tables.specs.Rows.{Part, name_of};
 ghost use Rattle.tables.specs.Six.{HasPart, HasNone, HasAll, is_parent, counts_name};
 ghost use Rattle.typed_rows.specs.Queries.{IsFree};
 ghost use Rattle.sqlite_schema.specs.Names.{table_named};
-ghost use Rattle.tables.specs.Making.{text_for, before, after, all_six, IsBlank};
+ghost use Rattle.tables.specs.Making.{text_for, before, after, all_six, with_parts, IsBlank};
 ghost use Rattle.tables.specs.Statements.{show_meta};
 ghost use Rattle.tables.specs.Runs.{IsOurs, Steps, HasNoTable, IsForeign, HasOurs, IsReady, with_fresh, first_meta, tables_in, LeadsIfBlank, LeavesOurs, LeavesOnly, MakesOrKeeps};
 ghost use Rattle.typed_rows.specs.Transactions.{Inside, Keeps};
@@ -81,7 +81,8 @@ fn version_into<S: Alter>(tx: &mut Transaction<'_, S>) -> Result<usize, Error>
     ensures ok { HasCleanDisk (state S.Store tx.new.conn.now) → IsTrue tx.old.conn.now.in_transaction
         → IsBlank all_six (state S.Store tx.old.conn.now).now
         → IsOurs (state S.Store tx.old.conn.now).now
-        → OnOk result (Steps with_fresh (state S.Store tx.old.conn.now) (state S.Store tx.new.conn.now)) }
+        → (from : _) → (state S.Store tx.old.conn.now).now.schema ≡ with_parts all_six from
+        → OnOk result (Steps (with_fresh from) (state S.Store tx.old.conn.now) (state S.Store tx.new.conn.now)) }
     ensures within { Inside S.Store tx.old.conn.now tx.new.conn.now result }
 {
     tx.execute("INSERT INTO meta (one, version) VALUES (1, 1)", &[])
@@ -102,7 +103,8 @@ fn fresh_into<S: Alter>(tx: &mut Transaction<'_, S>) -> Result<(), Error>
 #[tactic(auto, using(crate::proofs::Calls::led))]
 fn create<S: Alter>(conn: &mut Connection<S>) -> Result<(), StoreFault>
     ensures { Commits S.Store (IsTrue (state S.Store conn.old).is_open
-        → IsBlank [] (state S.Store conn.old).now) conn.old conn.new result with_fresh }
+        → IsBlank [] (state S.Store conn.old).now) conn.old conn.new result
+        (with_fresh (state S.Store conn.old).now.schema) }
 {
     if !conn.is_autocommit() {
         return Err(StoreFault::Refused);
