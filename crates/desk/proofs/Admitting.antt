@@ -1,10 +1,8 @@
 -- Which of the checks a request passes.
-use Rattle.desk.proofs.Prelude.{◌≡◌, ℕ, Bool, true, false, not, ◌||◌, List, Option, Some, None, Result, Ok, Err, bytes_eq, refl, sym, ap, subst, ◌∙◌, Rule, A4, A5, R1, Repo, repo_named, needs_upload, request_of, ◌>>=◌, check, ok_or, found_passes, admission_result, is_put, uploads}
+use Rattle.desk.proofs.Prelude.{◌≡◌, ℕ, Bool, true, false, not, ◌||◌, List, Option, Some, None, Result, Ok, Err, bytes_eq, refl, sym, ap, subst, ◌∙◌, Rule, A4, A5, R1, Repo, repo_named, needs_upload, ◌>>=◌, check, ok_or, found_passes, admission_result, uploads, uploads_if}
 use Rattle.std.specs.Bool.{⊤}
 use Rattle.model.specs.Policy.{Policy}
 use Rattle.model.specs.Forms.{Request}
-use Rattle.model.specs.declared.Form.{Form}
-use Rattle.model.specs.declared.Form.TheVariants as asks
 use Rattle.refinement.proofs.Lookups.{same_is}
 
 -- a request whose form is refused is not admitted
@@ -74,21 +72,6 @@ admitted policy own covers repo_asked asked r q is =
 pub own_name : (policy : Policy) (repo_asked : List ℕ) (r : Repo) → repo_named repo_asked policy ≡ Some r → r.name ≡ repo_asked
 own_name policy repo_asked r is = same_is r.name repo_asked (found_passes (λ (x : Repo). bytes_eq x.name repo_asked) policy.repos r is)
 
-asked_by : {A : Type 0} (given : Result A Rule) (ask : A → Request) (v : Bool) (q : Request) → ((x : A) → uploads (ask x) ≡ v) → (given >>= λ x. Ok (ask x)) ≡ Ok q → uploads q ≡ v
-asked_by (Err e) ask v q all is = absurd (cc)
-asked_by (Ok x) ask v q all is = ap (λ (r : Result Request Rule). uploads_if r) (sym is) ∙ all x
-  where
-    uploads_if : Result Request Rule → Bool
-    uploads_if (Ok y) = uploads y
-    uploads_if (Err e) = false
-
--- a request uploads an object exactly if its form does
-pub same_uploads : (f : Form) (parameter query body : List ℕ) (q : Request) → request_of f parameter query body ≡ Ok q → uploads q ≡ is_put f
-same_uploads asks.Batch parameter query body q is = asked_by _ _ false q (λ x. refl) is
-same_uploads asks.Get parameter query body q is = asked_by _ _ false q (λ x. refl) is
-same_uploads asks.Put parameter query body q is = asked_by _ _ true q (λ x. refl) is
-same_uploads asks.Verify parameter query body q is = asked_by _ _ false q (λ x. refl) is
-same_uploads asks.Lock parameter query body q is = asked_by _ _ false q (λ x. refl) is
-same_uploads asks.List parameter query body q is = asked_by _ _ false q (λ x. refl) is
-same_uploads asks.VerifyLocks parameter query body q is = asked_by _ _ false q (λ x. refl) is
-same_uploads asks.Unlock parameter query body q is = asked_by _ _ false q (λ x. refl) is
+-- what is asked uploads an object exactly if the admitted request does
+pub same_uploads : (asked : Result Request Rule) (q : Request) → asked ≡ Ok q → uploads q ≡ uploads_if asked
+same_uploads asked q is = sym (ap uploads_if is)

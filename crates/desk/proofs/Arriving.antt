@@ -1,5 +1,5 @@
 -- An upload, from the bytes that arrive to the answer.
-use Rattle.desk.proofs.Prelude.{◌≡◌, ◌∙◌, ◌+◌, ◌≤◌, ℕ, Bool, true, false, List, [], ◌++◌, length, replicate, Option, Some, None, is_some, Result, Ok, Err, bytes_eq, refl, sym, ap, subst, arith, take, append-nil, append_assoc, length-append, length-take, IsTrue, nil_from_length, length-replicate, Ghosts, X2, World, Object, name_of, object_named, with_object, Answer, stores, by_rule, store_refusal, content_verdict, Ending, changed, unchanged, failed, answer_ending, Store, StoreFault, Holds, From, Keeps, Ends, leads_none, keeps_still, keeps_then, keeps_ends, ends_then, ends_reported, Receipt, Differs, AnswerFault, HasRead, object_from, Takes, HasAll, Fills, Carries, Settles, Receives, ReceivesStaged}
+use Rattle.desk.proofs.Prelude.{◌≡◌, ◌∙◌, ◌+◌, ◌≤◌, ℕ, Bool, true, false, List, [], ◌++◌, length, replicate, Option, Some, None, is_some, Result, Ok, Err, bytes_eq, refl, sym, ap, subst, arith, take, append-nil, append_assoc, length-append, length-take, IsTrue, nil_from_length, length-replicate, Ghosts, X2, World, Object, name_of, object_named, with_object, Answer, stores, by_rule, store_refusal, content_verdict, Ending, changed, unchanged, failed, answer_ending, Store, StoreFault, Holds, From, Keeps, Ends, leads_none, keeps_still, keeps_then, keeps_ends, ends_then, ends_reported, Receipt, Differs, ReceiveFault, HasRead, object_from, Takes, HasAll, Fills, Carries, Settles, Receives, ReceivesStaged}
 use Rattle.std.proofs.lemmas.Bool.{true≢false}
 use Rattle.std.proofs.lemmas.Slice.Eq.{bytes_eq-Decides}
 use Rattle.names.specs.declared.bodies.Body.{Ghosts as BodyGhosts}
@@ -20,7 +20,7 @@ use Rattle.uploads.specs.declared.completing.Kept.TheVariants.{New, Already}
 use Rattle.uploads.specs.declared.completing.UploadFault.{UploadFault}
 use Rattle.uploads.specs.declared.completing.UploadFault.TheVariants as upload_fault
 use Rattle.desk.specs.declared.receiving.Receipt.TheVariants.{Stored}
-use Rattle.desk.specs.declared.outcomes.AnswerFault.TheVariants as fault
+use Rattle.desk.specs.declared.receiving.ReceiveFault.TheVariants as fault
 
 -- ---- the content
 
@@ -67,7 +67,7 @@ quiet o world there = at (object_named o.repo o.name world) refl there
     at (Some it) e is = rw e refl
 
 -- the result of a loop that goes on
-abbrev pub taken : Result Unit AnswerFault
+abbrev pub taken : Result Unit ReceiveFault
 taken = Ok tt
 
 -- the receipt that a completion leads to
@@ -77,7 +77,7 @@ receipt_of (Err upload_fault.Differs) = Ok Differs
 receipt_of (Err (upload_fault.Store f)) = Err f
 
 -- a fault of the store as the fault of an answer
-abbrev pub answered_by : Result Receipt StoreFault → Result Receipt AnswerFault
+abbrev pub answered_by : Result Receipt StoreFault → Result Receipt ReceiveFault
 answered_by (Ok receipt) = Ok receipt
 answered_by (Err f) = Err (fault.Store f)
 
@@ -178,7 +178,7 @@ module _ {S : Type 0} (g : Ghosts S) where
     }
 
     -- what happened before a fault
-    pub takes_failed : (b : Store S) (j : Intake) (xs ys : List ℕ) (e : AnswerFault) → From g a b (Takes g a i b j xs taken) → From g a b (Takes g {T = Unit} a i b j ys (Err e))
+    pub takes_failed : (b : Store S) (j : Intake) (xs ys : List ℕ) (e : ReceiveFault) → From g a b (Takes g a i b j xs taken) → From g a b (Takes g {T = Unit} a i b j ys (Err e))
     takes_failed b j xs ys e so_far = record {
       honest = so_far.honest;
       each = λ k world h repo name size bytes had. ((so_far.each k world h repo name size bytes had).0, tt);
@@ -199,7 +199,7 @@ module _ {S : Type 0} (g : Ghosts S) where
             );
       }
 
-      pub takes_refused : (ys : List ℕ) (e : AnswerFault) → From g a c (Takes g {T = Unit} a i c k ys (Err e))
+      pub takes_refused : (ys : List ℕ) (e : ReceiveFault) → From g a c (Takes g {T = Unit} a i c k ys (Err e))
       takes_refused ys e = record {
         honest = λ clean. so_far.honest (kept.honest clean);
         each = λ clean world h repo name size bytes had.
@@ -223,7 +223,7 @@ module _ {S : Type 0} (g : Ghosts S) where
       };
     }
 
-    pub fills_failed : (b : Store S) (j : Intake) (bytes : List ℕ) (r : Result Unit AnswerFault) (e : AnswerFault) → From g a b (Takes g a i b j bytes r) → From g a b (Fills g a b id size bytes (Err e))
+    pub fills_failed : (b : Store S) (j : Intake) (bytes : List ℕ) (r : Result Unit ReceiveFault) (e : ReceiveFault) → From g a b (Takes g a i b j bytes r) → From g a b (Fills g a b id size bytes (Err e))
     fills_failed b j bytes r e so_far = record {
       honest = so_far.honest;
       each = λ clean world h repo name stages. ((so_far.each clean world h repo name size [] (taken_none repo name stages)).0, tt);
@@ -232,7 +232,7 @@ module _ {S : Type 0} (g : Ghosts S) where
     pub fills_all : (b : Store S) (j : Intake) (bytes : List ℕ) (arrival : Arrival) → j.upload ≡ i.upload → From g a b (Takes g a i b j bytes taken)
         → ((bytes : List ℕ) → HasCounted j.hasher j.taken bytes → (arrival.name ≡ name_of bytes) × (arrival.size ≡ length bytes))
         → ((pieces : List (List ℕ)) (bytes : List ℕ) → IsCut j.written j.last.items pieces bytes → IsWhole pieces arrival.last bytes)
-        → From g a b (Fills g {E = AnswerFault} a b id size bytes (Ok arrival))
+        → From g a b (Fills g {E = ReceiveFault} a b id size bytes (Ok arrival))
     fills_all b j bytes arrival upload so_far named whole = record {
       honest = so_far.honest;
       each = λ clean world h repo name stages.
@@ -255,7 +255,7 @@ module _ {S : Type 0} (g : Ghosts S) where
   -- ---- from the upload to the answer
 
   -- whatever the fault is, the world is kept
-  pub received_none : (old new : Store S) (world : World) (repo name bytes : List ℕ) (left : ℕ) (e : AnswerFault) → Keeps g old new world → Receives g old new world repo name bytes left (Err e)
+  pub received_none : (old new : Store S) (world : World) (repo name bytes : List ℕ) (left : ℕ) (e : ReceiveFault) → Keeps g old new world → Receives g old new world repo name bytes left (Err e)
   received_none old new world repo name bytes left (fault.Store f) keeps = (λ rest is. kept_refused old new world (content_verdict (object_from repo name (bytes ++ rest))) keeps, λ some. keeps)
   received_none old new world repo name bytes left (fault.Body f) keeps = keeps
 
@@ -270,14 +270,14 @@ module _ {S : Type 0} (g : Ghosts S) where
 
   module _ (a : Store S) (id : UploadId) (size : ℕ) where
     -- a fault ended the content
-    pub staged_part : (b : Store S) (bytes : List ℕ) (left : ℕ) (r : Result Arrival AnswerFault) (e : AnswerFault) → From g a b (Fills g a b id size bytes r) → From g a b (ReceivesStaged g a b id size bytes left (Err e))
+    pub staged_part : (b : Store S) (bytes : List ℕ) (left : ℕ) (r : Result Arrival ReceiveFault) (e : ReceiveFault) → From g a b (Fills g a b id size bytes r) → From g a b (ReceivesStaged g a b id size bytes left (Err e))
     staged_part b bytes left r e filled = record {
       honest = filled.honest;
       each = λ clean world h repo name is whole stages. received_none a b world repo name bytes left e (filled.each clean world h repo name stages).0;
     }
 
     -- all of it arrived
-    pub staged_all : (b c : Store S) (bytes : List ℕ) (left : ℕ) (arrival : Arrival) (r : Result Receipt StoreFault) → left ≡ 0 → From g a b (Fills g {E = AnswerFault} a b id size bytes (Ok arrival))
+    pub staged_all : (b c : Store S) (bytes : List ℕ) (left : ℕ) (arrival : Arrival) (r : Result Receipt StoreFault) → left ≡ 0 → From g a b (Fills g {E = ReceiveFault} a b id size bytes (Ok arrival))
         → From g b c (Settles g b c id arrival r) → From g a c (ReceivesStaged g a c id size bytes left (answered_by r))
     staged_all b c bytes left arrival r none filled settled = record {
       honest = λ clean. filled.honest (settled.honest clean);
@@ -315,12 +315,12 @@ module _ {S : Type 0} (g : Ghosts S) where
         carried_again a c world o done.0 there (keeps_then g a b c world kept (keeps world kept.holds))
 
   module _ (repo name bytes : List ℕ) (left : ℕ) (world : World) where
-    received_then : (a b c : Store S) (r : Result Receipt AnswerFault) → Keeps g a b world → Receives g b c world repo name bytes left r → Receives g a c world repo name bytes left r
+    received_then : (a b c : Store S) (r : Result Receipt ReceiveFault) → Keeps g a b world → Receives g b c world repo name bytes left r → Receives g a c world repo name bytes left r
     received_then a b c (Ok receipt) keeps done = carries_then a b c world (object_from repo name bytes) (Ok receipt) keeps done
     received_then a b c (Err (fault.Store f)) keeps done = (λ rest is. carries_then a b c world (object_from repo name (bytes ++ rest)) (Err f) keeps (done.0 rest is), λ some. keeps_then g a b c world keeps (done.1 some))
     received_then a b c (Err (fault.Body cut)) keeps done = keeps_then g a b c world keeps done
 
-    then_cleared : (a b c : Store S) (r : Result Receipt AnswerFault) → Receives g a b world repo name bytes left r → ((kept : World) → Holds g b kept → Keeps g b c kept) → Receives g a c world repo name bytes left r
+    then_cleared : (a b c : Store S) (r : Result Receipt ReceiveFault) → Receives g a b world repo name bytes left r → ((kept : World) → Holds g b kept → Keeps g b c kept) → Receives g a c world repo name bytes left r
     then_cleared a b c (Ok Stored) done keeps = stored_then a b c world keeps (object_from repo name bytes) (object_named repo name world) refl done
     then_cleared a b c (Ok Differs) done keeps =
         let kept : Keeps g a b world = subst (λ (v : Answer). Gives g a b world v v) done.0 done.1 in
@@ -333,7 +333,7 @@ module _ {S : Type 0} (g : Ghosts S) where
     then_cleared a b c (Err (fault.Body cut)) done keeps = keeps_then g a b c world done (keeps world done.holds)
 
   -- an upload was begun, its content was received, and what it left was removed
-  pub received : (a b c d : Store S) (id : UploadId) (repo name : List ℕ) (size : ℕ) (bytes : List ℕ) (left : ℕ) (r : Result Receipt AnswerFault) → IsTrue (is_repo repo) → length bytes + left ≡ size
+  pub received : (a b c d : Store S) (id : UploadId) (repo name : List ℕ) (size : ℕ) (bytes : List ℕ) (left : ℕ) (r : Result Receipt ReceiveFault) → IsTrue (is_repo repo) → length bytes + left ≡ size
       → From g a b (λ world. Keeps g a b world × Stages g b (upload_number id) repo name size []) → From g b c (ReceivesStaged g b c id size bytes left r) → From g c d (Keeps g c d)
       → From g a d (λ world. Receives g a d world repo name bytes left r)
   received a b c d id repo name size bytes left r is whole begun came cleared = record {

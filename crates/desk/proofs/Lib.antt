@@ -2,10 +2,10 @@ mod Prelude
 pub mod Making
 pub mod Admitting
 pub mod Verdicts
+pub mod Told
 pub mod Releasing
 pub mod Unchanged
 pub mod Showing
-pub mod Lent
 pub mod Arriving
 pub mod Fetching
 pub mod Pushing

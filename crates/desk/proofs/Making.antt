@@ -3,7 +3,6 @@ use Rattle.desk.proofs.Prelude.{◌≡◌, ◌∙◌, ◌<◌, ◌+◌, ℕ, tru
 use Rattle.names.specs.Texts.{last_lock_id}
 use Rattle.locks.specs.declared.creating.LockFault.TheVariants as fault
 use Rattle.refinement.specs.Left.{Gives}
-use Rattle.desk.proofs.Lent.{serves_object, none_lent}
 
 less : (a b : ℕ) → a < b → nat_lt a b ≡ true
 less a b h = grind (arith, nat_tests)
@@ -31,20 +30,20 @@ module _ {S : Type 0} (g : Ghosts S) (mid new : Store S) (world : World) (w : Ne
   free_reply v is = subst (IsReplyOf ready) (ap (λ n. free_verdict n (lock_wanted world w)) counted ∙ is) (is_ready (lock_wanted world w) (ap (λ n. n + 1) (sym counted)) refl refl refl)
 
   -- the reply for a free path, which makes the lock or reports that no id is left
-  free_done : (v : Answer) → ((k : Lock) → Err (by_lock k) ≡ v → ⊥) → serves_object v ≡ false → placed_verdict world w ≡ v → Gives g mid new world v v → Answers g mid new world v (Ok ready)
-  free_done v names_none plain is gives =
+  free_done : (v : Answer) → ((k : Lock) → Err (by_lock k) ≡ v → ⊥) → placed_verdict world w ≡ v → Gives g mid new world v v → Answers g mid new world v (Ok ready)
+  free_done v names_none is gives =
       let shows = free_reply v (on_free world w v names_none is) in
-      record { shows = shows; lends = none_lent g new ready.body v plain shows.body; gives = gives }
+      record { shows = shows; gives = gives }
 
   as_placed : (v : Answer) (r : Result Reply NotGranted) → placed_verdict world w ≡ v → AnswersAlone g mid new world v r → AnswersAlone g mid new world (placed_verdict world w) r
   as_placed v r is done = subst (λ (a : Answer). AnswersAlone g mid new world a r) (sym is) done
 
   pub made_done : (row : LockRow) → Creates g world w mid new (Ok row) → AnswersAlone g mid new world (placed_verdict world w) (Ok ready)
   made_done row done =
-      let v : Answer = Ok (makes_lock (lock_wanted world w)) in as_placed v (Ok ready) done.0.0 (free_done v (λ k e. absurd (cc)) refl done.0.0 done.0.1, tt)
+      let v : Answer = Ok (makes_lock (lock_wanted world w)) in as_placed v (Ok ready) done.0.0 (free_done v (λ k e. absurd (cc)) done.0.0 done.0.1, tt)
 
   pub used_done : Creates g world w mid new (Err fault.UsedUp) → AnswersAlone g mid new world (placed_verdict world w) (Ok ready)
-  used_done done = let v : Answer = Err (by_rule L5) in as_placed v (Ok ready) done.0.0 (free_done v (λ k e. absurd (cc)) refl done.0.0 done.0.1, done.1)
+  used_done done = let v : Answer = Err (by_rule L5) in as_placed v (Ok ready) done.0.0 (free_done v (λ k e. absurd (cc)) done.0.0 done.0.1, done.1)
 
 module _ {S : Type 0} (g : Ghosts S) (mid new : Store S) (world : World) (w : NewLock) (row : LockRow) (done : Creates g world w mid new (Err (fault.Held row))) where
   abbrev held : Answer
@@ -54,7 +53,7 @@ module _ {S : Type 0} (g : Ghosts S) (mid new : Store S) (world : World) (w : Ne
   pub held_done : (reply : Reply) → ReportsHeld row reply → AnswersAlone g mid new world (placed_verdict world w) (Ok reply)
   held_done reply reports =
       let shows = reports (lock_seen (repo_text w.repo.now) row) (record { id = refl; at = refl; owner = refl; path = refl }) in
-      subst (λ (a : Answer). AnswersAlone g mid new world a (Ok reply)) (sym done.0.0) (record { shows = shows; lends = none_lent g new reply.body held refl shows.body; gives = done.0.1 }, done.1)
+      subst (λ (a : Answer). AnswersAlone g mid new world a (Ok reply)) (sym done.0.0) (record { shows = shows; gives = done.0.1 }, done.1)
 
   -- memory ran out for the reply
   pub unreported : Gives g mid new world (placed_verdict world w) store_refusal

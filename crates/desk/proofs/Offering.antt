@@ -21,7 +21,7 @@ use Rattle.desk.proofs.Unchanged.{IsQuiet}
 
 -- a batch that is granted changes no world
 pub offers_are_quiet : (some : List Offer) → IsQuiet (Ok (offers some))
-offers_are_quiet some = record { ending = λ world. refl; after = λ world. refl; plain = refl }
+offers_are_quiet some = record { ending = λ world. refl; after = λ world. refl }
 
 -- ---- one object
 

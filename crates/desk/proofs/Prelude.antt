@@ -2,24 +2,23 @@
 pub use Rattle.cursor.specs.Paging.{cursor_or_first, page_seen}
 pub use Rattle.cursor.specs.Wanted.{form_of_filter, is_wanted, wanted_locks}
 pub use Rattle.desk.specs.Admission.{admission_result}
-pub use Rattle.desk.specs.Asking.{is_put, plan_seen, request_read, request_seen, setting_of, uploads}
+pub use Rattle.desk.specs.Asking.{is_upload_of, plan_seen, request_read, request_seen, setting_of, uploads, uploads_if}
 pub use Rattle.desk.specs.Batching.{AreLinksOf, IsSound, Judged, actions_for, actions_on, judged_as, judged_by, judged_on, may_transfer}
-pub use Rattle.desk.specs.Contents.{HasRead, IsLeftBy}
-pub use Rattle.desk.specs.Done.{Answers, AnswersAlone, AnswersCaller, AnswersEach, AnswersIf, AnswersOrDenies, AnswersRequest, AnswersUser, IsAnsweredAs, LeavesOthers, LeavesWorld, RepliesOrDenies, StaysWithin, given_by, given_or, given_with, verdict_by}
+pub use Rattle.desk.specs.Contents.{HasRead, IsLeftAfter, IsLeftBy}
+pub use Rattle.desk.specs.Done.{Answers, AnswersAll, AnswersAlone, AnswersBy, AnswersCaller, AnswersEach, AnswersIf, AnswersOrDenies, AnswersRequest, AnswersUser, IsAnsweredAs, LeavesOthers, LeavesWorld, RepliesOrDenies, StaysWithin, given_by, given_or, given_with, verdict_by}
 pub use Rattle.desk.specs.Locking.{IsReadyAfter, IsWantedBy, ReportsHeld, allowed_verdict, free_verdict, lock_part, question_on}
 pub use Rattle.desk.specs.Objects.{has_place, size_check}
 pub use Rattle.desk.specs.Receiving.{Carries, Fills, HasAll, Receives, ReceivesStaged, RepliesReceived, Settles, Takes, answer_of, object_from}
-pub use Rattle.desk.specs.Replies.{IsReplyOf, Lends, ShowsBody}
+pub use Rattle.desk.specs.Replies.{IsReply, IsReplyOf, ShowsIf, body_seen, given_in, is_refused, is_s1_if}
 pub use Rattle.desk.specs.Rights.{IsCallerOf, IsUserOf, Judges, allow_on, case_policy, case_repo, case_seen, case_user, denial_view}
 pub use Rattle.desk.specs.Unlocking.{found_verdict, right_to_release}
-pub use Rattle.desk.specs.declared.outcomes.AnswerFault.{AnswerFault}
-pub use Rattle.desk.specs.declared.outcomes.Answered.{Answered}
 pub use Rattle.desk.specs.declared.outcomes.NotGranted.{NotGranted}
+pub use Rattle.desk.specs.declared.receiving.ReceiveFault.{ReceiveFault}
 pub use Rattle.desk.specs.declared.receiving.Receipt.{Receipt}
 pub use Rattle.desk.specs.declared.receiving.Receipt.TheVariants.{Differs}
 pub use Rattle.desk.specs.declared.replies.Reply.{Reply}
 pub use Rattle.desk.specs.declared.replies.ReplyBody.{ReplyBody}
-pub use Rattle.desk.specs.declared.replies.ReplyBody.TheVariants.{Content, Empty, Fixed, Made}
+pub use Rattle.desk.specs.declared.replies.ReplyBody.TheVariants.{Content, Empty}
 pub use Rattle.forms.specs.Offers.{actions_at, offer_at, result_at}
 pub use Rattle.forms.specs.Requests.{batch_asked, get_asked, list_asked, lock_asked, object_asked, put_asked, request_asked, unlock_asked, verify_asked, verify_locks_asked}
 pub use Rattle.forms.specs.ShownLocks.{AreOf, IsOf, lock_shown}
@@ -41,6 +40,7 @@ pub use Rattle.model.specs.RepoState.{RepoState, has_room, lock_at, locks_of, re
 pub use Rattle.model.specs.Verdict.{caller_plan, desk_plan, plan_for, plan_to}
 pub use Rattle.model.specs.World.{IsWorld, Lock, Object, World, name_of, object_named, with_object}
 pub use Rattle.names.specs.Names.{path_text, ref_text, repo_text, user_text}
+pub use Rattle.names.specs.declared.bodies.BodyFault.{BodyFault}
 pub use Rattle.names.specs.declared.rules.Rule.{Rule}
 pub use Rattle.names.specs.declared.rules.Rule.TheVariants.{A4, A5, B1, B4, B5, L2, L3, L5, R1, V1, V2, X1, X2, X3}
 pub use Rattle.policy.specs.Values.{policy_view, question_view, repo_view}

@@ -13,7 +13,7 @@ pushes case who ref answer user may = subst (λ (u : List ℕ). may_push (case_p
 
 -- a confirmation changes no world
 pub confirmation_is_quiet : IsQuiet (Ok confirms)
-confirmation_is_quiet = record { ending = λ world. refl; after = λ world. refl; plain = refl }
+confirmation_is_quiet = record { ending = λ world. refl; after = λ world. refl }
 
 module _ (c : Case) (ref : List ℕ) where
   abbrev may : Result ⊤ Denial

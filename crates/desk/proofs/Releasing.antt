@@ -4,7 +4,6 @@ use Rattle.std.proofs.lemmas.Bool.{true≢false}
 use Rattle.model.specs.declared.Right.{Right}
 use Rattle.refinement.specs.Left.{Gives}
 use Rattle.refinement.specs.Removal.{without_found}
-use Rattle.desk.proofs.Lent.{none_lent}
 use Rattle.desk.specs.declared.cases.Denial as code
 use Rattle.model.specs.declared.Right.TheVariants as right
 use Rattle.model.specs.Callers.{Caller, is_own}
@@ -119,7 +118,6 @@ module _ {S : Type 0} (g : Ghosts S) (old new : Store S) (world : World) (repo :
   removed reply shows done = (
     record {
       shows = shows;
-      lends = none_lent g new reply.body (Ok (releases l)) refl shows.body;
       gives = subst (λ (o : Option Lock). Ends g old new changed world (without_found o world) (without_found o world)) there done.1;
     },
     tt,

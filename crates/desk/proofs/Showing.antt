@@ -44,10 +44,10 @@ other_rows repo user rows = sym (filter-map (λ l. not (is_own user l)) (lock_se
 
 -- a page changes nothing
 pub list_is_quiet : (page : Page) → IsQuiet (Ok (lists page))
-list_is_quiet page = record { ending = λ world. refl; after = λ world. refl; plain = refl }
+list_is_quiet page = record { ending = λ world. refl; after = λ world. refl }
 
 pub split_is_quiet : (user : List ℕ) (page : Page) → IsQuiet (Ok (splits user page))
-split_is_quiet user page = record { ending = λ world. refl; after = λ world. refl; plain = refl }
+split_is_quiet user page = record { ending = λ world. refl; after = λ world. refl }
 
 -- ---- which locks are wanted
 

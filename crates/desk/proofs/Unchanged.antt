@@ -1,5 +1,5 @@
 -- Requests that only read the store: their replies, and what a stop leaves.
-use Rattle.desk.proofs.Prelude.{◌≡◌, ◌∙◌, ℕ, Bool, true, false, cond, List, Some, Result, Ok, Err, refl, sym, ap, subst, IsErrAnd, Ghosts, World, Object, IsWorld, Answer, Denial, serves, is_store_refusal, plan_to, plan_for, failed, unchanged, is_changed, answer_ending, Store, Holds, StoreFault, From, KeepsTables, LeavesTables, Reads, Ends, reads_lead, reads_none, ends_still, leaves_kept, Reply, IsReplyOf, Lends, Answers, AnswersAlone, AnswersCaller, AnswersEach, AnswersUser, RepliesOrDenies, given_by, verdict_by, IsCallerOf, case_repo, case_seen, denial_view, NotGranted}
+use Rattle.desk.proofs.Prelude.{◌≡◌, ◌∙◌, ℕ, Bool, true, false, cond, List, Some, Result, Ok, Err, refl, sym, ap, subst, IsErrAnd, Ghosts, World, Object, IsWorld, Answer, Denial, serves, is_store_refusal, plan_to, plan_for, failed, unchanged, is_changed, answer_ending, Store, Holds, StoreFault, From, KeepsTables, LeavesTables, Reads, Ends, reads_lead, reads_none, ends_still, leaves_kept, Reply, IsReplyOf, Answers, AnswersAlone, AnswersCaller, AnswersEach, AnswersUser, RepliesOrDenies, verdict_by, IsCallerOf, case_repo, case_seen, denial_view, NotGranted, AnswersBy, given_in}
 use Rattle.std.specs.Prelude.{⊤}
 use Rattle.model.specs.Callers.{Caller}
 use Rattle.model.specs.Forms.{Request}
@@ -8,23 +8,21 @@ use Rattle.model.specs.Steps.{after}
 use Rattle.desk.specs.declared.cases.Case.{Case}
 use Rattle.desk.specs.declared.cases.Denial as code
 use Rattle.desk.specs.declared.outcomes.NotGranted.TheVariants as not_granted
-use Rattle.desk.proofs.Verdicts.{answer_finished, denied_done, refused_done}
-use Rattle.desk.proofs.Lent.{serves_object, none_lent}
+use Rattle.desk.proofs.Verdicts.{answer_finished, refused_done}
+use Rattle.desk.proofs.Told.{given_same, given_refusal, still_shows, told, told_refusal, told_denial}
 
 -- the answer changes no world
 pub record IsQuiet (given : Answer) : Type 0 where
   pub ending : (world : World) → is_changed (answer_ending world (Some given)) ≡ false
   pub after : (world : World) → after world (Some given) ≡ world
-  pub plain : serves_object given ≡ false
 
 -- the verdict changes nothing, and its reply is given after calls that only read
 replied_with : {S : Type 0} (g : Ghosts S) (old new : Store S) (P : World → Type 0) (verdict given : Answer) (reply : Reply) → Reads g old new P
     → ((world : World) → is_changed (answer_ending world (Some given)) ≡ false) → ((world : World) → after world (Some given) ≡ world)
-    → IsReplyOf reply given → (world : World) → Holds g old world → verdict ≡ given → Lends g new reply.body given → Answers g old new world verdict (Ok reply)
-replied_with g old new P verdict given reply reads ending same shows world h is lends =
+    → IsReplyOf reply given → (world : World) → Holds g old world → verdict ≡ given → Answers g old new world verdict (Ok reply)
+replied_with g old new P verdict given reply reads ending same shows world h is =
     subst (λ (v : Answer). Answers g old new world v (Ok reply)) (sym is) (record {
       shows = shows;
-      lends = lends;
       gives = subst (λ (w : World). Ends g old new (answer_ending world (Some given)) world w w) (sym (same world))
           (ends_still g old new (answer_ending world (Some given)) world world (ending world) (reads_lead g old new P world reads h));
     })
@@ -53,12 +51,12 @@ module _ {S : Type 0} {g : Ghosts S} {old new : Store S} {IsAsking : Caller → 
   -- the reply is the content of an object
   pub served_after : (reply : Reply) → Reads g old new P
       → ((world : World) → IsWorld world → P world → (who : Caller) → IsAsking who
-      → (o : Object) × (verdict world who ≡ Ok (serves o)) × IsReplyOf reply (Ok (serves o)) × Lends g new reply.body (Ok (serves o))) → AnswersEach g IsAsking old new verdict (Ok reply)
+      → (o : Object) × (verdict world who ≡ Ok (serves o)) × IsReplyOf reply (Ok (serves o))) → AnswersEach g IsAsking old new verdict (Ok reply)
   served_after reply reads is = record {
     honest = reads.same.was_honest;
     each = λ honest world h who asks.
         let served = is world h.laws (reads.each honest world h) who asks in (
-          replied_with g old new P (verdict world who) (Ok (serves served.0)) reply reads (λ w. refl) (λ w. refl) served.2 world h served.1 served.3,
+          replied_with g old new P (verdict world who) (Ok (serves served.0)) reply reads (λ w. refl) (λ w. refl) served.2 world h served.1,
           leaves_kept g old new (answer_ending world (Some (verdict world who))) reads.same,
         );
   }
@@ -69,7 +67,7 @@ module _ {S : Type 0} {g : Ghosts S} {old new : Store S} {IsAsking : Caller → 
   replied_after given reply reads quiet shows is = record {
     honest = reads.same.was_honest;
     each = λ honest world h who asks. (
-      replied_with g old new P (verdict world who) given reply reads quiet.ending quiet.after shows world h (is world h.laws (reads.each honest world h) who asks) (none_lent g new reply.body given quiet.plain shows.body),
+      replied_with g old new P (verdict world who) given reply reads quiet.ending quiet.after shows world h (is world h.laws (reads.each honest world h) who asks),
       leaves_kept g old new (answer_ending world (Some (verdict world who))) reads.same,
     );
   }
@@ -116,9 +114,9 @@ module _ (case : Case) (verdict : cases.Case → Answer) (asked : Request) (left
 -- ---- the reply to a request, or to its denial
 
 module _ {S : Type 0} (g : Ghosts S) (old new : Store S) where
-  -- the answer, and what is left of the tables
-  abbrev pub Replies : World → Answer → Result Reply StoreFault → Type 0
-  Replies world given r = Answers g old new world given r × LeavesTables g (answer_ending world (Some (given_by given r))) old new
+  -- the reply, and what is left of the tables
+  abbrev pub Replies : World → Answer → Reply → Type 0
+  Replies world verdict r = AnswersBy g old new world verdict r × LeavesTables g (answer_ending world (Some (given_in verdict r))) old new
 
   -- a denial leaves the tables as they were
   denial_keeps : (world : World) (given : Answer) (denial : Denial) → given ≡ Err denial → LeavesTables g (answer_ending world (Some given)) old new → KeepsTables g old new
@@ -128,12 +126,15 @@ module _ {S : Type 0} (g : Ghosts S) (old new : Store S) where
       at true same = same
       at false same = same
 
-  reply_of : (world : World) (given : Answer) (done : Result Reply NotGranted) (r : Result Reply StoreFault) → AnswersAlone g old new world given done → RepliesOrDenies done r → Replies world given r
-  reply_of world given (Ok reply) r done is = subst (Replies world given) (sym is) done
-  reply_of world given (Err (not_granted.Store fault)) r done is = subst (Replies world given) (sym is) done
-  reply_of world given (Err (not_granted.Denied denial)) (Ok reply) done is = (denied_done g old new world given (denial_view denial) reply done.0.0 is done.0.1, done.1)
-  reply_of world given (Err (not_granted.Denied denial)) (Err fault) done is = (refused_done g old new world given fault done.0.1, denial_keeps world given (denial_view denial) done.0.0 done.1)
+  reply_of : (world : World) (verdict : Answer) (done : Result Reply NotGranted) (r : Reply) → AnswersAlone g old new world verdict done → RepliesOrDenies done r → Replies world verdict r
+  reply_of world verdict (Ok reply) r done is =
+      let shows = still_shows verdict reply r true is done.0.shows in
+      (told g old new world verdict r shows done.0.gives, subst (λ (a : Answer). LeavesTables g (answer_ending world (Some a)) old new) (sym (given_same verdict r shows)) done.1)
+  reply_of world verdict (Err (not_granted.Store fault)) r done is =
+      (told_refusal g old new world verdict r is done.0.gives, subst (λ (a : Answer). LeavesTables g (answer_ending world (Some a)) old new) (sym (given_refusal verdict r is)) done.1)
+  reply_of world verdict (Err (not_granted.Denied denial)) r done is =
+      (told_denial g old new world verdict (denial_view denial) r done.0.0 is done.0.1, leaves_kept g old new _ (denial_keeps world verdict (denial_view denial) done.0.0 done.1))
 
-  pub replied : {IsAsking : Caller → Type 0} {verdict : World → Caller → Answer} {done : Result Reply NotGranted} {r : Result Reply StoreFault} → AnswersEach g IsAsking old new verdict done → RepliesOrDenies done r
+  pub replied : {IsAsking : Caller → Type 0} {verdict : World → Caller → Answer} {done : Result Reply NotGranted} {r : Reply} → AnswersEach g IsAsking old new verdict done → RepliesOrDenies done r
       → From g old new (λ world. (who : Caller) → IsAsking who → Replies world (verdict world who) r)
   replied answers is = record { honest = answers.honest; each = λ honest world h who asks. reply_of world _ _ _ (answers.each honest world h who asks) is }

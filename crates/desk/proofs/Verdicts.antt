@@ -15,7 +15,6 @@ use Rattle.refinement.specs.Left.{Gives}
 use Rattle.tokens.specs.Callers.{IsHolder}
 use Rattle.tokens.specs.declared.callers.Caller.{Caller}
 use Rattle.desk.specs.declared.outcomes.NotGranted.TheVariants as not_granted
-use Rattle.desk.proofs.Lent.{none_lent}
 use Rattle.desk.specs.declared.cases.Case.{Case}
 
 -- successive checks by rules are one check by the first of them that fails
@@ -80,22 +79,14 @@ answer_finished world repo body (Err denial) = refl
 -- ---- answers, as they are given
 
 module _ {S : Type 0} (g : Ghosts S) (old new : Store S) (world : World) (given : Answer) where
-  -- a denied request leaves the world unchanged
-  pub denied_done : (denial : Denial) (reply : Reply) → given ≡ Err denial → IsReplyOf reply (Err denial) → Leads g old new world (λ bound. bound) → Answers g old new world given (Ok reply)
-  denied_done denial reply is shows p = subst (λ (v : Answer). Answers g old new world v (Ok reply)) (sym is) (record {
-    shows = shows;
-    lends = none_lent g new reply.body (Err denial) refl shows.body;
-    gives = ends_still g old new (answer_ending world (Some (Err denial))) world world (denial_changes_none g world denial) p;
-  })
-
   -- a refusal of the inner call is passed on as a refusal
   pub passed_on : (fault : StoreFault) (r : Result Reply NotGranted) → IsErrAnd r (λ e. e ≡ not_granted.Store fault) → Gives g old new world given store_refusal → KeepsTables g old new → AnswersAlone g old new world given r
   passed_on fault (Ok reply) is p same = absurd is
-  passed_on fault (Err e) is p same = subst (λ (x : NotGranted). AnswersAlone g old new world given (Err x)) (sym is) (record { shows = tt; lends = tt; gives = p }, same)
+  passed_on fault (Err e) is p same = subst (λ (x : NotGranted). AnswersAlone g old new world given (Err x)) (sym is) (record { shows = tt; gives = p }, same)
 
   -- the store refused or memory ran out before anything was tried
   pub refused_done : (fault : StoreFault) → Leads g old new world (λ bound. bound) → Answers g old new world given (Err fault)
-  refused_done fault p = record { shows = tt; lends = tt; gives = ends_still g old new failed world (after world (Some given)) refl p }
+  refused_done fault p = record { shows = tt; gives = ends_still g old new failed world (after world (Some given)) refl p }
 
   pub refused_early : (fault : StoreFault) (r : Result Reply NotGranted) → IsErrAnd r (λ e. e ≡ not_granted.Store fault) → Leads g old new world (λ bound. bound) → KeepsTables g old new → AnswersAlone g old new world given r
   refused_early fault r is p same = passed_on fault r is (ends_still g old new failed world (after world (Some given)) refl p) same
@@ -105,7 +96,6 @@ module _ {S : Type 0} (g : Ghosts S) (old mid new : Store S) (world : World) (gi
   pub done_then : (r : Result Reply StoreFault) → Leads g old mid world (λ bound. bound) → Answers g mid new world given r → Answers g old new world given r
   done_then r p done = record {
     shows = done.shows;
-    lends = done.lends;
     gives = still_then g old mid new world (after world (Some (given_by given r))) (left_by (answer_ending world (Some (given_by given r))) world (after world (Some given))) p done.gives;
   }
 

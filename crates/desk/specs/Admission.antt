@@ -23,5 +23,5 @@ admission_result policy own covers_upload repo_asked asked = do
   Ok (repo, request)
 
 -- the repository and the request, in the terms of the definitions
-abbrev pub admission_view : Bor Repo × Request → model.Repo × form.Request
-admission_view (repo, request) = (repo_view repo.now, request_asked request)
+abbrev pub admission_view : Bor Repo × Bor Request → model.Repo × form.Request
+admission_view (repo, request) = (repo_view repo.now, request_asked request.now)

@@ -3,9 +3,12 @@ use Rattle.std.specs.Prelude.{◌≡◌, ◌≢◌, ◌<◌, ◌≤◌, ◌+◌,
 use Rattle.sqlite_trees.specs.declared.store.Store.{Ghosts}
 use Rattle.names.specs.Texts.{largest_object}
 use Rattle.names.specs.declared.bodies.Body.{Ghosts as BodyGhosts}
+use Rattle.names.specs.declared.bodies.BodyFault.{BodyFault}
 use Rattle.model.specs.Reading.{◌>>=◌}
 use Rattle.model.specs.Callers.{Caller}
 use Rattle.model.specs.Cases as model
+use Rattle.model.specs.Cases.{Setting, DeskRequest}
+use Rattle.model.specs.Verdict.{desk_plan}
 use Rattle.model.specs.Policy.{Policy}
 use Rattle.model.specs.World.{World, total}
 use Rattle.model.specs.Answers.{Answer, Denial, Plan, receives, store_refusal}
@@ -20,14 +23,11 @@ use Rattle.refinement.specs.Representation.{Holds}
 use Rattle.refinement.specs.Left.{From, Gives, IsBoundedBy, Keeps, Leads, LeavesTables}
 use Rattle.uploads.specs.Bounds.{AreWithin, StoresWithin, LeavesWithin}
 use Rattle.desk.specs.declared.replies.Reply.{Reply}
-use Rattle.desk.specs.declared.outcomes.Answered.{Answered}
-use Rattle.desk.specs.declared.outcomes.AnswerFault.{AnswerFault}
-use Rattle.desk.specs.declared.outcomes.AnswerFault.TheVariants.{Store as by_store, Body as by_body}
 use Rattle.desk.specs.declared.outcomes.NotGranted.{NotGranted}
 use Rattle.desk.specs.declared.outcomes.NotGranted.TheVariants as not_granted
 use Rattle.desk.specs.declared.cases.Case.{Case}
 use Rattle.desk.specs.Contents.{HasRead, IsLeftBy}
-use Rattle.desk.specs.Replies.{IsReplyOf, Lends}
+use Rattle.desk.specs.Replies.{IsReplyOf, ShowsIf, given_in, is_refused}
 use Rattle.desk.specs.Rights.{IsUserOf, IsCallerOf, case_seen, denial_view}
 
 -- the answer that is given: the verdict, or a store refusal if the store refused or memory ran out
@@ -46,10 +46,9 @@ abbrev pub LeavesOthers : List ℕ → World → World → Type 0
 LeavesOthers repo old new = (other : List ℕ) → repo ≢ other → SameViews other old new
 
 module _ {S : Type 0} (g : Ghosts S) where
-  -- a reply shows the verdict, the store has the content that it sends, and the given answer is carried out
+  -- a reply shows the verdict, and the given answer is carried out
   pub record Answers (old new : Store S) (world : World) (verdict : Answer) (r : Result Reply StoreFault) : Type 0 where
     pub shows : IfOk r (λ reply. IsReplyOf reply verdict)
-    pub lends : IfOk r (λ reply. Lends g new reply.body verdict)
     pub gives : Gives g old new world verdict (given_by verdict r)
 
   -- the verdict is answered; or it is this denial, and the store was only read
@@ -81,11 +80,11 @@ module _ {S : Type 0} (g : Ghosts S) where
   AnswersCaller case old new verdict r =
       AnswersEach (IsCallerOf case) old new (λ world who. verdict (case_seen world case who)) r
 
--- the reply to a request: its own, or that to its denial; a fault of the store is passed on
-abbrev pub RepliesOrDenies : Result Reply NotGranted → Result Reply StoreFault → Type 0
-RepliesOrDenies (Ok reply) r = r ≡ Ok reply
-RepliesOrDenies (Err (not_granted.Store fault)) r = r ≡ Err fault
-RepliesOrDenies (Err (not_granted.Denied denial)) r = IfOk r (λ reply. IsReplyOf reply (Err (denial_view denial)))
+-- the reply to a request whose body was read: its own, or that to its denial, or the store refusal
+abbrev pub RepliesOrDenies : Result Reply NotGranted → Reply → Type 0
+RepliesOrDenies (Ok reply) r = r ≡ record reply { body_read = true }
+RepliesOrDenies (Err (not_granted.Store fault)) r = IsReplyOf r store_refusal
+RepliesOrDenies (Err (not_granted.Denied denial)) r = ShowsIf (Err (denial_view denial)) r
 
 -- ---- requests with a content
 
@@ -94,59 +93,67 @@ abbrev pub verdict_by : World → List ℕ → Result Plan Denial → List ℕ �
 verdict_by world repo plan content = plan >>= λ granted. finish world repo content granted
 
 -- the answer that is given, if any: none if the content is cut off
-abbrev pub given_with : Answer → Result Answered AnswerFault → Option Answer
-given_with verdict (Ok answered) = Some verdict
-given_with verdict (Err (by_store fault)) = Some store_refusal
-given_with verdict (Err (by_body fault)) = None
+abbrev pub given_with : Answer → Result Reply BodyFault → Option Answer
+given_with verdict (Ok reply) = Some (given_in verdict reply)
+given_with verdict (Err fault) = None
 
--- a reply leaves the body exactly if the plan refuses, before the content is read; any other reply is that to the whole content
-abbrev pub IsInTime : Result Plan Denial → (left : ℕ) → Result Answered AnswerFault → Type 0
-IsInTime plan left (Ok answered) =
-    MatchBool answered.leaves_body (is_err plan ≡ true) ((name : List ℕ) × (plan ≡ Ok (receives name)) × (left ≡ 0))
-IsInTime plan left (Err (by_store fault)) = ⊤
-IsInTime plan left (Err (by_body fault)) = is_ok plan ≡ true
+-- any reply but the store refusal leaves the body exactly if the plan refuses, before the content is read; or it is that
+-- to the whole content
+abbrev pub IsInTime : Result Plan Denial → (left : ℕ) → Result Reply BodyFault → Type 0
+IsInTime plan left (Ok reply) = is_refused reply ≡ false
+    → MatchBool reply.body_read ((name : List ℕ) × (plan ≡ Ok (receives name)) × (left ≡ 0)) (is_err plan ≡ true)
+IsInTime plan left (Err fault) = is_ok plan ≡ true
 
 -- the request was answered without its content
-abbrev pub IsSettled : Result Answered AnswerFault → Type 0
-IsSettled (Ok answered) = answered.leaves_body ≡ false
-IsSettled (Err (by_store fault)) = ⊤
-IsSettled (Err (by_body fault)) = ⊥
+abbrev pub IsSettled : Result Reply BodyFault → Type 0
+IsSettled (Ok reply) = reply.body_read ≡ true
+IsSettled (Err fault) = ⊥
 
 module _ {S : Type 0} (g : Ghosts S) where
-  -- the verdict is answered; or the content is cut off, and the world is kept
-  abbrev pub AnswersIf : Store S → Store S → World → Answer → Result Answered AnswerFault → Type 0
-  AnswersIf old new world verdict (Ok answered) = Answers g old new world verdict (Ok answered.reply)
-  AnswersIf old new world verdict (Err (by_store fault)) = Answers g old new world verdict (Err fault)
-  AnswersIf old new world verdict (Err (by_body fault)) = Keeps g old new world
+  -- the reply shows the verdict, or is the store refusal, and this answer is carried out
+  pub record AnswersBy (old new : Store S) (world : World) (verdict : Answer) (reply : Reply) : Type 0 where
+    pub shows : ShowsIf verdict reply
+    pub gives : Gives g old new world verdict (given_in verdict reply)
+
+  -- a reply is given; or the content is cut off, and the world is kept
+  abbrev pub AnswersIf : Store S → Store S → World → Answer → Result Reply BodyFault → Type 0
+  AnswersIf old new world verdict (Ok reply) = AnswersBy old new world verdict reply
+  AnswersIf old new world verdict (Err fault) = Keeps g old new world
 
   -- these bytes of the content were read, and `left` more were not. The answer is that to any content that begins with
   -- them; that of an upload, to any of its whole length. An upload is denied before its content is read, or answered by
-  -- all of it; after a fault the world is kept unless all of it was read. Unless a content may have been begun, the tables
-  -- are as before if the answer makes no change
+  -- all of it; after the store refusal the world is kept unless all of it was read. Unless a content may have been begun,
+  -- the tables are as before if the answer makes no change
   pub record IsAnsweredAs
       (is_upload : Bool) (old new : Store S) (world : World) (repo : List ℕ) (plan : Result Plan Denial) (bytes : List ℕ)
-      (left : ℕ) (r : Result Answered AnswerFault) : Type 0 where
+      (left : ℕ) (r : Result Reply BodyFault) : Type 0 where
     pub answers : (more : List ℕ) → (is_upload ≡ true → length more ≡ left)
         → AnswersIf old new world (verdict_by world repo plan (bytes ++ more)) r
     pub in_time : is_upload ≡ true → IsInTime plan left r
-    pub kept : is_upload ≡ true → IfErr r (λ fault. 0 < left → Keeps g old new world)
+    pub kept : is_upload ≡ true → IfOk r (λ reply. is_refused reply ≡ true → 0 < left → Keeps g old new world)
     pub tables : (more : List ℕ) → (is_upload ≡ true → is_err plan ≡ true)
         → LeavesTables g (answer_ending world (given_with (verdict_by world repo plan (bytes ++ more)) r)) old new
 
 -- whoever asks, the request is answered by the plan, and these bytes of its content were read: of an upload all of them,
--- unless the answer is a fault or the reply leaves the content unread; of any other request none
+-- unless it is refused or cut off; of any other request none
 pub record AnswersRequest
     {S B W : Type 0} (g : Ghosts S) (b : BodyGhosts B) (is_upload : Bool) (repo : List ℕ) (IsAsking : W → Type 0)
-    (plan : World → W → ℕ → Result Plan Denial) (old new : Store S) (before after : B) (r : Result Answered AnswerFault) : Type 0 where
+    (plan : World → W → ℕ → Result Plan Denial) (old new : Store S) (before after : B) (r : Result Reply BodyFault) : Type 0 where
   pub bytes : List ℕ
   pub read : HasRead b before after bytes
   pub answered : From g old new (λ world. (who : W) → IsAsking who → (size : ℕ) → (is_upload ≡ true → size ≡ b.size before)
       → IsAnsweredAs g is_upload old new world repo (plan world who size) bytes (b.size after) r)
   pub settled : is_upload ≡ false → IsSettled r × (after ≡ before)
-  pub leaves : IfOk r (λ a. a.leaves_body ≡ true → after ≡ before)
-  pub whole : IfOk r (λ a. a.leaves_body ≡ false → is_upload ≡ true → b.size after ≡ 0)
+  pub leaves : IfOk r (λ reply. reply.body_read ≡ false → after ≡ before)
+  pub whole : IfOk r (λ reply. is_refused reply ≡ false → reply.body_read ≡ true → is_upload ≡ true → b.size after ≡ 0)
   pub good : OnOk r (b.failed after ≡ b.failed before)
   pub fault : IfErr r (IsLeftBy b before after)
+
+-- a request to the desk, whose content has this size, is answered by the definitions' plan for it
+abbrev pub AnswersAll : {S B : Type 0} → Ghosts S → BodyGhosts B → (is_upload : Bool) → Setting → (ℕ → DeskRequest)
+    → (old new : Store S) → (before after : B) → Result Reply BodyFault → Type 0
+AnswersAll g b is_upload setting asked old new before after r =
+    AnswersRequest g b is_upload (asked 0).repo (λ (who : ⊤). ⊤) (λ world who size. desk_plan world setting (asked size)) old new before after r
 
 module _ {S : Type 0} (g : Ghosts S) where
   -- the world that the store holds after a request in a repository: other repositories are unchanged, and a total that was

@@ -1,8 +1,8 @@
 -- The bytes of an upload are received.
 use Rattle.std.specs.Prelude.{◌≡◌, ◌<◌, ◌+◌, ℕ, List, [], ◌++◌, length, Result, Ok, Err, OnOk, IfOk, IsTrue, ⊤}
-use Rattle.std.specs.declared.alloc.AllocError.{AllocError}
 use Rattle.sqlite_trees.specs.declared.store.Store.{Ghosts}
 use Rattle.names.specs.Texts.{is_repo}
+use Rattle.names.specs.declared.bodies.BodyFault.{BodyFault}
 use Rattle.names.specs.declared.rules.Rule.TheVariants.{X2}
 use Rattle.model.specs.World.{World, Object, name_of}
 use Rattle.model.specs.Answers.{Answer, stores, by_rule, store_refusal}
@@ -19,9 +19,9 @@ use Rattle.chunks.specs.declared.intake.Arrival.{Arrival}
 use Rattle.desk.specs.declared.replies.Reply.{Reply}
 use Rattle.desk.specs.declared.receiving.Receipt.{Receipt}
 use Rattle.desk.specs.declared.receiving.Receipt.TheVariants.{Stored, Differs}
-use Rattle.desk.specs.declared.outcomes.AnswerFault.{AnswerFault}
-use Rattle.desk.specs.declared.outcomes.AnswerFault.TheVariants as fault
-use Rattle.desk.specs.Replies.{IsReplyOf}
+use Rattle.desk.specs.declared.receiving.ReceiveFault.{ReceiveFault}
+use Rattle.desk.specs.declared.receiving.ReceiveFault.TheVariants as fault
+use Rattle.desk.specs.Replies.{IsReplyOf, ShowsIf}
 
 -- the object of bytes that arrived
 abbrev pub object_from : (repo name bytes : List ℕ) → Object
@@ -65,7 +65,7 @@ module _ {S : Type 0} (g : Ghosts S) where
 
   -- these bytes of an upload arrived, and `left` more did not. It was answered if none is left. If the store refused,
   -- it was answered whatever the rest is, and the world is kept unless all arrived; if the bytes ended, the world is kept
-  abbrev pub Receives : Store S → Store S → World → (repo name bytes : List ℕ) → (left : ℕ) → Result Receipt AnswerFault → Type 0
+  abbrev pub Receives : Store S → Store S → World → (repo name bytes : List ℕ) → (left : ℕ) → Result Receipt ReceiveFault → Type 0
   Receives old new world repo name bytes left (Ok receipt) =
       Carries old new world (object_from repo name bytes) (Ok receipt)
   Receives old new world repo name bytes left (Err (fault.Store f)) =
@@ -74,13 +74,16 @@ module _ {S : Type 0} (g : Ghosts S) where
   Receives old new world repo name bytes left (Err (fault.Body cause)) = Keeps g old new world
 
   -- the same of an upload that was staged without bytes, for a repository and with a name
-  abbrev pub ReceivesStaged : Store S → Store S → UploadId → (size : ℕ) → (bytes : List ℕ) → (left : ℕ) → Result Receipt AnswerFault → World → Type 0
+  abbrev pub ReceivesStaged : Store S → Store S → UploadId → (size : ℕ) → (bytes : List ℕ) → (left : ℕ) → Result Receipt ReceiveFault → World → Type 0
   ReceivesStaged old new id size bytes left r world =
       (repo name : List ℕ) → IsTrue (is_repo repo) → size ≡ length bytes + left → Stages g old (upload_number id) repo name size []
       → Receives old new world repo name bytes left r
 
--- the reply that a receipt leads to: 200, which needs no memory, or X2
-abbrev pub RepliesReceived : Receipt → Result Reply AllocError → Type 0
-RepliesReceived receipt (Ok reply) = (o : Object) → IsReplyOf reply (answer_of o receipt)
-RepliesReceived Stored (Err error) = ⊥
-RepliesReceived Differs (Err error) = ⊤
+-- the reply that a receipt leads to: 200, which takes no memory, or X2; the store refusal if the store refused or memory
+-- ran out; or the fault by which the content was cut off
+abbrev pub RepliesReceived : Result Receipt ReceiveFault → Result Reply BodyFault → Type 0
+RepliesReceived (Ok Stored) (Ok reply) = (o : Object) → IsReplyOf reply (Ok (stores o))
+RepliesReceived (Ok Differs) (Ok reply) = ShowsIf (Err (by_rule X2)) reply
+RepliesReceived (Err (fault.Store f)) (Ok reply) = IsReplyOf reply store_refusal
+RepliesReceived (Err (fault.Body f)) (Err cut) = cut ≡ f
+RepliesReceived _ _ = ⊥

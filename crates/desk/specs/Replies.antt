@@ -1,32 +1,43 @@
 -- A reply, in the terms of the definitions.
-use Rattle.std.specs.Prelude.{◌≡◌, length, string_bytes, Ok, ⊤}
-use Rattle.sqlite_trees.specs.declared.store.Store.{Ghosts}
-use Rattle.model.specs.World.{Object}
-use Rattle.model.specs.Answers.{Answer, serves, is_store_refusal}
-use Rattle.model.specs.Replies.{reply_of, empty, json}
-use Rattle.tables.specs.Staging.{upload_number}
-use Rattle.tables.specs.declared.Store.{Store}
-use Rattle.refinement.specs.Staging.{Stores}
+use Rattle.std.specs.Prelude.{◌≡◌, Bool, false, Option, Some, None, string_bytes, if◌then◌else◌}
+use Rattle.names.specs.declared.rules.Rule.{Rule}
+use Rattle.model.specs.Answers.{Answer, is_s1, store_refusal}
+use Rattle.model.specs.Replies as model
+use Rattle.model.specs.Replies.{reply_of, empty, json, content}
 use Rattle.desk.specs.declared.replies.ReplyBody.{ReplyBody}
-use Rattle.desk.specs.declared.replies.ReplyBody.TheVariants.{Made, Fixed, Empty, Content}
+use Rattle.desk.specs.declared.replies.ReplyBody.TheVariants.{Empty, Json, Refused, Content}
 use Rattle.desk.specs.declared.replies.Reply.{Reply}
 
--- the body is that of the reply to this answer
-abbrev pub ShowsBody : ReplyBody → Answer → Type 0
-ShowsBody (Made text) given = (reply_of given).body ≡ json (string_bytes text)
-ShowsBody (Fixed text) given = (reply_of given).body ≡ json text.now
-ShowsBody Empty given = (reply_of given).body ≡ empty
-ShowsBody (Content row) given = (o : Object) × (given ≡ Ok (serves o)) × (row.size ≡ length o.bytes)
+-- the body
+abbrev pub body_seen : ReplyBody → model.Body
+body_seen Empty = empty
+body_seen (Json text) = json (string_bytes text)
+body_seen (Refused text) = json text.now
+body_seen (Content name size) = content name size
+
+-- the reply is this one of the definitions
+pub record IsReply (reply : Reply) (is : model.Reply) : Type 0 where
+  pub status : reply.status ≡ is.status
+  pub rule : reply.rule ≡ is.rule
+  pub body : body_seen reply.body ≡ is.body
 
 -- the reply shows this answer
-pub record IsReplyOf (reply : Reply) (given : Answer) : Type 0 where
-  pub status : reply.status ≡ (reply_of given).status
-  pub body : ShowsBody reply.body given
-  pub refusal : reply.is_store_refusal ≡ is_store_refusal given
+abbrev pub IsReplyOf : Reply → Answer → Type 0
+IsReplyOf reply given = IsReply reply (reply_of given)
 
--- if the body is the content of an object that the answer serves, the store has the bytes of that object
-abbrev pub Lends : {S : Type 0} → Ghosts S → Store S → ReplyBody → Answer → Type 0
-Lends g s (Content row) given = (o : Object) × (given ≡ Ok (serves o)) × Stores g s (upload_number row.id) o.bytes
-Lends g s (Made text) given = ⊤
-Lends g s (Fixed text) given = ⊤
-Lends g s Empty given = ⊤
+-- the rule is that of the store refusal
+abbrev pub is_s1_if : Option Rule → Bool
+is_s1_if (Some rule) = is_s1 rule
+is_s1_if None = false
+
+-- the reply is the store refusal
+abbrev pub is_refused : Reply → Bool
+is_refused reply = is_s1_if reply.rule
+
+-- the answer that a reply gives to a request with this verdict: the verdict, or the store refusal
+abbrev pub given_in : Answer → Reply → Answer
+given_in verdict reply = if is_refused reply then store_refusal else verdict
+
+-- the reply shows the verdict, or is the store refusal
+abbrev pub ShowsIf : Answer → Reply → Type 0
+ShowsIf verdict reply = IsReplyOf reply (given_in verdict reply)

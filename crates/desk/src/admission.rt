@@ -1,36 +1,37 @@
 //! Which requests are admitted: by a token for the repository, in a repository that exists.
 
-ghost use Rattle.std.specs.Prelude.{◌≡◌, IfOk};
+ghost use Rattle.std.specs.Prelude.{◌≡◌};
 ghost use Rattle.names.specs.Names.{repo_text};
 ghost use Rattle.model.specs.Forms.{needs_upload, is_upload};
 ghost use Rattle.policy.specs.Values.{policy_view};
 ghost use Rattle.forms.specs.Given.{Gives};
 ghost use Rattle.forms.specs.Requests.{request_asked};
-ghost use Rattle.desk.specs.Asking.{request_read, is_put};
+ghost use Rattle.desk.specs.Asking.{request_read, is_upload_of};
 ghost use Rattle.desk.specs.Admission.{admission_result, admission_view};
 
-use forms::{Request, read_form};
-use model::Form;
+use forms::Request;
 use names::{Operation, Rule};
 use policy::{Policy, Repo};
-use std::alloc::{AllocError, Global};
 use tokens::Caller;
 
-/// A request in a repository, from its head and its body. The content of an upload is not part of it.
+/// A request in a repository. The content of an upload is not part of it.
 #[derive(Clone, Copy, Debug)]
 pub struct RepoRequest<'a> {
-    /// The value of `Authorization`, if the head has that field.
+    /// The value of `Authorization`, if there is one.
     pub authorization: Option<&'a [u8]>,
-    /// The repository's text in the target.
+    /// The repository's text, as `owner/name`. It may not be a valid name.
     pub repo: &'a str,
-    /// The request that the route and the method make.
-    pub form: Form,
-    /// The route's parameter; empty if the route has none.
-    pub parameter: &'a str,
-    /// The part of the target after its first question mark.
-    pub query: &'a str,
-    /// The body; empty for an upload, whose body is its content.
-    pub body: &'a [u8],
+    /// What is asked, or the rule that refuses it (J1 to J4).
+    pub request: &'a Result<Request, Rule>,
+}
+
+impl RepoRequest<'_> {
+    /// Whether the request uploads an object.
+    pub(crate) fn is_upload(&self) -> bool
+        ensures { result ≡ is_upload_of self.now }
+    {
+        matches!(self.request, Ok(Request::Put(_)))
+    }
 }
 
 fn needs_upload(request: &Request) -> bool
@@ -44,13 +45,6 @@ fn needs_upload(request: &Request) -> bool
     }
 }
 
-/// Whether the request uploads an object.
-pub(crate) fn is_put(form: Form) -> bool
-    ensures { result ≡ is_put form }
-{
-    matches!(form, Form::Put)
-}
-
 fn is_for_upload(operation: Operation) -> bool
     ensures { result ≡ is_upload operation }
 {
@@ -61,34 +55,28 @@ fn is_for_upload(operation: Operation) -> bool
 }
 
 /// Returns the repository and the request, or the first rule that refuses it: A4, R1, the J rules, A5.
-///
-/// # Errors
-///
-/// An [`AllocError`] if memory runs out.
 pub(crate) fn admit<'a>(
-    alloc: Global,
     policy: &'a Policy,
     caller: &Caller<'_>,
-    asked: &RepoRequest<'_>,
-) -> Result<Result<(&'a Repo, Request), Rule>, AllocError>
-    ensures { IfOk result (λ admitted. Gives admission_view admitted (admission_result
+    asked: &RepoRequest<'a>,
+) -> Result<(&'a Repo, &'a Request), Rule>
+    ensures { Gives admission_view result (admission_result
         (policy_view policy.entry.now) (repo_text caller.entry.now.repo)
         (is_upload caller.entry.now.operation) asked.entry.now.repo.now
-        (request_read asked.entry.now))) }
+        (request_read asked.entry.now)) }
 {
     if caller.repo.as_str() != asked.repo {
-        return Ok(Err(Rule::A4));
+        return Err(Rule::A4);
     }
     let Some(repo) = policy.repo(asked.repo) else {
-        return Ok(Err(Rule::R1));
+        return Err(Rule::R1);
     };
-    let read = read_form(alloc, asked.form, asked.parameter, asked.query, asked.body)?;
-    let request = match read {
+    let request = match asked.request {
         Ok(request) => request,
-        Err(rule) => return Ok(Err(rule)),
+        Err(rule) => return Err(*rule),
     };
-    if needs_upload(&request) && !is_for_upload(caller.operation) {
-        return Ok(Err(Rule::A5));
+    if needs_upload(request) && !is_for_upload(caller.operation) {
+        return Err(Rule::A5);
     }
-    Ok(Ok((repo, request)))
+    Ok((repo, request))
 }

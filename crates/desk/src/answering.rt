@@ -1,56 +1,52 @@
 //! The way of a request: identify the caller, admit the request, carry it out.
 
-ghost use Rattle.std.specs.Prelude.{◌≡◌, ℕ, List, true, false, IfOk, IfErr, OnOk, Err};
+ghost use Rattle.std.specs.Prelude.{◌≡◌, ℕ, List, not, Err};
 ghost use Rattle.model.specs.Answers.{by_rule};
 ghost use Rattle.model.specs.Verdict.{caller_plan, plan_for};
 ghost use Rattle.policy.specs.Values.{policy_view};
 ghost use Rattle.forms.specs.Requests.{request_asked};
 ghost use Rattle.refinement.specs.Left.{From};
 ghost use Rattle.tokens.specs.Callers.{IsHolder};
-ghost use Rattle.desk.specs.Replies.{IsReplyOf};
-ghost use Rattle.desk.specs.Contents.{HasRead, IsLeftBy};
-ghost use Rattle.desk.specs.Done.{AnswersEach, AnswersRequest, LeavesWorld, IsAnsweredAs, IsSettled, StaysWithin, verdict_by};
+ghost use Rattle.desk.specs.Replies.{ShowsIf};
+ghost use Rattle.desk.specs.Done.{AnswersAll, AnswersEach, AnswersRequest, LeavesWorld, StaysWithin, verdict_by};
 ghost use Rattle.desk.specs.Rights.{IsCallerOf, case_repo, case_seen};
-ghost use Rattle.desk.specs.Asking.{is_put, uploads, plan_seen, request_seen, setting_of};
+ghost use Rattle.desk.specs.Asking.{is_upload_of, uploads, request_seen, setting_of};
 
-use crate::admission::{RepoRequest, admit, is_put};
+use crate::admission::{RepoRequest, admit};
 use crate::batching::batch;
-use crate::cases::Case;
+use crate::cases::{Case, Denial};
 use crate::checking::verify;
 use crate::downloading::get;
 use crate::listing::list;
 use crate::locking::lock;
-use crate::outcomes::{AnswerFault, Answered, NotGranted, reply_or_denial};
+use crate::outcomes::{NotGranted, denied, reply_or_denial};
 use crate::replies::Reply;
 use crate::unlocking::unlock;
 use crate::uploading::put;
 use crate::verifying::verify_locks;
-use forms::{Answer, Request};
-use model::Form;
-use names::{Body, Moment, Rule};
+use forms::Request;
+use names::{Body, BodyFault, Moment, Rule};
 use policy::Policy;
-use std::alloc::{AllocError, Global};
+use std::alloc::Global;
 use tables::{Alter, Store, StoreFault};
 use tokens::{Caller, CallerFault};
 
 /// Answers a request in a repository, and makes the change that the answer reports.
 ///
 /// The reply reports the first rule that refuses: A1 to A3 for the token, A4 and R1 for the
-/// repository, the J rules for the request, A5, the policy's row, and then the conflict; or it reports
-/// what was done. The bytes of an upload are read from `content` once no rule refuses it; of any other
+/// repository, the J rule that comes with the request, A5, the policy's row, and then the conflict; or it reports
+/// what was done. If the store refused or memory ran out, it is the store refusal: the locks, the objects and the tokens
+/// of the store are then unchanged. The bytes of an upload are read from `content` once no rule refuses it; of any other
 /// request `content` is not read.
 ///
-/// A denied request leaves the tables as they were, unless X2 denies it. The views of other repositories do not change. A
-/// repository within its quota then has at most its quota and one largest object in the database, also in what a
-/// stop leaves.
+/// A denied request leaves the tables as they were, unless X2 denies it, and so does the store refusal, unless the content
+/// of an upload was begun. The views of other repositories do not change. A repository within its quota then has at most
+/// its quota and one largest object in the database, also in what a stop leaves.
 ///
 /// # Errors
 ///
-/// - `Store` if the store refused or memory ran out.
-/// - `Body` if the input ended or a read failed within the bytes of an upload.
-///
-/// The locks, the objects and the tokens of the store are then unchanged, and if it is no upload whose content was begun,
-/// the tables.
+/// The fault of `content`: the input ended or a read failed within the bytes of an upload. The locks, the objects and the
+/// tokens of the store are then unchanged.
 pub fn answer<S: Alter, B: Body>(
     alloc: Global,
     store: &mut Store<S>,
@@ -58,20 +54,10 @@ pub fn answer<S: Alter, B: Body>(
     now: Moment,
     asked: &RepoRequest<'_>,
     content: &mut B,
-) -> Result<Answered, AnswerFault>
-    ensures answered { (bytes : List ℕ) × HasRead B.Body content.old content.new bytes
-        × From S.Store store.old store.new (λ world. (size : ℕ)
-        → (is_put asked.entry.now.form ≡ true → size ≡ B.size content.old)
-        → IsAnsweredAs S.Store (is_put asked.entry.now.form) store.old store.new world
-        asked.entry.now.repo.now (plan_seen world policy.entry.now now asked.entry.now size)
-        bytes (B.size content.new) result) }
-    ensures settled { is_put asked.entry.now.form ≡ false
-        → IsSettled result × (content.new ≡ content.old) }
-    ensures leaves { IfOk result (λ a. a.leaves_body ≡ true → content.new ≡ content.old) }
-    ensures whole { IfOk result (λ a. a.leaves_body ≡ false → is_put asked.entry.now.form ≡ true
-        → B.size content.new ≡ 0) }
-    ensures good { OnOk result (B.failed content.new ≡ B.failed content.old) }
-    ensures fault { IfErr result (IsLeftBy B.Body content.old content.new) }
+) -> Result<Reply, BodyFault>
+    ensures answered { AnswersAll S.Store B.Body (is_upload_of asked.entry.now)
+        (setting_of policy.entry.now now) (request_seen asked.entry.now)
+        store.old store.new content.old content.new result }
     ensures world { From S.Store store.old store.new
         (LeavesWorld S.Store store.new (policy_view policy.entry.now) asked.entry.now.repo.now) }
     ensures bounded { From S.Store store.old store.new
@@ -79,21 +65,17 @@ pub fn answer<S: Alter, B: Body>(
 {
     match tokens::caller(store, asked.authorization, now) {
         Ok(caller) => answer_caller(alloc, store, policy, now, &caller, asked, content),
-        Err(CallerFault::Rule(rule)) => Ok(refusal(alloc, asked.form, rule)?),
-        Err(CallerFault::Store(fault)) => Err(fault.into()),
+        Err(CallerFault::Rule(rule)) => Ok(refusal(alloc, asked, rule)),
+        Err(CallerFault::Store(_)) => Ok(Reply::store_refused()),
     }
 }
 
-/// The answer to a request that a rule refuses before its body.
-fn refusal(alloc: Global, form: Form, rule: Rule) -> Result<Answered, AllocError>
-    ensures shows { IfOk result (λ a. IsReplyOf a.reply (Err (by_rule rule))) }
-    ensures leaves { IfOk result (λ a. a.leaves_body ≡ is_put form) }
+/// The reply to a request that a rule refuses before its body.
+fn refusal(alloc: Global, asked: &RepoRequest<'_>, rule: Rule) -> Reply
+    ensures shows { ShowsIf (Err (by_rule rule)) result }
+    ensures read { result.body_read ≡ not (is_upload_of asked.now) }
 {
-    let reply = Reply::telling(alloc, &Answer::Denied(rule))?;
-    Ok(Answered {
-        reply,
-        leaves_body: is_put(form),
-    })
+    denied(alloc, Denial::Rule(rule)).with_body_read(!asked.is_upload())
 }
 
 /// Answers the request of the caller.
@@ -109,14 +91,13 @@ fn answer_caller<S: Alter, B: Body>(
     caller: &Caller<'_>,
     asked: &RepoRequest<'_>,
     content: &mut B,
-) -> Result<Answered, AnswerFault>
-    ensures { AnswersRequest S.Store B.Body (is_put asked.entry.now.form) asked.entry.now.repo.now
+) -> Result<Reply, BodyFault>
+    ensures { AnswersRequest S.Store B.Body (is_upload_of asked.entry.now) asked.entry.now.repo.now
         (IsHolder caller.entry.now) (λ world who size. caller_plan world
         (setting_of policy.entry.now now) who (request_seen asked.entry.now size))
         store.old store.new content.old content.new result }
 {
-    let admitted = admit(alloc, policy, caller, asked)?;
-    match admitted {
+    match admit(policy, caller, asked) {
         Ok((repo, request)) => {
             let case = Case {
                 policy,
@@ -126,9 +107,9 @@ fn answer_caller<S: Alter, B: Body>(
                 token: caller.token,
                 expires: caller.expires,
             };
-            answer_request(alloc, store, &case, &request, content)
+            answer_request(alloc, store, &case, request, content)
         }
-        Err(rule) => Ok(refusal(alloc, asked.form, rule)?),
+        Err(rule) => Ok(refusal(alloc, asked, rule)),
     }
 }
 
@@ -143,7 +124,7 @@ fn answer_request<S: Alter, B: Body>(
     case: &Case<'_>,
     request: &Request,
     content: &mut B,
-) -> Result<Answered, AnswerFault>
+) -> Result<Reply, BodyFault>
     ensures { AnswersRequest S.Store B.Body (uploads (request_asked request.entry.now))
         (case_repo case.entry.now).name (IsCallerOf case.entry.now) (λ world who size.
         plan_for (case_seen world case.entry.now who) size (request_asked request.entry.now))
@@ -153,11 +134,7 @@ fn answer_request<S: Alter, B: Body>(
         Request::Put(asked) => put(store, alloc, case, asked, content),
         _ => {
             let done = answer_whole(alloc, store, case, request);
-            let reply = reply_or_denial(alloc, done)?;
-            Ok(Answered {
-                reply,
-                leaves_body: false,
-            })
+            Ok(reply_or_denial(alloc, done))
         }
     }
 }

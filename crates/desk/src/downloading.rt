@@ -33,7 +33,7 @@ pub(crate) fn get<S: Alter>(
     permit(case.policy, &pull_question(case), DenialStatus::NotFound)?;
     let found = uploads::find(store, case.repo.name(), &asked.name)?;
     match found {
-        Some(row) => Ok(Reply::content(row)),
+        Some(row) => Ok(Reply::content(asked.name, row.size)),
         None => Err(Denial::Rule(Rule::X1).into()),
     }
 }

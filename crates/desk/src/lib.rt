@@ -21,5 +21,4 @@ mod verifying;
 pub use admission::RepoRequest;
 pub use answering::answer;
 pub use batching::batch_objects;
-pub use outcomes::{AnswerFault, Answered};
 pub use replies::{Reply, ReplyBody};

@@ -3,13 +3,14 @@
 ghost use Rattle.std.specs.Prelude.{◌≡◌, ◌<◌, ◌≤◌, ℕ, List, length, take, Err, OnOk, IfErr};
 ghost use Rattle.names.specs.Names.{repo_text};
 ghost use Rattle.refinement.specs.Left.{From, Keeps};
-ghost use Rattle.desk.specs.Contents.{HasRead, IsReadOut, IsLeftBy};
+ghost use Rattle.desk.specs.declared.receiving.ReceiveFault.TheVariants as fault;
+ghost use Rattle.tables.specs.declared.fault.StoreFault.TheVariants as store;
+ghost use Rattle.desk.specs.Contents.{HasRead, IsReadOut, IsLeftAfter};
 ghost use Rattle.desk.specs.Receiving.{Takes, Fills, Settles, ReceivesStaged, Receives};
 
-use crate::outcomes::AnswerFault;
 use chunks::{Arrival, Intake};
-use names::{Body, Oid, RepoName, Size};
-use std::alloc::Global;
+use names::{Body, BodyFault, Oid, RepoName, Size};
+use std::alloc::{AllocError, Global};
 use tables::{Alter, Store, StoreFault, UploadId};
 use uploads::UploadFault;
 
@@ -23,6 +24,39 @@ pub(crate) enum Receipt {
     Stored,
     /// The bytes do not have the name of the upload (X2).
     Differs,
+}
+
+/// Why an upload was not received. The objects of the store are unchanged.
+#[derive(Clone, Copy, Debug, PartialEq, Eq)]
+pub(crate) enum ReceiveFault {
+    /// The store refused, or memory ran out.
+    Store(StoreFault),
+    /// The input ended, or a read failed, within the content.
+    Body(BodyFault),
+}
+
+impl From<StoreFault> for ReceiveFault {
+    ghost from_gives = { λ refused result. result ≡ fault.Store refused };
+
+    fn from(fault: StoreFault) -> ReceiveFault {
+        ReceiveFault::Store(fault)
+    }
+}
+
+impl From<BodyFault> for ReceiveFault {
+    ghost from_gives = { λ cut result. result ≡ fault.Body cut };
+
+    fn from(fault: BodyFault) -> ReceiveFault {
+        ReceiveFault::Body(fault)
+    }
+}
+
+impl From<AllocError> for ReceiveFault {
+    ghost from_gives = { λ _ result. result ≡ fault.Store store.Memory };
+
+    fn from(_error: AllocError) -> ReceiveFault {
+        ReceiveFault::Store(StoreFault::Memory)
+    }
 }
 
 /// The first bytes of the piece.
@@ -51,14 +85,14 @@ fn take_all<S: Alter, B: Body>(
     content: &mut B,
     intake: &mut Intake,
     buffer: &mut [u8],
-) -> Result<(), AnswerFault>
+) -> Result<(), ReceiveFault>
     requires { 0 < length buffer.old }
     ensures bytes { (bytes : List ℕ) × HasRead B.Body content.old content.new bytes
         × From S.Store store.old store.new (λ world.
         Takes S.Store store.old intake.old store.new intake.new bytes result world) }
     ensures upload { intake.new.upload ≡ intake.old.upload }
     ensures whole { OnOk result (IsReadOut B.Body content.old content.new) }
-    ensures fault { IfErr result (IsLeftBy B.Body content.old content.new) }
+    ensures fault { IfErr result (IsLeftAfter B.Body content.old content.new) }
 {
     'pieces: while content.left() > 0 {
         let count = content.piece(buffer)?;
@@ -80,12 +114,12 @@ fn fill<S: Alter, B: Body>(
     upload: UploadId,
     size: Size,
     content: &mut B,
-) -> Result<Arrival, AnswerFault>
+) -> Result<Arrival, ReceiveFault>
     ensures bytes { (bytes : List ℕ) × HasRead B.Body content.old content.new bytes
         × From S.Store store.old store.new (λ world.
         Fills S.Store store.old store.new upload size bytes result world) }
     ensures whole { OnOk result (IsReadOut B.Body content.old content.new) }
-    ensures fault { IfErr result (IsLeftBy B.Body content.old content.new) }
+    ensures fault { IfErr result (IsLeftAfter B.Body content.old content.new) }
 {
     let mut intake = Intake::begin(alloc, upload, size)?;
     let mut buffer = vec![in alloc; 0u8; piece_of(size)]?;
@@ -125,12 +159,12 @@ fn receive_staged<S: Alter, B: Body>(
     upload: UploadId,
     size: Size,
     content: &mut B,
-) -> Result<Receipt, AnswerFault>
+) -> Result<Receipt, ReceiveFault>
     ensures bytes { (bytes : List ℕ) × HasRead B.Body content.old content.new bytes
         × From S.Store store.old store.new (λ world. ReceivesStaged S.Store store.old store.new
         upload size bytes (B.size content.new) result world) }
     ensures whole { OnOk result (IsReadOut B.Body content.old content.new) }
-    ensures fault { IfErr result (IsLeftBy B.Body content.old content.new) }
+    ensures fault { IfErr result (IsLeftAfter B.Body content.old content.new) }
 {
     let arrival = fill(alloc, store, upload, size, content)?;
     Ok(settle(store, upload, &arrival)?)
@@ -144,17 +178,17 @@ fn clear<S: Alter>(
     store: &mut Store<S>,
     upload: UploadId,
     size: Size,
-    received: &Result<Receipt, AnswerFault>,
+    received: &Result<Receipt, ReceiveFault>,
 )
     ensures { From S.Store store.old store.new (λ world.
         Keeps S.Store store.old store.new world) }
 {
     match received {
         Ok(Receipt::Stored) => {}
-        Ok(Receipt::Differs) | Err(AnswerFault::Body(_)) => {
+        Ok(Receipt::Differs) | Err(ReceiveFault::Body(_)) => {
             let _ = uploads::abandon(store, upload, size);
         }
-        Err(AnswerFault::Store(_)) => {
+        Err(ReceiveFault::Store(_)) => {
             let _ = uploads::sweep(alloc, store);
         }
     }
@@ -165,9 +199,9 @@ fn clear<S: Alter>(
 ///
 /// # Errors
 ///
-/// - [`AnswerFault::Store`]: the store refused, or memory ran out; `Refused` also for a content above the largest size
+/// - [`ReceiveFault::Store`]: the store refused, or memory ran out; `Refused` also for a content above the largest size
 ///   of an object. Some of the content may be unread.
-/// - [`AnswerFault::Body`]: the content was not read to its end.
+/// - [`ReceiveFault::Body`]: the content was not read to its end.
 ///
 /// Both leave the contents of the store unchanged.
 pub(crate) fn receive<S: Alter, B: Body>(
@@ -176,15 +210,15 @@ pub(crate) fn receive<S: Alter, B: Body>(
     repo: &RepoName,
     name: &Oid,
     content: &mut B,
-) -> Result<Receipt, AnswerFault>
+) -> Result<Receipt, ReceiveFault>
     ensures bytes { (bytes : List ℕ) × HasRead B.Body content.old content.new bytes
         × From S.Store store.old store.new (λ world. Receives S.Store store.old store.new world
         (repo_text repo.now) name.now bytes (B.size content.new) result) }
     ensures whole { OnOk result (IsReadOut B.Body content.old content.new) }
-    ensures fault { IfErr result (IsLeftBy B.Body content.old content.new) }
+    ensures fault { IfErr result (IsLeftAfter B.Body content.old content.new) }
 {
     let Some(size) = Size::read(content.left()) else {
-        return Err(AnswerFault::Store(StoreFault::Refused));
+        return Err(ReceiveFault::Store(StoreFault::Refused));
     };
     let upload = uploads::begin(alloc, store, repo, name, size)?;
     let received = receive_staged(alloc, store, upload, size, content);

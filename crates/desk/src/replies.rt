@@ -1,125 +1,105 @@
 //! The desk's replies, without the lines that the connection adds.
 
-ghost use Rattle.std.specs.Prelude.{◌≡◌, IfSome, IsSome, IsNone, true, false};
+ghost use Rattle.std.specs.Prelude.{◌≡◌};
 ghost use Rattle.names.specs.declared.rules.Rule.TheVariants.{S1};
 ghost use Rattle.serde_json.specs.Written.{compact_text};
-ghost use Rattle.model.specs.Answers.{is_store_refusal};
-ghost use Rattle.model.specs.Steps.{is_of_head};
-ghost use Rattle.model.specs.Replies.{message_json, rule_message};
+ghost use Rattle.model.specs.Replies.{message_json, reply_of, rule_message};
 ghost use Rattle.forms.specs.Replies.{IsAnswer};
 
 use forms::Answer;
 use http::StatusCode;
-use names::Rule;
+use names::{Oid, Rule, Size};
 use std::alloc::{AllocError, Global};
-use tables::ObjectRow;
 
 /// The body of a reply.
 #[derive(Debug, Drop)]
 pub enum ReplyBody {
-    /// A JSON text built for this reply.
-    Made(String),
-    /// A constant JSON text, which needs no memory.
-    Fixed(&'static str),
     /// No bytes.
     Empty,
-    /// The bytes of this object, which the store has.
-    Content(ObjectRow),
+    /// A JSON text.
+    Json(String),
+    /// A constant JSON text, which takes no memory: the message of the reply's rule.
+    Refused(&'static str),
+    /// The content of the repository's object of this name, which has this size.
+    Content(Oid, Size),
 }
 
-/// The status and the body of a reply.
+/// The reply to a request.
 #[derive(Debug, Drop)]
 pub struct Reply {
     /// The status.
     pub status: StatusCode,
+    /// The rule that refuses the request; `None` if it is granted. S1 is the store refusal: the store refused or memory
+    /// ran out, and the connection closes after the reply.
+    pub rule: Option<Rule>,
     /// The body.
     pub body: ReplyBody,
-    /// Whether this is a store refusal (S1): the store refused or memory ran out, and the connection closes after it.
-    pub is_store_refusal: bool,
+    /// `false` if an upload is refused before its content is read: the connection closes after the reply. Nothing is
+    /// said of it after the store refusal.
+    pub body_read: bool,
 }
 
-/// The body of a refusal that needs no memory: of a head, or by the store.
-fn fixed_body(rule: Rule) -> Option<&'static str>
-    ensures text { IfSome result
-        (λ text. text.now ≡ compact_text (message_json (rule_message rule))) }
-    ensures all { is_of_head rule ≡ true → IsSome result }
-    ensures other { is_of_head rule ≡ false → IsNone result }
-{
-    match rule {
-        Rule::H1 => Some("{\"message\":\"H1: bad request head\"}"),
-        Rule::H2 => Some("{\"message\":\"H2: transfer codings are not served\"}"),
-        Rule::H3 => Some("{\"message\":\"H3: a length is needed\"}"),
-        Rule::H4 => Some("{\"message\":\"H4: a field or body is not allowed here\"}"),
-        Rule::H5 => Some("{\"message\":\"H5: the body is too large\"}"),
-        Rule::H6 => Some("{\"message\":\"H6: no such route\"}"),
-        Rule::H7 => Some("{\"message\":\"H7: the method is not served here\"}"),
-        Rule::H8 => Some("{\"message\":\"H8: the reply type is not accepted\"}"),
-        _ => None,
-    }
-}
 /// The body of the store refusal.
 fn refusal_body() -> &'static str
     ensures { result.now ≡ compact_text (message_json (rule_message S1)) }
 {
     "{\"message\":\"S1: the store refused\"}"
 }
-/// Whether the answer is a store refusal.
-fn is_store_refusal(answer: &Answer<'_>) -> bool
-    ensures { (given : _) → IsAnswer answer.now given → result ≡ is_store_refusal given }
+
+/// The rule that refuses, if one does.
+fn rule_of(answer: &Answer<'_>) -> Option<Rule>
+    ensures { (given : _) → IsAnswer answer.now given → result ≡ (reply_of given).rule }
 {
     match answer {
-        Answer::Denied(rule) => matches!(rule, Rule::S1),
-        _ => false,
+        Answer::Denied(rule) => Some(*rule),
+        Answer::DeniedByRow { row, .. } => Some(Rule::P(*row)),
+        Answer::Held(_) => Some(Rule::L1),
+        _ => None,
     }
 }
 
 impl Reply {
-    ghost use Rattle.std.specs.Prelude.{◌≡◌, IfOk, true, false, length, Ok, Err};
+    ghost use Rattle.std.specs.Prelude.{◌≡◌, IfOk, true, length, Ok};
     ghost use Rattle.model.specs.World.{Object};
-    ghost use Rattle.model.specs.Answers.{Answer, store_refusal, by_rule, serves, stores, confirms};
-    ghost use Rattle.model.specs.Steps.{is_of_head};
+    ghost use Rattle.model.specs.Answers.{serves, store_refusal, stores, confirms};
     ghost use Rattle.forms.specs.Replies.{IsAnswer};
-    ghost use Rattle.desk.specs.Replies.{IsReplyOf};
-    /// The store refusal (S1): the store refused or memory ran out. It needs no memory.
+    ghost use Rattle.desk.specs.Replies.{IsReplyOf, is_refused};
+
+    /// The store refusal (S1): the store refused or memory ran out. It takes no memory.
     pub fn store_refused() -> Reply
-        ensures { IsReplyOf result store_refusal }
+        ensures shows { IsReplyOf result store_refusal }
+        ensures read { result.body_read ≡ true }
     {
         Reply {
             status: StatusCode::INTERNAL_SERVER_ERROR,
-            body: ReplyBody::Fixed(refusal_body()),
-            is_store_refusal: true,
+            rule: Some(Rule::S1),
+            body: ReplyBody::Refused(refusal_body()),
+            body_read: true,
         }
     }
-    /// The refusal of a head by one of the rules H1 to H8. It needs no memory. For any other rule this is
-    /// the store refusal.
-    pub fn head_refused(rule: Rule) -> Reply
-        ensures shows { is_of_head rule ≡ true → IsReplyOf result (Err (by_rule rule)) }
-        ensures other { is_of_head rule ≡ false → IsReplyOf result store_refusal }
+
+    /// Whether this is the store refusal.
+    pub fn is_store_refusal(&self) -> bool
+        ensures { result ≡ is_refused self.now }
     {
-        match fixed_body(rule) {
-            Some(text) => Reply {
-                status: Answer::Denied(rule).status(),
-                body: ReplyBody::Fixed(text),
-                is_store_refusal: false,
-            },
-            None => Reply::store_refused(),
-        }
+        matches!(self.rule, Some(Rule::S1))
     }
+
     /// Builds the reply for the answer.
     ///
     /// # Errors
     ///
     /// Fails only if memory runs out.
-    pub fn telling(alloc: Global, answer: &Answer<'_>) -> Result<Reply, AllocError>
+    pub(crate) fn telling(alloc: Global, answer: &Answer<'_>) -> Result<Reply, AllocError>
         ensures { IfOk result
             (λ reply. (given : _) → IsAnswer answer.now given → IsReplyOf reply given) }
     {
-        let status = answer.status();
         let text = answer.body(alloc)?;
         Ok(Reply {
-            status,
-            body: ReplyBody::Made(text),
-            is_store_refusal: is_store_refusal(answer),
+            status: answer.status(),
+            rule: rule_of(answer),
+            body: ReplyBody::Json(text),
+            body_read: true,
         })
     }
 
@@ -127,24 +107,33 @@ impl Reply {
     pub(crate) fn confirmation() -> Reply
         ensures stored { (o : Object) → IsReplyOf result (Ok (stores o)) }
         ensures confirmed { IsReplyOf result (Ok confirms) }
+        ensures read { result.body_read ≡ true }
     {
         Reply {
             status: StatusCode::OK,
+            rule: None,
             body: ReplyBody::Empty,
-            is_store_refusal: false,
+            body_read: true,
         }
     }
 
-    /// The reply with the content of an object: 200.
-    pub(crate) fn content(row: ObjectRow) -> Reply
-        ensures shows { (o : Object) → row.size ≡ length o.bytes
+    /// The reply with the content of the object of this name, which has this size: 200.
+    pub(crate) fn content(name: Oid, size: Size) -> Reply
+        ensures { (o : Object) → name ≡ o.name → size ≡ length o.bytes
             → IsReplyOf result (Ok (serves o)) }
-        ensures body { result.body ≡ ReplyBody.Content row }
     {
         Reply {
             status: StatusCode::OK,
-            body: ReplyBody::Content(row),
-            is_store_refusal: false,
+            rule: None,
+            body: ReplyBody::Content(name, size),
+            body_read: true,
         }
+    }
+
+    /// The same reply, which says whether the body of the request was read.
+    pub(crate) fn with_body_read(self, body_read: bool) -> Reply
+        ensures { result ≡ record self { body_read = body_read } }
+    {
+        Reply { body_read, ..self }
     }
 }

@@ -14,14 +14,14 @@ ghost use Rattle.desk.specs.Receiving.{RepliesReceived};
 ghost use Rattle.desk.specs.Rights.{IsUserOf, case_repo, case_seen};
 
 use crate::cases::{Case, Denial};
-use crate::outcomes::{AnswerFault, Answered, NotGranted};
-use crate::receiving::{Receipt, receive};
+use crate::outcomes::{NotGranted, denied};
+use crate::receiving::{Receipt, ReceiveFault, receive};
 use crate::replies::Reply;
-use crate::rights::{denial_reply, may_push, ref_or_default};
+use crate::rights::{may_push, ref_or_default};
 use forms::PutRequest;
-use names::{Body, Oid, Rule};
+use names::{Body, BodyFault, Oid, Rule};
 use policy::Repo;
-use std::alloc::{AllocError, Global};
+use std::alloc::Global;
 use tables::{Alter, Store, StoreFault};
 
 /// Whether the quota holds an upload of this size, or an object of the name is stored.
@@ -76,13 +76,24 @@ fn may_upload<S: Alter>(
     }
 }
 
-/// The reply once all bytes of the upload arrived: 200, or X2.
-fn received_reply(alloc: Global, receipt: Receipt) -> Result<Reply, AllocError>
-    ensures { RepliesReceived receipt result }
+/// The reply to an upload whose content was received: 200, or X2; the store refusal if the store refused or memory ran
+/// out.
+///
+/// # Errors
+///
+/// The fault by which the content was cut off.
+fn received_reply(
+    alloc: Global,
+    received: Result<Receipt, ReceiveFault>,
+) -> Result<Reply, BodyFault>
+    ensures shows { RepliesReceived received result }
+    ensures read { IfOk result (λ reply. reply.body_read ≡ true) }
 {
-    match receipt {
-        Receipt::Stored => Ok(Reply::confirmation()),
-        Receipt::Differs => denial_reply(alloc, Denial::Rule(Rule::X2)),
+    match received {
+        Ok(Receipt::Stored) => Ok(Reply::confirmation()),
+        Ok(Receipt::Differs) => Ok(denied(alloc, Denial::Rule(Rule::X2))),
+        Err(ReceiveFault::Store(_)) => Ok(Reply::store_refused()),
+        Err(ReceiveFault::Body(fault)) => Err(fault),
     }
 }
 
@@ -90,15 +101,14 @@ fn received_reply(alloc: Global, receipt: Receipt) -> Result<Reply, AllocError>
 ///
 /// # Errors
 ///
-/// `Body` if the content was cut off, and `Store` if the store refused or memory ran out. The objects of the store are
-/// unchanged.
+/// The fault by which the content was cut off. The objects of the store are unchanged.
 pub(crate) fn put<S: Alter, B: Body>(
     store: &mut Store<S>,
     alloc: Global,
     case: &Case<'_>,
     asked: &PutRequest,
     content: &mut B,
-) -> Result<Answered, AnswerFault>
+) -> Result<Reply, BodyFault>
     ensures { AnswersRequest S.Store B.Body true (case_repo case.entry.now).name
         (IsUserOf case.entry.now) (λ world who size.
         put_verdict (case_seen world case.entry.now who) size (put_asked asked.entry.now))
@@ -106,20 +116,10 @@ pub(crate) fn put<S: Alter, B: Body>(
 {
     match may_upload(store, case, asked, content.left()) {
         Ok(()) => {
-            let receipt = receive(alloc, store, case.repo.name(), &asked.name, content)?;
-            let reply = received_reply(alloc, receipt)?;
-            Ok(Answered {
-                reply,
-                leaves_body: false,
-            })
+            let received = receive(alloc, store, case.repo.name(), &asked.name, content);
+            received_reply(alloc, received)
         }
-        Err(NotGranted::Denied(denial)) => {
-            let reply = denial_reply(alloc, denial)?;
-            Ok(Answered {
-                reply,
-                leaves_body: true,
-            })
-        }
-        Err(NotGranted::Store(fault)) => Err(fault.into()),
+        Err(NotGranted::Denied(denial)) => Ok(denied(alloc, denial).with_body_read(false)),
+        Err(NotGranted::Store(_)) => Ok(Reply::store_refused()),
     }
 }

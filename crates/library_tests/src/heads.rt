@@ -2,10 +2,9 @@
 
 use crate::harness::{expect, unwrap};
 use httparse::spans::EMPTY_HEADER_SPAN;
-use names::Rule;
 use std::alloc::{Alloc, Global};
 use std::process::Abort;
-use wire::{Cut, FIELD_LIMIT, Head, first_head, front_of};
+use wire::{Cut, FIELD_LIMIT, Head, HeadRule, first_head, front_of};
 
 /// The length of the head at the front of the text, or what the text begins with instead.
 fn length_of(text: &[u8]) -> Result<usize, &'static str> {
@@ -21,7 +20,7 @@ fn length_of(text: &[u8]) -> Result<usize, &'static str> {
 #[derive(Clone, Copy)]
 struct Said {
     asks_close: bool,
-    body_length: Result<u64, Rule>,
+    body_length: Result<u64, HeadRule>,
     accepts_json: bool,
 }
 
@@ -201,12 +200,12 @@ fn connections_end_where_the_head_says_so(rt: HostRuntime) {
 }
 
 /// Texts, and the size of the body after the head at their front, or the rule that refuses it.
-const LENGTHS: &[(&[u8], Result<u64, Rule>)] = &[
+const LENGTHS: &[(&[u8], Result<u64, HeadRule>)] = &[
     (b"GET / HTTP/1.1\r\n\r\n", Ok(0)),
     (b"GET / HTTP/1.1\r\nContent-Length: 0\r\n\r\n", Ok(0)),
     (
         b"GET / HTTP/1.1\r\nContent-Length: 1\r\n\r\n",
-        Err(Rule::H4),
+        Err(HeadRule::H4),
     ),
     (b"DELETE / HTTP/1.1\r\n\r\n", Ok(0)),
     (
@@ -224,7 +223,7 @@ const LENGTHS: &[(&[u8], Result<u64, Rule>)] = &[
     ),
     (
         b"POST / HTTP/1.1\r\nContent-Length: 1048577\r\n\r\n",
-        Err(Rule::H5),
+        Err(HeadRule::H5),
     ),
     (
         b"PUT / HTTP/1.1\r\nContent-Length: 1048577\r\n\r\n",
@@ -236,58 +235,61 @@ const LENGTHS: &[(&[u8], Result<u64, Rule>)] = &[
     ),
     (
         b"PUT / HTTP/1.1\r\nContent-Length: 4294967297\r\n\r\n",
-        Err(Rule::H5),
+        Err(HeadRule::H5),
     ),
     (
         b"post / HTTP/1.1\r\nContent-Length: 1048577\r\n\r\n",
         Ok(1_048_577),
     ),
-    (b"POST / HTTP/1.1\r\n\r\n", Err(Rule::H3)),
-    (b"PUT / HTTP/1.0\r\n\r\n", Err(Rule::H3)),
+    (b"POST / HTTP/1.1\r\n\r\n", Err(HeadRule::H3)),
+    (b"PUT / HTTP/1.0\r\n\r\n", Err(HeadRule::H3)),
     (
         b"POST / HTTP/1.1\r\nTransfer-Encoding: chunked\r\n\r\n",
-        Err(Rule::H2),
+        Err(HeadRule::H2),
     ),
     (
         b"POST / HTTP/1.1\r\nContent-Length: 3\r\nTRANSFER-ENCODING: identity\r\n\r\n",
-        Err(Rule::H2),
+        Err(HeadRule::H2),
     ),
     (
         b"POST / HTTP/1.1\r\nContent-Length: 3\r\nContent-Length: 3\r\n\r\n",
-        Err(Rule::H4),
+        Err(HeadRule::H4),
     ),
     (
         b"POST / HTTP/1.1\r\nContent-Length: 1000000000000000000\r\n\r\n",
-        Err(Rule::H4),
+        Err(HeadRule::H4),
     ),
     (
         b"POST / HTTP/1.1\r\nContent-Length: 0000000000000000007\r\n\r\n",
-        Err(Rule::H4),
+        Err(HeadRule::H4),
     ),
     (
         b"POST / HTTP/1.1\r\nContent-Length: +3\r\n\r\n",
-        Err(Rule::H4),
+        Err(HeadRule::H4),
     ),
     (
         b"POST / HTTP/1.1\r\nContent-Length: -3\r\n\r\n",
-        Err(Rule::H4),
+        Err(HeadRule::H4),
     ),
     (
         b"POST / HTTP/1.1\r\nContent-Length: 3, 3\r\n\r\n",
-        Err(Rule::H4),
+        Err(HeadRule::H4),
     ),
     (
         b"POST / HTTP/1.1\r\nContent-Length: 0x3\r\n\r\n",
-        Err(Rule::H4),
+        Err(HeadRule::H4),
     ),
-    (b"POST / HTTP/1.1\r\nContent-Length:\r\n\r\n", Err(Rule::H4)),
+    (
+        b"POST / HTTP/1.1\r\nContent-Length:\r\n\r\n",
+        Err(HeadRule::H4),
+    ),
     (
         b"GET / HTTP/1.1\r\nAuthorization: a\r\nAuthorization: a\r\n\r\n",
-        Err(Rule::H4),
+        Err(HeadRule::H4),
     ),
     (
         b"GET / HTTP/1.1\r\nAccept: a\r\nAccept: a\r\n\r\n",
-        Err(Rule::H4),
+        Err(HeadRule::H4),
     ),
     (b"GET / HTTP/1.1\r\nHost: a\r\nHost: a\r\n\r\n", Ok(0)),
 ];

@@ -28,7 +28,7 @@ const LOCKS: &[(&str, &str, &str)] = &[
 /// Whether the target is a route to the locks of this repository, whose text is its owner, a slash and
 /// its name.
 fn leads_to(rt: &impl Tester, routes: &Routes, target: &str, owner: &str, name: &str) -> bool {
-    let Some(route) = routes.route_of(target) else {
+    let Some(route) = routes.find(target) else {
         return false;
     };
     let text = unwrap(rt, route.repo_text(rt.alloc()));
@@ -89,7 +89,7 @@ fn has_parameter(
         rt,
         format!(in rt.alloc(); "/studio/film.git/info/lfs{rest}"),
     );
-    let Some(route) = routes.route_of(target.as_str()) else {
+    let Some(route) = routes.find(target.as_str()) else {
         return false;
     };
     route.owner == "studio"
@@ -177,7 +177,7 @@ const NO_ROUTES: &[&str] = &[
 ];
 
 fn is_no_route(routes: &Routes, target: &str) -> bool {
-    routes.route_of(target).is_none()
+    routes.find(target).is_none()
 }
 
 #[test]

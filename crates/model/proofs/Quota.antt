@@ -10,11 +10,12 @@ use Rattle.httparse.specs.Grammar.{RequestHead}
 use Rattle.names.specs.declared.rules.Rule.{Rule}
 use Rattle.names.specs.declared.rules.Rule.TheVariants as rule
 use Rattle.model.specs.declared.Form.{Form}
+use Rattle.model.specs.declared.Form.TheVariants as form
 use Rattle.model.specs.Reading.{check, ok_or, or_default}
 use Rattle.model.specs.Policy.{Policy, Repo, repo_named}
 use Rattle.model.specs.World.{World, Object, Token, IsWorld, object_named, name_of, with_object, total}
 use Rattle.model.specs.RepoState.{ObjectSize, object_size, repo_state, size_of, has_room}
-use Rattle.model.specs.Forms.{Request, request_of, asks_batch, asks_get, asks_put, asks_verify, asks_lock, asks_list, asks_verify_locks, asks_unlock}
+use Rattle.model.specs.Forms.{Request, asks_batch, asks_get, asks_put, asks_verify, asks_lock, asks_list, asks_verify_locks, asks_unlock}
 use Rattle.model.specs.Heads.{Target, head_verdict, query_of, content_length, body_length}
 use Rattle.model.specs.Callers.{caller_by, Caller}
 use Rattle.model.specs.Cases.{Setting, Case, case_in, DeskRequest}
@@ -32,7 +33,7 @@ use Rattle.model.proofs.Keeping.{keeps_step}
 use Rattle.model.proofs.Left.{all_left, can_make, reports_are_true}
 use Rattle.model.proofs.Refusals.{verdict_at, verdict_refused}
 use Rattle.model.proofs.Rooms.{room_is_quota}
-use Rattle.model.proofs.Serving.{IsPlain, IsFrom, IsAsked, desk_from, request_asked}
+use Rattle.model.proofs.Serving.{IsPlain, IsFrom, IsAsked, desk_from}
 use Rattle.model.proofs.Views.{size_stored}
 use Rattle.model.proofs.Lists.{found_passes}
 
@@ -124,15 +125,26 @@ finished_fits world policy repo left body f parameter (grants g) fits from = pla
 finished_fits world policy repo left body f parameter (sends name size) fits from = then_any (GrantFits world policy repo left body) (by_rules (ok_or (object_named repo name world) rule.X1)) _ (λ o. tt)
 finished_fits world policy repo left body f parameter (receives name) fits from = then_any (GrantFits world policy repo left body) (by_rules (check (bytes_eq name (name_of body)) rule.X2)) _ (λ same. (refl, refl, fits))
 
-answer_fits : (world : World) (setting : Setting) (asked : DeskRequest) (f : Form) (parameter query given body : List ℕ) → asked.request ≡ request_of f parameter query given
-    → IfOk (desk_verdict world setting asked body) (GrantFits world setting.policy asked.repo asked.left body)
-answer_fits world setting asked f parameter query given body is =
+-- each request has a form, and an upload or a download a parameter
+asked_as : (r : Result Request Rule) → (f : Form) × (parameter : List ℕ) × IfOk r (IsAsked f parameter)
+asked_as (Err e) = (form.Batch, [], tt)
+asked_as (Ok (asks_batch asked)) = (form.Batch, [], tt)
+asked_as (Ok (asks_get name)) = (form.Get, name, (refl, refl))
+asked_as (Ok (asks_put asked)) = (form.Put, asked.name, (refl, refl))
+asked_as (Ok (asks_verify asked)) = (form.Verify, [], tt)
+asked_as (Ok (asks_lock asked)) = (form.Lock, [], tt)
+asked_as (Ok (asks_list asked)) = (form.List, [], tt)
+asked_as (Ok (asks_verify_locks asked)) = (form.VerifyLocks, [], tt)
+asked_as (Ok (asks_unlock asked)) = (form.Unlock, [], tt)
+
+answer_fits : (world : World) (setting : Setting) (asked : DeskRequest) (body : List ℕ) → IfOk (desk_verdict world setting asked body) (GrantFits world setting.policy asked.repo asked.left body)
+answer_fits world setting asked body =
+    let it = asked_as asked.request in
     let P = PlanFits world setting.policy asked.repo asked.left in
-    let Q = IsFrom f parameter in
-    let asks = subst (λ (r : Result Request Rule). IfOk r (IsAsked f parameter)) (sym is) (request_asked f parameter query given) in
+    let Q = IsFrom it.0 it.1 in
     passed (λ plan. P plan × Q plan) (GrantFits world setting.policy asked.repo asked.left body) (desk_plan world setting asked) _
-    (both_if P Q (desk_plan world setting asked) (desk_fits world setting asked) (desk_from world setting asked f parameter asks))
-    (λ plan is. finished_fits world setting.policy asked.repo asked.left body f parameter plan is.0 is.1)
+    (both_if P Q (desk_plan world setting asked) (desk_fits world setting asked) (desk_from world setting asked it.0 it.1 it.2))
+    (λ plan is. finished_fits world setting.policy asked.repo asked.left body it.0 it.1 plan is.0 is.1)
 
 -- ---- the total
 
@@ -192,9 +204,9 @@ grant_stays old policy repo left body (releases l) n most w fits size within quo
 -- ---- steps and runs
 
 -- a request to the desk, with the whole body of an upload
-pub desk_stays : (old : World) (setting : Setting) (asked : DeskRequest) (f : Form) (parameter query given body n : List ℕ) (most : ℕ) → IsWorld old → asked.request ≡ request_of f parameter query given → length body ≡ asked.left
+pub desk_stays : (old : World) (setting : Setting) (asked : DeskRequest) (body n : List ℕ) (most : ℕ) → IsWorld old → length body ≡ asked.left
     → total n old ≤ most → quota_of n setting.policy ≤ most → total n (after old (Some (desk_verdict old setting asked body))) ≤ most
-desk_stays old setting asked f parameter query given body n most w is size within quota = by_answer (desk_verdict old setting asked body) (answer_fits old setting asked f parameter query given body is)
+desk_stays old setting asked body n most w size within quota = by_answer (desk_verdict old setting asked body) (answer_fits old setting asked body)
   where
     by_answer : (answer : Answer) → IfOk answer (GrantFits old setting.policy asked.repo asked.left body) → total n (after old (Some answer)) ≤ most
     by_answer (Ok g) fits = grant_stays old setting.policy asked.repo asked.left body g n most w fits size within quota
@@ -210,7 +222,7 @@ answer_stays old setting head body n most w size within quota = at (head_verdict
     at : (r : Result Target Rule) → head_verdict head ≡ r → total n (after old (Some (verdict old setting head body))) ≤ most
     at (Ok target) j =
         subst (λ (a : Answer). total n (after old (Some a)) ≤ most) (sym (verdict_at old setting head body target j))
-        (desk_stays old setting (desk_request head target body) target.form target.parameter (query_of head.target) body body n most w refl (same target j) within quota)
+        (desk_stays old setting (desk_request head target body) body n most w (same target j) within quota)
     at (Err x) j = subst (λ (a : Answer). total n (after old (Some a)) ≤ most) (sym (verdict_refused old setting head body x j)) within
 
 message_stays : (old : World) (setting : Setting) (asked : Message) (n : List ℕ) (most : ℕ) → IsWorld old → IsMessage asked

@@ -1,7 +1,7 @@
 //! Routing: which repository and resource a request's target names (Git LFS API, Server Discovery).
 //!
 //! A client requests `/studio/film.git/info/lfs/locks`, perhaps followed by a question mark and a
-//! query. [`Routes::route_of`] returns the repository `film` of `studio`, the resource
+//! query. [`Routes::find`] returns the repository `film` of `studio`, the resource
 //! [`Resource::Locks`] in it, and the route's parameter, such as the 7 in `/locks/7/unlock`; or `None`
 //! if no route has that path, which is H6. Targets are compared byte by byte: nothing is decoded or
 //! normalized, so no two of them name the same repository. The resource gives what each method asks

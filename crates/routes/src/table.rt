@@ -217,7 +217,7 @@ impl Routes {
     ///
     /// The path is the target up to its first question mark: `/OWNER/NAME.git/info/lfs/..`. None of its
     /// parts is empty, nor does it end in a slash.
-    pub fn route_of<'t>(&self, target: &'t str) -> Option<Route<'t>>
+    pub fn find<'t>(&self, target: &'t str) -> Option<Route<'t>>
         ensures { MatchOption result (route_at target.now ≡ Err H6)
             (λ route. route_at target.now ≡ Ok (route_seen route)) }
     {

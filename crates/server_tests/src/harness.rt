@@ -1,6 +1,6 @@
 //! What the tests share: the runtime, results that have to be `Ok`, names, and a store in memory.
 
-use names::{LockPath, Moment, RefName, RepoName, UserName};
+use names::{LockPath, Moment, Oid, RefName, RepoName, UserName};
 use sqlite::MemStore;
 use std::alloc::{Alloc, Global};
 use std::process::Abort;
@@ -37,6 +37,11 @@ pub(crate) fn repo(rt: &impl Tester, text: &str) -> RepoName {
 /// The ref of this text.
 pub(crate) fn ref_name(rt: &impl Tester, text: &str) -> RefName {
     unwrap(rt, RefName::read(owned(rt, text)).ok_or(()))
+}
+
+/// The object name of this text.
+pub(crate) fn oid(rt: &impl Tester, text: &str) -> Oid {
+    unwrap(rt, Oid::read(text.as_bytes()).ok_or(()))
 }
 
 /// The path of this text.

@@ -1,9 +1,9 @@
 //! Objects: uploads that are begun, filled, completed, found, written out and removed.
 
-use crate::harness::{Tester, in_memory, repo, unwrap};
+use crate::harness::{Tester, in_memory, oid, repo, unwrap};
 use crate::server::joined;
 use chunks::{Intake, pour};
-use names::{FailAfter, Oid, Size, SliceSource, VecSink};
+use names::{FailAfter, Size, SliceSource, VecSink};
 use sqlite::MemStore;
 use tables::{Store, StoreFault, UploadId};
 use uploads::{Kept, UploadFault};
@@ -58,10 +58,6 @@ const CUTS: &[(&str, usize)] = &[
     ("studio/chunks", 65_536),
     ("studio/whole", 1_000_000),
 ];
-
-fn oid(rt: &impl Tester, text: &str) -> Oid {
-    unwrap(rt, Oid::read(text.as_bytes()).ok_or(()))
-}
 
 fn size_of(rt: &impl Tester, size: usize) -> Size {
     unwrap(rt, Size::read(size as u64).ok_or(()))

@@ -1,7 +1,8 @@
 -- A reply is sent.
-use Rattle.service.proofs.Prelude.{◌≡◌, ◌∙◌, ℕ, Bool, true, false, List, [], ◌++◌, MatchBool, Option, Some, None, is_some, option_map, sym, ap, ap₂, subst, Appends, Ghosts, World, Setting, Answer, is_store_refusal, bound_after, Exchange, exchanged, closes, closes_if, allow, reply_text, text_of, text_if, BeginsWith, IsBeginning, Store, leads_then, leads_still, BreaksOff, IsEarly, IsFirst, IsIncomplete, IsResponse, IsSent, EndsReply, IsTurn, ClosesTurn, EndsTurn, End, Response}
+use Rattle.service.proofs.Prelude.{◌≡◌, ◌∙◌, ℕ, Bool, true, false, List, [], ◌++◌, MatchBool, Option, Some, None, is_some, option_map, sym, ap, ap₂, subst, Appends, Ghosts, World, Setting, Answer, is_store_refusal, bound_after, Exchange, exchanged, closes, closes_if, allow, reply_text, text_of, text_if, BeginsWith, IsBeginning, Store, leads_then, leads_still, BreaksOff, IsEarly, IsFirst, IsIncomplete, IsResponse, IsSent, EndsReply, IsTurn, ClosesTurn, EndsTurn, End, Response, is_refused}
 use Rattle.tables.specs.Shown.{Moves, AddsNothing}
 use Rattle.service.specs.declared.ends.End.TheVariants.{InputEnded, Closed, StoreRefused, ReadFailed, WriteFailed, StoreFailed}
+use Rattle.desk.proofs.Told.{refused_is}
 use Rattle.service.proofs.Responses.{begins_now}
 
 -- ---- the text and the content of a reply
@@ -37,19 +38,19 @@ module _ {S : Type 0} (g : Ghosts S) (setting : Setting) (bytes next : List ℕ)
 
   -- a response after which the connection closes
   closed : (r : Response) (a : IsResponse g setting bytes next world old mid r) → Moves g (λ t. t) mid new → AddsNothing g mid new → r.close ≡ true
-      → Appends was is (reply_text a.given r.allow.now r.close) → ClosesTurn g setting bytes world old new was is r.reply.is_store_refusal
+      → Appends was is (reply_text a.given r.allow.now r.close) → ClosesTurn g setting bytes world old new was is (is_refused r.reply)
   closed r a same adds shut s =
       let text = text_is a.e a.given r.allow.now r.close a.is a.methods a.closes in (
         a.e,
         a.kept,
         turn_then a.e a.kept a.turn same adds,
         closed_at a.e r.close shut a.begins,
-        ap (option_map is_store_refusal) a.is ∙ ap Some (sym a.is_reply.refusal),
+        ap (option_map is_store_refusal) a.is ∙ ap Some (sym (refused_is a.given r.reply a.is_reply)),
         a.closes ∙ shut,
         subst (λ (t : List ℕ). Appends was is t) text s,
       )
 
-  pub sent : (r : Response) (end : Option End) → (a : IsResponse g setting bytes next world old mid r) → Moves g (λ t. t) mid new → AddsNothing g mid new → EndsReply r.close r.reply.is_store_refusal end
+  pub sent : (r : Response) (end : Option End) → (a : IsResponse g setting bytes next world old mid r) → Moves g (λ t. t) mid new → AddsNothing g mid new → EndsReply r.close (is_refused r.reply) end
       → IsSent was is a.given r.allow.now r.close end → EndsTurn g setting bytes next world old new was is end
   sent r None a same adds shut s =
       let text = text_is a.e a.given r.allow.now r.close a.is a.methods a.closes in (

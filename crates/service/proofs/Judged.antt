@@ -1,11 +1,12 @@
 -- The verdict on a head, check by check.
-use Rattle.service.proofs.Prelude.{◌≡◌, ℕ, Bool, true, false, not, ◌||◌, List, [], ◌∷◌, Some, None, Result, Ok, Err, codes, refl, ap, ◌∙◌, subst, ◌≤◌, length, lit≤, bytes_eq, cond, ⊤, RequestHead, Rule, H6, H7, H8, Form, is_put, ◌>>=◌, check, Route, check_framing, route_at, form_of, is_method, accepts, values, methods_of, is_h7, IsDenied, Denied}
+use Rattle.service.proofs.Prelude.{◌≡◌, ℕ, Bool, true, false, not, ◌||◌, List, [], ◌∷◌, Some, None, Result, Ok, Err, codes, refl, ap, ◌∙◌, subst, ◌≤◌, length, lit≤, bytes_eq, cond, ⊤, RequestHead, Rule, H6, H7, H8, Form, is_put, ◌>>=◌, check, Route, check_framing, route_at, form_of, is_method, accepts, values, methods_of, is_h7, IsDenied, Denied, HeadRule, rule_seen}
 use Rattle.std.specs.Result.{IfErr}
 use Rattle.std.specs.Str.{IsUtf8, is_utf8}
 use Rattle.std.proofs.lemmas.Str.{IsUtf8-from_is_utf8}
 use Rattle.std.proofs.lemmas.Slice.Eq.{bytes_eq-Decides}
 use Rattle.model.specs.declared.Form.TheVariants as form
 use Rattle.model.specs.Heads.{head_verdict}
+use Rattle.wire.specs.declared.rules.HeadRule.TheVariants as by
 use Rattle.routes.specs.declared.table.Resource.{Resource}
 use Rattle.routes.specs.declared.table.Resource.TheVariants.{Batch, Locks, VerifyLocks, Unlock, Content, Verify}
 use Rattle.routes.specs.Table.{row_of}
@@ -98,7 +99,7 @@ framing_rule h r is = subst (λ (f : Result ⊤ Rule). IfErr f IsOther) is (fram
 -- ---- denials
 
 -- a refusal that names no methods
-pub refused : (h : RequestHead) (d : Denied) (r : Rule) → d.rule ≡ r → d.allow.now ≡ [] → head_verdict h ≡ Err r → IsOther r → IsDenied h d
+pub refused : (h : RequestHead) (d : Denied) (r : HeadRule) → d.rule ≡ r → d.allow.now ≡ [] → head_verdict h ≡ Err (rule_seen r) → IsOther (rule_seen r) → IsDenied h d
 refused h d r same none is other = record {
   rule = rw same is;
   methods = rw (same, other) none;
@@ -106,7 +107,7 @@ refused h d r same none is other = record {
 }
 
 -- a refusal that names the methods of the route
-pub unserved : (h : RequestHead) (d : Denied) (route : Route) → d.rule ≡ H7 → route_at h.target ≡ Ok route → d.allow.now ≡ methods_of (Ok route) → length d.allow.now ≤ 128 → head_verdict h ≡ Err H7 → IsDenied h d
+pub unserved : (h : RequestHead) (d : Denied) (route : Route) → d.rule ≡ by.H7 → route_at h.target ≡ Ok route → d.allow.now ≡ methods_of (Ok route) → length d.allow.now ≤ 128 → head_verdict h ≡ Err H7 → IsDenied h d
 unserved h d route same there methods short is = record {
   rule = rw same is;
   methods = rw (same, there) methods;

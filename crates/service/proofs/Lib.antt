@@ -4,6 +4,7 @@ pub mod Messages
 pub mod Sent
 pub mod Answered
 pub mod Serving
+pub mod Plans
 pub mod Responses
 pub mod Bodies
 pub mod Bounded

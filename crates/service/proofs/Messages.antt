@@ -1,10 +1,11 @@
 -- A head, and the message that it begins.
-use Rattle.service.proofs.Prelude.{inl, inr, append-nil, ◌≡◌, ◌∙◌, ◌<◌, ◌≤◌, ℕ, suc, Bool, true, false, ◌||◌, nat_le, List, [], ◌∷◌, ◌++◌, append_assoc, length, take, drop, codes, Option, Some, Bor, Result, Ok, Err, refl, sym, ap, ap₂, subst, arith, cond, length-append, is_err, option_map, lit<, lit≤, drop_all, drop_at, take_at, IfErr-at_err, ⊤, RequestHead, ReadsRequest, MayBecomeRequest, Rule, ◌>>=◌, check, Target, head_verdict, check_framing, body_length, values, at_most, asks_close, content_length, is_measured, is_clear, is_small, Message, message, bad_head, is_of_head, BeginsWithHead, BeginsWith, with_message, with_bad_head, message_with, IsUnfinished, BeginsBadly, head_more, Refuses, is_put, AsksFor, IsDenied, target_seen, Asks, IsCopyOf, IsRefused, target_asked, whole_message, Asked}
+use Rattle.service.proofs.Prelude.{inl, inr, append-nil, ◌≡◌, ◌∙◌, ◌<◌, ◌≤◌, ℕ, suc, Bool, true, false, ◌||◌, nat_le, List, [], ◌∷◌, ◌++◌, append_assoc, length, take, drop, codes, Option, Some, Bor, Result, Ok, Err, refl, sym, ap, ap₂, subst, arith, cond, length-append, is_err, option_map, lit<, lit≤, drop_all, drop_at, take_at, IfErr-at_err, ⊤, RequestHead, ReadsRequest, MayBecomeRequest, Rule, ◌>>=◌, check, Target, head_verdict, check_framing, body_length, values, at_most, asks_close, content_length, is_measured, is_clear, is_small, Message, message, bad_head, is_of_head, BeginsWithHead, BeginsWith, with_message, with_bad_head, message_with, IsUnfinished, BeginsBadly, head_more, Refuses, is_put, AsksFor, IsDenied, target_seen, Asks, IsCopyOf, IsRefused, target_asked, whole_message, Asked, HeadRule, rule_seen}
 use Rattle.std.proofs.Common.{true≢false}
 use Rattle.std.proofs.lemmas.Bool.{true≢false}
 use Rattle.std.proofs.lemmas.Bool.Decides.{nat_tests}
 use Rattle.httparse.specs.Grammar.{print_request}
 use Rattle.names.specs.declared.rules.Rule.TheVariants as rule
+use Rattle.wire.specs.declared.rules.HeadRule.TheVariants.{H1}
 use Rattle.model.specs.Orders.{first}
 use Rattle.model.proofs.Refusals.{IsHeadRule, head_fails, verdict_refused}
 use Rattle.model.proofs.Streamed.{first_is_first}
@@ -36,35 +37,31 @@ closes_there true rule store put is = refl
 closes_there false rule store put is = rw is refl
 
 pub head_refused : (bytes after : List ℕ) (h : RequestHead) (d : judging.Denied) → BeginsWithHead bytes h after → IsDenied h d → IsRefused bytes (message h [] true) d
-head_refused bytes after h d b is =
-    let of_head : is_of_head d.rule ≡ true = IfErr-at_err IsHeadRule is.rule (head_fails h) in
-    record {
-      next = drop (body_length h) after;
-      begins = with_message h after b (refused_message h after d.rule is.rule) refl;
-      closes = closes_there (asks_close h) (is_of_head d.rule) _ _ of_head;
-      verdict = λ world setting. ap Some (verdict_refused world setting h [] d.rule is.rule);
-      of_head = of_head;
-      methods = is.methods;
-      short = is.short;
-    }
+head_refused bytes after h d b is = record {
+  next = drop (body_length h) after;
+  begins = with_message h after b (refused_message h after (rule_seen d.rule) is.rule) refl;
+  closes = closes_there (asks_close h) (is_of_head (rule_seen d.rule)) _ _ (IfErr-at_err IsHeadRule is.rule (head_fails h));
+  verdict = λ world setting. ap Some (verdict_refused world setting h [] (rule_seen d.rule) is.rule);
+  methods = is.methods;
+  short = is.short;
+}
 
 -- bytes that do not begin with a head
-bad_refused : (bytes : List ℕ) (d : judging.Denied) → d.rule ≡ rule.H1 → d.allow.now ≡ [] → BeginsBadly bytes → IsRefused bytes bad_head d
+bad_refused : (bytes : List ℕ) (d : judging.Denied) → d.rule ≡ H1 → d.allow.now ≡ [] → BeginsBadly bytes → IsRefused bytes bad_head d
 bad_refused bytes d is none bad = record {
   next = [];
   begins = with_bad_head bad refl refl;
   closes = refl;
   verdict = λ world setting. rw is refl;
-  of_head = rw is refl;
   methods = none;
   short = rw none (lit≤ tt);
 }
 
 -- bytes that H1 to H5 refuse
-pub stop_refused : (bytes : List ℕ) (r : Rule) (d : judging.Denied) → d.rule ≡ r → d.allow.now ≡ [] → Refuses bytes r → (asked : Message) × IsRefused bytes asked d
+pub stop_refused : (bytes : List ℕ) (r : HeadRule) (d : judging.Denied) → d.rule ≡ r → d.allow.now ≡ [] → Refuses bytes r → (asked : Message) × IsRefused bytes asked d
 stop_refused bytes r d same none (inl (is, bad)) = (bad_head, bad_refused bytes d (same ∙ is) none bad)
 stop_refused bytes r d same none (inr (h, rest, begins, check)) =
-    (message h [] true, head_refused bytes rest h d begins (refused h d r same none (not_framed h r check) (framing_rule h r check)))
+    (message h [] true, head_refused bytes rest h d begins (refused h d r same none (not_framed h (rule_seen r) check) (framing_rule h (rule_seen r) check)))
 
 -- ---- what the fields of a head that is not refused say
 

@@ -1,53 +1,19 @@
 -- The response to a message, by what the desk answered.
-use Rattle.service.proofs.Prelude.{◌≡◌, ◌∙◌, ◌+◌, ◌<◌, ◌≤◌, ℕ, Bool, true, false, not, ◌&&◌, ◌||◌, nat_le, List, [], ◌++◌, length, take, drop, replicate, codes, MatchBool, Option, Some, None, Result, Ok, Err, is_err, is_ok, refl, sym, ap, ap₂, subst, arith, append-nil, length-append, bytes_eq, length-replicate, length-take-le, IfErr-at_err, ⊤, Ghosts, RequestHead, last_moment, BodyFault, World, Object, name_of, IsPolicy, ◌>>=◌, Form, Target, head_verdict, query_of, asks_close, is_method, body_length, content_length, Setting, DeskRequest, Answer, Denial, Plan, receives, by_rule, by_row, by_lock, is_rule, is_store_refusal, store_refusal, verdict, desk_plan, desk_request, early_check, early_verdict, Message, Exchange, exchanged, Carries, verdict_on, by_verdict, by_refusal, denial_alone, message, is_early, is_of_head, is_h7, is_denial, is_x2, is_sure, denies_put, closes, closes_after, allow, after, BeginsWith, BeginsWithHead, message_with, unchanged, failed, left_by, answer_ending, bound_after, Store, StoreFault, Leads, Keeps, ends_still, ends_reported, denial_changes_none, is_put, request_seen, Answers, IsAnsweredAs, IsSettled, verdict_by, IsReplyOf, Lends, RepoRequest, Answered, AnswerFault, Asks, IsRefused, IsRequestOf, target_asked, whole_message, RespondsBy, IsFirst, IsIncomplete, IsResponse, IsTurn, Responds, exchange, less_than_body, Asked, Response, head_more}
+use Rattle.service.proofs.Prelude.{◌≡◌, ◌∙◌, ◌+◌, ◌<◌, ◌≤◌, ℕ, Bool, true, false, not, ◌&&◌, ◌||◌, nat_le, List, [], ◌++◌, length, take, drop, replicate, codes, MatchBool, Option, Some, None, Result, Ok, Err, is_err, is_ok, refl, sym, ap, ap₂, subst, arith, append-nil, length-append, bytes_eq, length-replicate, length-take-le, IfErr-at_err, ⊤, Ghosts, RequestHead, last_moment, BodyFault, World, Object, name_of, IsPolicy, ◌>>=◌, Form, Target, head_verdict, query_of, asks_close, is_method, body_length, Setting, Answer, Denial, Plan, receives, by_rule, by_row, by_lock, is_rule, is_store_refusal, store_refusal, verdict, desk_plan, desk_request, early_check, early_verdict, Message, Exchange, exchanged, Carries, verdict_on, by_verdict, by_refusal, denial_alone, message, is_early, is_of_head, is_h7, is_denial, is_x2, is_sure, denies_put, closes, closes_after, allow, after, BeginsWith, BeginsWithHead, message_with, unchanged, failed, left_by, answer_ending, bound_after, Store, Leads, Keeps, ends_still, ends_reported, denial_changes_none, is_put, IsAnsweredAs, IsSettled, verdict_by, IsReplyOf, Asks, IsRefused, target_asked, whole_message, IsFirst, IsIncomplete, IsResponse, IsTurn, Responds, exchange, less_than_body, Asked, Response, head_more, Bor, cond, IsThere, AnswersBy, is_refused, RespondsWith, leaves_body, Request, RepoName, Rule, rule_seen, OnOk}
 use Rattle.std.proofs.lemmas.Bool.{leb-false, leb-true, true≢false}
 use Rattle.std.proofs.Math.Seq.{take-append-add}
 use Rattle.std.specs.Result.{IfErr}
 use Rattle.model.specs.declared.Form.TheVariants as form
-use Rattle.model.specs.Forms.{request_of}
 use Rattle.model.specs.Objects.{content_verdict}
 use Rattle.model.proofs.Refusals.{IsLate, IsOfPlan, desk_fails, desk_plan_fails, fails, request_fails, verdict_at, early_at}
 use Rattle.model.proofs.Firsts.{begins_with_message}
-use Rattle.desk.specs.declared.outcomes.AnswerFault.TheVariants as fault
+use Rattle.names.specs.declared.rules.Rule.TheVariants as rule
+use Rattle.refinement.specs.Left.{Gives}
 use Rattle.desk.specs.declared.replies.Reply.{Reply}
-use Rattle.desk.proofs.Lent.{none_lent}
+use Rattle.desk.proofs.Told.{refused_is}
 use Rattle.service.specs.declared.judging.Denied as refusing
 use Rattle.service.proofs.Messages.{message_there, whole_first, cut_message}
-
--- ---- the plan for a message
-
--- the request that the head and a body make to the desk
-abbrev pub request_made : RequestHead → Asked → List ℕ → DeskRequest
-request_made h a body = desk_request h (target_asked a) body
-
-abbrev pub plan_made : World → Setting → RequestHead → Asked → List ℕ → Result Plan Denial
-plan_made world setting h a body = desk_plan world setting (request_made h a body)
-
-pub verdict_is : (world : World) (setting : Setting) (h : RequestHead) (a : Asked) (body : List ℕ) → Asks h a
-    → verdict world setting h body ≡ verdict_by world (target_asked a).repo (plan_made world setting h a body) body
-verdict_is world setting h a body is = verdict_at world setting h body (target_asked a) is.target
-
--- the request passed to the desk is the one of the definitions
-pub made_as : (h : RequestHead) (a : Asked) (body : List ℕ) (size : ℕ) (request : RepoRequest) → Asks h a → IsRequestOf a body request → size ≡ content_length h
-    → request_seen request size ≡ request_made h a body
-made_as h a body size request is made same =
-    rw (made.authorization, made.repo, made.form, made.parameter, made.query, made.body, same, is.query, is.bearers) refl
-
--- what an upload asks does not depend on its body
-put_asks : (f : Form) (parameter query body other : List ℕ) → is_put f ≡ true → request_of f parameter query body ≡ request_of f parameter query other
-put_asks form.Batch parameter query body other put = absurd (true≢false (sym put))
-put_asks form.Put parameter query body other put = refl
-put_asks form.Get parameter query body other put = absurd (true≢false (sym put))
-put_asks form.Verify parameter query body other put = absurd (true≢false (sym put))
-put_asks form.Lock parameter query body other put = absurd (true≢false (sym put))
-put_asks form.List parameter query body other put = absurd (true≢false (sym put))
-put_asks form.VerifyLocks parameter query body other put = absurd (true≢false (sym put))
-put_asks form.Unlock parameter query body other put = absurd (true≢false (sym put))
-
-pub put_alike : (world : World) (setting : Setting) (h : RequestHead) (a : Asked) (body other : List ℕ) → is_put a.form ≡ true → plan_made world setting h a body ≡ plan_made world setting h a other
-put_alike world setting h a body other put =
-    ap (λ q. desk_plan world setting (record { bearers = (request_made h a body).bearers; repo = (target_asked a).repo; left = content_length h; request = q }))
-    (put_asks a.form (target_asked a).parameter (query_of h.target) body other put)
+use Rattle.service.proofs.Plans.{IsNamed, none_there, plan_made, put_alike, request_made, served, still_there, verdict_is}
 
 -- ---- late refusals
 
@@ -175,6 +141,11 @@ stays_by : (is_last leaves refusal : Bool) → leaves ≡ false → (is_last || 
 stays_by true leaves refusal stays = refl
 stays_by false leaves refusal stays = rw stays refl
 
+last_closes : (is_last leaves refusal : Bool) → refusal ≡ true → (is_last || leaves || refusal) ≡ true
+last_closes true leaves refusal refused = refl
+last_closes false true refusal refused = refl
+last_closes false false refusal refused = refused
+
 closes_by : (is_last leaves refusal : Bool) → leaves ≡ true → (is_last || leaves || refusal) ≡ true
 closes_by true leaves refusal closes = refl
 closes_by false leaves refusal closes = rw closes refl
@@ -210,6 +181,19 @@ begins_either bytes next rest e false begins first = first refl
 never_open : {A : Type 0} (close : Bool) → close ≡ true → close ≡ false → A
 never_open close shut open_ = absurd (true≢false (sym shut ∙ open_))
 
+-- ---- responses by the desk
+
+-- the response to the desk's reply, or the fault by which a content was cut off
+abbrev pub RespondsBy : Asked → Result Request Rule → Option (Bor RepoName) → Result Reply BodyFault → Result Response BodyFault → Type 0
+RespondsBy a q repo (Ok reply) (Ok r) = RespondsWith a q repo reply r
+RespondsBy a q repo (Err cut) (Err e) = e ≡ cut
+RespondsBy a q repo (Ok reply) (Err e) = ⊥
+RespondsBy a q repo (Err cut) (Ok r) = ⊥
+
+last_true : (v : Bool) → (v || true) ≡ true
+last_true true = refl
+last_true false = refl
+
 module _ {S : Type 0} (g : Ghosts S) (setting : Setting) (in_range : IsPolicy setting.policy) (at : setting.now ≤ last_moment) (world : World) (old new : Store S) where
   -- the exchange that carries out an answer to a message at the front of some bytes
   turn_by : (bytes rest : List ℕ) (asked : Message) (given : Option Answer) (kept : World) → BeginsWith bytes asked rest → Carries world (exchange setting asked given) kept
@@ -225,15 +209,15 @@ module _ {S : Type 0} (g : Ghosts S) (setting : Setting) (in_range : IsPolicy se
   -- the response to a message at the front of some bytes
   made : (bytes rest next : List ℕ) (asked : Message) (given : Answer) (kept : World) (r : Response) → BeginsWith bytes asked rest → (r.close ≡ false → IsFirst bytes (exchange setting asked (Some given)) next)
       → Carries world (exchange setting asked (Some given)) kept → Leads g old new kept (bound_after world (exchanged (exchange setting asked (Some given))))
-      → IsReplyOf r.reply given → Lends g new r.reply.body given → r.allow.now ≡ allow asked given → closes_after asked given ≡ r.close → IsResponse g setting bytes next world old new r
-  made bytes rest next asked given kept r begins first carries leads is_reply lends methods shut = record {
+      → IsReplyOf r.reply given → IsThere kept r.repo given → r.allow.now ≡ allow asked given → closes_after asked given ≡ r.close → IsResponse g setting bytes next world old new r
+  made bytes rest next asked given kept r begins first carries leads is_reply there methods shut = record {
     e = exchange setting asked (Some given);
     kept = kept;
     turn = turn_by bytes rest asked (Some given) kept begins carries leads;
     given = given;
     is = refl;
     is_reply = is_reply;
-    lends = lends;
+    there = there;
     methods = methods;
     closes = shut;
     begins = begins_either bytes next rest (exchange setting asked (Some given)) r.close begins first;
@@ -241,12 +225,12 @@ module _ {S : Type 0} (g : Ghosts S) (setting : Setting) (in_range : IsPolicy se
 
   -- the response to a refused head
   pub refused_response : (bytes next : List ℕ) (asked : Message) (d : refusing.Denied) (r : Response) → IsRefused bytes asked d → Leads g old new world (λ bound. bound)
-      → IsReplyOf r.reply (Err (by_rule d.rule)) → r.allow.now ≡ d.allow.now → r.close ≡ true → IsResponse g setting bytes next world old new r
+      → IsReplyOf r.reply (Err (by_rule (rule_seen d.rule))) → r.allow.now ≡ d.allow.now → r.close ≡ true → IsResponse g setting bytes next world old new r
   refused_response bytes next asked d r is p is_reply methods shut =
-      let given : Answer = Err (by_rule d.rule) in
+      let given : Answer = Err (by_rule (rule_seen d.rule)) in
       made bytes is.next next asked given world r is.begins (never_open r.close shut) (by_verdict (sym (is.verdict world setting)) (sym (ap (after world) (is.verdict world setting))))
-      (ends_still g old new (answer_ending world (Some given)) world (after world (verdict_on world setting asked)) (denial_changes_none g world (by_rule d.rule)) p)
-      is_reply (none_lent g new r.reply.body given refl is_reply.body) (methods ∙ is.methods) (is.closes ∙ sym shut)
+      (ends_still g old new (answer_ending world (Some given)) world (after world (verdict_on world setting asked)) (denial_changes_none g world (by_rule (rule_seen d.rule))) p)
+      is_reply (none_there world r.repo (by_rule (rule_seen d.rule))) (methods ∙ is.methods) (is.closes ∙ sym shut)
 
   -- the response if the store refused or memory ran out
   store_response : (bytes rest next : List ℕ) (h : RequestHead) (body : List ℕ) (all : Bool) (r : Response) → is_sure (verdict_on world setting (message h body all)) ≡ false
@@ -254,7 +238,7 @@ module _ {S : Type 0} (g : Ghosts S) (setting : Setting) (in_range : IsPolicy se
       → IsReplyOf r.reply store_refusal → r.allow.now ≡ [] → r.close ≡ true → IsResponse g setting bytes next world old new r
   store_response bytes rest next h body all r not_sure begins p is_reply methods shut =
       made bytes rest next (message h body all) store_refusal world r begins (never_open r.close shut) (by_refusal refl not_sure refl) p is_reply
-      (none_lent g new r.reply.body store_refusal refl is_reply.body) methods
+      (none_there world r.repo (by_rule rule.S1)) methods
       (store_closes (asks_close h) (is_rule is_of_head store_refusal) (denies_put h store_refusal) ∙ sym shut)
 
   -- the same before anything was tried
@@ -274,37 +258,44 @@ module _ {S : Type 0} (g : Ghosts S) (setting : Setting) (in_range : IsPolicy se
     begins_whole : BeginsWith bytes (whole_message h body) (next ++ [])
     begins_whole = begins_now bytes next (exchange setting (whole_message h body) None) there
 
-    -- the desk's answer to the whole message is the response, and the connection goes on unless a field asks to close it
-    answered_response : (answered : Answered) (r : Response) → Answers g old new world (verdict world setting h body) (Ok answered.reply) → denies_put h (verdict world setting h body) ≡ false
-        → r.reply ≡ answered.reply → r.allow.now ≡ [] → r.close ≡ (a.is_last || answered.reply.is_store_refusal) → IsResponse g setting bytes next world old new r
-    answered_response answered r done put same methods shut =
-        let given = verdict world setting h body in
-        let late = late_verdict world setting h a body is in
-        let is_reply : IsReplyOf r.reply given = subst (λ x. IsReplyOf x given) (sym same) done.shows in
-        let lends : Lends g new r.reply.body given = subst (λ (x : Reply). Lends g new x.body given) (sym same) done.lends in
-        made bytes (next ++ []) next (whole_message h body) given (after world (Some given)) r begins_whole (λ stays. first_of (Some given)) (by_verdict refl refl) done.gives
-        is_reply lends (methods ∙ no_methods h body true given late.method) (answer_closes h a body given answered.reply.is_store_refusal is done.shows.refusal late.of_head put ∙ sym shut)
+    -- the desk's reply to the whole message is the response, and the connection goes on unless a field asks to close it or
+    -- the store refused
+    replied_response : (reply : Reply) (r : Response) → AnswersBy g old new world (verdict world setting h body) reply → IsNamed setting a r.repo → denies_put h (verdict world setting h body) ≡ false
+        → r.reply ≡ reply → r.allow.now ≡ [] → r.close ≡ (a.is_last || is_refused reply) → IsResponse g setting bytes next world old new r
+    replied_response reply r done named put same methods shut = at_refusal (is_refused reply) refl
+      where
+        given : Answer
+        given = verdict world setting h body
 
-    failed_response : (r : Response) → Leads g old new world (left_by failed world (after world (Some (verdict world setting h body)))) → IsReplyOf r.reply store_refusal → r.allow.now ≡ [] → r.close ≡ true
-        → IsResponse g setting bytes next world old new r
-    failed_response r p = store_response bytes (next ++ []) next h body true r (unsure world setting h (target_asked a) body true is.target) begins_whole p
+        shows : (v : Bool) → is_refused reply ≡ v → IsReplyOf r.reply (cond v store_refusal given)
+        shows v e = subst (λ x. IsReplyOf x (cond v store_refusal given)) (sym same) (subst (λ u. IsReplyOf reply (cond u store_refusal given)) e done.shows)
 
-    module _ (plan : Result Plan Denial) (planned : plan ≡ plan_made world setting h a body) (none : is_put a.form ≡ false) (left : ℕ) where
+        gives : (v : Bool) → is_refused reply ≡ v → Gives g old new world given (cond v store_refusal given)
+        gives v e = subst (λ u. Gives g old new world given (cond u store_refusal given)) e done.gives
+
+        at_refusal : (v : Bool) → is_refused reply ≡ v → IsResponse g setting bytes next world old new r
+        at_refusal true e =
+            store_response bytes (next ++ []) next h body true r (unsure world setting h (target_asked a) body true is.target) begins_whole (gives true e) (shows true e) methods
+            (shut ∙ ap (λ v. a.is_last || v) e ∙ last_true a.is_last)
+        at_refusal false e =
+            let late = late_verdict world setting h a body is in
+            made bytes (next ++ []) next (whole_message h body) given (after world (Some given)) r begins_whole (λ stays. first_of (Some given)) (by_verdict refl refl) (gives false e)
+            (shows false e) (still_there world r.repo given (served world setting h a body r.repo is named)) (methods ∙ no_methods h body true given late.method)
+            (answer_closes h a body given (is_refused reply) is (refused_is given reply (subst (λ x. IsReplyOf x given) same (shows false e))) late.of_head put ∙ sym shut)
+
+    module _ (q : Result Request Rule) (repo : Option (Bor RepoName)) (plan : Result Plan Denial) (planned : plan ≡ plan_made world setting h a body) (none : is_put a.form ≡ false) (left : ℕ) where
       same_verdict : verdict_by world (target_asked a).repo plan body ≡ verdict world setting h body
       same_verdict = ap (λ p. verdict_by world (target_asked a).repo p body) planned ∙ sym (verdict_is world setting h a body is)
 
-      pub whole_responds : (done : Result Answered AnswerFault) (result : Result Response BodyFault) → IsAnsweredAs g false old new world (target_asked a).repo plan [] left done → IsSettled done
-          → RespondsBy done a.is_last result → Responds g setting bytes next world old new result
-      whole_responds (Ok answered) (Ok r) answers settled by =
+      pub whole_responds : (done : Result Reply BodyFault) (result : Result Response BodyFault) → OnOk done (IsNamed setting a repo) → IsAnsweredAs g false old new world (target_asked a).repo plan [] left done → IsSettled done
+          → RespondsBy a q repo done result → Responds g setting bytes next world old new result
+      whole_responds (Ok reply) (Ok r) named answers settled by =
           let put : denies_put h (verdict world setting h body) ≡ false = ap (λ (v : Bool). v && is_denial (verdict world setting h body) && not (is_rule is_x2 (verdict world setting h body))) (is.put ∙ none) in
-          answered_response answered r
-          (subst (λ v. Answers g old new world v (Ok answered.reply)) same_verdict (answers.answers body (λ upload. absurd (true≢false (sym upload)))))
-          put by.0 by.1 (by.2 ∙ stays_by a.is_last answered.leaves_body answered.reply.is_store_refusal settled)
-      whole_responds (Ok answered) (Err cut) answers settled by = absurd by
-      whole_responds (Err (fault.Store f)) (Ok r) answers settled by =
-          failed_response r (subst (λ v. Answers g old new world v (Err f)) same_verdict (answers.answers body (λ upload. absurd (true≢false (sym upload))))).gives by.0 by.1 by.2
-      whole_responds (Err (fault.Store f)) (Err cut) answers settled by = absurd by
-      whole_responds (Err (fault.Body cut)) result answers settled by = absurd settled
+          replied_response reply r (subst (λ v. AnswersBy g old new world v reply) same_verdict (answers.answers body (λ upload. absurd (true≢false (sym upload)))))
+          (subst (IsNamed setting a) (sym by.repo) named) put by.reply by.allow
+          (by.close ∙ stays_by a.is_last (leaves_body a.form q reply) (is_refused reply) (ap (λ v. v && (is_err q || not reply.body_read)) none))
+      whole_responds (Ok reply) (Err cut) named answers settled by = absurd by
+      whole_responds (Err cut) result named answers settled by = absurd settled
 
   -- ---- a message that is cut off
 
@@ -356,79 +347,120 @@ module _ {S : Type 0} (g : Ghosts S) (setting : Setting) (in_range : IsPolicy se
       subst (λ (m : Message). BeginsWith (bytes ++ read) m (drop (body_length h) (after_head ++ read)))
       (ap (λ (l : List ℕ). message_with h l) order ∙ ap₂ (λ (b : List ℕ) (v : Bool). message h b v) same fits) (message_there bytes after_head read h begins)
 
-  denied_put : (d : Denial) (answered : Answered) (r : Response) → plan ≡ Err d → Answers g old new world (Err d) (Ok answered.reply) → r.reply ≡ answered.reply → r.allow.now ≡ [] → r.close ≡ true
-      → IsResponse g setting (bytes ++ read) waits world old new r
-  denied_put d answered r denied done same methods shut =
-      let body = take (body_length h) (part ++ waits) in
-      let all = nat_le (body_length h) (length (part ++ waits)) in
-      let early = of_plan world setting h a [] d (sym planned ∙ denied) in
-      let verdict_is_denial = denied_on world setting h a body all d is put (sym planned ∙ denied) in
-      let closing : denies_put h (Err d) ≡ true = ap (λ (v : Bool). v && true && not (is_rule is_x2 (Err d))) (is.put ∙ put) ∙ ap not early.content in
-      made g setting in_range at world old new (bytes ++ read) (drop (body_length h) (after_head ++ read)) waits (message h body all) (Err d) world r
-      (there body all refl refl) (never_open r.close shut) (by_verdict (sym verdict_is_denial) (sym (ap (after world) verdict_is_denial)))
-      (subst (λ (v : Option Answer). Leads g old new world (left_by (answer_ending world (Some (Err d))) world (after world v))) (sym verdict_is_denial) done.gives)
-      (subst (λ x. IsReplyOf x (Err d)) (sym same) done.shows) (subst (λ (x : Reply). Lends g new x.body (Err d)) (sym same) done.lends) (methods ∙ no_methods h body all (Err d) early.late.method)
-      (shut_last (asks_close h) (is_rule is_of_head (Err d)) (is_store_refusal (Err d)) (denies_put h (Err d)) closing ∙ sym shut)
+  -- the plan refuses, and so the content is unread
+  module _ (d : Denial) (reply : Reply) (r : Response) (denied : plan ≡ Err d) (done : AnswersBy g old new world (Err d) reply) (same : r.reply ≡ reply) (methods : r.allow.now ≡ []) (shut : r.close ≡ true) where
+    abbrev body_there : List ℕ
+    body_there = take (body_length h) (part ++ waits)
 
-  failed_put : (f : StoreFault) (r : Response) → IsAnsweredAs g true old new world repo plan part left (Err (fault.Store f)) → IsReplyOf r.reply store_refusal → r.allow.now ≡ [] → r.close ≡ true
-      → IsResponse g setting (bytes ++ read) waits world old new r
-  failed_put f r answers is_reply methods shut = at_size (nat_le (body_length h) (length (part ++ waits))) refl
+    abbrev is_whole : Bool
+    is_whole = nat_le (body_length h) (length (part ++ waits))
+
+    is_denial_on : verdict_on world setting (message h body_there is_whole) ≡ Some (Err d)
+    is_denial_on = denied_on world setting h a body_there is_whole d is put (sym planned ∙ denied)
+
+    shows : (v : Bool) → is_refused reply ≡ v → IsReplyOf r.reply (cond v store_refusal (Err d))
+    shows v e = subst (λ x. IsReplyOf x (cond v store_refusal (Err d))) (sym same) (subst (λ u. IsReplyOf reply (cond u store_refusal (Err d))) e done.shows)
+
+    gives : (v : Bool) → is_refused reply ≡ v → Gives g old new world (Err d) (cond v store_refusal (Err d))
+    gives v e = subst (λ u. Gives g old new world (Err d) (cond u store_refusal (Err d))) e done.gives
+
+    refused_early : (v : Bool) → is_refused reply ≡ v → IsResponse g setting (bytes ++ read) waits world old new r
+    refused_early true e =
+        store_response g setting in_range at world old new (bytes ++ read) (drop (body_length h) (after_head ++ read)) waits h body_there is_whole r
+        (unsure world setting h (target_asked a) body_there is_whole is.target) (there body_there is_whole refl refl)
+        (subst (λ (v : Option Answer). Leads g old new world (left_by failed world (after world v))) (sym is_denial_on) (gives true e)) (shows true e) methods shut
+    refused_early false e =
+        let early = of_plan world setting h a [] d (sym planned ∙ denied) in
+        let closing : denies_put h (Err d) ≡ true = ap (λ (v : Bool). v && true && not (is_rule is_x2 (Err d))) (is.put ∙ put) ∙ ap not early.content in
+        made g setting in_range at world old new (bytes ++ read) (drop (body_length h) (after_head ++ read)) waits (message h body_there is_whole) (Err d) world r
+        (there body_there is_whole refl refl) (never_open r.close shut) (by_verdict (sym is_denial_on) (sym (ap (after world) is_denial_on)))
+        (subst (λ (v : Option Answer). Leads g old new world (left_by (answer_ending world (Some (Err d))) world (after world v))) (sym is_denial_on) (gives false e))
+        (shows false e) (none_there world r.repo d) (methods ∙ no_methods h body_there is_whole (Err d) early.late.method)
+        (shut_last (asks_close h) (is_rule is_of_head (Err d)) (is_store_refusal (Err d)) (denies_put h (Err d)) closing ∙ sym shut)
+
+  -- the store refused: all of the content is there, or some of it is missing and the world is kept
+  failed_put : (reply : Reply) (r : Response) → ((rest : List ℕ) → length rest ≡ left → AnswersBy g old new world (verdict_by world repo plan (part ++ rest)) reply) → (0 < left → Keeps g old new world)
+      → is_refused reply ≡ true → r.reply ≡ reply → r.allow.now ≡ [] → r.close ≡ true → IsResponse g setting (bytes ++ read) waits world old new r
+  failed_put reply r answers kept refused same methods shut = at_size (nat_le (body_length h) (length (part ++ waits))) refl
     where
-      rest : List ℕ
-      rest = drop (body_length h) (after_head ++ read)
+      after_it : List ℕ
+      after_it = drop (body_length h) (after_head ++ read)
 
-      respond : (body : List ℕ) (all : Bool) → BeginsWith (bytes ++ read) (message h body all) rest → Leads g old new world (left_by failed world (after world (verdict_on world setting (message h body all))))
+      -- the answer to a content of any rest
+      done : (rest : List ℕ) → length rest ≡ left → IsReplyOf reply store_refusal × Leads g old new world (left_by failed world (after world (Some (verdict_by world repo plan (part ++ rest)))))
+      done rest sized =
+          let all = answers rest sized in
+          let v = verdict_by world repo plan (part ++ rest) in
+          (subst (λ u. IsReplyOf reply (cond u store_refusal v)) refused all.shows, subst (λ u. Gives g old new world v (cond u store_refusal v)) refused all.gives)
+
+      is_reply : IsReplyOf r.reply store_refusal
+      is_reply = subst (λ x. IsReplyOf x store_refusal) (sym same) (done (replicate left 0) (length_zeros left)).0
+
+      respond : (body : List ℕ) (all : Bool) → BeginsWith (bytes ++ read) (message h body all) after_it → Leads g old new world (left_by failed world (after world (verdict_on world setting (message h body all))))
           → IsResponse g setting (bytes ++ read) waits world old new r
       respond body all begins_so p =
-          store_response g setting in_range at world old new (bytes ++ read) rest waits h body all r (unsure world setting h (target_asked a) body all is.target) begins_so p is_reply methods shut
+          store_response g setting in_range at world old new (bytes ++ read) after_it waits h body all r (unsure world setting h (target_asked a) body all is.target) begins_so p is_reply methods shut
 
       at_size : (v : Bool) → nat_le (body_length h) (length (part ++ waits)) ≡ v → IsResponse g setting (bytes ++ read) waits world old new r
       at_size true fits =
           let whole = whole_part part waits left (body_length h) size fits in
           let body = part ++ take left waits in
           respond body true (there body true whole.0 fits)
-          (subst (λ v. Answers g old new world v (Err f)) (verdict_with body) (answers.answers (take left waits) (λ upload. whole.1))).gives
+          (subst (λ (v : Answer). Leads g old new world (left_by failed world (after world (Some v)))) (verdict_with body) (done (take left waits) whole.1).1)
       at_size false short =
           let body = take (body_length h) (part ++ waits) in
           respond body false (there body false refl short)
-          (ends_reported g old new world (after world (verdict_on world setting (message h body false))) (answers.kept refl (some_missing part waits left (body_length h) size short)))
+          (ends_reported g old new world (after world (verdict_on world setting (message h body false))) (kept (some_missing part waits left (body_length h) size short)))
 
-  received_put : (name : List ℕ) (answered : Answered) (r : Response) → plan ≡ Ok (receives name) → left ≡ 0 → IsAnsweredAs g true old new world repo plan part left (Ok answered)
-      → r.reply ≡ answered.reply → r.allow.now ≡ [] → r.close ≡ (a.is_last || answered.reply.is_store_refusal) → IsResponse g setting (bytes ++ read) waits world old new r
-  received_put name answered r allowed none answers same methods shut =
+  -- all of the content was read
+  received_put : (name : List ℕ) (reply : Reply) (r : Response) → plan ≡ Ok (receives name) → left ≡ 0 → AnswersBy g old new world (verdict_by world repo plan (part ++ [])) reply → IsNamed setting a r.repo
+      → r.reply ≡ reply → r.allow.now ≡ [] → r.close ≡ (a.is_last || is_refused reply) → IsResponse g setting (bytes ++ read) waits world old new r
+  received_put name reply r allowed none done named same methods shut =
       let fits : length part ≡ body_length h = omega (arith, size, none) in
       let o : Object = record { repo = repo; name = name; bytes = part } in
       let given : verdict world setting h part ≡ content_verdict o = sym (verdict_with part) ∙ ap (λ p. verdict_by world repo p part) allowed in
       let put_stays : denies_put h (content_verdict o) ≡ false =
       denies_none (is_method (codes "PUT") h) (is_denial (content_verdict o)) (not (is_rule is_x2 (content_verdict o))) (received_stays o) in
       let stays : denies_put h (verdict world setting h part) ≡ false = ap (denies_put h) given ∙ put_stays in
-      answered_response g setting in_range at world old new (bytes ++ read) waits h a part is (λ more. whole_first bytes after_head read h begins part waits more order fits) answered r
-      (subst (λ v. Answers g old new world v (Ok answered.reply)) (verdict_with part) (subst (λ (b : List ℕ). Answers g old new world (verdict_by world repo plan b) (Ok answered.reply)) (append-nil part) (answers.answers [] (λ upload. sym none))))
-      stays same methods shut
+      replied_response g setting in_range at world old new (bytes ++ read) waits h a part is (λ more. whole_first bytes after_head read h begins part waits more order fits) reply r
+      (subst (λ v. AnswersBy g old new world v reply) (verdict_with part) (subst (λ (b : List ℕ). AnswersBy g old new world (verdict_by world repo plan b) reply) (append-nil part) done))
+      named stays same methods shut
 
-  put_answered : (answered : Answered) (r : Response) (leaves : Bool) → answered.leaves_body ≡ leaves → IsAnsweredAs g true old new world repo plan part left (Ok answered)
-      → MatchBool leaves (is_err plan ≡ true) ((name : List ℕ) × (plan ≡ Ok (receives name)) × (left ≡ 0)) → RespondsBy (Ok answered) a.is_last (Ok r) → IsResponse g setting (bytes ++ read) waits world old new r
-  put_answered answered r true leaves answers early by =
-      let denied = err_of plan early in
-      let all = answers.answers (replicate left 0) (λ upload. length_zeros left) in
-      denied_put denied.0 answered r denied.1 (subst (λ p. Answers g old new world (verdict_by world repo p (part ++ replicate left 0)) (Ok answered.reply)) denied.1 all)
-      by.0 by.1 (by.2 ∙ closes_by a.is_last answered.leaves_body answered.reply.is_store_refusal leaves)
-  put_answered answered r false leaves answers early by =
-      received_put early.0 answered r early.1 early.2 answers by.0 by.1 (by.2 ∙ stays_by a.is_last answered.leaves_body answered.reply.is_store_refusal leaves)
+  module _ (q : Result Request Rule) (name : Option (Bor RepoName)) where
+    -- the plan refuses the request, or the store refused
+    pub refused_put : (reply : Reply) (r : Response) → ((rest : List ℕ) → length rest ≡ left → AnswersBy g old new world (verdict_by world repo plan (part ++ rest)) reply)
+        → is_err plan ≡ true → leaves_body a.form q reply ≡ true → RespondsWith a q name reply r → IsResponse g setting (bytes ++ read) waits world old new r
+    refused_put reply r answers early leaves by =
+        let denied = err_of plan early in
+        refused_early denied.0 reply r denied.1
+        (subst (λ p. AnswersBy g old new world (verdict_by world repo p (part ++ replicate left 0)) reply) denied.1 (answers (replicate left 0) (length_zeros left)))
+        by.reply by.allow (by.close ∙ closes_by a.is_last (leaves_body a.form q reply) (is_refused reply) leaves) (is_refused reply) refl
 
-  -- if a content is cut off, some of it is missing, and nothing waits
-  abbrev IsCut : AnswerFault → Type 0
-  IsCut (fault.Store f) = ⊤
-  IsCut (fault.Body cut) = (0 < left) × (waits ≡ [])
+    put_answered : (reply : Reply) (r : Response) → IsNamed setting a name → IsAnsweredAs g true old new world repo plan part left (Ok reply) → is_err q ≡ false → RespondsWith a q name reply r → IsResponse g setting (bytes ++ read) waits world old new r
+    put_answered reply r named answers taken by = at_refusal (is_refused reply) refl
+      where
+        all : (rest : List ℕ) → length rest ≡ left → AnswersBy g old new world (verdict_by world repo plan (part ++ rest)) reply
+        all rest sized = answers.answers rest (λ upload. sized)
 
-  pub put_responds : (done : Result Answered AnswerFault) (result : Result Response BodyFault) → IsAnsweredAs g true old new world repo plan part left done → IfErr done IsCut
-      → RespondsBy done a.is_last result → Responds g setting (bytes ++ read) waits world old new result
-  put_responds (Ok answered) (Ok r) answers cut by = put_answered answered r answered.leaves_body refl answers (answers.in_time refl) by
-  put_responds (Ok answered) (Err e) answers cut by = absurd by
-  put_responds (Err (fault.Store f)) (Ok r) answers cut by = failed_put f r answers by.0 by.1 by.2
-  put_responds (Err (fault.Store f)) (Err e) answers cut by = absurd by
-  put_responds (Err (fault.Body e)) (Ok r) answers cut by = absurd by
-  put_responds (Err (fault.Body e)) (Err f) answers cut by =
-      let less : length (after_head ++ read) < body_length h = omega (arith, ap length order, length-append part waits, ap length cut.1, cut.0, size) in
-      cut_incomplete g setting in_range at world old new (bytes ++ read) h _ (cut_message (bytes ++ read) (after_head ++ read) h (head_more bytes h after_head read begins) less)
-      (allowed_on world setting h a plan is put (sym planned) (answers.in_time refl)) (answers.answers (replicate left 0) (λ upload. length_zeros left))
+        leaves : (v : Bool) → reply.body_read ≡ v → leaves_body a.form q reply ≡ not v
+        leaves v e = ap (λ u. u && (is_err q || not reply.body_read)) put ∙ ap (λ u. u || not reply.body_read) taken ∙ ap not e
+
+        in_time : (v : Bool) → reply.body_read ≡ v → MatchBool v ((name : List ℕ) × (plan ≡ Ok (receives name)) × (left ≡ 0)) (is_err plan ≡ true) → IsResponse g setting (bytes ++ read) waits world old new r
+        in_time true e early =
+            received_put early.0 reply r early.1 early.2 (all [] (sym early.2)) (subst (IsNamed setting a) (sym by.repo) named) by.reply by.allow
+            (by.close ∙ stays_by a.is_last (leaves_body a.form q reply) (is_refused reply) (leaves true e))
+        in_time false e early = refused_put reply r all early (leaves false e) by
+
+        at_refusal : (v : Bool) → is_refused reply ≡ v → IsResponse g setting (bytes ++ read) waits world old new r
+        at_refusal true e = failed_put reply r all (answers.kept refl e) e by.reply by.allow (by.close ∙ last_closes a.is_last (leaves_body a.form q reply) (is_refused reply) e)
+        at_refusal false e = in_time reply.body_read refl (answers.in_time refl e)
+
+    pub put_responds : (done : Result Reply BodyFault) (result : Result Response BodyFault) → OnOk done (IsNamed setting a name) → IsAnsweredAs g true old new world repo plan part left done → IfErr done (λ cut. (0 < left) × (waits ≡ [])) → is_err q ≡ false
+        → RespondsBy a q name done result → Responds g setting (bytes ++ read) waits world old new result
+    put_responds (Ok reply) (Ok r) named answers cut taken by = put_answered reply r named answers taken by
+    put_responds (Ok reply) (Err e) named answers cut taken by = absurd by
+    put_responds (Err e) (Ok r) named answers cut taken by = absurd by
+    put_responds (Err e) (Err f) named answers cut taken by =
+        let less : length (after_head ++ read) < body_length h = omega (arith, ap length order, length-append part waits, ap length cut.1, cut.0, size) in
+        cut_incomplete g setting in_range at world old new (bytes ++ read) h _ (cut_message (bytes ++ read) (after_head ++ read) h (head_more bytes h after_head read begins) less)
+        (allowed_on world setting h a plan is put (sym planned) (answers.in_time refl)) (answers.answers (replicate left 0) (λ upload. length_zeros left))

@@ -1,5 +1,5 @@
 -- What the service reports of a head: what it asks for, or the rule that refuses it.
-use Rattle.std.specs.Prelude.{◌≡◌, ◌≤◌, true, length, [], codes, Result, Ok, Err}
+use Rattle.std.specs.Prelude.{◌≡◌, ◌≤◌, Bool, true, false, length, [], codes, Result, Ok, Err}
 use Rattle.httparse.specs.Grammar.{RequestHead}
 use Rattle.names.specs.declared.limits.TheConstants.{ALLOW_LIMIT}
 use Rattle.model.specs.Heads as model
@@ -7,9 +7,16 @@ use Rattle.model.specs.Heads.{head_verdict, is_method, query_of, content_length}
 use Rattle.model.specs.Answers.{by_rule}
 use Rattle.model.specs.Steps.{message, allow}
 use Rattle.routes.specs.Routes.{route_seen}
-use Rattle.desk.specs.Asking.{is_put}
+use Rattle.wire.specs.HeadRules.{rule_seen}
+use Rattle.model.specs.declared.Form.{Form}
+use Rattle.model.specs.declared.Form.TheVariants.{Put}
 use Rattle.service.specs.declared.judging.Target.{Target}
 use Rattle.service.specs.declared.judging.Denied.{Denied}
+
+-- the form is that of an upload
+abbrev pub is_put : Form → Bool
+is_put Put = true
+is_put _ = false
 
 -- the target in the terms of the definitions
 abbrev pub target_seen : Target → model.Target
@@ -28,11 +35,11 @@ pub record AsksFor (h : RequestHead) (t : Target) : Type 0 where
 
 -- this rule refuses the head, and the reply names these methods
 pub record IsDenied (h : RequestHead) (d : Denied) : Type 0 where
-  pub rule : head_verdict h ≡ Err d.rule
-  pub methods : d.allow.now ≡ allow (message h [] true) (Err (by_rule d.rule))
+  pub rule : head_verdict h ≡ Err (rule_seen d.rule)
+  pub methods : d.allow.now ≡ allow (message h [] true) (Err (by_rule (rule_seen d.rule)))
   pub short : length d.allow.now ≤ ALLOW_LIMIT
 
--- `judge`'s result is correct for this head
+-- the result is correct for this head
 abbrev pub IsJudged : RequestHead → Result Target Denied → Type 0
 IsJudged h (Ok t) = AsksFor h t
 IsJudged h (Err d) = IsDenied h d

@@ -9,13 +9,18 @@ use Rattle.model.specs.Heads.{head_verdict, is_method, query_of, values, asks_cl
 use Rattle.model.specs.Cases.{Setting}
 use Rattle.model.specs.Answers.{by_rule}
 use Rattle.model.specs.Steps as model
-use Rattle.model.specs.Steps.{verdict_on, is_of_head, closes_after, allow}
+use Rattle.model.specs.Steps.{verdict_on, closes_after, allow}
 use Rattle.model.specs.Stream.{BeginsWith}
 use Rattle.tokens.specs.Bearers.{single_value}
 use Rattle.routes.specs.Routes.{route_seen}
-use Rattle.desk.specs.Asking.{is_put}
+use Rattle.wire.specs.HeadRules.{rule_seen}
+use Rattle.forms.specs.Given.{Gives}
+use Rattle.forms.specs.Requests.{request_asked}
+use Rattle.forms.specs.declared.request.Request.{Request}
+use Rattle.names.specs.declared.rules.Rule.{Rule}
+use Rattle.model.specs.Forms.{request_of}
 use Rattle.desk.specs.declared.admission.RepoRequest.{RepoRequest}
-use Rattle.service.specs.Judging.{IsDenied}
+use Rattle.service.specs.Judging.{IsDenied, is_put}
 use Rattle.service.specs.declared.judging.Target.{Target}
 use Rattle.service.specs.declared.judging.Denied.{Denied}
 use Rattle.service.specs.declared.message.Asked.{Asked}
@@ -59,14 +64,15 @@ IsRead h (Ok a) = Asks h a
 IsRead h (Err (fault.Denied d)) = IsDenied h d
 IsRead h (Err fault.Memory) = (target : model_head.Target) × (head_verdict h ≡ Ok target)
 
--- the request to the desk, with this body
-pub record IsRequestOf (a : Asked) (given : List ℕ) (request : RepoRequest) : Type 0 where
-  pub authorization : option_map (λ v. v.now) request.authorization ≡ option_map (λ v. v.items) a.authorization
-  pub repo : request.repo.now ≡ string_bytes a.repo
-  pub form : request.form ≡ a.form
-  pub parameter : request.parameter.now ≡ string_bytes a.parameter
-  pub query : request.query.now ≡ string_bytes a.query
-  pub body : request.body.now ≡ given
+-- the request that the head and this body make, or the rule that refuses it
+abbrev pub IsReadFrom : Asked → List ℕ → Result Request Rule → Type 0
+IsReadFrom a body read = Gives request_asked read (request_of a.form (string_bytes a.parameter) (string_bytes a.query) body)
+
+-- the request to the desk, with what was read of head and body
+pub record IsRequestOf (a : Asked) (read : Result Request Rule) (r : RepoRequest) : Type 0 where
+  pub authorization : option_map (λ v. v.now) r.authorization ≡ option_map (λ v. v.items) a.authorization
+  pub repo : r.repo.now ≡ string_bytes a.repo
+  pub request : r.request.now ≡ read
 
 -- ---- a refused head
 
@@ -74,8 +80,7 @@ pub record IsRequestOf (a : Asked) (given : List ℕ) (request : RepoRequest) : 
 pub record IsRefused (bytes : List ℕ) (asked : model.Message) (d : Denied) : Type 0 where
   pub next : List ℕ
   pub begins : BeginsWith bytes asked next
-  pub closes : closes_after asked (Err (by_rule d.rule)) ≡ true
-  pub verdict : (world : World) (setting : Setting) → verdict_on world setting asked ≡ Some (Err (by_rule d.rule))
-  pub of_head : is_of_head d.rule ≡ true
-  pub methods : d.allow.now ≡ allow asked (Err (by_rule d.rule))
+  pub closes : closes_after asked (Err (by_rule (rule_seen d.rule))) ≡ true
+  pub verdict : (world : World) (setting : Setting) → verdict_on world setting asked ≡ Some (Err (by_rule (rule_seen d.rule)))
+  pub methods : d.allow.now ≡ allow asked (Err (by_rule (rule_seen d.rule)))
   pub short : length d.allow.now ≤ ALLOW_LIMIT

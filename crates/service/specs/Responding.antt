@@ -1,25 +1,28 @@
 -- The response to a message, by what the desk did.
-use Rattle.std.specs.Prelude.{◌≡◌, Bool, true, ◌||◌, [], Result, Ok, Err, ⊤}
-use Rattle.names.specs.declared.bodies.BodyFault.{BodyFault}
-use Rattle.model.specs.Answers.{store_refusal}
-use Rattle.desk.specs.Replies.{IsReplyOf}
-use Rattle.desk.specs.declared.outcomes.Answered.{Answered}
-use Rattle.desk.specs.declared.outcomes.AnswerFault.{AnswerFault}
-use Rattle.desk.specs.declared.outcomes.AnswerFault.TheVariants.{Store as by_store, Body as by_body}
+use Rattle.std.specs.Prelude.{◌≡◌, Bool, not, ◌&&◌, ◌||◌, [], Option, Result, is_err, ⊤}
+use Rattle.std.specs.Borrow.{Bor}
+use Rattle.names.specs.declared.rules.Rule.{Rule}
+use Rattle.names.specs.declared.texts.RepoName.{RepoName}
+use Rattle.model.specs.declared.Form.{Form}
+use Rattle.forms.specs.declared.request.Request.{Request}
+use Rattle.desk.specs.Replies.{is_refused}
+use Rattle.desk.specs.declared.replies.Reply.{Reply}
+use Rattle.service.specs.Judging.{is_put}
 use Rattle.service.specs.declared.ends.End.{End}
 use Rattle.service.specs.declared.ends.End.TheVariants.{InputEnded, Closed, StoreRefused, ReadFailed, WriteFailed, StoreFailed}
+use Rattle.service.specs.declared.message.Asked.{Asked}
 use Rattle.service.specs.declared.responding.Response.{Response}
 
--- the desk's reply, after which the connection closes if the message is the last, its body is unread, or the store
--- refused; the store refusal; or the fault by which a content was cut off
-abbrev pub RespondsBy : Result Answered AnswerFault → (is_last : Bool) → Result Response BodyFault → Type 0
-RespondsBy (Ok a) is_last (Ok r) =
-    (r.reply ≡ a.reply) × (r.allow.now ≡ []) × (r.close ≡ (is_last || a.leaves_body || a.reply.is_store_refusal))
-RespondsBy (Ok a) is_last (Err fault) = ⊥
-RespondsBy (Err (by_store f)) is_last (Ok r) = IsReplyOf r.reply store_refusal × (r.allow.now ≡ []) × (r.close ≡ true)
-RespondsBy (Err (by_store f)) is_last (Err fault) = ⊥
-RespondsBy (Err (by_body f)) is_last (Ok r) = ⊥
-RespondsBy (Err (by_body f)) is_last (Err fault) = fault ≡ f
+-- the content of an upload is unread: a rule refused the request, or the desk says so
+abbrev pub leaves_body : Form → Result Request Rule → Reply → Bool
+leaves_body form request reply = is_put form && (is_err request || not reply.body_read)
+
+-- the desk's reply, after which the connection closes if the message is the last, its body is unread, or the store refused
+pub record RespondsWith (a : Asked) (request : Result Request Rule) (place : Option (Bor RepoName)) (told : Reply) (r : Response) : Type 0 where
+  pub reply : r.reply ≡ told
+  pub repo : r.repo ≡ place
+  pub allow : r.allow.now ≡ []
+  pub close : r.close ≡ (a.is_last || leaves_body a.form request told || is_refused told)
 
 -- the input ended, or a read failed
 abbrev pub IsEarly : End → Type 0

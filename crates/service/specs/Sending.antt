@@ -1,16 +1,24 @@
 -- The text of a reply, all of it or a part, as it is written.
-use Rattle.std.specs.Prelude.{◌≡◌, ◌≢◌, ◌<◌, ℕ, Bool, List, [], ◌++◌, length, take, Option, Result, Ok, Err}
+use Rattle.std.specs.Prelude.{◌≡◌, ◌≢◌, ◌<◌, ℕ, Bool, List, [], ◌++◌, length, take, Option, Some, option_map, Result, Ok, Err}
 use Rattle.std.specs.Io.KnownBytes.{Appends}
 use Rattle.names.specs.Streams.{IsBeginning}
-use Rattle.model.specs.World.{Object}
+use Rattle.std.specs.Borrow.{Bor}
+use Rattle.names.specs.Names.{repo_text}
+use Rattle.names.specs.declared.texts.RepoName.{RepoName}
+use Rattle.model.specs.World.{World, Object, object_named}
 use Rattle.model.specs.Answers.{Answer, serves}
-use Rattle.model.specs.Replies.{reply_of, reply_text, head_text, body_text}
+use Rattle.model.specs.Replies.{Reply, reply_of, reply_text, head_text, body_text}
 use Rattle.service.specs.declared.sending.SendFault.{SendFault}
 use Rattle.service.specs.declared.sending.SendFault.TheVariants.{Sink, Store}
 
--- the text of the reply to an answer, without the content of an object
-abbrev pub front_text : Answer → List ℕ → Bool → List ℕ
-front_text given allow close = let r = reply_of given in head_text r allow close ++ body_text r.body []
+-- the text of a reply, without the content of an object
+abbrev pub front_text : Reply → List ℕ → Bool → List ℕ
+front_text r allow close = head_text r allow close ++ body_text r.body []
+
+-- an object that the answer serves is the repository's of its name
+abbrev pub IsThere : World → Option (Bor RepoName) → Answer → Type 0
+IsThere world repo given = (o : Object) → given ≡ Ok (serves o)
+    → (name : List ℕ) × (option_map (λ r. repo_text r.now) repo ≡ Some name) × (object_named name o.name world ≡ Some o)
 
 -- the text was written, all of it or, if the result is an error, a prefix
 abbrev pub Writes : {T E : Type 0} → List ℕ → Option (List ℕ) → Option (List ℕ) → Result T E → Type 0

@@ -13,8 +13,8 @@ use Rattle.model.specs.Replies.{reply_text}
 use Rattle.model.specs.Sessions.{text_of}
 use Rattle.tables.specs.declared.Store.{Store}
 use Rattle.refinement.specs.Left.{Leads, Takes}
-use Rattle.desk.specs.Replies.{IsReplyOf, Lends}
-use Rattle.service.specs.Sending.{BreaksOff}
+use Rattle.desk.specs.Replies.{IsReplyOf}
+use Rattle.service.specs.Sending.{BreaksOff, IsThere}
 use Rattle.service.specs.declared.ends.End.{End}
 use Rattle.service.specs.declared.ends.End.TheVariants.{InputEnded, Closed, StoreRefused, ReadFailed, WriteFailed, StoreFailed}
 use Rattle.service.specs.declared.responding.Response.{Response}
@@ -35,8 +35,8 @@ pub record IsTurn
 
 -- ---- a response
 
--- the bytes begin with the message that the response answers, and the store has the content that the reply sends; the
--- next bytes follow the message if the connection stays open
+-- the bytes begin with the message that the response answers, and an object that the reply sends is there; the next bytes
+-- follow the message if the connection stays open
 pub record IsResponse
     {S : Type 0} (g : Ghosts S) (setting : Setting) (bytes next : List ℕ) (world : World) (old new : Store S) (r : Response) : Type 0 where
   pub e : Exchange
@@ -45,7 +45,7 @@ pub record IsResponse
   pub given : Answer
   pub is : e.given ≡ Some given
   pub is_reply : IsReplyOf r.reply given
-  pub lends : Lends g new r.reply.body given
+  pub there : IsThere kept r.repo given
   pub methods : r.allow.now ≡ allow e.asked given
   pub closes : closes e ≡ r.close
   pub begins : MatchBool r.close ((rest : List ℕ) × BeginsWith bytes e.asked rest) (IsFirst bytes e next)

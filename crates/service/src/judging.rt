@@ -2,7 +2,8 @@
 
 ghost use Rattle.std.specs.Prelude.{◌≡◌, ◌≤◌, ◌||◌, [], not, codes, length, map, MatchOption, Ok, Err};
 ghost use Rattle.httparse.specs.Grammar.{RequestHead};
-ghost use Rattle.names.specs.declared.rules.Rule.TheVariants.{H6, H7};
+ghost use Rattle.names.specs.declared.rules.Rule.TheVariants.{H6};
+ghost use Rattle.wire.specs.declared.rules.HeadRule.TheVariants.{H7};
 ghost use Rattle.model.specs.Heads.{route_at, query_of, comma_list, accepts, values};
 ghost use Rattle.routes.specs.Routes.{route_seen};
 ghost use Rattle.routes.specs.Table.{row_of};
@@ -10,9 +11,9 @@ ghost use Rattle.wire.specs.Fields.{Shows};
 ghost use Rattle.service.specs.Judging.{IsJudged};
 
 use model::Form;
-use names::{ALLOW_LIMIT, Rule};
+use names::ALLOW_LIMIT;
 use routes::{Resource, Route, Routes, query_of};
-use wire::Head;
+use wire::{Head, HeadRule};
 
 /// What an accepted head asks for.
 #[derive(Clone, Copy, Debug, PartialEq, Eq)]
@@ -31,22 +32,22 @@ pub struct Target<'t> {
 #[derive(Clone, Copy, Debug, PartialEq, Eq)]
 pub struct Denied {
     /// The first rule that refuses it: H2 to H8.
-    pub rule: Rule,
+    pub rule: HeadRule,
     /// If the rule is H7, the methods that the route serves; else empty.
     pub allow: &'static str,
 }
 
-/// Returns what the head asks for.
+/// Returns the route of the head, and what its method asks for there.
 ///
 /// # Errors
 ///
 /// The first of these rules that applies.
 ///
-/// - H2 to H5: [`Head::body_length`] refuses it.
+/// - H2 to H5: [`Head::body_length`] refuses it, which a connection has tried for its own heads.
 /// - H6: no route matches its target, or the target is not UTF-8.
 /// - H7: the route does not serve its method.
 /// - H8: the route replies in JSON, and the head does not accept JSON.
-pub fn judge<'t>(routes: &Routes, head: &Head<'t>) -> Result<Target<'t>, Denied>
+pub fn route_of<'t>(routes: &Routes, head: &Head<'t>) -> Result<Target<'t>, Denied>
     ensures { (h : RequestHead) → Shows head.now h → IsJudged h result }
 {
     let size = match head.body_length() {
@@ -54,13 +55,13 @@ pub fn judge<'t>(routes: &Routes, head: &Head<'t>) -> Result<Target<'t>, Denied>
         Err(rule) => return Err(refused_by(rule)),
     };
     let Some((route, query)) = place_of(routes, head) else {
-        return Err(refused_by(Rule::H6));
+        return Err(refused_by(HeadRule::H6));
     };
     let Some(form) = route.resource.form_of(head.method()) else {
         return Err(not_served(route.resource));
     };
     if !accepts(head, route.resource) {
-        return Err(refused_by(Rule::H8));
+        return Err(refused_by(HeadRule::H8));
     }
     Ok(Target {
         route,
@@ -79,7 +80,7 @@ fn place_of<'t>(routes: &Routes, head: &Head<'t>) -> Option<(Route<'t>, &'t str)
     let Ok(target) = str::from_utf8(head.target()) else {
         return None;
     };
-    match routes.route_of(target) {
+    match routes.find(target) {
         Some(route) => Some((route, query_of(target))),
         None => None,
     }
@@ -94,7 +95,7 @@ fn accepts(head: &Head<'_>, resource: Resource) -> bool
 }
 
 /// A refusal by a rule that names no methods.
-fn refused_by(rule: Rule) -> Denied
+fn refused_by(rule: HeadRule) -> Denied
     ensures rule { result.rule ≡ rule }
     ensures allow { result.allow.now ≡ [] }
 {
@@ -108,7 +109,7 @@ fn not_served(resource: Resource) -> Denied
     ensures short { length result.allow.now ≤ ALLOW_LIMIT }
 {
     Denied {
-        rule: Rule::H7,
+        rule: HeadRule::H7,
         allow: resource.allow(),
     }
 }

@@ -8,13 +8,16 @@
 mod ends;
 mod judging;
 mod message;
+mod refusals;
 mod responding;
 mod sending;
 mod session;
 mod turn;
 
 pub use ends::{End, Served};
-pub use judging::{Denied, Target, judge};
+pub use judging::{Denied, Target, route_of};
+pub use message::{Asked, HeadFault, read_head, read_request};
 pub use model::laws::run_law;
 pub use routes::Routes;
+pub use sending::send_reply;
 pub use session::serve;

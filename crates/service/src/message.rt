@@ -3,19 +3,21 @@
 ghost use Rattle.std.specs.Prelude.{◌≡◌, IfOk, option_map};
 ghost use Rattle.httparse.specs.Grammar.{RequestHead};
 ghost use Rattle.wire.specs.Fields.{Shows};
-ghost use Rattle.service.specs.Messages.{IsCopyOf, IsRead, IsRequestOf};
+ghost use Rattle.service.specs.Messages.{IsCopyOf, IsRead, IsReadFrom, IsRequestOf};
 ghost use Rattle.service.specs.declared.message.HeadFault.TheVariants as fault;
 
-use crate::judging::{Denied, Target, judge};
+use crate::judging::{Denied, Target, route_of};
 use desk::RepoRequest;
+use forms::{Request, read_form};
 use model::Form;
+use names::Rule;
 use routes::Routes;
 use std::alloc::{AllocError, Global};
 use wire::Head;
 
 /// What an accepted head asks. Its texts are copies: the buffer that the head is in is borrowed while the body is read.
 #[derive(Debug, Drop)]
-pub(crate) struct Asked {
+pub struct Asked {
     /// The repository, as `owner/name`. It may not be a valid name.
     pub repo: String,
     /// What the method asks of the resource.
@@ -32,7 +34,7 @@ pub(crate) struct Asked {
 
 /// Why a head is not answered by the desk.
 #[derive(Clone, Copy, Debug)]
-pub(crate) enum HeadFault {
+pub enum HeadFault {
     /// A rule refuses it.
     Denied(Denied),
     /// There is no memory for its texts.
@@ -88,11 +90,11 @@ fn copy_asked(
 ///
 /// # Errors
 ///
-/// The rule that refuses the head, as [`judge`] returns it; or no memory.
-pub(crate) fn read_head(alloc: Global, routes: &Routes, head: &Head<'_>) -> Result<Asked, HeadFault>
+/// The rule that refuses the head, as [`route_of`] returns it; or no memory.
+pub fn read_head(alloc: Global, routes: &Routes, head: &Head<'_>) -> Result<Asked, HeadFault>
     ensures { (h : RequestHead) → Shows head.now h → IsRead h result }
 {
-    let target = judge(routes, head)?;
+    let target = route_of(routes, head)?;
     let asked = copy_asked(
         alloc,
         &target,
@@ -100,6 +102,28 @@ pub(crate) fn read_head(alloc: Global, routes: &Routes, head: &Head<'_>) -> Resu
         head.asks_close(),
     )?;
     Ok(asked)
+}
+
+/// Reads the request that the head and its body make, or the rule that refuses it: J1 to J4. The body of an upload is its
+/// content, and is not read here: it is empty.
+///
+/// # Errors
+///
+/// An [`AllocError`] if memory runs out.
+pub fn read_request(
+    alloc: Global,
+    asked: &Asked,
+    body: &[u8],
+) -> Result<Result<Request, Rule>, AllocError>
+    ensures { IfOk result (IsReadFrom asked.now body.now) }
+{
+    read_form(
+        alloc,
+        asked.form,
+        asked.parameter.as_str(),
+        asked.query.as_str(),
+        body,
+    )
 }
 
 impl Asked {
@@ -113,17 +137,14 @@ impl Asked {
         }
     }
 
-    /// The request to the desk, with this body.
-    pub(crate) fn request<'a>(&'a self, body: &'a [u8]) -> RepoRequest<'a>
-        ensures { IsRequestOf self.now body.now result }
+    /// The request to the desk.
+    pub(crate) fn to_desk<'a>(&'a self, request: &'a Result<Request, Rule>) -> RepoRequest<'a>
+        ensures { IsRequestOf self.now request.now result }
     {
         RepoRequest {
             authorization: self.authorization(),
             repo: self.repo.as_str(),
-            form: self.form,
-            parameter: self.parameter.as_str(),
-            query: self.query.as_str(),
-            body,
+            request,
         }
     }
 }

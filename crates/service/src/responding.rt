@@ -1,55 +1,65 @@
 //! The response to the next message of a connection.
 
-ghost use Rattle.std.specs.Prelude.{◌≡◌, ◌≢◌, ◌≤◌, ◌<◌, [], ◌++◌, ℕ, List, true, false, length, IfOk, IfErr, OnOk, Err};
+ghost use Rattle.std.specs.Prelude.{option_map, ◌≡◌, ◌≢◌, ◌≤◌, ◌<◌, [], ◌++◌, ℕ, List, true, false, length, IfOk, IfErr, OnOk, Err};
 ghost use Rattle.std.specs.Io.KnownBytes.{Consumes, IsAtEnd};
 ghost use Rattle.httparse.specs.Grammar.{RequestHead};
 ghost use Rattle.names.specs.Streams.{HasGrown};
 ghost use Rattle.model.specs.Heads.{content_length};
 ghost use Rattle.model.specs.Answers.{by_rule, store_refusal};
-ghost use Rattle.model.specs.Steps.{is_of_head};
+ghost use Rattle.model.specs.Policy.{repo_named};
 ghost use Rattle.model.specs.Stream.{BeginsWithHead};
 ghost use Rattle.refinement.specs.Left.{From};
-ghost use Rattle.desk.specs.Asking.{setting_of, is_put};
+ghost use Rattle.desk.specs.Asking.{setting_of};
 ghost use Rattle.desk.specs.Replies.{IsReplyOf};
 ghost use Rattle.wire.specs.Connections.{waiting, weight, IsAt};
 ghost use Rattle.wire.specs.States.{source_of, body_left, IsOpen, HandsOut};
+ghost use Rattle.wire.specs.HeadRules.{rule_seen};
+ghost use Rattle.names.specs.Names.{repo_text};
+ghost use Rattle.policy.specs.Values.{policy_view};
+ghost use Rattle.service.specs.Judging.{is_put};
 ghost use Rattle.service.specs.Messages.{Asks};
-ghost use Rattle.service.specs.Responding.{IsEarly, RespondsBy};
+ghost use Rattle.service.specs.Responding.{IsEarly, RespondsWith, leaves_body};
 ghost use Rattle.service.specs.Turns.{Responds};
 
 use crate::ends::End;
 use crate::judging::Denied;
-use crate::message::{Asked, HeadFault, read_head};
+use crate::message::{Asked, HeadFault, read_head, read_request};
+use crate::refusals::head_refused;
 use crate::turn::Setting;
-use desk::{AnswerFault, Answered, Reply, answer};
+use desk::{Reply, answer};
+use forms::Request;
 use model::Form;
-use names::{ALLOW_LIMIT, BodyFault, Source};
+use names::{ALLOW_LIMIT, BodyFault, RepoName, Rule, Source};
+use policy::Policy;
 use std::alloc::Global;
 use tables::{Alter, Store};
 use wire::{Conn, Inflow, Stop, WholeFault};
 
 /// A reply, and how it is sent.
 #[derive(Debug, Drop)]
-pub(crate) struct Response {
+pub(crate) struct Response<'a> {
     /// The status and the body.
     pub reply: Reply,
+    /// The repository whose object the reply sends, if it sends one.
+    pub repo: Option<&'a RepoName>,
     /// The methods that the reply lists; empty except for H7.
     pub allow: &'static str,
     /// Whether the server closes the connection after the reply.
     pub close: bool,
 }
 
-impl Response {
+impl<'a> Response<'a> {
     ghost use Rattle.std.specs.Prelude.{◌≡◌, true};
 
-    /// A reply after which the connection closes.
-    fn last(reply: Reply, allow: &'static str) -> Response
+    /// A reply without the content of an object, after which the connection closes.
+    fn last(reply: Reply, allow: &'static str) -> Response<'a>
         ensures reply { result.reply ≡ reply }
         ensures allow { result.allow.now ≡ allow.now }
         ensures close { result.close ≡ true }
     {
         Response {
             reply,
+            repo: None,
             allow,
             close: true,
         }
@@ -57,17 +67,16 @@ impl Response {
 }
 
 /// The refusal of a head.
-fn refusal(denied: Denied) -> Response
-    ensures reply { is_of_head denied.rule ≡ true
-        → IsReplyOf result.reply (Err (by_rule denied.rule)) }
+fn refusal<'a>(denied: Denied) -> Response<'a>
+    ensures reply { IsReplyOf result.reply (Err (by_rule (rule_seen denied.rule))) }
     ensures allow { result.allow.now ≡ denied.allow.now }
     ensures close { result.close ≡ true }
 {
-    Response::last(Reply::head_refused(denied.rule), denied.allow)
+    Response::last(head_refused(denied.rule), denied.allow)
 }
 
 /// The store refusal.
-fn store_refused() -> Response
+fn store_refused<'a>() -> Response<'a>
     ensures reply { IsReplyOf result.reply store_refusal }
     ensures allow { result.allow.now ≡ [] }
     ensures close { result.close ≡ true }
@@ -107,25 +116,41 @@ fn body_before<R: Source + Drop>(
     }
 }
 
-/// The response by what the desk did.
-///
-/// # Errors
-///
-/// The body's fault, if the content of an upload was cut off.
-fn response_by(done: Result<Answered, AnswerFault>, is_last: bool) -> Result<Response, BodyFault>
-    ensures { RespondsBy done is_last result }
+/// Whether an upload's content is unread after the reply.
+fn leaves_body(form: Form, request: &Result<Request, Rule>, reply: &Reply) -> bool
+    ensures { result ≡ leaves_body form request.now reply.now }
 {
-    match done {
-        Ok(answered) => {
-            let close = is_last || answered.leaves_body || answered.reply.is_store_refusal;
-            Ok(Response {
-                reply: answered.reply,
-                allow: "",
-                close,
-            })
-        }
-        Err(AnswerFault::Store(_)) => Ok(store_refused()),
-        Err(AnswerFault::Body(fault)) => Err(fault),
+    matches!(form, Form::Put) && (request.is_err() || !reply.body_read)
+}
+
+/// The response with the desk's reply.
+fn response_with<'a>(
+    asked: &Asked,
+    request: &Result<Request, Rule>,
+    repo: Option<&'a RepoName>,
+    reply: Reply,
+) -> Response<'a>
+    ensures { RespondsWith asked.now request.now repo.entry reply result }
+{
+    let close = asked.is_last
+        || leaves_body(asked.form, request, &reply)
+        || reply.is_store_refusal();
+    Response {
+        reply,
+        repo,
+        allow: "",
+        close,
+    }
+}
+
+/// The repository's name, as the policy has it.
+fn named<'a>(policy: &'a Policy, repo: &str) -> Option<&'a RepoName>
+    ensures { option_map (λ name. repo_text name.now) result
+        ≡ option_map (λ r. r.name) (repo_named repo.now (policy_view policy.entry.now)) }
+{
+    match policy.repo(repo) {
+        Some(found) => Some(found.name()),
+        None => None,
     }
 }
 
@@ -134,13 +159,13 @@ fn response_by(done: Result<Answered, AnswerFault>, is_last: bool) -> Result<Res
 /// # Errors
 ///
 /// The body's fault, if the input ended or failed within it. Nothing is answered then, and nothing changes.
-fn answer_asked<S: Alter, R: Source + Drop>(
+fn answer_asked<'a, S: Alter, R: Source + Drop>(
     alloc: Global,
     store: &mut Store<S>,
-    setting: &Setting<'_>,
+    setting: &Setting<'a>,
     asked: &Asked,
     inflow: &mut Inflow<'_, R>,
-) -> Result<Response, BodyFault>
+) -> Result<Response<'a>, BodyFault>
     ensures same_reference { inflow.new.conn.ghost_name ≡ inflow.old.conn.ghost_name }
     ensures handed { (given : List ℕ) × HandsOut inflow.old.conn.now inflow.new.conn.now given }
     ensures open { IfOk result (λ r. r.close ≡ false → body_left inflow.new.conn.now ≡ 0) }
@@ -160,15 +185,18 @@ fn answer_asked<S: Alter, R: Source + Drop>(
         × Responds S.Store (setting_of setting.entry.now.policy.now setting.entry.now.now)
         (bytes ++ read) (waiting inflow.new.conn.now) world store.old store.new result) }
 {
-    match body_before(alloc, asked.form, inflow) {
-        Ok(body) => {
-            let request = asked.request(&body);
-            let done = answer(alloc, store, setting.policy, setting.now, &request, inflow);
-            response_by(done, asked.is_last)
-        }
-        Err(WholeFault::Memory) => Ok(store_refused()),
-        Err(WholeFault::Body(fault)) => Err(fault),
-    }
+    let body = match body_before(alloc, asked.form, inflow) {
+        Ok(body) => body,
+        Err(WholeFault::Memory) => return Ok(store_refused()),
+        Err(WholeFault::Body(fault)) => return Err(fault),
+    };
+    let Ok(request) = read_request(alloc, asked, &body) else {
+        return Ok(store_refused());
+    };
+    let wanted = asked.to_desk(&request);
+    let reply = answer(alloc, store, setting.policy, setting.now, &wanted, inflow)?;
+    let repo = named(setting.policy, asked.repo.as_str());
+    Ok(response_with(asked, &request, repo, reply))
 }
 
 /// Reads the rest of the message whose head was read, and answers it.
@@ -177,12 +205,12 @@ fn answer_asked<S: Alter, R: Source + Drop>(
 ///
 /// The body's fault, if the input ended or failed within it. Nothing is answered then, and nothing
 /// changes.
-fn respond<S: Alter, R: Source + Drop>(
+fn respond<'a, S: Alter, R: Source + Drop>(
     alloc: Global,
     store: &mut Store<S>,
-    setting: &Setting<'_>,
+    setting: &Setting<'a>,
     inflow: &mut Inflow<'_, R>,
-) -> Result<Response, BodyFault>
+) -> Result<Response<'a>, BodyFault>
     ensures same_reference { inflow.new.conn.ghost_name ≡ inflow.old.conn.ghost_name }
     ensures handed { (given : List ℕ) × HandsOut inflow.old.conn.now inflow.new.conn.now given }
     ensures open { IfOk result (λ r. r.close ≡ false → body_left inflow.new.conn.now ≡ 0) }
@@ -216,12 +244,12 @@ fn respond<S: Alter, R: Source + Drop>(
 ///
 /// `InputEnded` or `ReadFailed`, if no whole message is left. Nothing is answered then, and nothing
 /// changes.
-pub(crate) fn next_response<S: Alter, R: Source + Drop>(
+pub(crate) fn next_response<'a, S: Alter, R: Source + Drop>(
     alloc: Global,
     store: &mut Store<S>,
-    setting: &Setting<'_>,
+    setting: &Setting<'a>,
     conn: &mut Conn<R>,
-) -> Result<Response, End>
+) -> Result<Response<'a>, End>
     requires { IsOpen conn.old }
     ensures early { IfErr result IsEarly }
     ensures open { IfOk result (λ r. r.close ≡ false

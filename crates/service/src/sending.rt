@@ -1,19 +1,24 @@
 //! Writes a reply to a connection (RFC 9112, Message Format).
 
-ghost use Rattle.std.specs.Prelude.{◌≡◌, ◌≢◌, ◌≤◌, [], length, Err, OnOk, IfErr};
+ghost use Rattle.std.specs.Prelude.{◌≡◌, ◌≢◌, ◌≤◌, ℕ, List, [], length, Err, OnOk, IfErr};
 ghost use Rattle.std.specs.Io.KnownBytes.{Appends};
 ghost use Rattle.names.specs.Streams.{HasGrown, IsBeginning};
 ghost use Rattle.model.specs.Answers.{Answer};
+ghost use Rattle.model.specs.Replies as model;
 ghost use Rattle.model.specs.Replies.{reply_of, content_of, type_line, body_size, body_text, head_text};
 ghost use Rattle.wire.specs.Replies.{type_of, head_of};
+ghost use Rattle.tables.specs.Staging.{upload_number};
 ghost use Rattle.refinement.specs.Left.{Reads};
-ghost use Rattle.desk.specs.Replies.{ShowsBody, IsReplyOf, Lends};
-ghost use Rattle.service.specs.Sending.{front_text, Writes, EndsContent, Sends};
+ghost use Rattle.refinement.specs.Staging.{Stores};
+ghost use Rattle.desk.specs.Replies.{IsReply, IsReplyOf, body_seen};
+ghost use Rattle.service.specs.Sending.{front_text, IsThere, Writes, EndsContent, Sends};
 
+use crate::responding::Response;
 use chunks::{PourCause, pour};
 use desk::{Reply, ReplyBody};
-use names::{ALLOW_LIMIT, Sink, WriteFault};
-use tables::{Alter, Store};
+use names::{ALLOW_LIMIT, RepoName, Sink, WriteFault};
+use tables::{Alter, ObjectRow, Store};
+use uploads::find;
 use wire::{Content, ReplyHead, write_reply};
 
 /// Why a reply was not written to its end.
@@ -27,46 +32,42 @@ pub(crate) enum SendFault {
 
 /// The kind of a body.
 fn kind_of(body: &ReplyBody) -> Content
-    ensures { (given : Answer) → ShowsBody body.now given
-        → type_of result ≡ type_line (reply_of given).body }
+    ensures { type_of result ≡ type_line (body_seen body.now) }
 {
     match body {
-        ReplyBody::Made(_) | ReplyBody::Fixed(_) => Content::Json,
         ReplyBody::Empty => Content::Empty,
-        ReplyBody::Content(_) => Content::Octets,
+        ReplyBody::Json(_) | ReplyBody::Refused(_) => Content::Json,
+        ReplyBody::Content(..) => Content::Octets,
     }
 }
 
 /// The number of bytes of a body.
 fn length_of(body: &ReplyBody) -> u64
-    ensures { (given : Answer) → ShowsBody body.now given
-        → result ≡ body_size (reply_of given).body }
+    ensures { result ≡ body_size (body_seen body.now) }
 {
     match body {
-        ReplyBody::Made(text) => text.len() as u64,
-        ReplyBody::Fixed(text) => text.len() as u64,
         ReplyBody::Empty => 0,
-        ReplyBody::Content(row) => row.size.get(),
+        ReplyBody::Json(text) => text.len() as u64,
+        ReplyBody::Refused(text) => text.len() as u64,
+        ReplyBody::Content(_, size) => size.get(),
     }
 }
 
 /// The bytes of a body that are in memory: all of a JSON text, and none of an object's content.
 fn bytes_of(body: &ReplyBody) -> &[u8]
-    ensures { (given : Answer) → ShowsBody body.now given
-        → result.now ≡ body_text (reply_of given).body [] }
+    ensures { result.now ≡ body_text (body_seen body.now) [] }
 {
     match body {
-        ReplyBody::Made(text) => text.as_str().as_bytes(),
-        ReplyBody::Fixed(text) => text.as_bytes(),
-        ReplyBody::Empty | ReplyBody::Content(_) => &[],
+        ReplyBody::Json(text) => text.as_str().as_bytes(),
+        ReplyBody::Refused(text) => text.as_bytes(),
+        ReplyBody::Empty | ReplyBody::Content(..) => &[],
     }
 }
 
 /// The head of a reply.
 fn head_for<'a>(reply: &Reply, allow: &'a str, close: bool) -> ReplyHead<'a>
     ensures allow { result.allow.now ≡ allow.now }
-    ensures text { (given : Answer) → IsReplyOf reply.now given
-        → head_of result ≡ head_text (reply_of given) allow.now close }
+    ensures text { (r : model.Reply) → IsReply reply.now r → head_of result ≡ head_text r allow.now close }
 {
     ReplyHead {
         status: reply.status,
@@ -77,23 +78,25 @@ fn head_for<'a>(reply: &Reply, allow: &'a str, close: bool) -> ReplyHead<'a>
     }
 }
 
-/// Writes the head of a reply, and its body unless that is the content of an object.
+/// Writes a reply: its head, and its body unless that is the content of an object, which is left to the caller. `allow`
+/// is the list of methods to name, empty unless the rule is H7; `close` says whether the server closes the connection
+/// after the reply.
 ///
 /// # Errors
 ///
 /// A [`WriteFault`] at the first failed write: the sink took a prefix of the text.
-pub(crate) fn send_front<K: Sink>(
+pub fn send_reply<K: Sink>(
     sink: &mut K,
     reply: &Reply,
     allow: &str,
     close: bool,
 ) -> Result<(), WriteFault>
     requires { length allow.now ≤ ALLOW_LIMIT }
-    ensures ok { OnOk result ((given : Answer) → IsReplyOf reply.now given
-        → Appends (K.taken sink.old) (K.taken sink.new) (front_text given allow.now close)) }
+    ensures ok { OnOk result ((r : model.Reply) → IsReply reply.now r
+        → Appends (K.taken sink.old) (K.taken sink.new) (front_text r allow.now close)) }
     ensures good { OnOk result (K.failed sink.new ≡ K.failed sink.old) }
-    ensures part { IfErr result (λ e. (given : Answer) → IsReplyOf reply.now given
-        → IsBeginning (K.taken sink.old) (K.taken sink.new) (front_text given allow.now close) e.written) }
+    ensures part { IfErr result (λ e. (r : model.Reply) → IsReply reply.now r
+        → IsBeginning (K.taken sink.old) (K.taken sink.new) (front_text r allow.now close) e.written) }
     ensures fault { IfErr result (λ _. HasGrown (K.failed sink.old) (K.failed sink.new)) }
 {
     let head = head_for(reply, allow, close);
@@ -112,21 +115,18 @@ fn expect_whole(written: u64, size: u64) -> Result<(), SendFault>
     }
 }
 
-/// Writes the content of an object, if the body is one.
-fn send_content<S: Alter, K: Sink>(
+/// Writes the content of an object that was found.
+fn send_object<S: Alter, K: Sink>(
     store: &mut Store<S>,
     sink: &mut K,
-    body: &ReplyBody,
+    row: &ObjectRow,
 ) -> Result<(), SendFault>
-    ensures content { Reads S.Store store.old store.new (λ world. (given : Answer) → ShowsBody body.now given
-        → Lends S.Store store.old body.now given
-        → Writes (content_of given) (K.taken sink.old) (K.taken sink.new) result) }
+    ensures content { Reads S.Store store.old store.new (λ _. (bytes : List ℕ)
+        → Stores S.Store store.old (upload_number row.now.id) bytes → row.now.size ≡ length bytes
+        → Writes bytes (K.taken sink.old) (K.taken sink.new) result) }
     ensures good { result ≢ Err SendFault.Sink → K.failed sink.new ≡ K.failed sink.old }
     ensures fault { result ≡ Err SendFault.Sink → HasGrown (K.failed sink.old) (K.failed sink.new) }
 {
-    let ReplyBody::Content(row) = body else {
-        return Ok(());
-    };
     match pour(store, row.id, sink) {
         Ok(written) => expect_whole(written, row.size.get()),
         Err(fault) => match fault.cause {
@@ -136,8 +136,33 @@ fn send_content<S: Alter, K: Sink>(
     }
 }
 
-/// Writes a reply. `allow` is the list of methods to name; `close` says whether the server closes the
-/// connection after it.
+/// Writes the content of an object of the repository, if the body is one.
+fn send_content<S: Alter, K: Sink>(
+    store: &mut Store<S>,
+    repo: Option<&RepoName>,
+    sink: &mut K,
+    body: &ReplyBody,
+) -> Result<(), SendFault>
+    ensures content { Reads S.Store store.old store.new (λ world. (given : Answer)
+        → body_seen body.now ≡ (reply_of given).body → IsThere world repo.entry given
+        → Writes (content_of given) (K.taken sink.old) (K.taken sink.new) result) }
+    ensures good { result ≢ Err SendFault.Sink → K.failed sink.new ≡ K.failed sink.old }
+    ensures fault { result ≡ Err SendFault.Sink → HasGrown (K.failed sink.old) (K.failed sink.new) }
+{
+    let ReplyBody::Content(name, size) = body else {
+        return Ok(());
+    };
+    let Some(repo) = repo else {
+        return expect_whole(0, size.get());
+    };
+    match find(store, repo, name) {
+        Ok(Some(row)) => send_object(store, sink, &row),
+        Ok(None) | Err(_) => expect_whole(0, size.get()),
+    }
+}
+
+/// Writes a reply, and the content of an object of the repository if the reply sends one. `allow` and `close` as for
+/// [`send_reply`].
 ///
 /// # Errors
 ///
@@ -146,19 +171,18 @@ fn send_content<S: Alter, K: Sink>(
 pub(crate) fn send<S: Alter, K: Sink>(
     store: &mut Store<S>,
     sink: &mut K,
-    reply: &Reply,
-    allow: &str,
-    close: bool,
+    response: &Response<'_>,
 ) -> Result<(), SendFault>
-    requires { length allow.now ≤ ALLOW_LIMIT }
-    ensures sends { Reads S.Store store.old store.new (λ world. (given : Answer) → IsReplyOf reply.now given
-        → Lends S.Store store.old reply.now.body given
-        → Sends given allow.now close (K.taken sink.old) (K.taken sink.new) result) }
+    requires { length response.now.allow.now ≤ ALLOW_LIMIT }
+    ensures sends { Reads S.Store store.old store.new (λ world. (given : Answer)
+        → IsReplyOf response.now.reply given → IsThere world response.now.repo given
+        → Sends given response.now.allow.now response.now.close (K.taken sink.old) (K.taken sink.new) result) }
     ensures good { result ≢ Err SendFault.Sink → K.failed sink.new ≡ K.failed sink.old }
     ensures fault { result ≡ Err SendFault.Sink → HasGrown (K.failed sink.old) (K.failed sink.new) }
 {
-    match send_front(sink, reply, allow, close) {
-        Ok(()) => send_content(store, sink, &reply.body),
+    let reply = &response.reply;
+    match send_reply(sink, reply, response.allow, response.close) {
+        Ok(()) => send_content(store, response.repo, sink, &reply.body),
         Err(_) => Err(SendFault::Sink),
     }
 }

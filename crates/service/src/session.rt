@@ -12,7 +12,7 @@ ghost use Rattle.wire.specs.States.{source_of, IsOpen};
 ghost use Rattle.service.specs.Served.{IsServed, IsRefusal, IsCountedAs, Serves, closing};
 
 use crate::ends::{End, Served};
-use crate::sending::send_front;
+use crate::sending::send_reply;
 use crate::turn::{Setting, take_turn};
 use desk::Reply;
 use names::{Moment, Sink, Source};
@@ -74,7 +74,7 @@ fn refuse_all<K: Sink>(sink: &mut K) -> Served
     ensures known { result.end ≢ End.ReadFailed }
     ensures refusal { IsRefusal (K.taken sink.old) (K.taken sink.new) result }
 {
-    match send_front(sink, &Reply::store_refused(), "", true) {
+    match send_reply(sink, &Reply::store_refused(), "", true) {
         Ok(()) => Served {
             answered: 1,
             end: End::StoreRefused,

@@ -7,7 +7,8 @@ ghost use Rattle.names.specs.Texts.{last_moment};
 ghost use Rattle.model.specs.Answers.{Answer};
 ghost use Rattle.refinement.specs.Left.{From, Reads};
 ghost use Rattle.desk.specs.Asking.{setting_of};
-ghost use Rattle.desk.specs.Replies.{IsReplyOf, Lends};
+ghost use Rattle.desk.specs.Replies.{IsReplyOf, is_refused};
+ghost use Rattle.service.specs.Sending.{IsThere};
 ghost use Rattle.wire.specs.Connections.{waiting, weight};
 ghost use Rattle.wire.specs.States.{source_of, IsOpen};
 ghost use Rattle.service.specs.Turns.{IsSent, EndsReply, IsCounted, EndsTurn};
@@ -35,19 +36,19 @@ pub(crate) struct Setting<'a> {
 fn deliver<S: Alter, K: Sink>(
     store: &mut Store<S>,
     sink: &mut K,
-    response: &Response,
+    response: &Response<'_>,
 ) -> Option<End>
     requires { length response.now.allow.now ≤ ALLOW_LIMIT }
     ensures sent { Reads S.Store store.old store.new (λ world. (given : Answer)
-        → IsReplyOf response.now.reply given → Lends S.Store store.old response.now.reply.body given
+        → IsReplyOf response.now.reply given → IsThere world response.now.repo given
         → IsSent (K.taken sink.old) (K.taken sink.new) given response.now.allow.now
         response.now.close result) }
-    ensures ends { EndsReply response.now.close response.now.reply.is_store_refusal result }
+    ensures ends { EndsReply response.now.close (is_refused response.now.reply) result }
     ensures counted { IsCounted (K.failed sink.old) (K.failed sink.new) result }
 {
-    match send(store, sink, &response.reply, response.allow, response.close) {
+    match send(store, sink, response) {
         Ok(()) if !response.close => None,
-        Ok(()) if response.reply.is_store_refusal => Some(End::StoreRefused),
+        Ok(()) if response.reply.is_store_refusal() => Some(End::StoreRefused),
         Ok(()) => Some(End::Closed),
         Err(SendFault::Sink) => Some(End::WriteFailed),
         Err(SendFault::Store) => Some(End::StoreFailed),

@@ -1,5 +1,5 @@
 -- The ways in which a call for the next head ends.
-use Rattle.wire.proofs.Prelude.{◌≡◌, ◌≢◌, ℕ, ◌+◌, ◌<◌, ◌≤◌, inl, inr, List, [], ◌++◌, length, drop, Option, Some, None, IfSome, IfErr, IfOk, OnOk, Result, Ok, Err, refl, sym, ap, subst, ◌∙◌, arith, append-nil, length-append, Consumes, IsAtEnd, Consumes-nil, RequestHead, print_request, Ghosts, Rule, H1, BeginsWithHead, BeginsBadly, front, MayGoOn, waiting, IsAt, HasHead, HasStopped, IsStopped, repeated, Conn, Stop, End, Device, Unread}
+use Rattle.wire.proofs.Prelude.{◌≡◌, ◌≢◌, ℕ, ◌+◌, ◌<◌, ◌≤◌, inl, inr, List, [], ◌++◌, length, drop, Option, Some, None, IfSome, IfErr, IfOk, OnOk, Result, Ok, Err, refl, sym, ap, subst, ◌∙◌, arith, append-nil, length-append, Consumes, IsAtEnd, Consumes-nil, RequestHead, print_request, Ghosts, HeadRule, H1, BeginsWithHead, BeginsBadly, front, MayGoOn, waiting, IsAt, HasHead, HasStopped, IsStopped, repeated, Conn, Stop, End, Device, Unread, rule_seen}
 use Rattle.names.specs.Streams.{HasGrown}
 use Rattle.model.specs.Heads.{content_length, check_framing}
 use Rattle.wire.specs.declared.buffer.Buffer.{Buffer}
@@ -121,7 +121,7 @@ module _ {R : Type 0} {g : Ghosts R} where
 
   refused_by : (old new : Conn R g) (stop : Stop) (buffer : Buffer) (source : R) → Reads old buffer source → new.source ≡ source
       → g.failed source ≡ g.failed old.source
-      → (rule : Rule) × (head : RequestHead) × (rest : List ℕ) × BeginsWithHead (front buffer) head rest × (stop ≡ ByRule rule) × (check_framing head ≡ Err rule) × (new.over ≡ Some stop) × (new.left ≡ 0) × (new.buffer ≡ buffer)
+      → (rule : HeadRule) × (head : RequestHead) × (rest : List ℕ) × BeginsWithHead (front buffer) head rest × (stop ≡ ByRule rule) × (check_framing head ≡ Err (rule_seen rule)) × (new.over ≡ Some stop) × (new.left ≡ 0) × (new.buffer ≡ buffer)
       → IsStopped old stop new
   refused_by old new stop buffer source r same good err =
       let moved = reads_in old new buffer source r err.8 same in
@@ -133,7 +133,7 @@ module _ {R : Type 0} {g : Ghosts R} where
   -- a head that H2 to H5 refuse
   pub refuses : {A : Type 0} (result : Result A Stop) (old new : Conn R g) (buffer : Buffer) (source : R) → Reads old buffer source → new.source ≡ source
       → g.failed source ≡ g.failed old.source
-      → IfErr result (λ stop. (rule : Rule) × (head : RequestHead) × (rest : List ℕ) × BeginsWithHead (front buffer) head rest × (stop ≡ ByRule rule) × (check_framing head ≡ Err rule) × (new.over ≡ Some stop) × (new.left ≡ 0) × (new.buffer ≡ buffer))
+      → IfErr result (λ stop. (rule : HeadRule) × (head : RequestHead) × (rest : List ℕ) × BeginsWithHead (front buffer) head rest × (stop ≡ ByRule rule) × (check_framing head ≡ Err (rule_seen rule)) × (new.over ≡ Some stop) × (new.left ≡ 0) × (new.buffer ≡ buffer))
       → IfErr result (λ stop. IsStopped old stop new)
   refuses (Ok x) old new buffer source r same good err = tt
   refuses (Err stop) old new buffer source r same good err = refused_by old new stop buffer source r same good err

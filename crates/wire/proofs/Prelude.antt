@@ -6,8 +6,6 @@ pub use Rattle.httparse.specs.declared.spans.HeaderSpan.{HeaderSpan}
 pub use Rattle.model.specs.Orders.{first}
 pub use Rattle.model.specs.Stream.{BeginsBadly, BeginsWithHead, HasNoHead, IsHeadThen, NeverIsHead, field_limit, head_limit, hopeless, too_long, too_many_fields}
 pub use Rattle.names.specs.Texts.{is_empty}
-pub use Rattle.names.specs.declared.rules.Rule.{Rule}
-pub use Rattle.names.specs.declared.rules.Rule.TheVariants.{H1}
 pub use Rattle.names.specs.declared.streams.Source.{Ghosts}
 pub use Rattle.std.proofs.Common.{Bool, Err, IfErr, IfOk, IfSome, List, MatchOption, None, Ok, OnOk, Option, Result, Some, [], ap, append-nil, append_assoc, arith, codes, cond, count_by, decimal, drop, false, filter, find, inl, inr, length, length-append, length-drop, length-take, lit<, lit≤, map, nat_le, not, option_map, refl, reverse, rules, subst, suc, sym, take, true, zero, ℕ, ◌&&◌, ◌*◌, ◌++◌, ◌+◌, ◌-◌, ◌<◌, ◌==◌, ◌||◌, ◌∙◌, ◌∷◌, ◌≡◌, ◌≢◌, ◌≤◌}
 pub use Rattle.std.proofs.KnownBytes.{Consumes-nil, Consumes-trans}
@@ -28,3 +26,6 @@ pub use Rattle.wire.specs.Halts.{IsCutOf, MayGoOn}
 pub use Rattle.wire.specs.declared.connection.Conn.{Conn}
 pub use Rattle.wire.specs.declared.connection.Stop.{Stop}
 pub use Rattle.wire.specs.declared.connection.Stop.TheVariants.{Device, End, Unread}
+pub use Rattle.wire.specs.HeadRules.{rule_seen}
+pub use Rattle.wire.specs.declared.rules.HeadRule.{HeadRule}
+pub use Rattle.wire.specs.declared.rules.HeadRule.TheVariants.{H1}

@@ -1,5 +1,5 @@
 -- Bytes that a connection reads and hands out, and heads at the front of bytes, for proofs in other crates.
-use Rattle.wire.proofs.Prelude.{◌≡◌, ℕ, ◌+◌, ◌-◌, ◌≤◌, inl, inr, List, [], ◌++◌, length, take, Option, Some, None, refl, sym, ap, subst, ◌∙◌, arith, append_assoc, append-nil, length-append, take_at, cases_lt, take-append-add, Consumes, prepend_known, Consumes-nil, Consumes-trans, RequestHead, print_request, ReadsRequest-append, Rule, Ghosts, IsHeadThen, HasNoHead, NeverIsHead, BeginsBadly, too_many_fields, too_long, hopeless, BeginsWithHead, head_limit, Moves, SameHead, IsAt, HasHead, IsStopped, Refuses, waiting, Conn, Stop}
+use Rattle.wire.proofs.Prelude.{◌≡◌, ℕ, ◌+◌, ◌-◌, ◌≤◌, inl, inr, List, [], ◌++◌, length, take, Option, Some, None, refl, sym, ap, subst, ◌∙◌, arith, append_assoc, append-nil, length-append, take_at, cases_lt, take-append-add, Consumes, prepend_known, Consumes-nil, Consumes-trans, RequestHead, print_request, ReadsRequest-append, HeadRule, Ghosts, IsHeadThen, HasNoHead, NeverIsHead, BeginsBadly, too_many_fields, too_long, hopeless, BeginsWithHead, head_limit, Moves, SameHead, IsAt, HasHead, IsStopped, Refuses, waiting, Conn, Stop}
 
 -- ---- heads at the front of more bytes
 
@@ -55,7 +55,7 @@ badly_more bytes more (too_long none long) =
 badly_more bytes more (hopeless none never) = hopeless (never_none bytes more none never) (never_more bytes more never)
 
 -- bytes that a rule refuses are refused with more bytes after them
-pub refuses_more : (bytes more : List ℕ) (rule : Rule) → Refuses bytes rule → Refuses (bytes ++ more) rule
+pub refuses_more : (bytes more : List ℕ) (rule : HeadRule) → Refuses bytes rule → Refuses (bytes ++ more) rule
 refuses_more bytes more rule (inl bad) = inl (bad.0, badly_more bytes more bad.1)
 refuses_more bytes more rule (inr by) = inr (by.0, by.1 ++ more, head_more bytes by.0 by.1 more by.2, by.3)
 

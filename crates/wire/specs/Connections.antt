@@ -4,21 +4,22 @@ use Rattle.std.specs.Io.KnownBytes.{Consumes, IsAtEnd}
 use Rattle.httparse.specs.Grammar.{RequestHead, MayBecomeRequest, print_request}
 use Rattle.names.specs.Streams.{HasGrown}
 use Rattle.names.specs.declared.streams.Source.{Ghosts}
-use Rattle.names.specs.declared.rules.Rule.{Rule}
-use Rattle.names.specs.declared.rules.Rule.TheVariants.{H1}
 use Rattle.model.specs.Heads.{content_length, check_framing}
 use Rattle.model.specs.Stream.{IsUnfinished, BeginsBadly, BeginsWithHead}
 use Rattle.wire.specs.Buffers.{front, unused}
 use Rattle.wire.specs.Cut.{Covers}
 use Rattle.wire.specs.declared.connection.Conn.{Conn}
+use Rattle.wire.specs.HeadRules.{rule_seen}
+use Rattle.wire.specs.declared.rules.HeadRule.{HeadRule}
+use Rattle.wire.specs.declared.rules.HeadRule.TheVariants.{H1}
 use Rattle.wire.specs.declared.connection.Stop.{Stop}
 use Rattle.wire.specs.declared.connection.Stop.TheVariants.{End, Rule as ByRule, Device, Unread}
 
 -- the bytes begin with what that rule of H1 to H5 refuses
-abbrev pub Refuses : List ℕ → Rule → Type 0
+abbrev pub Refuses : List ℕ → HeadRule → Type 0
 Refuses bytes rule =
     ((rule ≡ H1) × BeginsBadly bytes)
-    ⊎ ((head : RequestHead) × (rest : List ℕ) × BeginsWithHead bytes head rest × (check_framing head ≡ Err rule))
+    ⊎ ((head : RequestHead) × (rest : List ℕ) × BeginsWithHead bytes head rest × (check_framing head ≡ Err (rule_seen rule)))
 
 -- the answer that later calls repeat: the end and a refusal, and not a failed read
 abbrev pub repeated : Stop → Option Stop

@@ -3,6 +3,7 @@ pub mod Connections
 pub mod Cut
 pub mod Fields
 pub mod Halts
+pub mod HeadRules
 pub mod Lending
 pub mod Replies
 pub mod States

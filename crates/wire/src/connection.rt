@@ -6,14 +6,16 @@ ghost use Rattle.httparse.specs.Grammar.{RequestHead};
 ghost use Rattle.names.specs.Streams.{HasGrown};
 ghost use Rattle.model.specs.Heads.{check_framing, content_length};
 ghost use Rattle.model.specs.Stream.{BeginsWithHead};
+ghost use Rattle.wire.specs.HeadRules.{rule_seen};
 ghost use Rattle.wire.specs.declared.cut.TheConstants.{FIELD_LIMIT};
 
 use crate::buffer::{Buffer, read_into};
 use crate::cut::FIELD_LIMIT;
 use crate::head::Head;
 use crate::reading::{Halt, read_head};
+use crate::rules::HeadRule;
 use httparse::spans::{EMPTY_HEADER_SPAN, HeaderSpan, RequestSpans, Span};
-use names::{BodyFault, Rule, Source};
+use names::{BodyFault, Source};
 use std::alloc::{AllocError, Global};
 use thiserror::Error;
 
@@ -35,7 +37,7 @@ pub enum Stop {
     /// The next message is refused: H1 if the bytes do not begin with a head, or else the first of H2 to
     /// H5 that refuses its head.
     #[error("{0}")]
-    Rule(Rule),
+    Rule(HeadRule),
     /// A read failed. The bytes that were read wait.
     #[error("a read failed")]
     Device,
@@ -152,7 +154,7 @@ impl<R: Source + Drop> Conn<R> {
         ensures over { OnOk result (self.new.over ≡ self.old.over) }
         ensures err { IfErr result (λ stop. (rule : _) × (head : RequestHead) × (rest : List ℕ)
             × BeginsWithHead (front self.old.buffer) head rest × (stop ≡ Stop.Rule rule)
-            × (check_framing head ≡ Err rule) × (self.new.over ≡ Some stop) × (self.new.left ≡ 0)
+            × (check_framing head ≡ Err (rule_seen rule)) × (self.new.over ≡ Some stop) × (self.new.left ≡ 0)
             × (self.new.buffer ≡ self.old.buffer)) }
     {
         match Head::new(self.buffer.front(), &self.fields, spans).body_length() {
@@ -181,7 +183,7 @@ impl<R: Source + Drop> Conn<R> {
         match read_head(&mut self.buffer, &mut self.fields, &mut self.source) {
             Ok(head) => self.accept(head),
             Err(Halt::End) => self.stop(Stop::End),
-            Err(Halt::Bad) => self.stop(Stop::Rule(Rule::H1)),
+            Err(Halt::Bad) => self.stop(Stop::Rule(HeadRule::H1)),
             Err(Halt::Device) => Err(Stop::Device),
         }
     }

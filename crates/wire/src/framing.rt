@@ -8,9 +8,11 @@ ghost use Rattle.std.specs.Char.{is_ascii_digit};
 ghost use Rattle.httparse.specs.Grammar.{RequestHead};
 ghost use Rattle.model.specs.Heads.{is_length, is_method, lengths, content_length, at_most, check_framing};
 ghost use Rattle.wire.specs.Fields.{Shows};
+ghost use Rattle.wire.specs.HeadRules.{rule_seen};
 
 use crate::head::Head;
-use names::{LARGEST_OBJECT, Rule};
+use crate::rules::HeadRule;
+use names::LARGEST_OBJECT;
 
 /// The longest body of a POST, in bytes.
 pub const LARGEST_FORM: u64 = 1_048_576;
@@ -28,30 +30,30 @@ impl<'a> Head<'a> {
     /// - H4: a `Content-Length` that is repeated or is not 1 to 18 digits; two `Authorization` or
     ///   two `Accept`; a GET with a length above 0.
     /// - H5: a POST over [`LARGEST_FORM`] bytes, or a PUT over [`LARGEST_OBJECT`].
-    pub fn body_length(&self) -> Result<u64, Rule>
+    pub fn body_length(&self) -> Result<u64, HeadRule>
         ensures { (head : RequestHead) → Shows self.now head
             → MatchResult result (λ n. (check_framing head ≡ Ok tt) × (n ≡ content_length head))
-            (λ rule. check_framing head ≡ Err rule) }
+            (λ rule. check_framing head ≡ Err (rule_seen rule)) }
     {
         if self.count("transfer-encoding") > 0 {
-            return Err(Rule::H2);
+            return Err(HeadRule::H2);
         }
         let is_post = self.method() == b"POST".as_slice();
         let is_put = self.method() == b"PUT".as_slice();
         if (is_post || is_put) && self.count("content-length") == 0 {
-            return Err(Rule::H3);
+            return Err(HeadRule::H3);
         }
         let Some(length) = self.stated_length() else {
-            return Err(Rule::H4);
+            return Err(HeadRule::H4);
         };
         if self.count("authorization") > 1 || self.count("accept") > 1 {
-            return Err(Rule::H4);
+            return Err(HeadRule::H4);
         }
         if self.method() == b"GET".as_slice() && length > 0 {
-            return Err(Rule::H4);
+            return Err(HeadRule::H4);
         }
         if is_post && length > LARGEST_FORM || is_put && length > LARGEST_OBJECT {
-            return Err(Rule::H5);
+            return Err(HeadRule::H5);
         }
         Ok(length)
     }

@@ -23,6 +23,7 @@ mod inflow;
 mod ows;
 mod reading;
 mod reply;
+mod rules;
 mod write;
 
 pub use connection::{Conn, Stop};
@@ -31,4 +32,5 @@ pub use framing::LARGEST_FORM;
 pub use head::Head;
 pub use inflow::{Inflow, WholeFault};
 pub use reply::{Content, ReplyHead};
+pub use rules::HeadRule;
 pub use write::write_reply;

@@ -3,10 +3,9 @@
 use crate::harness::{Tester, unwrap};
 use httparse::spans::EMPTY_HEADER_SPAN;
 use model::Form;
-use names::Rule;
 use routes::Routes;
-use service::judge;
-use wire::{Cut, FIELD_LIMIT, Head, first_head, front_of};
+use service::route_of;
+use wire::{Cut, FIELD_LIMIT, Head, HeadRule, first_head, front_of};
 
 /// What a head asks for: the request, the owner and the name of the repository, the parameter and the query
 /// of the target, and the size of the body.
@@ -19,7 +18,7 @@ struct Asked {
 }
 
 /// What a head asks for; or the rule that refuses it, and the methods that are reported with it.
-type Judged = Result<Asked, (Rule, &'static str)>;
+type Judged = Result<Asked, (HeadRule, &'static str)>;
 
 /// Asserts that the head of the text asks for this, or is refused this way.
 fn expect_judged(rt: &impl Tester, routes: &Routes, text: &[u8], want: &Judged) {
@@ -28,7 +27,7 @@ fn expect_judged(rt: &impl Tester, routes: &Routes, text: &[u8], want: &Judged) 
         panic!(rt; "there is no head: {text:?}");
     };
     let is_wanted = match (
-        judge(routes, &Head::new(front_of(text), &fields, spans)),
+        route_of(routes, &Head::new(front_of(text), &fields, spans)),
         want,
     ) {
         (Ok(target), Ok(asked)) => {
@@ -142,52 +141,52 @@ fn heads_ask_for_requests(rt: HostRuntime) {
 const REFUSED: &[(&[u8], Judged)] = &[
     (
         b"POST /no HTTP/1.1\r\nTransfer-Encoding: chunked\r\n\r\n",
-        Err((Rule::H2, "")),
+        Err((HeadRule::H2, "")),
     ),
     (
         b"POST /studio/film.git/info/lfs/locks HTTP/1.1\r\nAccept: text/html\r\n\r\n",
-        Err((Rule::H3, "")),
+        Err((HeadRule::H3, "")),
     ),
     (
         b"GET /no HTTP/1.1\r\nContent-Length: 1\r\n\r\n",
-        Err((Rule::H4, "")),
+        Err((HeadRule::H4, "")),
     ),
     (
         b"POST /studio/film.git/info/lfs/locks HTTP/1.1\r\nContent-Length: 1048577\r\n\r\n",
-        Err((Rule::H5, "")),
+        Err((HeadRule::H5, "")),
     ),
     (
         b"GET /studio/film.git/info/lfs HTTP/1.1\r\nAccept: text/html\r\n\r\n",
-        Err((Rule::H6, "")),
+        Err((HeadRule::H6, "")),
     ),
-    (b"OPTIONS * HTTP/1.1\r\n\r\n", Err((Rule::H6, ""))),
+    (b"OPTIONS * HTTP/1.1\r\n\r\n", Err((HeadRule::H6, ""))),
     (
         b"HEAD /studio/film.git/info/lfs/locks HTTP/1.1\r\n\r\n",
-        Err((Rule::H7, "GET, POST")),
+        Err((HeadRule::H7, "GET, POST")),
     ),
     (
         b"post /studio/film.git/info/lfs/locks HTTP/1.1\r\nAccept: text/html\r\n\r\n",
-        Err((Rule::H7, "GET, POST")),
+        Err((HeadRule::H7, "GET, POST")),
     ),
     (
         b"GET /studio/film.git/info/lfs/locks/verify HTTP/1.1\r\nAccept: text/html\r\n\r\n",
-        Err((Rule::H7, "POST")),
+        Err((HeadRule::H7, "POST")),
     ),
     (
         b"DELETE /studio/film.git/info/lfs/locks/7/unlock HTTP/1.1\r\n\r\n",
-        Err((Rule::H7, "POST")),
+        Err((HeadRule::H7, "POST")),
     ),
     (
         b"GET /studio/film.git/info/lfs/locks HTTP/1.1\r\nAccept: text/html\r\n\r\n",
-        Err((Rule::H8, "")),
+        Err((HeadRule::H8, "")),
     ),
     (
         b"POST /studio/film.git/info/lfs/locks HTTP/1.1\r\nContent-Length: 0\r\nAccept: text/html\r\n\r\n",
-        Err((Rule::H8, "")),
+        Err((HeadRule::H8, "")),
     ),
     (
         b"POST /studio/film.git/info/lfs/locks HTTP/1.1\r\nContent-Length: 0\r\nAccept:\r\n\r\n",
-        Err((Rule::H8, "")),
+        Err((HeadRule::H8, "")),
     ),
 ];
 

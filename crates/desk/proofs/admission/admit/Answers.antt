@@ -1,14 +1,18 @@
-use Rattle.desk.proofs.Prelude.{◌≡◌, Ok, Err, Result, sym, subst, repo_text, Rule, needs_upload, is_upload, policy_view, repo_view, request_asked, request_read}
-use Rattle.forms.specs.Given.{Gives}
+use Rattle.desk.proofs.Prelude.{◌≡◌, ◌>>=◌, Ok, Err, Result, sym, ap, repo_text, Rule, needs_upload, is_upload, policy_view, repo_view, request_asked, request_read}
+use Rattle.model.specs.Forms as form
 use Rattle.forms.specs.declared.request.Request.{Request}
 use Rattle.desk.proofs.Admitting.{refused_form, uncovered, taken, is_own, not_covered, covered_by, not_needed}
 use Rattle.desk.proofs.admission.admit.Goals as goal
 use Rattle.desk.proofs.admission.admit.Goals.{else-needs_upload-via-then-needs_upload+else-not-is_for_upload, else-needs_upload-via-else-needs_upload}
 
+-- what is asked, in the terms of the definitions
+abbrev asked_of : Result Request Rule → Result form.Request Rule
+asked_of r = r >>= λ request. Ok (request_asked request)
+
 pub returns-in-Err : goal.returns-in-Err
 returns-in-Err c =
     let a = c.args.asked.now in
-    let refused : request_read a ≡ Err c.in-Err.rule = subst (λ (r : Result Request Rule). Gives request_asked r (request_read a)) c.in-Err.is c.in_ok-read.ensures in
+    let refused : request_read a ≡ Err c.in-Err.rule = ap asked_of c.in-Err.is in
     refused_form (policy_view c.args.policy.now) (repo_text c.args.caller.now.repo) (is_upload c.args.caller.now.operation) a.repo.now
     (request_read a) (repo_view c.in-Some.repo.now) c.in-Err.rule
     (is_own c.as_str.result.now (repo_text c.args.caller.now.repo) a.repo.now c.ne.result c.as_str.ensures.value c.ne.ensures c.if-ne.false)
@@ -17,7 +21,7 @@ returns-in-Err c =
 pub returns-then-not-is_for_upload : goal.returns-then-not-is_for_upload
 returns-then-not-is_for_upload c =
     let a = c.args.asked.now in
-    let read : request_read a ≡ Ok (request_asked c.in-Ok.request) = subst (λ (r : Result Request Rule). Gives request_asked r (request_read a)) c.in-Ok.is c.in_ok-read.ensures in
+    let read : request_read a ≡ Ok (request_asked c.in-Ok.request) = ap asked_of c.in-Ok.is in
     uncovered (policy_view c.args.policy.now) (repo_text c.args.caller.now.repo) (is_upload c.args.caller.now.operation) a.repo.now
     (request_read a) (repo_view c.in-Some.repo.now) (request_asked c.in-Ok.request)
     (is_own c.as_str.result.now (repo_text c.args.caller.now.repo) a.repo.now c.ne.result c.as_str.ensures.value c.ne.ensures c.if-ne.false)
@@ -27,7 +31,7 @@ returns-then-not-is_for_upload c =
 pub returns : goal.returns
 returns c =
     let a = c.args.asked.now in
-    let read : request_read a ≡ Ok (request_asked c.in-Ok.request) = subst (λ (r : Result Request Rule). Gives request_asked r (request_read a)) c.in-Ok.is c.in_ok-read.ensures in
+    let read : request_read a ≡ Ok (request_asked c.in-Ok.request) = ap asked_of c.in-Ok.is in
     taken (policy_view c.args.policy.now) (repo_text c.args.caller.now.repo) (is_upload c.args.caller.now.operation) a.repo.now
     (request_read a) (repo_view c.in-Some.repo.now) (request_asked c.in-Ok.request)
     (is_own c.as_str.result.now (repo_text c.args.caller.now.repo) a.repo.now c.ne.result c.as_str.ensures.value c.ne.ensures c.if-ne.false)

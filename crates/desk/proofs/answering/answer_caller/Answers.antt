@@ -1,8 +1,7 @@
-use Rattle.desk.proofs.Prelude.{◌≡◌, ◌∙◌, Ok, Err, sym, repo_text, is_upload, by_rule, policy_view, repo_view, request_asked, Memory, reads_none, request_read, request_seen, setting_of, admission_result}
+use Rattle.desk.proofs.Prelude.{◌≡◌, ◌∙◌, Ok, Err, sym, repo_text, is_upload, by_rule, policy_view, repo_view, request_asked, reads_none, request_read, request_seen, setting_of, admission_result}
 use Rattle.std.specs.Bool.{⊤}
-use Rattle.desk.specs.declared.outcomes.AnswerFault.TheVariants as fault
 use Rattle.desk.proofs.Admitting.{admitted, own_name, same_uploads}
-use Rattle.desk.proofs.Early.{answered_after, denied_first, failed_first}
+use Rattle.desk.proofs.Early.{answered_after, denied_first}
 use Rattle.desk.proofs.Verdicts.{taken_up, not_taken, admitted_alike}
 use Rattle.desk.proofs.answering.answer_caller.Goals as goal
 
@@ -12,28 +11,22 @@ returns-in-Ok g c =
     let caller = c.args.caller.now in
     let asked = c.args.asked.now in
     let repo = repo_view c.in-Ok.repo.now in
-    let request = request_asked c.in-Ok.request in
-    let given : admission_result policy (repo_text caller.repo) (is_upload caller.operation) asked.repo.now (request_read asked) ≡ Ok (repo, request) = rw c.in-Ok.is at c.in_ok-admitted.ensures in
+    let request = request_asked c.in-Ok.request.now in
+    let given : admission_result policy (repo_text caller.repo) (is_upload caller.operation) asked.repo.now (request_read asked) ≡ Ok (repo, request) = c.in-Ok.ensures in
     let it = admitted policy (repo_text caller.repo) (is_upload caller.operation) asked.repo.now (request_read asked) repo request given in
-    answered_after (same_uploads asked.form asked.parameter.now asked.query.now asked.body.now request it.1) (own_name policy asked.repo.now repo it.0) (reads_none _ _ (λ _. ⊤) (λ _ _ _. tt))
+    answered_after (same_uploads (request_read asked) request it.1) (own_name policy asked.repo.now repo it.0) (reads_none _ _ (λ _. ⊤) (λ _ _ _. tt))
     (λ world read who holder size sized. (
       who,
       record { user = holder.user; token = holder.token; expires = holder.expires },
       sym (taken_up world (setting_of c.args.policy.now c.args.now) (request_seen asked size) who repo request (sym (admitted_alike policy caller who asked.repo.now (request_read asked) holder) ∙ given)),
     )) c.answer_request.ensures
 
-pub returns-in_ok-refusal-in-Err : goal.returns-in_ok-refusal-in-Err
-returns-in_ok-refusal-in-Err g c =
+pub returns-in-Err : goal.returns-in-Err
+returns-in-Err g c =
     let asked = c.args.asked.now in
     let rule = c.in-Err.rule in
-    let given : admission_result (policy_view c.args.policy.now) (repo_text c.args.caller.now.repo) (is_upload c.args.caller.now.operation) asked.repo.now (request_read asked) ≡ Err rule = rw c.in-Err.is at c.in_ok-admitted.ensures in
-    denied_first (g.met.B.Body.moves_none c.args.content.now) (by_rule rule) c.in_ok-refusal-in-Err.field-0 (reads_none _ _ (λ _. ⊤) (λ _ _ _. tt))
+    let given : admission_result (policy_view c.args.policy.now) (repo_text c.args.caller.now.repo) (is_upload c.args.caller.now.operation) asked.repo.now (request_read asked) ≡ Err rule = c.in-Err.ensures in
+    denied_first (g.met.B.Body.moves_none c.args.content.now) (by_rule rule) c.refusal.result (reads_none _ _ (λ _. ⊤) (λ _ _ _. tt))
     (λ world read who holder size sized.
     not_taken world (setting_of c.args.policy.now c.args.now) (request_seen asked size) who rule (sym (admitted_alike (policy_view c.args.policy.now) c.args.caller.now who asked.repo.now (request_read asked) holder) ∙ given))
-    c.in_ok-refusal-in-Err.ensures.shows c.in_ok-refusal-in-Err.ensures.leaves
-
-pub returns-in_err-refusal-in-Err : goal.returns-in_err-refusal-in-Err
-returns-in_err-refusal-in-Err g c = failed_first (g.met.B.Body.moves_none c.args.content.now) Memory _ (reads_none _ _ (λ _. ⊤) (λ _ _ _. tt)) c.from_residual-in_err-refusal-in-Err.ensures.1
-
-pub returns-in_err-admitted : goal.returns-in_err-admitted
-returns-in_err-admitted g c = failed_first (g.met.B.Body.moves_none c.args.content.now) Memory _ (reads_none _ _ (λ _. ⊤) (λ _ _ _. tt)) c.from_residual.ensures.1
+    c.refusal.ensures.shows c.refusal.ensures.read

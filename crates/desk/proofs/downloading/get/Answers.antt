@@ -11,7 +11,7 @@ returns-in-Some g c content =
     got g.S.Store c.args.store.now c.find.new.store c.args.case.now (get_asked c.args.asked.now)
     (subst (λ q. permit (case_policy c.args.case.now) q 404 ≡ Ok tt) c.pull_question.ensures c.in_ok-permit.ensures) content c.in-Some.row c.content.result
     (subst (λ (n : List ℕ). Reads g.S.Store c.args.store.now c.find.new.store (λ world. Finds g.S.Store world c.find.new.store n (get_asked c.args.asked.now) (Some c.in-Some.row))) c.name.ensures (rw c.in-Some.is at c.in_ok-found.ensures))
-    c.content.ensures.shows c.content.ensures.body
+    c.content.ensures
 
 pub returns-in-None : goal.returns-in-None
 returns-in-None g c content =

@@ -1,5 +1,5 @@
 use Rattle.desk.proofs.Prelude.{◌∙◌, [], sym, refl, err_from_is_err_and, repo_text, Refused, leads_none, keeps_still}
-use Rattle.desk.specs.declared.outcomes.AnswerFault.TheVariants as fault
+use Rattle.desk.specs.declared.receiving.ReceiveFault.TheVariants as fault
 use Rattle.desk.proofs.Arriving.{read_none, received_none, received}
 use Rattle.desk.proofs.receiving.receive.Goals as goal
 

@@ -65,6 +65,6 @@ returns-in-Err-Rule-clause-turn g c = record {
         stopped.consumes,
         refused_response g.S.Store (setting_of s.policy.now s.now) (IsPolicy-policy_view s.policy.now) s.in_range world store store
             (waiting c.args.conn.now ++ stopped.read) (waiting c.next_head.follows.lender-at-none) refused.0 d c.refusal.result refused.1 (leads_none g.S.Store store world holds)
-            (reply refused.1.of_head) refl c.refusal.ensures.close,
+            reply refl c.refusal.ensures.close,
       );
 }

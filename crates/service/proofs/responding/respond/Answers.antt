@@ -25,7 +25,7 @@ returns-in-Err-Denied-clause-turn g c = record {
         (moves_none old).consumes,
         refused_response g.S.Store (setting_of s.policy.now s.now) (IsPolicy-policy_view s.policy.now) s.in_range world store store
             (bytes ++ []) (waiting old) (message h [] true) d c.refusal.result refused (leads_none g.S.Store store world holds)
-            (reply refused.of_head) allow c.refusal.ensures.close,
+            reply allow c.refusal.ensures.close,
       );
 }
 

@@ -1,47 +1,24 @@
-use Rattle.service.proofs.Prelude.{◌∙◌, List, ℕ, sym, subst, arith, Appends, take_all, IsBeginning, Writes}
-use Rattle.service.proofs.Sent.{object_sent, content_cut, content_within, content_ended}
+use Rattle.service.proofs.Prelude.{sym, subst, ap, IsThere, EndsContent}
+use Rattle.refinement.proofs.ReadOnly.{reads_then}
+use Rattle.service.proofs.Sent.{found_sent, none_sent}
 use Rattle.service.proofs.sending.send_content.Goals as goal
 
-pub returns-in-Ok-clause-content : goal.returns-in-Ok-clause-content
-returns-in-Ok-clause-content g c =
-    let was = g.K.Sink.taken c.args.sink.now in
-    let is = g.K.Sink.taken c.pour.new.sink in
-    record {
-      same = c.in-Ok.ensures.same;
-      adds = c.in-Ok.ensures.adds;
-      each = λ honest world h given shows lends.
-          let it = object_sent g.S.Store c.args.store.now c.args.body.now c.in-Content.row given c.in-Content.is shows lends in
-          let all = c.in-Ok.ensures.all honest h.ready it.0.bytes it.3 in
-          let count = all.is in
-          subst (λ (t : List ℕ). Writes t was is c.expect_whole.result) (sym it.2)
-          (content_ended it.0.bytes c.in-Ok.written c.get.result was is c.expect_whole.result (c.get.ensures.value ∙ it.1) (omega (arith, count))
-          (subst (Appends was is) (sym (take_all c.in-Ok.written it.0.bytes (omega (arith, count)))) all.taken) c.expect_whole.ensures);
-    }
+pub returns-in-Ok-Some-clause-content : goal.returns-in-Ok-Some-clause-content
+returns-in-Ok-Some-clause-content g c =
+    reads_then g.S.Store c.args.store.now c.find.new.store c.send_object.new.store _ _ _
+    (λ world laws found wrote given shows there.
+    found_sent g.S.Store c.find.new.store world c.in-Some.repo c.args.body.now c.in-Content.name c.in-Content.size c.in-Ok-Some.row given (g.K.Sink.taken c.args.sink.now) (g.K.Sink.taken c.send_object.new.sink) c.send_object.result
+    c.in-Content.is shows (subst (λ r. IsThere world r given) c.in-Some.is there) found wrote)
+    (rw c.in-Ok-Some.field-0-is at c.in-Ok-Some.ensures) c.send_object.ensures.content
 
-pub returns-in-Device-clause-content : goal.returns-in-Device-clause-content
-returns-in-Device-clause-content g c =
-    let fault = c.in-Err.fault in
+pub returns-in-Ok-None-clause-content : goal.returns-in-Ok-None-clause-content
+returns-in-Ok-None-clause-content g c =
     let was = g.K.Sink.taken c.args.sink.now in
-    let is = g.K.Sink.taken c.pour.new.sink in
+    let r = c.expect_whole-in-Ok-None.result in
     record {
-      same = c.in-Err.ensures.same;
-      adds = c.in-Err.ensures.adds;
-      each = λ honest world h given shows lends.
-          let it = object_sent g.S.Store c.args.store.now c.args.body.now c.in-Content.row given c.in-Content.is shows lends in
-          (fault.written, subst (λ (t : List ℕ). IsBeginning was is t fault.written) (sym it.2) (content_cut fault.cause it.0.bytes fault.written was is c.in-Device.is (c.in-Err.ensures.part honest h.ready it.0.bytes it.3)));
-    }
-
-pub returns-in-Store-clause-content : goal.returns-in-Store-clause-content
-returns-in-Store-clause-content g c =
-    let fault = c.in-Err.fault in
-    let was = g.K.Sink.taken c.args.sink.now in
-    let is = g.K.Sink.taken c.pour.new.sink in
-    record {
-      same = c.in-Err.ensures.same;
-      adds = c.in-Err.ensures.adds;
-      each = λ honest world h given shows lends.
-          let it = object_sent g.S.Store c.args.store.now c.args.body.now c.in-Content.row given c.in-Content.is shows lends in
-          let part = c.in-Err.ensures.part honest h.ready it.0.bytes it.3 in
-          subst (λ (t : List ℕ). Writes t was is c.expect_whole-in-Store.result) (sym it.2)
-          (content_ended it.0.bytes fault.written c.get-in-Store.result was is c.expect_whole-in-Store.result (c.get-in-Store.ensures.value ∙ it.1) (content_within fault.cause c.in-Store.field-0 it.0.bytes fault.written was is c.in-Store.is part) part.taken c.expect_whole-in-Store.ensures);
+      same = c.find.ensures.same;
+      adds = c.find.ensures.adds;
+      each = λ honest world h given shows there.
+          none_sent world c.in-Some.repo c.args.body.now c.in-Content.name c.in-Content.size given was r c.in-Content.is shows (subst (λ r. IsThere world r given) c.in-Some.is there)
+          (subst (λ n. EndsContent 0 n r) c.get-in-Ok-None.ensures.value c.expect_whole-in-Ok-None.ensures);
     }

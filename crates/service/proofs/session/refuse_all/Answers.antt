@@ -1,4 +1,4 @@
-use Rattle.service.proofs.Prelude.{refl, take, store_refusal, refusal_text}
+use Rattle.service.proofs.Prelude.{refl, take, reply_of, store_refusal, refusal_text}
 use Rattle.service.proofs.Serving.{is_part}
 use Rattle.service.proofs.session.refuse_all.Goals as goal
 
@@ -7,12 +7,12 @@ returns-in-Ok-clause-refusal g c = record {
   written = refusal_text;
   writes = λ setting. (refl, refl);
   refused = λ e. cc;
-  taken = c.in-Ok.ensures.ok store_refusal c.store_refused.ensures;
+  taken = c.in-Ok.ensures.ok (reply_of store_refusal) c.store_refused.ensures.shows;
 }
 
 pub returns-clause-refusal : goal.returns-clause-refusal
 returns-clause-refusal g c =
-    let began = c.in-Err.ensures.part store_refusal c.store_refused.ensures in
+    let began = c.in-Err.ensures.part (reply_of store_refusal) c.store_refused.ensures.shows in
     record {
       written = take c.in-Err.field-0.written refusal_text;
       writes = λ setting. (is_part refusal_text c.in-Err.field-0.written began.less, refl);

@@ -16,7 +16,7 @@ returns-in-Ok-clause-turn g c =
             it.1,
             sent g.S.Store (setting_of s.policy.now s.now) (waiting c.args.conn.now ++ it.0) (waiting c.next_response.new.conn) world c.args.store.now c.next_response.new.store c.deliver.new.store
                 (g.K.Sink.taken c.args.sink.now) (g.K.Sink.taken c.deliver.new.sink) c.in-Ok.response c.deliver.result a read.same read.adds c.deliver.ensures.ends
-                (read.each honest a.kept a.turn.takes.leads.holds a.given a.is_reply a.lends),
+                (read.each honest a.kept a.turn.takes.leads.holds a.given a.is_reply a.there),
           );
     }
 

@@ -1,6 +1,6 @@
 use Rattle.routes.proofs.Prelude.{None, Some, ◌∙◌, drop, refl, slice_get, parts}
 use Rattle.routes.proofs.Targets.{by_parts, no_resource, no_git, with_git}
-use Rattle.routes.proofs.table.Routes.route_of.Goals as goal
+use Rattle.routes.proofs.table.Routes.find.Goals as goal
 
 pub returns-in_default : goal.returns-in_default
 returns-in_default c =

@@ -1,12 +1,13 @@
-use Rattle.service.proofs.Prelude.{refl, sym, H6, H8}
+use Rattle.service.proofs.Prelude.{refl, sym, rule_seen}
+use Rattle.wire.specs.declared.rules.HeadRule.TheVariants.{H6, H8}
 use Rattle.routes.specs.Routes.{route_seen}
 use Rattle.service.proofs.Judged.{not_framed, not_routed, not_served, not_accepted, asked, framing_rule, refused, unserved, puts}
-use Rattle.service.proofs.judging.judge.Goals as goal
+use Rattle.service.proofs.judging.route_of.Goals as goal
 
 pub returns-in-Err : goal.returns-in-Err
 returns-in-Err c h shows =
     let no_frame = c.in-Err.ensures h shows in
-    refused h c.refused_by.result c.in-Err.rule c.refused_by.ensures.rule c.refused_by.ensures.allow (not_framed h c.in-Err.rule no_frame) (framing_rule h c.in-Err.rule no_frame)
+    refused h c.refused_by.result c.in-Err.rule c.refused_by.ensures.rule c.refused_by.ensures.allow (not_framed h (rule_seen c.in-Err.rule) no_frame) (framing_rule h (rule_seen c.in-Err.rule) no_frame)
 
 pub returns-in_default : goal.returns-in_default
 returns-in_default c h shows =
