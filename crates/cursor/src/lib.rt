@@ -6,6 +6,7 @@
 //! [`split`] separates the locks of one user from the others.
 #![tactic(auto)]
 
+mod copies;
 mod filters;
 mod pages;
 mod parameters;
@@ -13,6 +14,7 @@ mod splitting;
 mod walks;
 mod windows;
 
+pub use copies::page_among;
 pub use filters::Filter;
 pub use pages::Page;
 pub use parameters::{LONGEST_PAGE, USUAL_PAGE, read_cursor, read_limit};

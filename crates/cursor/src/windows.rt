@@ -23,7 +23,7 @@ struct Window {
     next: Option<LockId>,
 }
 
-fn first_id() -> LockId
+pub(crate) fn first_id() -> LockId
     ensures { result ≡ 1 }
 {
     LockId::from_number(1).unwrap()
@@ -77,7 +77,11 @@ fn is_wanted<V: Fn(&Lock) -> bool>(row: &Lock, wanted: &Filter<'_>, visible: &V)
 }
 
 /// Keeps the locks that meet the filters and are accepted.
-fn keep_wanted<V: Fn(&Lock) -> bool>(rows: &mut Vec<Lock>, wanted: &Filter<'_>, visible: &V)
+pub(crate) fn keep_wanted<V: Fn(&Lock) -> bool>(
+    rows: &mut Vec<Lock>,
+    wanted: &Filter<'_>,
+    visible: &V,
+)
     requires { V.IsAlwaysCallable visible.now }
     ensures { (repo : List ℕ) (sees : Test) → Sees V.Fn visible.now repo sees
         → map (lock_seen repo) rows.new.items

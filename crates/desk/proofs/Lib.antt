@@ -2,6 +2,7 @@ mod Prelude
 pub mod Making
 pub mod Admitting
 pub mod Verdicts
+mod Viewed
 pub mod Told
 pub mod Releasing
 pub mod Unchanged

@@ -1,5 +1,5 @@
 -- The verdict on a request to release a lock, from the lock that is found.
-use Rattle.desk.proofs.Prelude.{◌≡◌, ◌∙◌, ◌<◌, ◌==◌, ◌&&◌, ℕ, Bool, true, false, List, [], ◌∷◌, find, cond, Option, Some, None, is_some, Result, Ok, Err, if◌then◌else◌, refl, sym, ap, subst, arith, IsErrAnd, Ghosts, Question, changed, failed, found_passes, Store, StoreFault, Ends, Removes, Reply, IsReplyOf, AnswersAlone, NotGranted, AllByRecursion, nat_tests, L2, L3, ◌>>=◌, check, ok_or, World, Lock, IsWorld, locks_of, UnlockForm, lock_question, sees, Denial, permit, releases, by_rule, by_rules, store_refusal, release_verdict, unlock_verdict, IsBelow, lock_with, case_policy, case_repo, case_user, case_seen, denial_view, IsUserOf, Judges, right_to_release, found_verdict}
+use Rattle.desk.proofs.Prelude.{ap₂, lock_seen, LockRow, ◌≡◌, ◌∙◌, ◌<◌, ◌==◌, ◌&&◌, ℕ, Bool, true, false, List, [], ◌∷◌, find, cond, Option, Some, None, is_some, Result, Ok, Err, if◌then◌else◌, refl, sym, ap, subst, arith, IsErrAnd, Ghosts, Question, changed, failed, found_passes, Store, StoreFault, Ends, Removes, Reply, IsReplyOf, AnswersAlone, NotGranted, AllByRecursion, nat_tests, L2, L3, ◌>>=◌, check, ok_or, World, Lock, IsWorld, locks_of, UnlockForm, lock_question, sees, Denial, permit, releases, by_rule, by_rules, store_refusal, release_verdict, unlock_verdict, IsBelow, lock_with, case_policy, case_repo, case_user, case_seen, denial_view, IsUserOf, Judges, right_to_release, found_verdict}
 use Rattle.std.proofs.lemmas.Bool.{true≢false}
 use Rattle.model.specs.declared.Right.{Right}
 use Rattle.refinement.specs.Left.{Gives}
@@ -9,9 +9,18 @@ use Rattle.model.specs.declared.Right.TheVariants as right
 use Rattle.model.specs.Callers.{Caller, is_own}
 use Rattle.model.proofs.Pages.{Rise, rise_from, locks_rise}
 use Rattle.desk.specs.declared.cases.Case.{Case}
+use Rattle.desk.specs.declared.rights.Asker.{Asker}
+use Rattle.desk.specs.Askers.{asker_policy, asker_repo, asker_user}
 use Rattle.desk.specs.Unlocking.{lock_verdict}
 
 -- ---- the lock that the caller sees
+
+-- the caller sees what the asker of the case sees
+pub asker_sees : (case : Case) (a : Asker) (row : LockRow) → asker_policy a ≡ case_policy case → asker_user a ≡ case_user case → asker_repo a ≡ (case_repo case).name
+    → sees (asker_policy a) (asker_user a) (lock_seen (asker_repo a) row) ≡ sees (case_policy case) (case_user case) (lock_seen (case_repo case).name row)
+asker_sees case a row policy user repo =
+    ap (λ p. sees p (asker_user a) (lock_seen (asker_repo a) row)) policy
+    ∙ ap₂ (λ u n. sees (case_policy case) u (lock_seen n row)) user repo
 
 later : (a b id : ℕ) → a < b → (a == id) ≡ true → (b == id) ≡ false
 later a b id below is = grind (arith, nat_tests)

@@ -4,6 +4,8 @@ pub mod Locking
 pub mod Done
 pub mod Admission
 pub mod Rights
+pub mod Askers
+pub mod Views
 pub mod Paging
 pub mod Unlocking
 pub mod Objects

@@ -46,10 +46,6 @@ pub record IsCallerOf (case : Case) (who : Caller) : Type 0 where
   pub token : case.token.now ≡ who.token
   pub expires : case.expires ≡ who.expires
 
--- the caller has the right on the ref and the path of the lock
-abbrev pub has_right : Case → Right → Lock → Bool
-has_right case right l = is_allowed (decide (case_policy case) (lock_question right (case_user case) l))
-
 -- the question whether the caller may list locks, on no ref and no path
 abbrev pub list_question : Case → model.Question
 list_question case = record { user = case_user case; repo = (case_repo case).name; right = right.List; ref = None; path = None }
@@ -57,10 +53,6 @@ list_question case = record { user = case_user case; repo = (case_repo case).nam
 -- the policy allows on the ref and the path of the lock what the question asks
 abbrev pub allow_on : model.Policy → model.Question → LockRow → Bool
 allow_on policy q row = is_allowed (decide policy (question_on q (Some (ref_text row.ref_name)) (Some (path_text row.path))))
-
--- the lock is the caller's own, or the caller may list or lock it
-abbrev pub may_list_or_lock : Case → Lock → Bool
-may_list_or_lock case l = is_own (case_user case) l || has_right case right.List l || has_right case right.Lock l
 
 -- the denial
 abbrev pub denial_view : Denial → answer.Denial

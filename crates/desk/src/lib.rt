@@ -17,8 +17,12 @@ mod rights;
 mod unlocking;
 mod uploading;
 mod verifying;
+mod viewing;
+mod views;
 
 pub use admission::RepoRequest;
 pub use answering::answer;
 pub use batching::batch_objects;
 pub use replies::{Reply, ReplyBody};
+pub use viewing::view;
+pub use views::{ObjectSize, OwnToken, View};

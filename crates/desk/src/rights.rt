@@ -5,11 +5,13 @@ ghost use Rattle.names.specs.Names.{ref_text};
 ghost use Rattle.model.specs.Answers.{hiding_status, may_push, permit};
 ghost use Rattle.model.specs.Locks.{ref_or_default};
 ghost use Rattle.model.specs.Policy.{decide};
-ghost use Rattle.model.specs.Callers.{is_allowed, is_own, lock_question, may_list, pull_question, push_question, sees};
+ghost use Rattle.model.specs.Callers.{is_allowed, is_own, lock_question, pull_question, push_question, sees};
+ghost use Rattle.model.specs.Views.{sees_objects};
 ghost use Rattle.forms.specs.Replies.{IsAnswer, denial_status};
 ghost use Rattle.policy.specs.Values.{policy_view, question_view};
 ghost use Rattle.locks.specs.Finding.{lock_seen};
-ghost use Rattle.desk.specs.Rights.{Judges, case_policy, case_repo, case_user, allow_on, denial_view, has_right, list_question, may_list_or_lock};
+ghost use Rattle.desk.specs.Rights.{Judges, case_policy, case_repo, case_user, allow_on, denial_view, list_question};
+ghost use Rattle.desk.specs.Askers.{asker_policy, asker_repo, asker_user, has_right, may_list_or_lock};
 ghost use Rattle.desk.specs.Replies.{IsReplyOf};
 
 use crate::cases::{Case, Denial};
@@ -17,7 +19,7 @@ use crate::replies::Reply;
 use forms::{Answer, DenialStatus};
 use locks::Lock;
 use model::Right;
-use names::RefName;
+use names::{RefName, RepoName, UserName};
 use policy::{ApplicableRows, Policy, Question, Verdict, decide};
 use std::alloc::{AllocError, Global};
 
@@ -58,14 +60,35 @@ fn is_allowed(policy: &Policy, question: &Question<'_>) -> bool
     matches!(decide(policy, question), Verdict::Allow(_))
 }
 
-/// The question whether the caller has the right on the ref and the path of the lock.
-pub(crate) fn lock_question<'a>(case: &Case<'a>, right: Right, row: &'a Lock) -> Question<'a>
-    ensures { question_view result ≡ lock_question right (case_user case.entry.now)
-        (lock_seen (case_repo case.entry.now).name row.now) }
+/// Who asks, and where.
+#[derive(Clone, Copy, Debug)]
+pub(crate) struct Asker<'a> {
+    pub policy: &'a Policy,
+    pub user: &'a UserName,
+    pub repo: &'a RepoName,
+}
+
+/// The caller of the case, in its repository.
+pub(crate) fn asker_of<'a>(case: &Case<'a>) -> Asker<'a>
+    ensures policy { asker_policy result ≡ case_policy case.entry.now }
+    ensures user { asker_user result ≡ case_user case.entry.now }
+    ensures repo { asker_repo result ≡ (case_repo case.entry.now).name }
 {
-    Question {
+    Asker {
+        policy: case.policy,
         user: case.user,
         repo: case.repo.name(),
+    }
+}
+
+/// The question whether the user has the right on the ref and the path of the lock.
+pub(crate) fn lock_question<'a>(asker: &Asker<'a>, right: Right, row: &'a Lock) -> Question<'a>
+    ensures { question_view result ≡ lock_question right (asker_user asker.entry.now)
+        (lock_seen (asker_repo asker.entry.now) row.now) }
+{
+    Question {
+        user: asker.user,
+        repo: asker.repo,
         right,
         ref_name: Some(&row.ref_name),
         path: Some(&row.path),
@@ -150,47 +173,67 @@ pub(crate) fn allow_on(rows: &ApplicableRows<'_>, row: &Lock) -> bool
     matches!(verdict, Verdict::Allow(_))
 }
 
-/// Whether the caller has the right on the ref and the path of the lock.
-fn has_right(case: &Case<'_>, right: Right, row: &Lock) -> bool
+/// Whether the user has the right on the ref and the path of the lock.
+fn has_right(asker: &Asker<'_>, right: Right, row: &Lock) -> bool
+    ensures { result ≡ has_right asker.entry.now right
+        (lock_seen (asker_repo asker.entry.now) row.now) }
+{
+    is_allowed(asker.policy, &lock_question(asker, right, row))
+}
+
+/// Whether the lock is the user's own.
+pub(crate) fn is_own(asker: &Asker<'_>, row: &Lock) -> bool
     ensures { result
-        ≡ has_right case.entry.now right (lock_seen (case_repo case.entry.now).name row.now) }
+        ≡ is_own (asker_user asker.entry.now) (lock_seen (asker_repo asker.entry.now) row.now) }
 {
-    is_allowed(case.policy, &lock_question(case, right, row))
+    row.owner.as_str() == asker.user.as_str()
 }
 
-/// Whether the caller may list the lock.
-fn may_list(case: &Case<'_>, row: &Lock) -> bool
-    ensures { result ≡ may_list (case_policy case.entry.now) (case_user case.entry.now)
-        (lock_seen (case_repo case.entry.now).name row.now) }
+/// Whether the lock is the user's own, or the user may list or lock it.
+fn may_list_or_lock(asker: &Asker<'_>, row: &Lock) -> bool
+    ensures { result ≡ may_list_or_lock asker.entry.now
+        (lock_seen (asker_repo asker.entry.now) row.now) }
 {
-    has_right(case, Right::List, row)
+    is_own(asker, row) || has_right(asker, Right::List, row) || has_right(asker, Right::Lock, row)
 }
 
-/// Whether the lock is the caller's own.
-pub(crate) fn is_own(case: &Case<'_>, row: &Lock) -> bool
-    ensures { result
-        ≡ is_own (case_user case.entry.now) (lock_seen (case_repo case.entry.now).name row.now) }
+/// The question whether the user may push to the ref of the lock.
+fn push_to<'a>(asker: &Asker<'a>, row: &'a Lock) -> Question<'a>
+    ensures { question_view result ≡ push_question (asker_user asker.entry.now)
+        (asker_repo asker.entry.now) (ref_text row.now.ref_name) }
 {
-    row.owner.as_str() == case.user.as_str()
+    Question {
+        user: asker.user,
+        repo: asker.repo,
+        right: Right::Push,
+        ref_name: Some(&row.ref_name),
+        path: None,
+    }
 }
 
-/// Whether the lock is the caller's own, or the caller may list or lock it.
-fn may_list_or_lock(case: &Case<'_>, row: &Lock) -> bool
-    ensures { result ≡ may_list_or_lock case.entry.now
-        (lock_seen (case_repo case.entry.now).name row.now) }
+/// Whether the user sees the lock: it is the user's own, or the user may list, lock or force it, or push to its ref.
+pub(crate) fn sees(asker: &Asker<'_>, row: &Lock) -> bool
+    ensures { result ≡ sees (asker_policy asker.entry.now) (asker_user asker.entry.now)
+        (lock_seen (asker_repo asker.entry.now) row.now) }
 {
-    is_own(case, row) || may_list(case, row) || has_right(case, Right::Lock, row)
+    may_list_or_lock(asker, row)
+        || has_right(asker, Right::Force, row)
+        || is_allowed(asker.policy, &push_to(asker, row))
 }
 
-/// Whether the caller sees the lock: it is the caller's own, or the caller may list, lock or force it, or
-/// push to its ref.
-pub(crate) fn sees(case: &Case<'_>, row: &Lock) -> bool
-    ensures { result ≡ sees (case_policy case.entry.now) (case_user case.entry.now)
-        (lock_seen (case_repo case.entry.now).name row.now) }
+/// Whether the user sees the names and the sizes of the objects: the user may pull, or may push to some ref.
+pub(crate) fn sees_objects(asker: &Asker<'_>) -> bool
+    ensures { result ≡ sees_objects (asker_policy asker.entry.now) (asker_user asker.entry.now)
+        (asker_repo asker.entry.now) }
 {
-    may_list_or_lock(case, row)
-        || has_right(case, Right::Force, row)
-        || is_allowed(case.policy, &push_question(case, &row.ref_name))
+    let pull = Question {
+        user: asker.user,
+        repo: asker.repo,
+        right: Right::Pull,
+        ref_name: None,
+        path: None,
+    };
+    is_allowed(asker.policy, &pull) || asker.policy.may_allow_push(asker.user, asker.repo)
 }
 
 /// The answer to a request that is denied.

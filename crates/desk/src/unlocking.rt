@@ -16,7 +16,7 @@ use crate::cases::{Case, Denial};
 use crate::locking::shown;
 use crate::outcomes::NotGranted;
 use crate::replies::Reply;
-use crate::rights::{is_own, lock_question, permit, sees};
+use crate::rights::{asker_of, is_own, lock_question, permit, sees};
 use forms::{Answer, DenialStatus, UnlockRequest};
 use locks::Lock;
 use model::Right;
@@ -29,7 +29,7 @@ fn right_for(case: &Case<'_>, force: bool, row: &Lock) -> Result<Right, Denial>
     ensures { Judges (λ right. right) result (right_to_release (case_user case.entry.now) force
         (lock_seen (case_repo case.entry.now).name row.now)) }
 {
-    if is_own(case, row) {
+    if is_own(&asker_of(case), row) {
         Ok(Right::Lock)
     } else if force {
         Ok(Right::Force)
@@ -46,7 +46,7 @@ fn may_release(case: &Case<'_>, force: bool, row: &Lock) -> Result<(), Denial>
     let right = right_for(case, force, row)?;
     permit(
         case.policy,
-        &lock_question(case, right, row),
+        &lock_question(&asker_of(case), right, row),
         DenialStatus::Forbidden,
     )
 }
@@ -66,7 +66,7 @@ fn lock_to_release<'a>(
     let Some(row) = found else {
         return Err(Denial::Rule(Rule::L2));
     };
-    if !sees(case, row) {
+    if !sees(&asker_of(case), row) {
         return Err(Denial::Rule(Rule::L2));
     }
     may_release(case, force, row)?;

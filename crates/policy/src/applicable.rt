@@ -1,8 +1,10 @@
 //! The rows that can decide the questions of one user for one right in one repository.
 
 ghost use Rattle.std.specs.Prelude.{◌≡◌, IfOk, map, option_map};
-ghost use Rattle.names.specs.Names.{ref_text, path_text};
+ghost use Rattle.std.specs.List.{list_any};
+ghost use Rattle.names.specs.Names.{ref_text, repo_text, path_text, user_text};
 ghost use Rattle.model.specs.Policy.{decide};
+ghost use Rattle.model.specs.Views.{may_allow_push};
 ghost use Rattle.policy.specs.Values.{policy_view, question_view, decision_view, row_view, numbered_view};
 ghost use Rattle.policy.specs.Applicable.{applicable_rows, covers_place, question_on, ApplicableRowsDecide};
 
@@ -12,7 +14,7 @@ use crate::patterns::{hold_if_named, patterns_of};
 use crate::policies::Policy;
 use crate::questions::{Question, Verdict};
 use crate::rows::Row;
-use names::{LockPath, RefName};
+use names::{LockPath, RefName, RepoName, UserName};
 use std::alloc::{AllocError, Global};
 
 impl<'a> NumberedRow<'a> {
@@ -70,6 +72,24 @@ fn rows_for<'a>(
         }
     }
     Ok(rows)
+}
+
+/// Whether one of the rows may allow the user a push to some ref of the repository.
+fn any_allows_push(rows: &[Row], user: &UserName, repo: &RepoName) -> bool
+    ensures { result ≡ list_any (λ row.
+        may_allow_push (user_text user.now) (repo_text repo.now) (row_view row)) rows.now }
+{
+    rows.iter().any(|row| row.may_allow_push(user, repo))
+}
+
+impl Policy {
+    /// Whether some row may allow the user a push to some ref of the repository.
+    pub fn may_allow_push(&self, user: &UserName, repo: &RepoName) -> bool
+        ensures { result ≡ list_any (may_allow_push (user_text user.now) (repo_text repo.now))
+            (policy_view self.now).rows }
+    {
+        any_allows_push(&self.rows, user, repo)
+    }
 }
 
 impl<'a> ApplicableRows<'a> {

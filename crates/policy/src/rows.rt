@@ -13,6 +13,7 @@ ghost use Rattle.policy.specs.Ranges.{texts, are_entries, is_count, is_user_entr
 
 use crate::questions::Question;
 use model::{Effect, Right};
+use names::{RepoName, UserName};
 
 /// A row: whom and what it allows or denies.
 #[derive(Debug, Drop)]
@@ -83,6 +84,8 @@ pub(crate) fn has_right(rights: &[Right], asked: Right) -> bool
 }
 
 impl Row {
+    ghost use Rattle.names.specs.Names.{repo_text, user_text};
+    ghost use Rattle.model.specs.Views.{may_allow_push};
     ghost use Rattle.policy.specs.Values.{row_view, question_view};
 
     /// Whether all five lists hold the question.
@@ -100,6 +103,17 @@ impl Row {
         has_right(&self.rights, question.right)
             && held_by(&self.users, question.user.as_str())
             && held_by(&self.repos, question.repo.as_str())
+    }
+
+    /// Whether the row may allow the user a push to some ref of the repository: it is a row that allows, and holds the
+    /// user, the repository and the right.
+    pub(crate) fn may_allow_push(&self, user: &UserName, repo: &RepoName) -> bool
+        ensures { result ≡ may_allow_push (user_text user.now) (repo_text repo.now) (row_view self.now) }
+    {
+        matches!(self.effect, Effect::Allow)
+            && held_by(&self.users, user.as_str())
+            && held_by(&self.repos, repo.as_str())
+            && has_right(&self.rights, Right::Push)
     }
 
     /// Whether the row holds the ref and the path.

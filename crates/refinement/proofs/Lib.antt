@@ -23,5 +23,6 @@ pub mod ReadOnly
 pub mod Staged
 pub mod Removing
 pub mod Rising
+pub mod Orders
 pub mod Same
 pub mod TakenUp

@@ -5,7 +5,7 @@ use Rattle.names.specs.declared.operations.Operation.TheVariants.{Download, Uplo
 use Rattle.tables.specs.Rows as row
 use Rattle.refinement.proofs.Found.{map_itself}
 
-nat_of : ℤ → ℕ
+pub nat_of : ℤ → ℕ
 nat_of (pos n) = n
 nat_of _ = 0
 
@@ -13,7 +13,7 @@ nat_of _ = 0
 lock_of : row.Lock → Lock
 lock_of r = record { repo = r.repo; id = nat_of r.id; ref = r.ref_name; path = r.path; owner = r.owner; at = nat_of r.moment }
 
-operation_in : ℤ → Operation
+pub operation_in : ℤ → Operation
 operation_in code = cond (int_eq code (pos 1)) Download Upload
 
 token_of : row.Token → TokenDigest
@@ -23,7 +23,7 @@ lock_back : (l : Lock) → lock_of (lock_row l) ≡ l
 unfolding lock_of nat_of
 lock_back l = refl
 
-operation_back : (o : Operation) → operation_in (code_of o) ≡ o
+pub operation_back : (o : Operation) → operation_in (code_of o) ≡ o
 unfolding operation_in
 operation_back Download = refl
 operation_back Upload = refl
@@ -35,7 +35,7 @@ token_back : (t : Token) → token_of (token_row t) ≡ token_digest t
 unfolding token_of nat_of
 token_back t = ap (λ (o : Operation). record { digest = sha256 t.text; user = t.user; repo = t.repo; operation = o; expires = t.expires }) (operation_back t.operation)
 
-map_back : {A B C : Type 0} (f : B → C) (g : A → B) (h : A → C) (xs : List A) → ((x : A) → f (g x) ≡ h x) → map f (map g xs) ≡ map h xs
+pub map_back : {A B C : Type 0} (f : B → C) (g : A → B) (h : A → C) (xs : List A) → ((x : A) → f (g x) ≡ h x) → map f (map g xs) ≡ map h xs
 map_back f g h [] back = refl
 map_back f g h (x ∷ xs) back = ap₂ (λ y ys. y ∷ ys) (back x) (map_back f g h xs back)
 

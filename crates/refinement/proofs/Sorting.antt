@@ -51,7 +51,8 @@ module _ {X : Type 0} (cmp : X → X → Ordering) (total : IsTotalOrder cmp) wh
   not_less Equal e = refl
   not_less Greater e = e
 
-  is_sorted : (xs : List X) → IsAscending NotAfter xs → IsSorted cmp xs
+  -- a rising list is sorted
+  pub is_sorted : (xs : List X) → IsAscending NotAfter xs → IsSorted cmp xs
   is_sorted [] up k d p q = absurd (omega (arith, q))
   is_sorted (x ∷ []) up zero d p q = absurd (omega (arith, q))
   is_sorted (x ∷ []) up (suc k) d p q = absurd (omega (arith, q))

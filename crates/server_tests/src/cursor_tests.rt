@@ -94,13 +94,39 @@ fn page<V: Fn(&Lock) -> bool>(
     unwrap(rt, answer)
 }
 
-/// The pages of a store with this many locks.
+/// The same of locks in memory.
+fn page_in_memory<V: Fn(&Lock) -> bool>(
+    rt: &impl Tester,
+    locks: &[Lock],
+    visible: V,
+    cursor: u32,
+    limit: u32,
+) -> Page
+    requires { V.IsAlwaysCallable visible }
+{
+    let any = Filter {
+        path: None,
+        id: None,
+        ref_name: None,
+    };
+    let cursor = LockId::from_number(cursor);
+    let answer = cursor::page_among(rt.alloc(), locks, &any, visible, cursor, limit);
+    unwrap(rt, answer)
+}
+
+/// The pages of a store with this many locks, and those of the same locks in memory.
 fn pages_of(rt: &impl Tester, count: u32, cases: &[(Asked, Seen)]) {
     let mut store = with_locks(rt, count);
+    let all = unwrap(
+        rt,
+        locks::all(rt.alloc(), &mut store, &repo(rt, "studio/film")),
+    );
     for case in cases {
         let &((every, cursor, limit), want) = case;
         let visible = |row: &Lock| row.id.get().is_multiple_of(every);
         let page = page(rt, &mut store, visible, cursor, limit);
+        assert_eq!(rt; seen(&page), want);
+        let page = page_in_memory(rt, all.as_slice(), visible, cursor, limit);
         assert_eq!(rt; seen(&page), want);
     }
 }

@@ -1,10 +1,10 @@
 //! The desk's replies to requests, without the lines that a connection adds.
 
-use crate::harness::{Tester, lock_path, oid, unwrap};
-use crate::server::{CREATED, NOW, Server};
-use desk::{Reply, ReplyBody, RepoRequest, answer};
+use crate::harness::{Tester, lock_path, oid, repo, unwrap, user};
+use crate::server::{CREATED, NOW, ROW, Server, policy_with};
+use desk::{Reply, ReplyBody, RepoRequest, answer, view};
 use forms::{GetRequest, LockRequest, PutRequest, Request};
-use names::{Moment, Rule, SliceSource, VecSink};
+use names::{Moment, Operation, Rule, SliceSource, VecSink};
 use service::send_reply;
 
 /// Ann's upload token, her download token, and her token for a repository that the policy does not have.
@@ -143,6 +143,14 @@ fn text_of(reply: &Reply) -> &str {
     }
 }
 
+/// The name and the size of the object that the reply sends; an empty text and 0 if it sends none.
+fn content_of(reply: &Reply) -> (&str, u64) {
+    match &reply.body {
+        ReplyBody::Content(name, size) => (name.text(), size.get()),
+        ReplyBody::Empty | ReplyBody::Json(_) | ReplyBody::Refused(_) => ("", 0),
+    }
+}
+
 #[test]
 fn requests_are_answered_by_the_first_rule_or_done(rt: HostRuntime) {
     let mut server = Server::new(&rt);
@@ -177,12 +185,7 @@ fn an_upload_is_refused_before_its_content_or_answered_after_it(rt: HostRuntime)
         name: oid(&rt, ABC),
     }));
     let reply = reply_to(&rt, &mut server, READER, "studio/film", &request, b"");
-    let ReplyBody::Content(name, size) = reply.body else {
-        assert!(rt; false, "a download sends a content");
-        return;
-    };
-    assert_eq!(rt; name.text(), ABC);
-    assert!(rt; size.get() == 3);
+    assert_eq!(rt; content_of(&reply), (ABC, 3));
 }
 
 /// A front of its own: it takes no message, and no JSON is read.
@@ -195,4 +198,107 @@ fn a_front_without_messages_locks_a_path(rt: HostRuntime) {
     unwrap(&rt, send_reply(&mut sink, &reply, "", false));
     let text = unwrap(&rt, str::from_utf8(sink.taken()));
     assert_eq!(rt; text, CREATED);
+}
+
+/// A user and a repository; the numbers of tokens, objects and locks that the user sees, the number of locks ever made, and
+/// the room.
+type Sight = (&'static str, &'static str, usize, usize, usize, u32, i128);
+
+/// What is seen of a server with the object `abc` and a lock of ann's. The policy has no row for carol, and does not have
+/// the repository `studio/game`.
+const SIGHTS: &[Sight] = &[
+    ("ann", "studio/film", 2, 1, 1, 1, 999_997),
+    ("bob", "studio/film", 1, 1, 1, 1, 999_997),
+    ("carol", "studio/film", 0, 0, 0, 1, 999_997),
+    ("ann", "studio/game", 1, 0, 0, 0, 0),
+];
+
+/// A server with the object `abc` and ann's lock on `art/hero.psd`.
+fn with_object_and_lock(rt: &impl Tester) -> Server {
+    let mut server = Server::new(rt);
+    let upload = Ok(Request::Put(PutRequest {
+        name: oid(rt, ABC),
+        ref_name: None,
+    }));
+    let stored = reply_to(rt, &mut server, ANN, "studio/film", &upload, b"abc");
+    assert!(rt; stored.rule.is_none());
+    let lock = Ok(lock_request(rt));
+    let locked = reply_to(rt, &mut server, ANN, "studio/film", &lock, b"");
+    assert!(rt; locked.rule.is_none());
+    server
+}
+
+#[test]
+fn a_view_has_what_its_user_sees(rt: HostRuntime) {
+    let mut server = with_object_and_lock(&rt);
+    for &(name, place, tokens, objects, locks, made, room) in SIGHTS {
+        let (name, place) = (user(&rt, name), repo(&rt, place));
+        let seen = view(rt.alloc(), &mut server.store, &server.policy, &name, &place);
+        let seen = unwrap(&rt, seen);
+        assert_eq!(rt; seen.tokens.len(), tokens);
+        assert_eq!(rt; seen.objects.len(), objects);
+        assert_eq!(rt; seen.locks.len(), locks);
+        assert_eq!(rt; seen.made, made);
+        assert!(rt; seen.room == room);
+    }
+}
+
+/// The tokens of ann by the SHA-256 of their texts, which begins with 52 for 64 times `c`, and with ff for 64 times `a`.
+#[test]
+fn a_view_lists_tokens_objects_and_locks(rt: HostRuntime) {
+    let mut server = with_object_and_lock(&rt);
+    let (ann, film) = (user(&rt, "ann"), repo(&rt, "studio/film"));
+    let seen = view(rt.alloc(), &mut server.store, &server.policy, &ann, &film);
+    let seen = unwrap(&rt, seen);
+    assert!(rt;
+        seen.tokens
+            .as_slice()
+            .first()
+            .map_or(false, |token| token.digest[0] == 0x52)
+    );
+    assert!(rt;
+        seen.tokens
+            .as_slice()
+            .last()
+            .map_or(false, |token| token.digest[0] == 0xff)
+    );
+    assert!(rt;
+        seen.tokens
+            .as_slice()
+            .first()
+            .map_or(false, |token| token.operation == Operation::Download)
+    );
+    assert!(rt;
+        seen.objects
+            .as_slice()
+            .first()
+            .map_or(false, |object| object.name.text() == ABC)
+    );
+    assert!(rt;
+        seen.objects
+            .as_slice()
+            .first()
+            .map_or(false, |object| object.size.get() == 3)
+    );
+    assert!(rt;
+        seen.locks
+            .as_slice()
+            .first()
+            .map_or(false, |lock| lock.id.get() == 1)
+    );
+    assert!(rt;
+        seen.locks
+            .as_slice()
+            .first()
+            .map_or(false, |lock| lock.path.as_str() == "art/hero.psd")
+    );
+}
+
+#[test]
+fn the_room_of_a_view_is_below_zero_after_the_quota_was_lowered(rt: HostRuntime) {
+    let mut server = with_object_and_lock(&rt);
+    let lowered = policy_with(&rt, "1", ROW);
+    let (ann, film) = (user(&rt, "ann"), repo(&rt, "studio/film"));
+    let seen = view(rt.alloc(), &mut server.store, &lowered, &ann, &film);
+    assert!(rt; unwrap(&rt, seen).room == -2);
 }

@@ -12,4 +12,5 @@ returns-in_err-right c =
 pub returns : goal.returns
 returns c =
     let case = c.args.case.now in
-    by_right case c.args.force (lock_seen (case_repo case).name c.args.row.now) c.in_ok-right.right _ c.permit.result c.in_ok-right.ensures c.lock_question.ensures c.permit.ensures
+    let asks = rw (c.asker_of.ensures.user, c.asker_of.ensures.repo) at c.lock_question.ensures in
+    by_right case c.args.force (lock_seen (case_repo case).name c.args.row.now) c.in_ok-right.right _ c.permit.result c.in_ok-right.ensures asks c.permit.ensures
