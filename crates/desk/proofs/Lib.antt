@@ -5,13 +5,15 @@ pub mod Verdicts
 mod Viewed
 pub mod Told
 pub mod Releasing
+pub mod Quiet
 pub mod Unchanged
 pub mod Showing
 pub mod Arriving
 pub mod Fetching
 pub mod Pushing
-pub mod Placing
+pub mod Reading
 pub mod Offering
 pub mod Puts
 pub mod Early
 pub mod Bounded
+pub mod Foreseen

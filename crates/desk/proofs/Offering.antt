@@ -1,9 +1,9 @@
 -- A batch: from what the code judges of each object to the verdict of the definitions.
-use Rattle.desk.proofs.Prelude.{◌≡◌, ◌∙◌, ℕ, ◌+◌, ◌-◌, ◌==◌, Bool, true, false, List, [], ◌∷◌, ◌++◌, map, Option, Some, None, Result, Ok, Err, refl, sym, ap, ap₂, nat_le, option_map, map-append, Ghosts, Rule, B1, B4, B5, ◌>>=◌, check, ok_or, or_default, World, IsWorld, Repo, RepoState, repo_state, size_of, has_room, BatchForm, Answer, Denial, offers, downloads, may_pull, may_push, ref_or_default, valid_size, check_hash, action_at, download_of, upload_of, upload_actions, unless_stored, offer, offers_for, may_batch, batch_verdict, content_href, object_asked, offer_at, result_at, actions_at, Store, ObjectRow, Finds, size_found, IsSound, Judged, AreLinksOf, actions_for, actions_on, judged_as, judged_on, judged_by, may_transfer, IsCallerOf, case_policy, case_repo, case_user, case_seen}
+use Rattle.std.specs.Prelude.{ℤ, pos, int_le}
+use Rattle.desk.proofs.Prelude.{◌≡◌, ◌∙◌, ℕ, ◌-◌, ◌==◌, Bool, true, false, List, [], ◌∷◌, ◌++◌, map, Option, Some, None, Result, Ok, Err, refl, sym, ap, ap₂, map-append, Rule, B1, B4, B5, ◌>>=◌, check, ok_or, or_default, RepoState, size_of, has_room, BatchForm, Answer, Denial, offers, downloads, may_pull, may_push, ref_or_default, valid_size, check_hash, action_at, download_of, upload_of, upload_actions, unless_stored, offer, offers_for, may_batch, batch_verdict, content_href, object_asked, offer_at, result_at, actions_at, IsSound, Judged, AreLinksOf, actions_for, actions_on, judged_as, judged_on, judged_by, may_transfer, IsCallerOf, case_policy, case_repo, case_user, case_with}
 use Rattle.std.specs.Bool.{⊤}
 use Rattle.names.specs.declared.operations.Operation.{Operation}
 use Rattle.names.specs.declared.operations.Operation.TheVariants as operation
-use Rattle.model.specs.World.{total}
 use Rattle.model.specs.Forms.{BatchObject}
 use Rattle.model.specs.Callers.{Caller}
 use Rattle.model.specs.Cases as model
@@ -16,26 +16,16 @@ use Rattle.forms.specs.declared.offers.Offer as shown
 use Rattle.forms.specs.declared.batch.BatchObject as given
 use Rattle.desk.specs.declared.cases.Case.{Case}
 use Rattle.desk.specs.declared.batching.NamedObject.{NamedObject}
-use Rattle.desk.proofs.Placing.{room_is}
-use Rattle.desk.proofs.Unchanged.{IsQuiet}
-
--- a batch that is granted changes no world
-pub offers_are_quiet : (some : List Offer) → IsQuiet (Ok (offers some))
-offers_are_quiet some = record { ending = λ world. refl; after = λ world. refl }
 
 -- ---- one object
 
--- what can be done with an object whose name and size are valid, by the row that was found
-pub judged_found : {S : Type 0} (g : Ghosts S) (world : World) (s : Store S) (repo : Repo) (asked : BatchForm) (o : BatchObject) (named : NamedObject) (found : Option ObjectRow)
-    (used : ℕ) (fits : Bool) (actions : Result Actions Rule) → IsWorld world → used ≡ total repo.name world → fits ≡ nat_le (used + named.size) repo.quota
-    → IsSound asked.hash_algo o (Ok named) → Finds g world s repo.name named.name found
-    → ((state : RepoState) → fits ≡ has_room named.size state → actions ≡ actions_for state asked.operation (option_map (λ (row : ObjectRow). row.size) found) named.size)
-    → actions ≡ actions_on (repo_state repo world) asked o
-judged_found g world s repo asked o named found used fits actions laws is fitting sound finds by =
-    let state = repo_state repo world in
-    let stored = sym (size_found g world s repo named.name found laws finds) ∙ ap (λ name. size_of name state) sound.1 in
-    by state (sym (room_is world repo named.size named.name used fits is fitting))
-    ∙ ap (λ there. actions_for state asked.operation there named.size) stored
+-- what can be done with an object whose name and size are valid, by the size that is stored under its name
+pub judged_found : (state : RepoState) (asked : BatchForm) (o : BatchObject) (named : NamedObject) (stored : Option ℕ) (room : ℤ) (fits : Bool) (actions : Result Actions Rule)
+    → room ≡ state.room → fits ≡ int_le (pos named.size) room → IsSound asked.hash_algo o (Ok named) → stored ≡ size_of named.name state
+    → ((s : RepoState) → fits ≡ has_room named.size s → actions ≡ actions_for s asked.operation stored named.size) → actions ≡ actions_on state asked o
+judged_found state asked o named stored room fits actions is fitting sound found by =
+    by state (fitting ∙ ap (int_le (pos named.size)) is)
+    ∙ ap (λ there. actions_for state asked.operation there named.size) (found ∙ ap (λ name. size_of name state) sound.1)
     ∙ ap (λ (v : Result ℕ Rule). v >>= λ size. actions_for state asked.operation (size_of o.oid state) size) (sym sound.0)
 
 -- an object whose name or size is not valid
@@ -44,21 +34,21 @@ judged_unsound state asked o rule unsound = ap (λ (v : Result ℕ Rule). v >>= 
 
 -- ---- all objects, one after the other
 
--- of this number of used bytes, these offers are the objects as they are judged
-pub record HasJudged (repo : Repo) (asked : BatchForm) (used : ℕ) (some : List shown.Offer) (objects : List given.BatchObject) (world : World) : Type 0 where
-  pub total : used ≡ total repo.name world
-  pub judged : map judged_by some ≡ map (judged_on (repo_state repo world) asked) (map object_asked objects)
+-- with this room, these offers are the objects as they are judged
+pub record HasJudged (asked : BatchForm) (room : ℤ) (some : List shown.Offer) (objects : List given.BatchObject) (state : RepoState) : Type 0 where
+  pub room_is : room ≡ state.room
+  pub judged : map judged_by some ≡ map (judged_on state asked) (map object_asked objects)
 
-module _ (repo : Repo) (asked : BatchForm) (used : ℕ) (world : World) where
+module _ (asked : BatchForm) (room : ℤ) (state : RepoState) where
   -- one object more
-  pub judged_more : (some more : List shown.Offer) (objects : List given.BatchObject) (o : given.BatchObject) (actions : Result Actions Rule) → HasJudged repo asked used some objects world
-      → actions ≡ actions_on (repo_state repo world) asked (object_asked o) → map judged_by more ≡ map judged_by some ++ judged_as (object_asked o) actions ∷ []
-      → HasJudged repo asked used more (objects ++ o ∷ []) world
+  pub judged_more : (some more : List shown.Offer) (objects : List given.BatchObject) (o : given.BatchObject) (actions : Result Actions Rule) → HasJudged asked room some objects state
+      → actions ≡ actions_on state asked (object_asked o) → map judged_by more ≡ map judged_by some ++ judged_as (object_asked o) actions ∷ []
+      → HasJudged asked room more (objects ++ o ∷ []) state
   judged_more some more objects o actions so_far is added =
-      let on = judged_on (repo_state repo world) asked in
+      let on = judged_on state asked in
       let whole = ap (map on) (map-append object_asked objects (o ∷ [])) ∙ map-append on (map object_asked objects) (object_asked o ∷ []) in
       record {
-        total = so_far.total;
+        room_is = so_far.room_is;
         judged = added ∙ ap₂ (λ (xs : List Judged) (x : Judged). xs ++ x ∷ []) so_far.judged (ap (judged_as (object_asked o)) is) ∙ sym whole;
       }
 
@@ -90,9 +80,9 @@ module _ (links : Links) (oid : List ℕ) (state : RepoState) where
   uploads_from (Ok size) (Ok hash) None = checked (has_room size state) B5 Upload
   uploads_from (Ok size) (Ok hash) (Some there) = checked (there == size) B4 Stored
 
-module _ (case : Case) (who : Caller) (world : World) (ref : List ℕ) (links : Links) (is_caller : IsCallerOf case who) (are : AreLinksOf case ref links) (asked : BatchForm) where
+module _ (case : Case) (who : Caller) (state : RepoState) (ref : List ℕ) (links : Links) (is_caller : IsCallerOf case who) (are : AreLinksOf case ref links) (asked : BatchForm) where
   abbrev seen : model.Case
-  seen = case_seen world case who
+  seen = case_with case who state
 
   abbrev left : links.expires_in ≡ who.expires - case.now
   left = are.expires_in ∙ ap (λ (e : ℕ). e - case.now) is_caller.expires
@@ -155,10 +145,10 @@ module _ (case : Case) (who : Caller) (world : World) (ref : List ℕ) (links : 
       shown_each (o ∷ os) = ap (λ xs. offer_at links o ∷ xs) (shown_each os)
 
 -- the verdict on a batch that the policy denies
-pub batch_denied : (case : Case) (who : Caller) (world : World) (ref : List ℕ) (asked : BatchForm) (denial : Denial) → case_user case ≡ who.user
-    → ref_or_default asked.ref (case_repo case) ≡ ref → may_transfer case asked.operation ref ≡ Err denial → batch_verdict (case_seen world case who) asked ≡ Err denial
-batch_denied case who world ref asked denial user named denied = at asked.operation refl denied
+pub batch_denied : (case : Case) (who : Caller) (state : RepoState) (ref : List ℕ) (asked : BatchForm) (denial : Denial) → case_user case ≡ who.user
+    → ref_or_default asked.ref (case_repo case) ≡ ref → may_transfer case asked.operation ref ≡ Err denial → batch_verdict (case_with case who state) asked ≡ Err denial
+batch_denied case who state ref asked denial user named denied = at asked.operation refl denied
   where
-    at : (operation : Operation) → asked.operation ≡ operation → may_transfer case operation ref ≡ Err denial → batch_verdict (case_seen world case who) asked ≡ Err denial
+    at : (operation : Operation) → asked.operation ≡ operation → may_transfer case operation ref ≡ Err denial → batch_verdict (case_with case who state) asked ≡ Err denial
     at operation.Download is e = rw (is, sym user, e) refl
     at operation.Upload is e = rw (is, sym user, named, e) refl

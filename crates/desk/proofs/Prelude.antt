@@ -8,6 +8,7 @@ pub use Rattle.desk.specs.Contents.{HasRead, IsLeftAfter, IsLeftBy}
 pub use Rattle.desk.specs.Done.{Answers, AnswersAll, AnswersAlone, AnswersBy, AnswersCaller, AnswersEach, AnswersIf, AnswersOrDenies, AnswersRequest, AnswersUser, IsAnsweredAs, LeavesOthers, LeavesWorld, RepliesOrDenies, StaysWithin, given_by, given_or, given_with, verdict_by}
 pub use Rattle.desk.specs.Locking.{IsReadyAfter, IsWantedBy, ReportsHeld, allowed_verdict, free_verdict, lock_part, question_on}
 pub use Rattle.desk.specs.Objects.{has_place, size_check}
+pub use Rattle.desk.specs.Reading.{ReadsRepo, ShowsCaller, ShowsPlan, ShowsUser, ShowsVerdict, case_with}
 pub use Rattle.desk.specs.Receiving.{Carries, Fills, HasAll, Receives, ReceivesStaged, RepliesReceived, Settles, Takes, answer_of, object_from}
 pub use Rattle.desk.specs.Replies.{IsReply, IsReplyOf, ShowsIf, body_seen, given_in, is_refused, is_s1_if}
 pub use Rattle.desk.specs.Rights.{IsCallerOf, IsUserOf, Judges, allow_on, case_policy, case_repo, case_seen, case_user, denial_view}

@@ -4,16 +4,11 @@ use Rattle.std.specs.Bool.{⊤}
 use Rattle.model.specs.Callers.{Caller}
 use Rattle.model.specs.Cases.{Case}
 use Rattle.desk.specs.declared.cases.Case as code
-use Rattle.desk.proofs.Unchanged.{IsQuiet}
 
 -- whether the caller may push is asked of the user of the definitions
 pub pushes : (case : code.Case) (who : Caller) (ref : List ℕ) (answer : Result ⊤ Denial) → IsUserOf case who
     → may_push (case_policy case) (case_user case) (case_repo case).name ref ≡ answer → may_push (case_policy case) who.user (case_repo case).name ref ≡ answer
 pushes case who ref answer user may = subst (λ (u : List ℕ). may_push (case_policy case) u (case_repo case).name ref ≡ answer) user may
-
--- a confirmation changes no world
-pub confirmation_is_quiet : IsQuiet (Ok confirms)
-confirmation_is_quiet = record { ending = λ world. refl; after = λ world. refl }
 
 module _ (c : Case) (ref : List ℕ) where
   abbrev may : Result ⊤ Denial

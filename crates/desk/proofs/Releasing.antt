@@ -1,5 +1,5 @@
 -- The verdict on a request to release a lock, from the lock that is found.
-use Rattle.desk.proofs.Prelude.{ap₂, lock_seen, LockRow, ◌≡◌, ◌∙◌, ◌<◌, ◌==◌, ◌&&◌, ℕ, Bool, true, false, List, [], ◌∷◌, find, cond, Option, Some, None, is_some, Result, Ok, Err, if◌then◌else◌, refl, sym, ap, subst, arith, IsErrAnd, Ghosts, Question, changed, failed, found_passes, Store, StoreFault, Ends, Removes, Reply, IsReplyOf, AnswersAlone, NotGranted, AllByRecursion, nat_tests, L2, L3, ◌>>=◌, check, ok_or, World, Lock, IsWorld, locks_of, UnlockForm, lock_question, sees, Denial, permit, releases, by_rule, by_rules, store_refusal, release_verdict, unlock_verdict, IsBelow, lock_with, case_policy, case_repo, case_user, case_seen, denial_view, IsUserOf, Judges, right_to_release, found_verdict}
+use Rattle.desk.proofs.Prelude.{ap₂, lock_seen, LockRow, ◌≡◌, ◌∙◌, ◌<◌, ◌==◌, ◌&&◌, ℕ, Bool, true, false, List, [], ◌∷◌, find, cond, Option, Some, None, is_some, Result, Ok, Err, if◌then◌else◌, refl, sym, ap, subst, arith, IsErrAnd, Ghosts, Question, changed, failed, found_passes, Store, StoreFault, Ends, Removes, Reply, IsReplyOf, AnswersAlone, NotGranted, AllByRecursion, nat_tests, L2, L3, ◌>>=◌, check, ok_or, World, Lock, IsWorld, locks_of, UnlockForm, lock_question, sees, Denial, permit, releases, by_rule, by_rules, store_refusal, release_verdict, unlock_verdict, IsBelow, lock_with, case_policy, case_repo, case_user, case_seen, case_with, RepoState, repo_state, denial_view, IsUserOf, Judges, right_to_release, found_verdict}
 use Rattle.std.proofs.lemmas.Bool.{true≢false}
 use Rattle.model.specs.declared.Right.{Right}
 use Rattle.refinement.specs.Left.{Gives}
@@ -30,9 +30,9 @@ none_later : (id : ℕ) (v : Lock → Bool) (x : Lock) (xs : List Lock) → (x.i
 none_later id v x [] is above = refl
 none_later id v x (y ∷ ys) is above = rw (later x.id y.id id above.0 is) (none_later id v x ys is above.1)
 
-module _ (world : World) (case : Case) (who : Caller) (is_user : IsUserOf case who) (force : Bool) where
+module _ (state : RepoState) (case : Case) (who : Caller) (is_user : IsUserOf case who) (force : Bool) where
   -- the verdict on a lock that the caller sees is the one of the definitions
-  released_alike : (l : Lock) → release_verdict (case_seen world case who) force l ≡ lock_verdict case force l
+  pub released_alike : (l : Lock) → release_verdict (case_with case who state) force l ≡ lock_verdict case force l
   released_alike l = rw (← is_user) (elim (is_own (case_user case) l) as (λ own.
       (if own then (permit (case_policy case) (lock_question right.Lock (case_user case) l) 403 >>= λ may. Ok (releases l))
       else (by_rules (check force L3) >>= λ forced. permit (case_policy case) (lock_question right.Force (case_user case) l) 403 >>= λ may. Ok (releases l)))
@@ -47,13 +47,13 @@ module _ (world : World) (case : Case) (who : Caller) (is_user : IsUserOf case w
       ])
 
   -- the verdict on the lock that the caller sees, if there is one
-  seen_alike : (v : Bool) (l : Lock) → sees (case_policy case) who.user l ≡ v
-      → (by_rules (ok_or (cond v (Some l) None) L2) >>= release_verdict (case_seen world case who) force) ≡ found_verdict case force (Some l)
+  pub seen_alike : (v : Bool) (l : Lock) → sees (case_policy case) who.user l ≡ v
+      → (by_rules (ok_or (cond v (Some l) None) L2) >>= release_verdict (case_with case who state) force) ≡ found_verdict case force (Some l)
   seen_alike true l is = released_alike l ∙ rw (ap (λ u. sees (case_policy case) u l) is_user ∙ is) refl
   seen_alike false l is = rw (ap (λ u. sees (case_policy case) u l) is_user ∙ is) refl
 
   found_among : (id : ℕ) (xs : List Lock) → Rise xs
-      → (by_rules (ok_or (find (λ l. l.id == id && sees (case_policy case) who.user l) xs) L2) >>= release_verdict (case_seen world case who) force)
+      → (by_rules (ok_or (find (λ l. l.id == id && sees (case_policy case) who.user l) xs) L2) >>= release_verdict (case_with case who state) force)
       ≡ found_verdict case force (find (λ l. l.id == id) xs)
   found_among id [] up = refl
   found_among id (x ∷ xs) up = at (x.id == id) refl (found_among id xs up.1)
@@ -62,13 +62,13 @@ module _ (world : World) (case : Case) (who : Caller) (is_user : IsUserOf case w
       seen l = sees (case_policy case) who.user l
 
       there : (v : Bool) → seen x ≡ v → (x.id == id) ≡ true
-          → (by_rules (ok_or (cond v (Some x) (find (λ l. l.id == id && seen l) xs)) L2) >>= release_verdict (case_seen world case who) force) ≡ found_verdict case force (Some x)
+          → (by_rules (ok_or (cond v (Some x) (find (λ l. l.id == id && seen l) xs)) L2) >>= release_verdict (case_with case who state) force) ≡ found_verdict case force (Some x)
       there true is same = seen_alike true x is
       there false is same = rw (none_later id seen x xs same up.0) (seen_alike false x is)
 
       at : (b : Bool) → (x.id == id) ≡ b
-          → (by_rules (ok_or (find (λ l. l.id == id && seen l) xs) L2) >>= release_verdict (case_seen world case who) force) ≡ found_verdict case force (find (λ l. l.id == id) xs)
-          → (by_rules (ok_or (cond (b && seen x) (Some x) (find (λ l. l.id == id && seen l) xs)) L2) >>= release_verdict (case_seen world case who) force)
+          → (by_rules (ok_or (find (λ l. l.id == id && seen l) xs) L2) >>= release_verdict (case_with case who state) force) ≡ found_verdict case force (find (λ l. l.id == id) xs)
+          → (by_rules (ok_or (cond (b && seen x) (Some x) (find (λ l. l.id == id && seen l) xs)) L2) >>= release_verdict (case_with case who state) force)
           ≡ found_verdict case force (cond b (Some x) (find (λ l. l.id == id) xs))
       at true same rest = there (seen x) refl same
       at false same rest = rest
@@ -77,7 +77,7 @@ module _ (world : World) (case : Case) (who : Caller) (is_user : IsUserOf case w
 pub verdict_on_found : (world : World) (case : Case) (who : Caller) (asked : UnlockForm) → IsUserOf case who → IsWorld world
     → unlock_verdict (case_seen world case who) asked ≡ found_verdict case asked.force (lock_with (case_repo case).name asked.id world)
 verdict_on_found world case who asked is_user w =
-    found_among world case who is_user asked.force asked.id (locks_of (case_repo case).name world)
+    found_among (repo_state (case_repo case) world) case who is_user asked.force asked.id (locks_of (case_repo case).name world)
     (rise_from (locks_of (case_repo case).name world) (locks_rise world (case_repo case).name w))
 
 -- ---- the checks of the code

@@ -11,13 +11,8 @@ use Rattle.desk.specs.declared.outcomes.NotGranted.TheVariants as not_granted
 use Rattle.desk.proofs.Verdicts.{answer_finished, refused_done}
 use Rattle.desk.proofs.Told.{given_same, given_refusal, still_shows, told, told_refusal, told_denial}
 
--- the answer changes no world
-pub record IsQuiet (given : Answer) : Type 0 where
-  pub ending : (world : World) → is_changed (answer_ending world (Some given)) ≡ false
-  pub after : (world : World) → after world (Some given) ≡ world
-
 -- the verdict changes nothing, and its reply is given after calls that only read
-replied_with : {S : Type 0} (g : Ghosts S) (old new : Store S) (P : World → Type 0) (verdict given : Answer) (reply : Reply) → Reads g old new P
+pub replied_with : {S : Type 0} (g : Ghosts S) (old new : Store S) (P : World → Type 0) (verdict given : Answer) (reply : Reply) → Reads g old new P
     → ((world : World) → is_changed (answer_ending world (Some given)) ≡ false) → ((world : World) → after world (Some given) ≡ world)
     → IsReplyOf reply given → (world : World) → Holds g old world → verdict ≡ given → Answers g old new world verdict (Ok reply)
 replied_with g old new P verdict given reply reads ending same shows world h is =
@@ -48,39 +43,10 @@ module _ {S : Type 0} {g : Ghosts S} {old new : Store S} {IsAsking : Caller → 
     );
   })
 
-  -- the reply is the content of an object
-  pub served_after : (reply : Reply) → Reads g old new P
-      → ((world : World) → IsWorld world → P world → (who : Caller) → IsAsking who
-      → (o : Object) × (verdict world who ≡ Ok (serves o)) × IsReplyOf reply (Ok (serves o))) → AnswersEach g IsAsking old new verdict (Ok reply)
-  served_after reply reads is = record {
-    honest = reads.same.was_honest;
-    each = λ honest world h who asks.
-        let served = is world h.laws (reads.each honest world h) who asks in (
-          replied_with g old new P (verdict world who) (Ok (serves served.0)) reply reads (λ w. refl) (λ w. refl) served.2 world h served.1,
-          leaves_kept g old new (answer_ending world (Some (verdict world who))) reads.same,
-        );
-  }
-
-  -- the reply is another one that changes nothing
-  pub replied_after : (given : Answer) (reply : Reply) → Reads g old new P → IsQuiet given → IsReplyOf reply given
-      → ((world : World) → IsWorld world → P world → (who : Caller) → IsAsking who → verdict world who ≡ given) → AnswersEach g IsAsking old new verdict (Ok reply)
-  replied_after given reply reads quiet shows is = record {
-    honest = reads.same.was_honest;
-    each = λ honest world h who asks. (
-      replied_with g old new P (verdict world who) given reply reads quiet.ending quiet.after shows world h (is world h.laws (reads.each honest world h) who asks),
-      leaves_kept g old new (answer_ending world (Some (verdict world who))) reads.same,
-    );
-  }
-
 -- the request is denied before any call
 pub denied_unread : {S : Type 0} {g : Ghosts S} {s : Store S} {IsAsking : Caller → Type 0} {verdict : World → Caller → Answer} (denial : code.Denial) (r : Result Reply NotGranted) → IsErrAnd r (λ e. e ≡ not_granted.Denied denial)
     → ((world : World) (who : Caller) → IsAsking who → verdict world who ≡ Err (denial_view denial)) → AnswersEach g IsAsking s s verdict r
 denied_unread denial r is given = denied_after denial r (reads_none _ _ (λ _. ⊤) (λ _ _ _. tt)) is (λ world laws read who asks. given world who asks)
-
--- memory ran out before any call
-pub refused_unread : {S : Type 0} {g : Ghosts S} {s : Store S} {IsAsking : Caller → Type 0} {verdict : World → Caller → Answer} (fault : StoreFault) (r : Result Reply NotGranted) → IsErrAnd r (λ e. e ≡ not_granted.Store fault)
-    → AnswersEach g IsAsking s s verdict r
-refused_unread fault r is = refused_after fault r (reads_none _ _ (λ _. ⊤) (λ _ _ _. tt)) is
 
 module _ {S : Type 0} {g : Ghosts S} {old new : Store S} {IsAsking IsCalling : Caller → Type 0} {verdict given : World → Caller → Answer} {r : Result Reply NotGranted} where
   -- the same verdict
@@ -105,9 +71,6 @@ module _ (case : Case) (verdict : cases.Case → Answer) (asked : Request) (left
       sym (ap (λ plan. verdict_by world (case_repo case).name plan content) (plans seen) ∙ answer_finished world (case_repo case).name content (verdict seen))
 
   module _ {S : Type 0} {g : Ghosts S} {old new : Store S} {r : Result Reply NotGranted} where
-    pub whole_caller : AnswersCaller g case old new verdict r → AnswersEach g (IsCallerOf case) old new answer_to r
-    whole_caller done = answers_alike (λ world who is. (is, planned world who)) done
-
     pub whole_user : AnswersUser g case old new verdict r → AnswersEach g (IsCallerOf case) old new answer_to r
     whole_user done = answers_alike (λ world who is. (is.user, planned world who)) done
 

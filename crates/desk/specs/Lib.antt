@@ -12,3 +12,6 @@ pub mod Objects
 pub mod Batching
 pub mod Receiving
 pub mod Contents
+pub mod Visible
+pub mod Reading
+pub mod Foreseeing

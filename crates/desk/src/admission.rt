@@ -10,9 +10,8 @@ ghost use Rattle.desk.specs.Asking.{request_read, is_upload_of};
 ghost use Rattle.desk.specs.Admission.{admission_result, admission_view};
 
 use forms::Request;
-use names::{Operation, Rule};
+use names::{Operation, RepoName, Rule};
 use policy::{Policy, Repo};
-use tokens::Caller;
 
 /// A request in a repository. The content of an upload is not part of it.
 #[derive(Clone, Copy, Debug)]
@@ -54,18 +53,19 @@ fn is_for_upload(operation: Operation) -> bool
     }
 }
 
-/// Returns the repository and the request, or the first rule that refuses it: A4, R1, the J rules, A5.
+/// Returns the repository and the request, or the first rule that refuses it: A4, R1, the J rules, A5. The token is for the
+/// repository `own` and this operation.
 pub(crate) fn admit<'a>(
     policy: &'a Policy,
-    caller: &Caller<'_>,
+    own: &RepoName,
+    operation: Operation,
     asked: &RepoRequest<'a>,
 ) -> Result<(&'a Repo, &'a Request), Rule>
     ensures { Gives admission_view result (admission_result
-        (policy_view policy.entry.now) (repo_text caller.entry.now.repo)
-        (is_upload caller.entry.now.operation) asked.entry.now.repo.now
-        (request_read asked.entry.now)) }
+        (policy_view policy.entry.now) (repo_text own.entry.now) (is_upload operation)
+        asked.entry.now.repo.now (request_read asked.entry.now)) }
 {
-    if caller.repo.as_str() != asked.repo {
+    if own.as_str() != asked.repo {
         return Err(Rule::A4);
     }
     let Some(repo) = policy.repo(asked.repo) else {
@@ -75,7 +75,7 @@ pub(crate) fn admit<'a>(
         Ok(request) => request,
         Err(rule) => return Err(*rule),
     };
-    if needs_upload(request) && !is_for_upload(caller.operation) {
+    if needs_upload(request) && !is_for_upload(operation) {
         return Err(Rule::A5);
     }
     Ok((repo, request))

@@ -2,11 +2,13 @@
 
 ghost use Rattle.std.specs.Prelude.{◌≡◌, ℕ, List, not, Err};
 ghost use Rattle.model.specs.Answers.{by_rule};
+ghost use Rattle.model.specs.Callers as model;
 ghost use Rattle.model.specs.Verdict.{caller_plan, plan_for};
 ghost use Rattle.policy.specs.Values.{policy_view};
 ghost use Rattle.forms.specs.Requests.{request_asked};
 ghost use Rattle.refinement.specs.Left.{From};
 ghost use Rattle.tokens.specs.Callers.{IsHolder};
+ghost use Rattle.desk.specs.Reading.{ReadsRepo, ShowsPlan, case_with};
 ghost use Rattle.desk.specs.Replies.{ShowsIf};
 ghost use Rattle.desk.specs.Done.{AnswersAll, AnswersEach, AnswersRequest, LeavesWorld, StaysWithin, verdict_by};
 ghost use Rattle.desk.specs.Rights.{IsCallerOf, case_repo, case_seen};
@@ -20,6 +22,7 @@ use crate::downloading::get;
 use crate::listing::list;
 use crate::locking::lock;
 use crate::outcomes::{NotGranted, denied, reply_or_denial};
+use crate::readers::RepoReader;
 use crate::replies::Reply;
 use crate::unlocking::unlock;
 use crate::uploading::put;
@@ -97,7 +100,7 @@ fn answer_caller<S: Alter, B: Body>(
         (setting_of policy.entry.now now) who (request_seen asked.entry.now size))
         store.old store.new content.old content.new result }
 {
-    match admit(policy, caller, asked) {
+    match admit(policy, &caller.repo, caller.operation, asked) {
         Ok((repo, request)) => {
             let case = Case {
                 policy,
@@ -157,13 +160,34 @@ fn answer_whole<S: Alter>(
         result }
 {
     match request {
-        Request::Batch(asked) => batch(store, alloc, case, asked),
-        Request::Get(asked) => get(store, case, asked),
-        Request::Put(_) => Err(StoreFault::Refused.into()),
-        Request::Verify(asked) => verify(store, case, asked),
         Request::Lock(asked) => lock(store, alloc, case, asked),
-        Request::List(asked) => list(store, alloc, case, asked),
-        Request::VerifyLocks(asked) => verify_locks(store, alloc, case, asked),
         Request::Unlock(asked) => unlock(store, alloc, case, asked),
+        Request::Put(_) => Err(StoreFault::Refused.into()),
+        _ => answer_reading(alloc, store, case, request),
+    }
+}
+
+/// Answers an admitted request that changes nothing, by what it reads.
+///
+/// # Errors
+///
+/// `Denied`, and `Store`, which is `Refused` for a request that may change something.
+pub(crate) fn answer_reading<R: RepoReader>(
+    alloc: Global,
+    reader: &mut R,
+    case: &Case<'_>,
+    request: &Request,
+) -> Result<Reply, NotGranted>
+    ensures { ReadsRepo R.RepoReader reader.old reader.new (case_repo case.entry.now) (λ state.
+        (who : model.Caller) → IsCallerOf case.entry.now who → (size : ℕ) → ShowsPlan result
+        (plan_for (case_with case.entry.now who state) size (request_asked request.entry.now))) }
+{
+    match request {
+        Request::Batch(asked) => batch(reader, alloc, case, asked),
+        Request::Get(asked) => get(reader, case, asked),
+        Request::Verify(asked) => verify(reader, case, asked),
+        Request::List(asked) => list(reader, alloc, case, asked),
+        Request::VerifyLocks(asked) => verify_locks(reader, alloc, case, asked),
+        Request::Put(_) | Request::Lock(_) | Request::Unlock(_) => Err(StoreFault::Refused.into()),
     }
 }

@@ -2,7 +2,6 @@
 
 ghost use Rattle.std.specs.Prelude.{◌≡◌, ◌++◌, ◌∷◌, [], IfOk, OnOk, Err, Ok, map, option_map, string_bytes};
 ghost use Rattle.names.specs.Names.{ref_text};
-ghost use Rattle.model.specs.World.{total};
 ghost use Rattle.model.specs.RepoState.{has_room, repo_state};
 ghost use Rattle.model.specs.Answers.{offers};
 ghost use Rattle.model.specs.Batch.{batch_verdict};
@@ -11,12 +10,13 @@ ghost use Rattle.forms.specs.Offers.{offer_at};
 ghost use Rattle.forms.specs.Requests.{batch_asked, object_asked};
 ghost use Rattle.refinement.specs.Left.{Reads};
 ghost use Rattle.desk.specs.Replies.{IsReplyOf};
-ghost use Rattle.desk.specs.Done.{AnswersCaller};
+ghost use Rattle.desk.specs.Reading.{ReadsRepo, ShowsCaller};
 ghost use Rattle.desk.specs.Batching.{AreLinksOf, IsSound, actions_for, actions_on, judged_as, judged_by, judged_on, may_transfer};
 ghost use Rattle.desk.specs.Rights.{Judges};
 
 use crate::cases::{Case, Denial};
 use crate::outcomes::NotGranted;
+use crate::readers::RepoReader;
 use crate::replies::Reply;
 use crate::rights::{may_push, permit, pull_question, ref_or_default};
 use crate::uploading::fits;
@@ -24,7 +24,7 @@ use forms::{Actions, Answer, BatchObject, BatchRequest, DenialStatus, Links, Off
 use names::{Oid, Operation, RefName, Rule, Size};
 use policy::Repo;
 use std::alloc::{AllocError, Global};
-use tables::{Alter, ObjectRow, Store, StoreFault};
+use tables::{Alter, Store, StoreFault};
 
 /// An object of a batch whose name and size are valid.
 #[derive(Clone, Copy, Debug)]
@@ -56,16 +56,16 @@ fn named_object(object: &BatchObject, hash_algo: Option<&String>) -> Result<Name
 /// for it.
 fn actions_for(
     operation: Operation,
-    stored: Option<ObjectRow>,
+    stored: Option<Size>,
     size: Size,
     fits: bool,
 ) -> Result<Actions, Rule>
     ensures { (state : _) → fits ≡ has_room size state
-        → result ≡ actions_for state operation (option_map (λ row. row.size) stored) size }
+        → result ≡ actions_for state operation stored size }
 {
     match (operation, stored) {
         (Operation::Download, None) => Err(Rule::B1),
-        (_, Some(row)) if row.size != size => Err(Rule::B4),
+        (_, Some(there)) if there != size => Err(Rule::B4),
         (Operation::Download, Some(_)) => Ok(Actions::Download),
         (Operation::Upload, Some(_)) => Ok(Actions::Stored),
         (Operation::Upload, None) if !fits => Err(Rule::B5),
@@ -73,29 +73,28 @@ fn actions_for(
     }
 }
 
-/// What can be done with the object, or the rule that refuses it. `used` is the number of bytes that the repository
+/// What can be done with the object, or the rule that refuses it. `room` is the quota less the bytes that the repository
 /// stores.
 ///
 /// # Errors
 ///
-/// A [`StoreFault`], which leaves the tables unchanged.
-fn judge<S: Alter>(
-    store: &mut Store<S>,
+/// The fault of the reader.
+fn judge<R: RepoReader>(
+    reader: &mut R,
     repo: &Repo,
-    used: u64,
+    room: i128,
     asked: &BatchRequest,
     object: &BatchObject,
 ) -> Result<Result<Actions, Rule>, StoreFault>
-    ensures { Reads S.Store store.old store.new (λ world.
-        used ≡ total (repo_view repo.now).name world
-        → IfOk result (λ actions. actions ≡ actions_on (repo_state (repo_view repo.now) world)
-        (batch_asked asked.now) (object_asked object.now))) }
+    ensures { ReadsRepo R.RepoReader reader.old reader.new (repo_view repo.now) (λ state.
+        room ≡ state.room → IfOk result (λ actions. actions
+        ≡ actions_on state (batch_asked asked.now) (object_asked object.now))) }
 {
     match named_object(object, asked.hash_algo.as_ref()) {
         Ok(named) => {
-            let found = uploads::find(store, repo.name(), &named.name)?;
-            let fits = fits(used, named.size.get(), repo.quota());
-            Ok(actions_for(asked.operation, found, named.size, fits))
+            let stored = reader.size_of(repo, &named.name)?;
+            let fits = fits(named.size.get(), room);
+            Ok(actions_for(asked.operation, stored, named.size, fits))
         }
         Err(rule) => Ok(Err(rule)),
     }
@@ -119,6 +118,26 @@ fn add_offer<'a>(
     Ok(())
 }
 
+/// What a client can do with each object of the batch, in the order of the request.
+fn judge_all<'a, R: RepoReader>(
+    alloc: Global,
+    reader: &mut R,
+    repo: &Repo,
+    asked: &'a BatchRequest,
+) -> Result<Vec<Offer<'a>>, StoreFault>
+    ensures { ReadsRepo R.RepoReader reader.old reader.new (repo_view repo.now) (λ state.
+        IfOk result (λ offers. map judged_by offers.items
+        ≡ map (judged_on state (batch_asked asked.now)) (batch_asked asked.now).objects)) }
+{
+    let room = reader.room(repo)?;
+    let mut offers = Vec::with_capacity(alloc, asked.objects.len())?;
+    for object in asked.objects.as_slice() {
+        let actions = judge(reader, repo, room, asked, object)?;
+        add_offer(&mut offers, object, actions)?;
+    }
+    Ok(offers)
+}
+
 /// Returns what a client can do with each object of the batch, in the order of the request: each object is judged by
 /// itself, by what the repository stores.
 ///
@@ -135,13 +154,7 @@ pub fn batch_objects<'a, S: Alter>(
         map judged_by offers.items ≡ map (judged_on (repo_state (repo_view repo.now) world)
         (batch_asked asked.now)) (batch_asked asked.now).objects)) }
 {
-    let used = uploads::used(store, repo.name())?;
-    let mut offers = Vec::with_capacity(alloc, asked.objects.len())?;
-    for object in asked.objects.as_slice() {
-        let actions = judge(store, repo, used, asked, object)?;
-        add_offer(&mut offers, object, actions)?;
-    }
-    Ok(offers)
+    judge_all(alloc, store, repo, asked)
 }
 
 /// The caller may do this with objects of the ref, or is denied.
@@ -184,19 +197,19 @@ fn batch_reply(alloc: Global, links: &Links<'_>, objects: &[Offer<'_>]) -> Resul
 ///
 /// # Errors
 ///
-/// `Denied` by the policy, and `Store`. Both leave the tables unchanged.
-pub(crate) fn batch<S: Alter>(
-    store: &mut Store<S>,
+/// `Denied` by the policy, and `Store`.
+pub(crate) fn batch<R: RepoReader>(
+    reader: &mut R,
     alloc: Global,
     case: &Case<'_>,
     asked: &BatchRequest,
 ) -> Result<Reply, NotGranted>
-    ensures { AnswersCaller S.Store case.entry.now store.old store.new
+    ensures { ShowsCaller R.RepoReader case.entry.now reader.old reader.new
         (λ seen. batch_verdict seen (batch_asked asked.entry.now)) result }
 {
     let ref_name = ref_or_default(case, asked.ref_name.as_ref());
     may_batch(case, asked.operation, ref_name)?;
-    let objects = batch_objects(alloc, store, case.repo, asked)?;
+    let objects = judge_all(alloc, reader, case.repo, asked)?;
     let links = links_of(case, ref_name);
     Ok(batch_reply(alloc, &links, objects.as_slice())?)
 }

@@ -1,39 +1,36 @@
 //! The request for the content of an object (Git LFS API, Basic Transfers, "Downloads").
 
-ghost use Rattle.std.specs.Prelude.{ℕ, List};
+ghost use Rattle.model.specs.Callers as model;
 ghost use Rattle.model.specs.Objects.{get_verdict};
 ghost use Rattle.forms.specs.Requests.{get_asked};
-ghost use Rattle.desk.specs.Done.{AnswersEach, verdict_by};
-ghost use Rattle.desk.specs.Rights.{IsUserOf, case_repo, case_seen};
+ghost use Rattle.desk.specs.Reading.{ReadsRepo, ShowsPlan, case_with};
+ghost use Rattle.desk.specs.Rights.{IsUserOf, case_repo};
 
 use crate::cases::{Case, Denial};
 use crate::outcomes::NotGranted;
+use crate::readers::RepoReader;
 use crate::replies::Reply;
 use crate::rights::{permit, pull_question};
 use forms::{DenialStatus, GetRequest};
 use names::Rule;
-use tables::{Alter, Store};
 
 /// Answers a request for the content of an object.
 ///
 /// # Errors
 ///
-/// `Denied` by the policy or X1, and `Store`. Both leave the tables unchanged.
-pub(crate) fn get<S: Alter>(
-    store: &mut Store<S>,
+/// `Denied` by the policy or X1, and `Store`.
+pub(crate) fn get<R: RepoReader>(
+    reader: &mut R,
     case: &Case<'_>,
     asked: &GetRequest,
 ) -> Result<Reply, NotGranted>
-    ensures { (content : List ℕ)
-        → AnswersEach S.Store (IsUserOf case.entry.now) store.old store.new (λ world who.
-        verdict_by world (case_repo case.entry.now).name
-        (get_verdict (case_seen world case.entry.now who) (get_asked asked.entry.now)) content)
-        result }
+    ensures { ReadsRepo R.RepoReader reader.old reader.new (case_repo case.entry.now) (λ state.
+        (who : model.Caller) → IsUserOf case.entry.now who
+        → ShowsPlan result (get_verdict (case_with case.entry.now who state) (get_asked asked.entry.now))) }
 {
     permit(case.policy, &pull_question(case), DenialStatus::NotFound)?;
-    let found = uploads::find(store, case.repo.name(), &asked.name)?;
-    match found {
-        Some(row) => Ok(Reply::content(asked.name, row.size)),
+    match reader.size_of(case.repo, &asked.name)? {
+        Some(size) => Ok(Reply::content(asked.name, size)),
         None => Err(Denial::Rule(Rule::X1).into()),
     }
 }

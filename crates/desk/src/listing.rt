@@ -7,20 +7,20 @@ ghost use Rattle.forms.specs.Requests.{list_asked};
 ghost use Rattle.cursor.specs.Paging.{cursor_or_first, page_seen};
 ghost use Rattle.cursor.specs.Wanted.{form_of_filter};
 ghost use Rattle.desk.specs.Replies.{IsReplyOf};
-ghost use Rattle.desk.specs.Done.{AnswersUser};
+ghost use Rattle.desk.specs.Reading.{ShowsUser};
 ghost use Rattle.desk.specs.Rights.{Judges};
 ghost use Rattle.desk.specs.Paging.{filters_of, list_start};
 
 use crate::cases::{Case, Denial};
 use crate::outcomes::NotGranted;
 use crate::pages::{shown_locks, start_at};
+use crate::readers::RepoReader;
 use crate::replies::Reply;
-use crate::rights::{allow_on, list_rows, permit, pull_question};
-use cursor::{Filter, Page, page, read_limit};
+use crate::rights::{list_rows, permit, pull_question};
+use cursor::{Filter, Page, read_limit};
 use forms::{Answer, DenialStatus, ListRequest, ShownPage};
 use names::LockId;
 use std::alloc::{AllocError, Global};
-use tables::{Alter, Store};
 
 /// The id at which the list begins, if the caller may pull.
 fn list_start(case: &Case<'_>, asked: &ListRequest) -> Result<Option<LockId>, Denial>
@@ -58,24 +58,23 @@ fn page_reply(alloc: Global, page: &Page) -> Result<Reply, AllocError>
 ///
 /// # Errors
 ///
-/// `Denied` by the policy or L4, and `Store`. Both leave the tables unchanged.
-pub(crate) fn list<S: Alter>(
-    store: &mut Store<S>,
+/// `Denied` by the policy or L4, and `Store`.
+pub(crate) fn list<R: RepoReader>(
+    reader: &mut R,
     alloc: Global,
     case: &Case<'_>,
     asked: &ListRequest,
 ) -> Result<Reply, NotGranted>
-    ensures { AnswersUser S.Store case.entry.now store.old store.new
+    ensures { ShowsUser R.RepoReader case.entry.now reader.old reader.new
         (λ seen. list_verdict seen (list_asked asked.entry.now)) result }
 {
     let cursor = list_start(case, asked)?;
     let rows = list_rows(alloc, case)?;
-    let found = page(
+    let found = reader.page(
         alloc,
-        store,
-        case.repo.name(),
+        case.repo,
         &filter_of(asked),
-        |row| allow_on(&rows, row),
+        Some(&rows),
         cursor,
         read_limit(asked.limit),
     )?;

@@ -45,7 +45,11 @@ fn next_id(made: u32) -> Option<LockId>
 }
 
 /// The reply if the path is free: 201 with the next lock, or L5 if no id is left.
-fn free_reply(alloc: Global, made: u32, wanted: &NewLock<'_>) -> Result<Reply, AllocError>
+pub(crate) fn free_reply(
+    alloc: Global,
+    made: u32,
+    wanted: &NewLock<'_>,
+) -> Result<Reply, AllocError>
     ensures { IfOk result (IsReadyAfter made wanted.entry.now) }
 {
     let Some(id) = next_id(made) else {
@@ -61,7 +65,7 @@ fn free_reply(alloc: Global, made: u32, wanted: &NewLock<'_>) -> Result<Reply, A
 }
 
 /// The reply for a path that is already locked: 409 with the lock that holds it.
-fn held_reply(alloc: Global, row: &Lock) -> Result<Reply, AllocError>
+pub(crate) fn held_reply(alloc: Global, row: &Lock) -> Result<Reply, AllocError>
     ensures { IfOk result (ReportsHeld row.now) }
 {
     Reply::telling(alloc, &Answer::Held(&shown(row)))
@@ -94,7 +98,7 @@ fn make_lock<S: Alter>(
 }
 
 /// The lock that the request asks for.
-fn wanted_by<'a>(case: &Case<'a>, asked: &'a LockRequest) -> NewLock<'a>
+pub(crate) fn wanted_by<'a>(case: &Case<'a>, asked: &'a LockRequest) -> NewLock<'a>
     ensures { IsWantedBy case.entry.now asked.entry.now result }
 {
     NewLock {
@@ -107,7 +111,7 @@ fn wanted_by<'a>(case: &Case<'a>, asked: &'a LockRequest) -> NewLock<'a>
 }
 
 /// The question whether the caller may lock the path.
-fn question_on<'a>(wanted: &NewLock<'a>) -> Question<'a>
+pub(crate) fn question_on<'a>(wanted: &NewLock<'a>) -> Question<'a>
     ensures { question_view result ≡ question_on wanted.entry.now }
 {
     Question {

@@ -59,11 +59,12 @@ fn rule_of(answer: &Answer<'_>) -> Option<Rule>
 }
 
 impl Reply {
-    ghost use Rattle.std.specs.Prelude.{◌≡◌, IfOk, true, length, Ok};
+    ghost use Rattle.std.specs.Prelude.{◌≡◌, IfOk, true, Ok};
     ghost use Rattle.model.specs.World.{Object};
-    ghost use Rattle.model.specs.Answers.{serves, store_refusal, stores, confirms};
+    ghost use Rattle.model.specs.Answers.{store_refusal, stores, confirms};
+    ghost use Rattle.model.specs.Replies.{content, reply};
     ghost use Rattle.forms.specs.Replies.{IsAnswer};
-    ghost use Rattle.desk.specs.Replies.{IsReplyOf, is_refused};
+    ghost use Rattle.desk.specs.Replies.{IsReply, IsReplyOf, is_refused};
 
     /// The store refusal (S1): the store refused or memory ran out. It takes no memory.
     pub fn store_refused() -> Reply
@@ -119,8 +120,7 @@ impl Reply {
 
     /// The reply with the content of the object of this name, which has this size: 200.
     pub(crate) fn content(name: Oid, size: Size) -> Reply
-        ensures { (o : Object) → name ≡ o.name → size ≡ length o.bytes
-            → IsReplyOf result (Ok (serves o)) }
+        ensures { IsReply result (reply 200 (content name size)) }
     {
         Reply {
             status: StatusCode::OK,

@@ -52,7 +52,7 @@ fn may_release(case: &Case<'_>, force: bool, row: &Lock) -> Result<(), Denial>
 }
 
 /// The lock to release: the one that was found, if the caller sees it and may release it.
-fn lock_to_release<'a>(
+pub(crate) fn lock_to_release<'a>(
     case: &Case<'_>,
     force: bool,
     found: Option<&'a Lock>,
@@ -74,7 +74,7 @@ fn lock_to_release<'a>(
 }
 
 /// The reply to a lock that was released.
-fn released_reply(alloc: Global, row: &Lock) -> Result<Reply, AllocError>
+pub(crate) fn released_reply(alloc: Global, row: &Lock) -> Result<Reply, AllocError>
     ensures { IfOk result (λ reply. (repo : List ℕ)
         → IsReplyOf reply (Ok (releases (lock_seen repo row.now)))) }
 {

@@ -1,20 +1,20 @@
 //! The request to upload an object (Git LFS API, Basic Transfers, "Uploads").
 
-ghost use Rattle.std.specs.Prelude.{◌≡◌, ◌+◌, true, nat_le, IfOk};
+ghost use Rattle.std.specs.Prelude.{◌≡◌, pos, true, int_le, IfOk};
 ghost use Rattle.model.specs.Callers as model;
 ghost use Rattle.model.specs.Answers.{receives};
-ghost use Rattle.model.specs.RepoState.{repo_state};
 ghost use Rattle.model.specs.Objects.{put_verdict};
 ghost use Rattle.policy.specs.Values.{repo_view};
 ghost use Rattle.forms.specs.Requests.{put_asked};
-ghost use Rattle.refinement.specs.Left.{Reads};
 ghost use Rattle.desk.specs.Done.{AnswersRequest};
 ghost use Rattle.desk.specs.Objects.{Permits, has_place};
+ghost use Rattle.desk.specs.Reading.{ReadsRepo, case_with};
 ghost use Rattle.desk.specs.Receiving.{RepliesReceived};
 ghost use Rattle.desk.specs.Rights.{IsUserOf, case_repo, case_seen};
 
 use crate::cases::{Case, Denial};
 use crate::outcomes::{NotGranted, denied};
+use crate::readers::RepoReader;
 use crate::receiving::{Receipt, ReceiveFault, receive};
 use crate::replies::Reply;
 use crate::rights::{may_push, ref_or_default};
@@ -25,31 +25,28 @@ use std::alloc::Global;
 use tables::{Alter, Store, StoreFault};
 
 /// Whether the quota holds an upload of this size, or an object of the name is stored.
-fn has_place<S: Alter>(
-    store: &mut Store<S>,
+fn has_place<R: RepoReader>(
+    reader: &mut R,
     repo: &Repo,
     name: &Oid,
     size: u64,
 ) -> Result<bool, StoreFault>
-    ensures { Reads S.Store store.old store.new (λ world. IfOk result (λ place. place
-        ≡ has_place size name.now (repo_state (repo_view repo.now) world))) }
+    ensures { ReadsRepo R.RepoReader reader.old reader.new (repo_view repo.now)
+        (λ state. IfOk result (λ place. place ≡ has_place size name.now state)) }
 {
-    let used = uploads::used(store, repo.name())?;
-    if fits(used, size, repo.quota()) {
+    let room = reader.room(repo)?;
+    if fits(size, room) {
         return Ok(true);
     }
-    let found = uploads::find(store, repo.name(), name)?;
+    let found = reader.size_of(repo, name)?;
     Ok(found.is_some())
 }
 
-/// Whether the quota holds `size` bytes beside the bytes that are used.
-pub(crate) fn fits(used: u64, size: u64, quota: u64) -> bool
-    ensures { result ≡ nat_le (used + size) quota }
+/// Whether there is room for `size` bytes more.
+pub(crate) fn fits(size: u64, room: i128) -> bool
+    ensures { result ≡ int_le (pos size) room }
 {
-    match used.checked_add(size) {
-        Some(total) => total <= quota,
-        None => false,
-    }
+    i128::from(size) <= room
 }
 
 /// The caller may upload an object of this name and this size, before its bytes are read.
@@ -57,19 +54,19 @@ pub(crate) fn fits(used: u64, size: u64, quota: u64) -> bool
 /// # Errors
 ///
 /// `Denied` by the policy or X3, and `Store`. Both leave the contents of the store unchanged.
-fn may_upload<S: Alter>(
-    store: &mut Store<S>,
+pub(crate) fn may_upload<R: RepoReader>(
+    reader: &mut R,
     case: &Case<'_>,
     asked: &PutRequest,
     size: u64,
 ) -> Result<(), NotGranted>
-    ensures { Reads S.Store store.old store.new (λ world.
+    ensures { ReadsRepo R.RepoReader reader.old reader.new (case_repo case.entry.now) (λ state.
         (who : model.Caller) → IsUserOf case.entry.now who
         → Permits result (receives (put_asked asked.entry.now).name)
-        (put_verdict (case_seen world case.entry.now who) size (put_asked asked.entry.now))) }
+        (put_verdict (case_with case.entry.now who state) size (put_asked asked.entry.now))) }
 {
     may_push(case, ref_or_default(case, asked.ref_name.as_ref()))?;
-    if has_place(store, case.repo, &asked.name, size)? {
+    if has_place(reader, case.repo, &asked.name, size)? {
         Ok(())
     } else {
         Err(Denial::Rule(Rule::X3).into())

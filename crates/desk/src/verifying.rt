@@ -9,20 +9,20 @@ ghost use Rattle.forms.specs.Requests.{verify_locks_asked};
 ghost use Rattle.cursor.specs.Paging.{cursor_or_first, page_seen};
 ghost use Rattle.cursor.specs.Wanted.{form_of_filter};
 ghost use Rattle.desk.specs.Replies.{IsReplyOf};
-ghost use Rattle.desk.specs.Done.{AnswersUser};
+ghost use Rattle.desk.specs.Reading.{ShowsUser};
 ghost use Rattle.desk.specs.Rights.{Judges};
 ghost use Rattle.desk.specs.Paging.{filter_by_ref, verify_start};
 
 use crate::cases::{Case, Denial};
 use crate::outcomes::NotGranted;
 use crate::pages::{shown_locks, start_at};
+use crate::readers::RepoReader;
 use crate::replies::Reply;
 use crate::rights::{permit, push_question, ref_or_default};
-use cursor::{Filter, Page, page, read_limit, split};
+use cursor::{Filter, Page, read_limit, split};
 use forms::{Answer, DenialStatus, SplitPage, VerifyLocksRequest};
 use names::{LockId, RefName, UserName};
 use std::alloc::{AllocError, Global};
-use tables::{Alter, Store};
 
 /// The id at which the page begins, if the caller may push to the ref.
 fn verify_start(
@@ -73,24 +73,23 @@ fn split_reply(alloc: Global, page: &mut Page, user: &UserName) -> Result<Reply,
 ///
 /// # Errors
 ///
-/// `Denied` by the policy or L4, and `Store`. Both leave the tables unchanged.
-pub(crate) fn verify_locks<S: Alter>(
-    store: &mut Store<S>,
+/// `Denied` by the policy or L4, and `Store`.
+pub(crate) fn verify_locks<R: RepoReader>(
+    reader: &mut R,
     alloc: Global,
     case: &Case<'_>,
     asked: &VerifyLocksRequest,
 ) -> Result<Reply, NotGranted>
-    ensures { AnswersUser S.Store case.entry.now store.old store.new
+    ensures { ShowsUser R.RepoReader case.entry.now reader.old reader.new
         (λ seen. verify_locks_verdict seen (verify_locks_asked asked.entry.now)) result }
 {
     let ref_name = ref_or_default(case, asked.ref_name.as_ref());
     let cursor = verify_start(case, ref_name, asked)?;
-    let mut found = page(
+    let mut found = reader.page(
         alloc,
-        store,
-        case.repo.name(),
+        case.repo,
         &of_ref(ref_name),
-        |_| true,
+        None,
         cursor,
         read_limit(asked.limit),
     )?;

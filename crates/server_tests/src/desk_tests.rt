@@ -1,9 +1,10 @@
 //! The desk's replies to requests, without the lines that a connection adds.
 
 use crate::harness::{Tester, lock_path, oid, repo, unwrap, user};
-use crate::server::{CREATED, NOW, ROW, Server, policy_with};
-use desk::{Reply, ReplyBody, RepoRequest, answer, view};
-use forms::{GetRequest, LockRequest, PutRequest, Request};
+use crate::server::{CREATED, EXPIRY, NOW, ROW, Server, policy_with};
+use desk::{ForeseeFault, Reply, ReplyBody, RepoRequest, answer, foresee, view};
+use forms::{GetRequest, LockRequest, PutRequest, Request, read_form};
+use model::Form;
 use names::{Moment, Operation, Rule, SliceSource, VecSink};
 use service::send_reply;
 
@@ -301,4 +302,147 @@ fn the_room_of_a_view_is_below_zero_after_the_quota_was_lowered(rt: HostRuntime)
     let (ann, film) = (user(&rt, "ann"), repo(&rt, "studio/film"));
     let seen = view(rt.alloc(), &mut server.store, &lowered, &ann, &film);
     assert!(rt; unwrap(&rt, seen).room == -2);
+}
+
+const BOB: &[u8] = b"Bearer bbbbbbbbbbbbbbbbbbbbbbbbbbbbbbbbbbbbbbbbbbbbbbbbbbbbbbbbbbbbbbbb";
+
+/// A user and the user's token; what is asked, the parameter and the body, which is the content of an upload.
+type Asked = (
+    &'static str,
+    &'static [u8],
+    Form,
+    &'static str,
+    &'static str,
+);
+
+/// Requests of all eight kinds to one server, each of which finds what the ones before it left: granted ones, and ones that
+/// A5, the policy, L1, L2, L3, X1, X2 and V2 refuse.
+const REQUESTS: &[Asked] = &[
+    ("ann", ANN, Form::Lock, "", "{\"path\":\"art/hero.psd\"}"),
+    ("bob", BOB, Form::Lock, "", "{\"path\":\"art/hero.psd\"}"),
+    (
+        "ann",
+        READER,
+        Form::Lock,
+        "",
+        "{\"path\":\"art/other.psd\"}",
+    ),
+    ("bob", BOB, Form::Unlock, "1", "{}"),
+    ("bob", BOB, Form::Unlock, "1", "{\"force\":true}"),
+    ("bob", BOB, Form::Lock, "", "{\"path\":\"art/map.psd\"}"),
+    ("ann", READER, Form::List, "", ""),
+    ("ann", ANN, Form::VerifyLocks, "", "{\"limit\":1}"),
+    ("ann", ANN, Form::VerifyLocks, "", "{}"),
+    ("ann", ANN, Form::Get, ABC, ""),
+    ("ann", ANN, Form::Put, ABC, "abd"),
+    ("ann", ANN, Form::Put, ABC, "abc"),
+    ("bob", BOB, Form::Get, ABC, ""),
+    (
+        "ann",
+        ANN,
+        Form::Verify,
+        "",
+        "{\"oid\":\"ba7816bf8f01cfea414140de5dae2223b00361a396177a9cb410ff61f20015ad\",\"size\":3}",
+    ),
+    (
+        "ann",
+        ANN,
+        Form::Verify,
+        "",
+        "{\"oid\":\"ba7816bf8f01cfea414140de5dae2223b00361a396177a9cb410ff61f20015ad\",\"size\":4}",
+    ),
+    (
+        "ann",
+        ANN,
+        Form::Batch,
+        "",
+        "{\"operation\":\"upload\",\"objects\":[{\"oid\":\"ba7816bf8f01cfea414140de5dae2223b00361a396177a9cb410ff61f20015ad\",\"size\":3},{\"oid\":\"aa7816bf8f01cfea414140de5dae2223b00361a396177a9cb410ff61f20015ad\",\"size\":999998},{\"oid\":\"x\",\"size\":1}]}",
+    ),
+    (
+        "ann",
+        READER,
+        Form::Batch,
+        "",
+        "{\"operation\":\"download\",\"objects\":[{\"oid\":\"ba7816bf8f01cfea414140de5dae2223b00361a396177a9cb410ff61f20015ad\",\"size\":3}]}",
+    ),
+    ("ann", ANN, Form::Unlock, "1", "{}"),
+    ("ann", ANN, Form::Unlock, "1", "{}"),
+];
+
+/// The reply that is foreseen from the view of the user.
+fn foreseen(
+    rt: &impl Tester,
+    server: &mut Server,
+    name: &str,
+    asked: &RepoRequest<'_>,
+    second: u64,
+    body: &[u8],
+) -> Result<Reply, ForeseeFault> {
+    let (name, film) = (user(rt, name), repo(rt, "studio/film"));
+    let now = unwrap(rt, Moment::read(second).ok_or(()));
+    let seen = view(rt.alloc(), &mut server.store, &server.policy, &name, &film);
+    foresee(rt.alloc(), &unwrap(rt, seen), now, asked, body)
+}
+
+#[test]
+fn a_reply_is_foreseen_from_the_view_of_its_user(rt: HostRuntime) {
+    let mut server = Server::new(&rt);
+    for &(name, bearer, form, parameter, body) in REQUESTS {
+        let request = unwrap(
+            &rt,
+            read_form(rt.alloc(), form, parameter, "", body.as_bytes()),
+        );
+        let asked = RepoRequest {
+            authorization: Some(bearer),
+            repo: "studio/film",
+            request: &request,
+        };
+        let want = foreseen(&rt, &mut server, name, &asked, NOW, body.as_bytes());
+        let want = unwrap(&rt, want);
+        let reply = reply_to(
+            &rt,
+            &mut server,
+            bearer,
+            "studio/film",
+            &request,
+            body.as_bytes(),
+        );
+        assert!(rt; !reply.is_store_refusal(), "{body}");
+        assert!(rt;
+            reply.status == want.status && reply.rule == want.rule,
+            "{body}"
+        );
+        assert_eq!(rt; text_of(&reply), text_of(&want));
+        let is_content = matches!(reply.body, ReplyBody::Content(..));
+        assert!(rt;
+            is_content == matches!(want.body, ReplyBody::Content(..)),
+            "{body}"
+        );
+    }
+}
+
+/// Bob's token is no token of ann's view, and ann's is valid up to its expiry.
+#[test]
+fn a_token_that_is_not_of_the_view_has_no_caller(rt: HostRuntime) {
+    let mut server = Server::new(&rt);
+    let request = Ok(lock_request(&rt));
+    let cases: [(Option<&[u8]>, u64, bool); 5] = [
+        (Some(BOB), NOW, false),
+        (None, NOW, false),
+        (Some(b"Basic YTpi"), NOW, false),
+        (Some(ANN), EXPIRY, false),
+        (Some(ANN), EXPIRY - 1, true),
+    ];
+    for (authorization, second, is_caller) in cases {
+        let asked = RepoRequest {
+            authorization,
+            repo: "studio/film",
+            request: &request,
+        };
+        let reply = foreseen(&rt, &mut server, "ann", &asked, second, b"");
+        match reply {
+            Ok(_) => assert!(rt; is_caller),
+            Err(fault) => assert!(rt; !is_caller && fault == ForeseeFault::NoCaller),
+        }
+    }
 }

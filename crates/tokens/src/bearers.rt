@@ -38,8 +38,7 @@ fn visible_text(bytes: &[u8]) -> Option<&str>
     }
 }
 
-/// The token's text in the value of an `Authorization` field: `Bearer` in any case, one space, and
-/// one or more visible characters.
+/// The token's text in the value of a field.
 fn bearer_in(value: &[u8]) -> Option<&str>
     ensures { option_map (λ text. text.now) result ≡ bearer (single_value (Some value.now)) }
 {
@@ -51,7 +50,20 @@ fn bearer_in(value: &[u8]) -> Option<&str>
     }
 }
 
-fn digest_of(text: &str) -> [u8; 32]
+/// Returns the text of the token in the value of an `Authorization` field: `Bearer` in any case, one space, and one or more
+/// visible characters. `None` if there is no value, or it has another form.
+pub fn bearer<'t>(authorization: Option<&'t [u8]>) -> Option<&'t str>
+    ensures { option_map (λ text. text.now) result
+        ≡ bearer (single_value (option_map (λ v. v.now) authorization.entry)) }
+{
+    match authorization {
+        Some(value) => bearer_in(value),
+        None => None,
+    }
+}
+
+/// Returns the SHA-256 of the text of a token, under which it is stored.
+pub fn digest_of(text: &str) -> [u8; 32]
     ensures { result ≡ sha256 text.now }
 {
     Sha256::digest(text.as_bytes())
@@ -71,10 +83,7 @@ pub fn caller<'t, S: Alter>(
     ensures { Reads S.Store store.old store.new (λ world.
         IsCalling world now (single_value (option_map (λ v. v.now) authorization.entry)) result) }
 {
-    let Some(value) = authorization else {
-        return Err(CallerFault::Rule(Rule::A1));
-    };
-    let Some(text) = bearer_in(value) else {
+    let Some(text) = bearer(authorization) else {
         return Err(CallerFault::Rule(Rule::A1));
     };
     let Some(token) = store.token(&digest_of(text))? else {

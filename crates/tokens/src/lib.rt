@@ -12,7 +12,7 @@ mod issuing;
 mod pruning;
 mod requests;
 
-pub use bearers::caller;
+pub use bearers::{bearer, caller, digest_of};
 pub use callers::{Caller, CallerFault};
 pub use holding::of;
 pub use issuing::{TokenFault, issue, offer};

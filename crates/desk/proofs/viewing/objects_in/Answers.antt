@@ -1,5 +1,5 @@
 use Rattle.desk.proofs.Prelude.{◌∙◌, map, ap, repo_text}
-use Rattle.desk.proofs.Placing.{reads_weaker}
+use Rattle.refinement.proofs.ReadOnly.{reads_weaker}
 use Rattle.desk.proofs.Viewed.{objects_shown}
 use Rattle.desk.specs.Views.{size_of_row}
 use Rattle.desk.proofs.viewing.objects_in.Goals as goal

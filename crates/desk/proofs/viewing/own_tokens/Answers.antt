@@ -1,5 +1,5 @@
 use Rattle.desk.proofs.Prelude.{◌∙◌, map, ap, repo_text, user_text}
-use Rattle.desk.proofs.Placing.{reads_weaker}
+use Rattle.refinement.proofs.ReadOnly.{reads_weaker}
 use Rattle.desk.proofs.Viewed.{tokens_shown}
 use Rattle.desk.specs.Views.{own_of}
 use Rattle.desk.proofs.viewing.own_tokens.Goals as goal

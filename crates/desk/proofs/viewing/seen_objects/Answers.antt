@@ -1,5 +1,5 @@
 use Rattle.desk.proofs.Prelude.{◌∙◌, sym}
-use Rattle.desk.proofs.Placing.{reads_weaker}
+use Rattle.refinement.proofs.ReadOnly.{reads_weaker}
 use Rattle.desk.proofs.viewing.seen_objects.Goals as goal
 
 pub returns-then-sees_objects : goal.returns-then-sees_objects

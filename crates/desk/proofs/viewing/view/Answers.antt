@@ -6,7 +6,8 @@ use Rattle.desk.proofs.Prelude.{rules, ◌∙◌, ◌≡◌, [], map, filter, if
 use Rattle.model.specs.RepoState.{objects_of}
 use Rattle.model.specs.Views.{sees_objects, tokens_of}
 use Rattle.desk.specs.Views.{own_seen, size_seen}
-use Rattle.desk.proofs.Placing.{none_ok, reads_then, reads_weaker}
+use Rattle.refinement.proofs.ReadOnly.{reads_then}
+use Rattle.desk.proofs.Reading.{none_ok}
 use Rattle.desk.proofs.viewing.view.Goals as goal
 
 pub returns-in_err-objects : goal.returns-in_err-objects

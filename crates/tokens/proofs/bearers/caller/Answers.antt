@@ -1,4 +1,4 @@
-use Rattle.tokens.proofs.Prelude.{◌≡◌, ◌∷◌, [], sym, ap, ◌∙◌, option_map, subst, List, ℕ, Err, A2, caller_by, shown, read_token, IsCalling}
+use Rattle.tokens.proofs.Prelude.{sym, ap, ◌∙◌, option_map, shown, read_token}
 use Rattle.tokens.specs.Bearers.{single_value}
 use Rattle.tokens.proofs.Calling.{unknown_token, known_token}
 use Rattle.tokens.proofs.bearers.caller.Goals as goal
@@ -9,10 +9,8 @@ returns-in_default-2 g c = record {
   adds = c.token.ensures.adds;
   each = λ honest world h.
       let s = h.shows (c.token.ensures.same.was_honest honest) (c.in_ok-token.ensures.answers honest h.ready).0 in
-      let values = ap (λ o. single_value (option_map (λ v. v.now) o)) c.in-Some.is in
-      subst (λ (vs : List (List ℕ)). caller_by world c.args.now vs ≡ Err A2) (sym values)
-      (unknown_token (shown g.S.Store c.args.store.now) world c.args.now (c.in-Some.value.now ∷ []) c.in-Some-bearer_in.text.now c.digest_of.result s h.laws
-      (sym c.in-Some-bearer_in.ensures) c.digest_of.ensures (ap (option_map read_token) (sym c.in_default-2.is) ∙ (c.in_ok-token.ensures.answers honest h.ready).1));
+      unknown_token (shown g.S.Store c.args.store.now) world c.args.now (single_value (option_map (λ v. v.now) c.args.authorization)) c.in-Some.text.now c.digest_of.result s h.laws
+      (sym c.in-Some.ensures) c.digest_of.ensures (ap (option_map read_token) (sym c.in_default-2.is) ∙ (c.in_ok-token.ensures.answers honest h.ready).1);
 }
 
 pub returns : goal.returns
@@ -21,8 +19,6 @@ returns g c = record {
   adds = c.token.ensures.adds;
   each = λ honest world h.
       let s = h.shows (c.token.ensures.same.was_honest honest) (c.in_ok-token.ensures.answers honest h.ready).0 in
-      let values = ap (λ o. single_value (option_map (λ v. v.now) o)) c.in-Some.is in
-      subst (λ (vs : List (List ℕ)). IsCalling world c.args.now vs c.good_at.result) (sym values)
-      (known_token (shown g.S.Store c.args.store.now) world c.args.now (c.in-Some.value.now ∷ []) c.in-Some-bearer_in.text.now c.digest_of.result c.in-Some-2.token c.good_at.result s h.laws
-      (sym c.in-Some-bearer_in.ensures) c.digest_of.ensures (ap (option_map read_token) (sym c.in-Some-2.is) ∙ (c.in_ok-token.ensures.answers honest h.ready).1) c.good_at.ensures);
+      known_token (shown g.S.Store c.args.store.now) world c.args.now (single_value (option_map (λ v. v.now) c.args.authorization)) c.in-Some.text.now c.digest_of.result c.in-Some-2.token c.good_at.result s h.laws
+      (sym c.in-Some.ensures) c.digest_of.ensures (ap (option_map read_token) (sym c.in-Some-2.is) ∙ (c.in_ok-token.ensures.answers honest h.ready).1) c.good_at.ensures;
 }
