@@ -3,6 +3,7 @@
 It is written from that document alone, and shares nothing with the program. It reads all eight requests;
 `Server` takes the set of those that the program serves, and counts the others as missing routes.
 """
+import copy
 import hashlib
 import json
 import math
@@ -611,8 +612,8 @@ class Server:
 
     # ---- a stream
 
-    def answer(self, head, repo, parameter, request, body):
-        """The reply to a whole message but an upload."""
+    def granted(self, request, caller, repo, asked):
+        """The status, the body and its type, of any request but an upload."""
         answers = {
             "Batch": self.answer_batch,
             "Get": self.answer_get,
@@ -622,16 +623,17 @@ class Server:
             "VerifyLocks": self.answer_verify_locks,
             "Unlock": self.answer_unlock,
         }
+        return answers[request](caller, repo, asked)
+
+    def answer(self, head, repo, parameter, request, body):
+        """The reply to a whole message but an upload."""
         try:
-            status, text, *kind = answers[request](*self.admitted(head, repo, parameter, request, body))
+            caller, asked = self.admit(head, repo, parameter, request, body)
+            status, text, *kind = self.granted(request, caller, repo, asked)
         except Refused as refused:
             return denial(refused, head.closes)
         body = text if isinstance(text, bytes) else text.encode()
         return reply(status, body, kind[0] if kind else JSON_TYPE, closes=head.closes)
-
-    def admitted(self, head, repo, parameter, request, body):
-        caller, asked = self.admit(head, repo, parameter, request, body)
-        return caller, repo, asked
 
     def upload(self, head, repo, parameter, length, body):
         """The reply to an upload, or none if its body is cut off; and whether the connection closes."""
@@ -647,6 +649,44 @@ class Server:
         except Refused as refused:
             return denial(refused, head.closes), head.closes
         return reply(status, text.encode(), kind, closes=head.closes), head.closes
+
+    # ---- what a user would be replied
+
+    def copied(self):
+        """A server that keeps the same, and changes alone."""
+        other = copy.copy(self)
+        other.objects, other.locks, other.made = dict(self.objects), dict(self.locks), dict(self.made)
+        return other
+
+    def foresee(self, stream, user, place):
+        """The lines of `custody foresee`, or what it prints on the error stream."""
+        read = read_message(stream)
+        if read is None or read[1] != place:
+            return None, "no message"
+        head, repo, parameter, request, body = read
+        try:
+            caller = self.caller(head)
+        except Refused:
+            return None, "no caller"
+        if (caller["user"], caller["repo"]) != (user, place):
+            return None, "no caller"
+        try:
+            return self.copied().foreseen(head, repo, parameter, request, body), ""
+        except Refused as refused:
+            _, _, text = denial(refused, False).partition(b"\r\n\r\n")
+            return f"{refused.status} {refused.code}\n{text.decode()}\n", ""
+
+    def foreseen(self, head, repo, parameter, request, body):
+        """The lines of a reply that no rule refuses."""
+        caller, asked = self.admit(head, repo, parameter, request, body)
+        if request == "Put":
+            self.check_put(caller, repo, asked, len(body))
+            self.finish_put(repo, asked, body)
+            return "200 ok\n"
+        status, text, *_ = self.granted(request, caller, repo, asked)
+        if request == "Get":
+            return f"{status} ok\ncontent {asked['name']} {len(text)}\n"
+        return f"{status} ok\n{text}\n" if text else f"{status} ok\n"
 
     def serve(self, stream):
         """All that is replied to a stream; and whether H1 for its last bytes may follow or not."""
@@ -676,6 +716,26 @@ class Server:
             if closes:
                 return out, False
             stream = rest
+
+
+def read_message(stream):
+    """The whole message at the front of a stream, as its head, repository, parameter, request and body; None if it is cut
+    off, or refused before its token is looked at."""
+    found = HEAD.match(stream)
+    if not found or found.end() > HEAD_LIMIT or not is_utf8(found["target"]):
+        return None
+    head = Head(found)
+    if head.count > FIELD_LIMIT:
+        return None
+    try:
+        length, repo, parameter, request = head.judge()
+        body = stream[head.size : head.size + length]
+        if len(body) < length:
+            return None
+        READERS[request](parameter, head.target.partition("?")[2], body)
+    except Refused:
+        return None
+    return head, repo, parameter, request, body
 
 
 def is_utf8(text):

@@ -127,14 +127,15 @@ class Server:
         self.child.stdout.close()
 
 
-def start_custody(program, room):
+def start_custody(program, room, control=None):
     server = Server("custody", room)
     Path(f"{server.room}/policy.toml").write_text(POLICY)
     Path(f"{server.room}/random").write_bytes(b"\xaa" * 32)
     files = ["--db", f"{server.room}/custody.db", "--policy", f"{server.room}/policy.toml"]
     words = [program, "authenticate", *files, "--user", "ann", "--random", f"{server.room}/random"]
     subprocess.run([*words, "studio/film", "upload"], check=True, stdout=subprocess.DEVNULL)
-    server.start([program, "serve", *files, "--listen", f"127.0.0.1:{server.port}"])
+    words = [program, "serve", *files, "--listen", f"127.0.0.1:{server.port}"]
+    server.start(words + (["--control", control] if control else []))
     return server
 
 

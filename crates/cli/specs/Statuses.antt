@@ -2,6 +2,8 @@
 use Rattle.std.specs.Prelude.{Bool, Result, Ok, Err}
 use Rattle.service.specs.declared.ends.End.{End}
 use Rattle.service.specs.declared.ends.End.TheVariants.{InputEnded, Closed, StoreRefused, ReadFailed, WriteFailed, StoreFailed}
+use Rattle.service.specs.declared.reading.MessageFault.{MessageFault}
+use Rattle.service.specs.declared.reading.MessageFault.TheVariants as message
 use Rattle.command_line.specs.declared.faults.ArgsFault.{ArgsFault}
 use Rattle.command_line.specs.declared.faults.ArgsFault.TheVariants as args
 use Rattle.tables.specs.declared.fault.StoreFault.{StoreFault}
@@ -17,15 +19,18 @@ use Rattle.operator.specs.declared.paths.PathsFault.TheVariants as paths
 use Rattle.control.specs.declared.status.Status.{Status}
 use Rattle.control.specs.declared.status.Status.TheVariants.{Good, Refused, Invalid}
 use Rattle.cli.specs.declared.faults.Fault.{Fault}
-use Rattle.cli.specs.declared.faults.Fault.TheVariants.{Arguments, Value, BadPath, TooManyPaths, Clock, PolicyFile, Policy, PolicyDescribed, Repository, Random, Network, UnknownSchema, Store, Token, Memory, Output, Session, Control, Operator, Request, Reported}
+use Rattle.cli.specs.declared.faults.Fault.TheVariants.{Arguments, Value, BadPath, TooManyPaths, InputTooLong, NoMessage, NoCaller, Clock, PolicyFile, Policy, PolicyDescribed, Repository, Random, Network, UnknownSchema, Store, Token, Memory, Output, Session, Control, Operator, Request, Reported}
 
--- invalid for a fault of the arguments, of the paths or of a request, the status that was reported, else refused
+-- invalid for a fault of the arguments, of the paths, of a request or of its size, the status that was reported, else refused
 abbrev pub status_of : Fault → Status
 status_of (Arguments _) = Invalid
 status_of (Value _) = Invalid
 status_of (BadPath _) = Invalid
 status_of TooManyPaths = Invalid
 status_of Request = Invalid
+status_of InputTooLong = Invalid
+status_of NoMessage = Refused
+status_of NoCaller = Refused
 status_of Clock = Refused
 status_of PolicyFile = Refused
 status_of (Policy _) = Refused
@@ -74,6 +79,7 @@ of_policy policy.Memory = Memory
 abbrev pub of_task : TaskFault → Fault
 of_task (task.Store fault) = Store fault
 of_task (task.Token fault) = Token fault
+of_task task.NoCaller = NoCaller
 of_task task.Memory = Memory
 of_task task.Output = Output
 of_task task.Reported = Reported Refused
@@ -83,6 +89,12 @@ abbrev pub of_paths : PathsFault → Fault
 of_paths (paths.BadPath line) = BadPath line
 of_paths paths.TooMany = TooManyPaths
 of_paths paths.Memory = Memory
+
+-- bytes that are no message, or memory ran out
+abbrev pub of_message : MessageFault → Fault
+of_message message.Cut = NoMessage
+of_message (message.Refused rule) = NoMessage
+of_message message.Memory = Memory
 
 -- a session ends well if the input ended or the server closed the connection
 abbrev pub is_good : End → Bool

@@ -7,7 +7,7 @@ use command_line::ArgsFault;
 use control::{RequestFault, Status};
 use operator::{PathsFault, TaskFault};
 use policy::{PolicyFault, Sentence};
-use service::End;
+use service::{End, MessageFault};
 use std::alloc::AllocError;
 use tables::{OpenFault, StoreFault};
 use thiserror::Error;
@@ -29,6 +29,15 @@ pub enum Fault {
     /// The input has more lines than a push check takes.
     #[error("custody: too many paths")]
     TooManyPaths,
+    /// The input is longer than what a server takes from an operator.
+    #[error("custody: input too long: --via takes at most 16 MiB")]
+    InputTooLong,
+    /// The input does not begin with a whole message about the repository, or a rule from H1 to J4 refuses that.
+    #[error("no message")]
+    NoMessage,
+    /// The message presents no valid token of the user for the repository.
+    #[error("no caller")]
+    NoCaller,
     /// The machine's clock is out of range.
     #[error("custody: no moment")]
     Clock,
@@ -91,7 +100,8 @@ impl Fault {
         match self {
             Fault::Arguments(_) | Fault::Value(_) => Status::Invalid,
             Fault::BadPath(_) | Fault::TooManyPaths => Status::Invalid,
-            Fault::Request => Status::Invalid,
+            Fault::Request | Fault::InputTooLong => Status::Invalid,
+            Fault::NoMessage | Fault::NoCaller => Status::Refused,
             Fault::Clock => Status::Refused,
             Fault::PolicyFile => Status::Refused,
             Fault::Policy(_) | Fault::PolicyDescribed(_) => Status::Refused,
@@ -174,6 +184,7 @@ impl From<TaskFault> for Fault {
         match fault {
             TaskFault::Store(fault) => Fault::Store(fault),
             TaskFault::Token(fault) => Fault::Token(fault),
+            TaskFault::NoCaller => Fault::NoCaller,
             TaskFault::Memory => Fault::Memory,
             TaskFault::Output => Fault::Output,
             TaskFault::Reported => Fault::Reported(Status::Refused),
@@ -195,10 +206,24 @@ impl From<PathsFault> for Fault {
     }
 }
 
+impl From<MessageFault> for Fault {
+    ghost use Rattle.cli.specs.Statuses.{of_message};
+
+    ghost from_gives = { λ fault gives. gives ≡ of_message fault };
+
+    fn from(fault: MessageFault) -> Fault {
+        match fault {
+            MessageFault::Cut | MessageFault::Refused(_) => Fault::NoMessage,
+            MessageFault::Memory => Fault::Memory,
+        }
+    }
+}
+
 impl From<RequestFault> for Fault {
     fn from(fault: RequestFault) -> Fault {
         match fault {
-            RequestFault::TooLong | RequestFault::TooManyWords => Fault::Request,
+            RequestFault::TooLong => Fault::InputTooLong,
+            RequestFault::TooManyWords => Fault::Request,
             RequestFault::Memory => Fault::Memory,
         }
     }

@@ -1,7 +1,6 @@
-//! Reads what is not the database: the policy, random bytes, and the lines of paths on the input.
+//! Reads what is not the database: the policy, random bytes, and the input.
 
 use crate::faults::Fault;
-use operator::LONGEST_PATHS;
 use policy::{LONGEST_FILE, Policy};
 use std::alloc::Global;
 use std::fs::File;
@@ -47,14 +46,18 @@ pub(crate) fn read_random(rt: &HostRuntime, path: &str) -> Result<[u8; 32], Faul
     }
 }
 
-/// Reads the lines of paths of a push, and at most one byte more than the longest have: longer ones are noticed.
+/// Reads the input to its end, and at most this many bytes of it.
 ///
 /// # Errors
 ///
 /// `Output` if the input could not be read, and `Memory`.
-pub(crate) fn read_paths<R: Read>(alloc: Global, input: &mut R) -> Result<Vec<u8>, Fault> {
+pub(crate) fn read_input<R: Read>(
+    alloc: Global,
+    input: &mut R,
+    most: u64,
+) -> Result<Vec<u8>, Fault> {
     let mut bytes = Vec::new(alloc);
-    match input.take(LONGEST_PATHS).read_to_end(&mut bytes) {
+    match input.take(most).read_to_end(&mut bytes) {
         Ok(_) => Ok(bytes),
         Err(error) if error.kind() == ErrorKind::OutOfMemory => Err(Fault::Memory),
         Err(_) => Err(Fault::Output),

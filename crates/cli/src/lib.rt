@@ -6,6 +6,7 @@
 
 mod faults;
 mod files;
+mod foreseeing;
 mod moments;
 mod opening;
 mod operating;

@@ -1,13 +1,15 @@
 //! The commands of an operator, over files that are opened for them.
 
 use crate::faults::Fault;
-use crate::files::{read_paths, read_policy, read_random};
+use crate::files::{read_input, read_policy, read_random};
+use crate::foreseeing::message_in;
 use crate::moments::moment;
 use crate::opening::{Job, open_for};
-use command_line::{Files, OperatorCommand, PushArgs, TokenArgs};
+use command_line::{Files, ForeseeArgs, OperatorCommand, PushArgs, TokenArgs};
 use names::{Moment, RepoName};
-use operator::{Destination, Push, Task, paths_in, repo_at};
+use operator::{Destination, LONGEST_PATHS, Push, Task, paths_in, repo_at};
 use policy::Policy;
+use service::LONGEST_MESSAGE;
 use std::alloc::Global;
 use std::io::{IsTerminal, Read, Write};
 use std::rt::HostRuntime;
@@ -114,9 +116,29 @@ fn push_check<S: Start, R: Read, W: Write>(
 ) -> Result<(), Fault> {
     let alloc = rt.alloc();
     let policy = read_policy(rt, files.policy)?;
-    let lines = read_paths(alloc, input)?;
+    // The last byte of so many is one too many, which is noticed.
+    let lines = read_input(alloc, input, LONGEST_PATHS)?;
     let push = push_of(alloc, &policy, asked, lines.as_slice())?;
     let task = Task::CheckPush(push);
+    run_task(rt, files.db, &task, destination, output, start)
+}
+
+/// Prints the reply that the user would get to the message of the input.
+fn foresee<S: Start, R: Read, W: Write>(
+    rt: &HostRuntime,
+    files: &Files<'_>,
+    asked: &ForeseeArgs,
+    input: &mut R,
+    destination: Destination,
+    output: &mut W,
+    start: S,
+) -> Result<(), Fault> {
+    let alloc = rt.alloc();
+    let now = moment(rt, asked.now)?;
+    let policy = read_policy(rt, files.policy)?;
+    let bytes = read_input(alloc, input, LONGEST_MESSAGE)?;
+    let message = message_in(alloc, &asked.repo, bytes.as_slice())?;
+    let task = message.task(&policy, asked, now);
     run_task(rt, files.db, &task, destination, output, start)
 }
 
@@ -138,9 +160,9 @@ fn check<S: Start, W: Write>(
 ///
 /// # Errors
 ///
-/// `Clock`, `PolicyFile`, `Policy`, `Repository`, `Random`, `BadPath` and `TooManyPaths`, which leave the database
-/// unopened; `Store`, `Token` (K1, K2) and `Memory`; `Output` if the input could not be read, or a line not be written;
-/// and `Reported` if a path may not be pushed, or an object is damaged. After any of them no token is stored, except
+/// `Clock`, `PolicyFile`, `Policy`, `Repository`, `Random`, `BadPath`, `TooManyPaths` and `NoMessage`, which leave the
+/// database unopened; `Store`, `Token` (K1, K2), `NoCaller` and `Memory`; `Output` if the input could not be read, or a
+/// line not be written; and `Reported` if a path may not be pushed, or an object is damaged. After any of them no token is stored, except
 /// perhaps if the database failed while storing it, and no object or lock is changed.
 pub(crate) fn operate<S: Start, R: Read, W: Write>(
     rt: &HostRuntime,
@@ -158,6 +180,9 @@ pub(crate) fn operate<S: Start, R: Read, W: Write>(
         }
         OperatorCommand::PushCheck(asked) => {
             return push_check(rt, files, asked, input, destination, output, start);
+        }
+        OperatorCommand::Foresee(asked) => {
+            return foresee(rt, files, asked, input, destination, output, start);
         }
         OperatorCommand::Check => return check(rt, db, destination, output, start),
         OperatorCommand::Prune(now) => Task::Prune(moment(rt, *now)?),

@@ -8,10 +8,11 @@ ghost use Rattle.operator.specs.Works.{Works};
 
 use crate::faults::Fault;
 use crate::files::read_random;
+use crate::foreseeing::message_in;
 use crate::moments::moment;
 use crate::operating::{push_of, token_request};
 use crate::program::{status_after, write_text};
-use command_line::{Asked, OperatorCommand, RANDOM, TokenArgs, read_words};
+use command_line::{Asked, ForeseeArgs, OperatorCommand, RANDOM, TokenArgs, read_words};
 use control::{Request, read_request, reply_bytes, request_size};
 use operator::{Destination, Task, repo_at};
 use policy::Policy;
@@ -93,6 +94,25 @@ impl<C: Clock> OperatorContext<'_, C> {
         Ok(())
     }
 
+    /// Foresees a reply by the server's policy.
+    fn foresee<S: Alter>(
+        &self,
+        store: &mut Store<S>,
+        asked: &ForeseeArgs,
+        input: &[u8],
+        output: &mut Vec<u8>,
+    ) -> Result<(), Fault>
+        ensures { From S.Store store.old store.new (λ world.
+            Works S.Store store.old store.new world) }
+    {
+        let alloc = self.rt.alloc();
+        let now = moment(self.clock, asked.now)?;
+        let message = message_in(alloc, &asked.repo, input)?;
+        let task = message.task(self.policy, asked, now);
+        task.run(alloc, store, Destination::Other, output)?;
+        Ok(())
+    }
+
     /// Runs a command over the server's store.
     fn run<'x, S: Alter>(
         &self,
@@ -108,6 +128,7 @@ impl<C: Clock> OperatorContext<'_, C> {
         let alloc = self.rt.alloc();
         let task = match command {
             OperatorCommand::Authenticate(asked) => return self.issue(store, asked, output),
+            OperatorCommand::Foresee(asked) => return self.foresee(store, asked, input, output),
             OperatorCommand::Prune(now) => Task::Prune(moment(self.clock, *now)?),
             OperatorCommand::PushCheck(asked) => {
                 Task::CheckPush(push_of(alloc, policy, asked, input)?)

@@ -1,10 +1,10 @@
 //! Asks a running server to run a command.
 
 use crate::faults::Fault;
-use crate::files::read_paths;
+use crate::files::read_input;
 use command_line::OperatorCommand;
-use control::{Reply, Status, read_reply, request_bytes};
-use operator::{Destination, shown};
+use control::{LONGEST_REQUEST, Reply, Status, read_reply, request_bytes};
+use operator::{Destination, LONGEST_PATHS, shown};
 use std::alloc::{AllocError, Global};
 use std::io::{self, Read, Write};
 use std::net::Shutdown;
@@ -37,7 +37,9 @@ fn input_of<R: Read>(
     input: &mut R,
 ) -> Result<Vec<u8>, Fault> {
     match command {
-        OperatorCommand::PushCheck(_) => read_paths(alloc, input),
+        OperatorCommand::PushCheck(_) => read_input(alloc, input, LONGEST_PATHS),
+        // One byte more than a request has room for, so that a longer message is noticed.
+        OperatorCommand::Foresee(_) => read_input(alloc, input, LONGEST_REQUEST as u64 + 1),
         _ => Ok(Vec::new(alloc)),
     }
 }
@@ -63,8 +65,8 @@ fn write_printed<W: Write>(output: &mut W, printed: &[u8]) -> io::Result<()> {
 /// # Errors
 ///
 /// `Control` if the server could not be reached, or did not reply; the command may have been run all the same. `Reported`
-/// with the status that the server has reported, `Output` if the input could not be read or the output not be written,
-/// and `Memory`.
+/// with the status that the server has reported, `InputTooLong`, `Output` if the input could not be read or the output not
+/// be written, and `Memory`.
 pub(crate) fn ask<R: Read, W: Write, E: Write>(
     rt: &HostRuntime,
     socket: &str,

@@ -50,6 +50,8 @@ pub enum OperatorCommand<'a> {
     Prune(Option<Moment>),
     /// The command `pushcheck`.
     PushCheck(PushArgs),
+    /// The command `foresee`.
+    Foresee(ForeseeArgs),
     /// The command `locks`, with its repository.
     Locks(RepoName),
     /// The command `objects`, with its repository.
@@ -121,6 +123,17 @@ pub struct PushArgs {
     pub repo: RepoName,
     /// The ref that is pushed to.
     pub ref_name: RefName,
+}
+
+/// The arguments of `foresee`.
+#[derive(Debug, Drop)]
+pub struct ForeseeArgs {
+    /// The user whose request it is.
+    pub user: UserName,
+    /// The repository that it asks about.
+    pub repo: RepoName,
+    /// The moment at which it would be answered; `None` for the clock's.
+    pub now: Option<Moment>,
 }
 
 /// Whether each byte is a digit.
@@ -256,6 +269,14 @@ fn push_args(alloc: Global, matches: &ArgMatches<'_>) -> Result<PushArgs, ArgsFa
     })
 }
 
+fn foresee_args(alloc: Global, matches: &ArgMatches<'_>) -> Result<ForeseeArgs, ArgsFault> {
+    Ok(ForeseeArgs {
+        user: user_of(alloc, matches)?,
+        repo: repo_of(alloc, matches)?,
+        now: now_of(matches)?,
+    })
+}
+
 /// Parses the arguments of a command of an operator; `None` if the name is of another command.
 fn operator_command_of<'a>(
     alloc: Global,
@@ -266,6 +287,7 @@ fn operator_command_of<'a>(
         "authenticate" => Some(OperatorCommand::Authenticate(token_args(alloc, matches)?)),
         "prune" => Some(OperatorCommand::Prune(now_of(matches)?)),
         "pushcheck" => Some(OperatorCommand::PushCheck(push_args(alloc, matches)?)),
+        "foresee" => Some(OperatorCommand::Foresee(foresee_args(alloc, matches)?)),
         "locks" => Some(OperatorCommand::Locks(repo_of(alloc, matches)?)),
         "objects" => Some(OperatorCommand::Objects(repo_of(alloc, matches)?)),
         "check" => Some(OperatorCommand::Check),

@@ -40,6 +40,21 @@ lock is not in the way. This is what a hook of a Git server asks before it accep
 The status is 0 if every path is ok, 1 if one is not or something was refused, and 2 if the arguments \
 or the paths are wrong.";
 
+const FORESEE_ABOUT: &str =
+    "Prints the reply that a user would get to the message on standard input";
+
+const FORESEE_LONG_ABOUT: &str = "\
+Prints the reply that a user would get to the message on standard input.
+
+The message is an HTTP request, with its body and with a valid token of the user for the repository. The first \
+line has the status, and the code of the rule that refuses it, or \"ok\". Then comes the body of the reply; of a \
+download, \"content\" and the object's name and size. Nothing is changed: no lock is made, no object is stored.
+
+The reply depends on nothing but the policy, the moment, and what the user may see of the repository.
+
+The status is 0 if a reply is printed, whatever it is, 1 if there is no message or no valid token, or if something \
+was refused, and 2 if the arguments are wrong. With --via the input is at most 16 MiB.";
+
 const LOCKS_ABOUT: &str = "Lists the locks of a repository";
 
 const LOCKS_LONG_ABOUT: &str = "\
@@ -119,6 +134,13 @@ const PUSHER: Parameter = Parameter {
     kind: Kind::Required,
 };
 
+const SENDER: Parameter = Parameter {
+    name: "user",
+    value_name: "U",
+    help: "Who sends the message: 1 to 40 of a-z, 0-9, _ and -",
+    kind: Kind::Required,
+};
+
 const REPO: Parameter = Parameter {
     name: "repo",
     value_name: "R",
@@ -168,6 +190,13 @@ const PUSHCHECK: CommandText = CommandText {
     parameters: &[DB, VIA, POLICY, PUSHER, REPO, REF],
 };
 
+const FORESEE: CommandText = CommandText {
+    name: "foresee",
+    about: FORESEE_ABOUT,
+    long_about: FORESEE_LONG_ABOUT,
+    parameters: &[DB, VIA, POLICY, SENDER, REPO, NOW],
+};
+
 const LOCKS: CommandText = CommandText {
     name: "locks",
     about: LOCKS_ABOUT,
@@ -197,10 +226,11 @@ const SWEEP: CommandText = CommandText {
 };
 
 /// The commands of an operator.
-pub(crate) const OPERATOR_COMMANDS: [CommandText; 7] = [
+pub(crate) const OPERATOR_COMMANDS: [CommandText; 8] = [
     AUTHENTICATE,
     PRUNE,
     PUSHCHECK,
+    FORESEE,
     LOCKS,
     OBJECTS,
     CHECK,

@@ -2,3 +2,4 @@ mod Prelude
 mod Escaping
 pub mod Working
 pub mod Reached
+mod Foretold

@@ -1,9 +1,8 @@
 -- The worlds that a stop may leave after steps from the world of a run are worlds of runs.
-use Rattle.operator.proofs.Prelude.{⊤, ◌⊎◌, inl, inr, List, [], ◌∷◌, ◌++◌, Some, refl, subst, World, IsWorld, nothing, Event, exchanged, issues, prunes, IsStep, Run, judgement, by_verdict, Bound, SameWorld, IsWithin, Ending, changed, unchanged, failed, left_by, ending_of, intended_world, world_by, next_world, bound_after, bound_of_run, all_left, can_make, leaves_one_change, reports_are_true, run_append, IsAmong, Work, takes, keeps, steps_of, bound_of_works}
+use Rattle.operator.proofs.Prelude.{◌⊎◌, inl, inr, List, [], ◌∷◌, ◌++◌, refl, subst, World, IsWorld, nothing, Event, IsStep, Run, Bound, SameWorld, IsWithin, Ending, changed, unchanged, failed, left_by, ending_of, intended_world, world_by, next_world, bound_after, bound_of_run, all_left, can_make, leaves_one_change, reports_are_true, run_append, IsAmong, Work, takes, keeps, steps_of, bound_of_works}
 use Rattle.std.specs.List.{AllByRecursion}
 use Rattle.std.proofs.Math.Logic.{∥∥₁_elim}
 use Rattle.sqlite_wal.specs.Recovery.{Image}
-use Rattle.model.specs.Operator.{issue_outcome, prune_outcome, by_success}
 use Rattle.model.specs.Laws.{IsHalfDone}
 use Rattle.tables.specs.Rows.{Tables}
 use Rattle.refinement.specs.Representation.{Represents}

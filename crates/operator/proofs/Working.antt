@@ -8,7 +8,7 @@ use Rattle.tokens.specs.declared.issuing.TokenFault.{TokenFault}
 use Rattle.tokens.specs.declared.requests.TokenRequest.{TokenRequest}
 use Rattle.tokens.specs.Issuing.{Issues, Refuses}
 use Rattle.operator.specs.declared.tasks.Task.{Task}
-use Rattle.operator.specs.declared.tasks.Task.TheVariants.{Issue, Prune, CheckPush, ListLocks, ListObjects, CheckObjects, Sweep}
+use Rattle.operator.specs.declared.tasks.Task.TheVariants.{Issue, Prune, CheckPush, Foresee, ListLocks, ListObjects, CheckObjects, Sweep}
 use Rattle.operator.specs.Tasks.{Does}
 
 -- the steps of the calls, and of more calls
@@ -109,6 +109,7 @@ module _ {S : Type 0} (g : Ghosts S) where
   does_work a b (Prune now) world d = prunes_work a b now (Ok d.0) world d.1
   does_work a b Sweep world d = sweeps_work a b (Ok d.0) world d.1
   does_work a b (CheckPush push) world d = works_still a b world d
+  does_work a b (Foresee asked) world d = works_still a b world d
   does_work a b (ListLocks repo) world d = works_still a b world d
   does_work a b (ListObjects repo) world d = works_still a b world d
   does_work a b (CheckObjects terminal) world d = works_still a b world d

@@ -1,5 +1,6 @@
 pub mod Escapes
 pub mod Faults
+pub mod Foresights
 pub mod Lines
 pub mod Works
 pub mod Reached

@@ -1,5 +1,7 @@
 -- What the commands print.
-use Rattle.std.specs.Prelude.{ℕ, ◌++◌, List, codes, decimal}
+use Rattle.std.specs.Prelude.{ℕ, ◌++◌, List, Option, Some, None, codes, decimal}
+use Rattle.names.specs.Rules.{row_of}
+use Rattle.names.specs.declared.rules.Rule.{Rule}
 use Rattle.model.specs.Policy as model
 use Rattle.model.specs.Answers.{Action}
 use Rattle.model.specs.Batch.{lfs_href}
@@ -29,3 +31,12 @@ object_line name size = name ++ codes " " ++ decimal size
 -- the line of a damaged object
 abbrev pub damage_line : List ℕ → List ℕ → List ℕ
 damage_line repo name = codes "damaged " ++ repo ++ codes " " ++ name
+
+-- the first line of a reply: its status, and the code of the rule that refuses the request, if one does
+abbrev pub reply_line : ℕ → Option Rule → List ℕ
+reply_line status (Some rule) = decimal status ++ codes " " ++ (row_of rule).code
+reply_line status None = decimal status ++ codes " ok"
+
+-- the line of the object that a reply sends
+abbrev pub content_line : List ℕ → ℕ → List ℕ
+content_line name size = codes "content " ++ name ++ codes " " ++ decimal size

@@ -2,6 +2,7 @@
 
 ghost use Rattle.std.specs.Prelude.{◌≡◌};
 
+use desk::ForeseeFault;
 use std::alloc::AllocError;
 use tables::StoreFault;
 use thiserror::Error;
@@ -16,6 +17,9 @@ pub enum TaskFault {
     /// No token was issued (K1, K2).
     #[error("{0}")]
     Token(TokenFault),
+    /// No reply is foreseen: the request presents no valid token of the user for the repository.
+    #[error("no caller")]
+    NoCaller,
     /// Memory ran out.
     #[error("no memory")]
     Memory,
@@ -49,6 +53,19 @@ impl From<TokenFault> for TaskFault {
         match fault {
             TokenFault::Store(fault) => TaskFault::from(fault),
             _ => TaskFault::Token(fault),
+        }
+    }
+}
+
+impl From<ForeseeFault> for TaskFault {
+    ghost use Rattle.operator.specs.Faults.{of_foresight};
+
+    ghost from_gives = { λ fault gives. gives ≡ of_foresight fault };
+
+    fn from(fault: ForeseeFault) -> TaskFault {
+        match fault {
+            ForeseeFault::NoCaller => TaskFault::NoCaller,
+            ForeseeFault::Memory => TaskFault::Memory,
         }
     }
 }

@@ -1,5 +1,6 @@
 //! The commands of an operator, over an open database: tokens are issued and removed, locks and objects are listed, the
-//! paths of a push are checked, objects are hashed again, and uploads that were not completed are removed.
+//! paths of a push are checked, replies are foreseen, objects are hashed again, and uploads that were not completed are
+//! removed.
 //!
 //! A [`Task`] is a command whose words, files and input were read. [`Task::run`] writes what the command prints. It is
 //! the same over a database that was opened for the command, and over one that a running server has open.
@@ -8,6 +9,7 @@
 mod checking;
 mod escapes;
 mod faults;
+mod foreseeing;
 mod issuing;
 mod lines;
 mod listing_locks;
@@ -22,6 +24,7 @@ mod tasks;
 
 pub use escapes::{Destination, shown};
 pub use faults::TaskFault;
+pub use foreseeing::Foresight;
 pub use issuing::repo_at;
 pub use output::Lines;
 pub use paths::{LONGEST_PATHS, PathsFault, paths_in};

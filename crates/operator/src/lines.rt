@@ -1,16 +1,17 @@
-//! The lines that list locks, objects and verdicts.
+//! The lines of locks, objects, verdicts and foreseen replies.
 
 ghost use Rattle.std.specs.Prelude.{◌≡◌, ℕ, List, IfOk, string_bytes};
 ghost use Rattle.names.specs.Names.{path_text, repo_text};
 ghost use Rattle.names.specs.Moments.{IsMomentText};
 ghost use Rattle.pushcheck.specs.Verdicts.{verdict_view};
 ghost use Rattle.locks.specs.Finding.{lock_seen};
-ghost use Rattle.operator.specs.Lines.{damage_line, lock_line, object_line, verdict_line};
+ghost use Rattle.operator.specs.Lines.{content_line, damage_line, lock_line, object_line, reply_line, verdict_line};
 ghost use Rattle.operator.specs.Escapes.{shown};
 
 use crate::escapes::{Destination, shown};
+use desk::Reply;
 use locks::Lock;
-use names::{LockPath, moment_text};
+use names::{LockPath, Oid, Size, moment_text};
 use pushcheck::PushVerdict;
 use std::alloc::{AllocError, Global};
 use uploads::Stored;
@@ -85,4 +86,24 @@ pub(crate) fn damage_line(alloc: Global, row: &Stored) -> Result<String, AllocEr
 {
     let (repo, name) = (row.repo.as_str(), row.oid.text());
     format!(in alloc; "damaged {repo} {name}")
+}
+
+/// The first line of a reply: its status, and the code of the rule that refuses the request, or `ok`.
+pub(crate) fn reply_line(alloc: Global, reply: &Reply) -> Result<String, AllocError>
+    ensures { IfOk result (λ text. string_bytes text
+        ≡ reply_line reply.now.status reply.now.rule) }
+{
+    let status = reply.status.as_u16();
+    match reply.rule {
+        Some(rule) => format!(in alloc; "{status} {rule}"),
+        None => format!(in alloc; "{status} ok"),
+    }
+}
+
+/// The line of the object that a reply sends.
+pub(crate) fn content_line(alloc: Global, name: Oid, size: Size) -> Result<String, AllocError>
+    ensures { IfOk result (λ text. string_bytes text ≡ content_line name size) }
+{
+    let (name, size) = (name.text(), size.get());
+    format!(in alloc; "content {name} {size}")
 }

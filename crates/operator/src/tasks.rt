@@ -8,6 +8,7 @@ ghost use Rattle.operator.specs.Tasks.{Does};
 use crate::checking::check_objects;
 use crate::escapes::Destination;
 use crate::faults::TaskFault;
+use crate::foreseeing::{Foresight, print_foreseen};
 use crate::issuing::grant;
 use crate::listing_locks::list_locks;
 use crate::listing_objects::list_objects;
@@ -30,6 +31,8 @@ pub enum Task<'a> {
     Prune(Moment),
     /// Check the paths of a push.
     CheckPush(Push<'a>),
+    /// Foresee the reply to a request.
+    Foresee(Foresight<'a>),
     /// List the locks of the repository.
     ListLocks(&'a RepoName),
     /// List the objects of the repository.
@@ -49,8 +52,8 @@ impl Task<'_> {
     ///
     /// # Errors
     ///
-    /// `Store`, `Token` and `Memory`; `Output` if a line could not be written; and `Reported` if a path may not be
-    /// pushed, or an object is damaged.
+    /// `Store`, `Token`, `NoCaller` and `Memory`; `Output` if a line could not be written; and `Reported` if a path may
+    /// not be pushed, or an object is damaged.
     pub fn run<S: Alter, W: Write>(
         &self,
         alloc: Global,
@@ -66,6 +69,7 @@ impl Task<'_> {
             Task::Issue(policy, asked) => grant(alloc, store, policy, asked, output),
             Task::Prune(now) => prune(store, *now, output),
             Task::CheckPush(push) => check_push(alloc, store, push, destination, output),
+            Task::Foresee(asked) => print_foreseen(alloc, store, asked, destination, output),
             Task::ListLocks(repo) => list_locks(alloc, store, repo, destination, output),
             Task::ListObjects(repo) => list_objects(alloc, store, repo, output),
             Task::CheckObjects(terminal) => check_objects(alloc, store, *terminal, output),

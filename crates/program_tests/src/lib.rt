@@ -9,6 +9,8 @@ mod channel;
 #[cfg(test)]
 mod commands;
 #[cfg(test)]
+mod foreseeing;
+#[cfg(test)]
 mod harness;
 #[cfg(test)]
 mod issued;

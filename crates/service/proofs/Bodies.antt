@@ -1,5 +1,5 @@
 -- A message whose body is read before the answer, or by it.
-use Rattle.service.proofs.Prelude.{◌≡◌, ◌∙◌, ◌+◌, ◌<◌, ◌≤◌, ℕ, Bool, true, false, List, [], ◌++◌, length, Result, Ok, Err, refl, sym, ap, subst, arith, nil_from_length, ⊤, Consumes, IsAtEnd, Ghosts, RequestHead, last_moment, BodyFault, World, IsPolicy, body_length, content_length, Setting, desk_plan, BeginsWithHead, waiting, source_of, body_left, HandsOut, Hands, by_none, by_read, by_both, Store, is_put, request_seen, IsAnsweredAs, IsSettled, RepoRequest, Asks, IsRequestOf, target_asked, Responds, Asked, Response, ap₂, not, ◌&&◌, ◌||◌, ◌>>=◌, is_err, is_ok, Option, Bor, RepoName, Rule, Request, Reply, Plan, Denial, is_upload_of, IsReadFrom, AnswersBy, verdict_by, OnOk, RespondsWith, leaves_body, is_refused}
+use Rattle.service.proofs.Prelude.{◌≡◌, ◌∙◌, ◌+◌, ◌<◌, ◌≤◌, ℕ, Bool, true, false, List, [], ◌++◌, length, Result, Ok, Err, refl, sym, ap, subst, arith, nil_from_length, Consumes, IsAtEnd, Ghosts, RequestHead, last_moment, BodyFault, World, IsPolicy, body_length, content_length, Setting, desk_plan, BeginsWithHead, waiting, source_of, body_left, HandsOut, Hands, by_none, by_read, by_both, Store, is_put, request_seen, IsAnsweredAs, IsSettled, RepoRequest, Asks, IsRequestOf, target_asked, Responds, Asked, Response, ap₂, not, ◌&&◌, ◌||◌, ◌>>=◌, is_err, is_ok, Option, Bor, RepoName, Rule, Request, Reply, Plan, Denial, is_upload_of, IsReadFrom, AnswersBy, verdict_by, OnOk, RespondsWith, leaves_body, is_refused}
 use Rattle.std.proofs.lemmas.Bool.{true≢false}
 use Rattle.std.specs.Result.{IfErr}
 use Rattle.std.proofs.Common.{IsErrAnd}

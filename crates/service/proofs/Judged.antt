@@ -4,7 +4,6 @@ use Rattle.std.specs.Result.{IfErr}
 use Rattle.std.specs.Str.{IsUtf8, is_utf8}
 use Rattle.std.proofs.lemmas.Str.{IsUtf8-from_is_utf8}
 use Rattle.std.proofs.lemmas.Slice.Eq.{bytes_eq-Decides}
-use Rattle.model.specs.declared.Form.TheVariants as form
 use Rattle.model.specs.Heads.{head_verdict}
 use Rattle.wire.specs.declared.rules.HeadRule.TheVariants as by
 use Rattle.routes.specs.declared.table.Resource.{Resource}

@@ -1,6 +1,7 @@
 mod Prelude
 pub mod Judged
 pub mod Messages
+pub mod Whole
 pub mod Sent
 pub mod Answered
 pub mod Serving

@@ -106,7 +106,7 @@ shorter bytes head rest r = omega (arith, simp length-append at (ap length r.1))
 pub body_is : (h : RequestHead) (target : Target) → head_verdict h ≡ Ok target → body_length h ≡ content_length h
 body_is h target is = ap (λ (v : Result Target Rule). cond (is_err v) 0 (content_length h)) is
 
-le_true : (n m : ℕ) → n ≤ m → nat_le n m ≡ true
+pub le_true : (n m : ℕ) → n ≤ m → nat_le n m ≡ true
 le_true n m h = grind (arith, nat_tests)
 
 le_false : (n m : ℕ) → m < n → nat_le n m ≡ false
@@ -120,6 +120,7 @@ asks_copy h t value is_last a is copy bearer last = record {
   query = copy.query ∙ is.query;
   bearers =
       the_first (values (codes "authorization") h) (one_authorization h (framed_if_judged h (target_seen t) is.target)) ∙ ap single_value (sym bearer ∙ sym copy.authorization);
+  size = copy.size ∙ is.size;
   last = sym (copy.last ∙ last);
   put = is.put ∙ ap is_put (sym copy.form);
 }

@@ -1,5 +1,5 @@
 -- What a message asks of the desk, and the object that the reply sends.
-use Rattle.service.proofs.Prelude.{◌≡◌, ◌∙◌, ℕ, Bool, true, false, ◌&&◌, List, [], ◌++◌, Option, Some, None, option_map, Bor, Result, Ok, Err, is_err, is_ok, refl, sym, ap, subst, bytes_eq, RequestHead, World, Object, name_of, object_named, ◌>>=◌, check, Form, Target, query_of, content_length, Setting, DeskRequest, Answer, Denial, Plan, grants, sends, receives, serves, stores, by_rule, by_rules, verdict, desk_plan, desk_request, after, RepoRequest, is_put, is_upload_of, uploads, uploads_if, request_seen, verdict_by, Asked, Asks, IsReadFrom, IsRequestOf, IsThere, target_asked, Rule, Request, RepoName, repo_text}
+use Rattle.service.proofs.Prelude.{◌≡◌, ◌∙◌, ℕ, Bool, true, false, ◌&&◌, List, Option, Some, None, option_map, Bor, Result, Ok, Err, is_err, is_ok, refl, sym, ap, subst, bytes_eq, RequestHead, World, Object, name_of, object_named, ◌>>=◌, check, Form, query_of, content_length, Setting, DeskRequest, Answer, Denial, Plan, grants, sends, receives, serves, stores, by_rules, verdict, desk_plan, desk_request, after, RepoRequest, is_put, is_upload_of, uploads, uploads_if, request_seen, verdict_by, Asked, Asks, IsReadFrom, IsRequestOf, IsThere, target_asked, Rule, Request, RepoName, repo_text}
 use Rattle.std.proofs.lemmas.Bool.{true≢false}
 use Rattle.std.proofs.lemmas.Slice.Eq.{bytes_eq-Decides}
 use Rattle.std.proofs.Common.{IfOk}
@@ -12,7 +12,7 @@ use Rattle.model.specs.Reading.{ok_or}
 use Rattle.model.specs.Policy.{Repo, repo_named}
 use Rattle.model.specs.Callers.{Caller, caller_by}
 use Rattle.model.specs.Cases.{case_in}
-use Rattle.model.specs.Objects.{content_verdict, finish}
+use Rattle.model.specs.Objects.{finish}
 use Rattle.model.specs.Verdict.{is_covered, plan_for}
 use Rattle.model.proofs.Checks.{then_any, ok_is}
 use Rattle.model.proofs.Lists.{found_passes}

@@ -10,7 +10,7 @@ use Rattle.tables.specs.declared.rows.ObjectRow.{ObjectRow}
 use Rattle.refinement.specs.Staging.{Stores}
 use Rattle.uploads.specs.Finding.{Finds}
 use Rattle.desk.specs.declared.replies.ReplyBody.{ReplyBody}
-use Rattle.desk.specs.declared.replies.ReplyBody.TheVariants.{Empty, Json, Refused, Content}
+use Rattle.desk.specs.declared.replies.ReplyBody.TheVariants.{Content}
 use Rattle.chunks.specs.Pouring.{TookFront}
 use Rattle.chunks.specs.declared.pouring.PourCause.{PourCause}
 use Rattle.chunks.specs.declared.pouring.PourCause.TheVariants.{Store as ByStore, Device as ByDevice}

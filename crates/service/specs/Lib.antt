@@ -1,5 +1,6 @@
 pub mod Judging
 pub mod Messages
+pub mod Reading
 pub mod Sending
 pub mod Responding
 pub mod Turns

@@ -5,7 +5,7 @@ use Rattle.httparse.specs.Grammar.{RequestHead}
 use Rattle.names.specs.declared.limits.TheConstants.{ALLOW_LIMIT}
 use Rattle.model.specs.World.{World}
 use Rattle.model.specs.Heads as model_head
-use Rattle.model.specs.Heads.{head_verdict, is_method, query_of, values, asks_close}
+use Rattle.model.specs.Heads.{head_verdict, is_method, query_of, values, asks_close, content_length}
 use Rattle.model.specs.Cases.{Setting}
 use Rattle.model.specs.Answers.{by_rule}
 use Rattle.model.specs.Steps as model
@@ -40,6 +40,7 @@ pub record IsCopyOf (t : Target) (value : Option (Bor (List ℕ))) (is_last : Bo
   pub parameter : string_bytes a.parameter ≡ t.route.parameter.now
   pub query : string_bytes a.query ≡ t.query.now
   pub authorization : option_map (λ v. v.items) a.authorization ≡ option_map (λ (v : Bor (List ℕ)). v.now) value
+  pub size : a.size ≡ t.size
   pub last : a.is_last ≡ is_last
 
 -- the target that is asked for, in the terms of the definitions
@@ -55,6 +56,7 @@ pub record Asks (h : RequestHead) (a : Asked) : Type 0 where
   pub target : head_verdict h ≡ Ok (target_asked a)
   pub query : string_bytes a.query ≡ query_of h.target
   pub bearers : values (codes "authorization") h ≡ single_value (option_map (λ v. v.items) a.authorization)
+  pub size : a.size ≡ content_length h
   pub last : asks_close h ≡ a.is_last
   pub put : is_method (codes "PUT") h ≡ is_put a.form
 

@@ -8,6 +8,7 @@
 mod ends;
 mod judging;
 mod message;
+mod reading;
 mod refusals;
 mod responding;
 mod sending;
@@ -18,6 +19,7 @@ pub use ends::{End, Served};
 pub use judging::{Denied, Target, route_of};
 pub use message::{Asked, HeadFault, read_head, read_request};
 pub use model::laws::run_law;
+pub use reading::{LONGEST_MESSAGE, Message, MessageFault, read_message};
 pub use routes::Routes;
 pub use sending::send_reply;
 pub use session::serve;

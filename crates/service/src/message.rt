@@ -28,6 +28,8 @@ pub struct Asked {
     pub query: String,
     /// The value of the first `Authorization` field, if any.
     pub authorization: Option<Vec<u8>>,
+    /// The size of the body that follows the head, in bytes.
+    pub size: u64,
     /// Whether the head asks to close the connection after this message.
     pub is_last: bool,
 }
@@ -82,6 +84,7 @@ fn copy_asked(
         parameter: String::from_str(alloc, target.route.parameter)?,
         query: String::from_str(alloc, target.query)?,
         authorization: copy_of(alloc, authorization)?,
+        size: target.size,
         is_last,
     })
 }
@@ -138,7 +141,7 @@ impl Asked {
     }
 
     /// The request to the desk.
-    pub(crate) fn to_desk<'a>(&'a self, request: &'a Result<Request, Rule>) -> RepoRequest<'a>
+    pub fn to_desk<'a>(&'a self, request: &'a Result<Request, Rule>) -> RepoRequest<'a>
         ensures { IsRequestOf self.now request.now result }
     {
         RepoRequest {

@@ -1,4 +1,4 @@
-use Rattle.service.proofs.Prelude.{◌≡◌, ◌∙◌, ◌<◌, ◌++◌, ap, arith, length, length-append, sym, subst, option_map, Ok, Err, refl, err_from_is_err_and, body_length, IsPolicy-policy_view, leads_none, waiting, None, head_more, is_upload_of, request_seen, setting_of, target_asked, IsAnsweredAs}
+use Rattle.service.proofs.Prelude.{◌∙◌, ◌<◌, ◌++◌, ap, arith, length, length-append, sym, subst, option_map, Ok, Err, body_length, IsPolicy-policy_view, leads_none, waiting, None, head_more, is_upload_of, request_seen, setting_of, target_asked, IsAnsweredAs}
 use Rattle.model.specs.Policy.{Repo, repo_named}
 use Rattle.model.specs.Verdict.{desk_plan}
 use Rattle.policy.specs.Values.{policy_view}

@@ -1,4 +1,4 @@
-use Rattle.service.proofs.Prelude.{sym, subst, ap, IsThere, EndsContent}
+use Rattle.service.proofs.Prelude.{subst, IsThere, EndsContent}
 use Rattle.refinement.proofs.ReadOnly.{reads_then}
 use Rattle.service.proofs.Sent.{found_sent, none_sent}
 use Rattle.service.proofs.sending.send_content.Goals as goal

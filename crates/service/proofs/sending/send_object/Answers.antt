@@ -1,4 +1,4 @@
-use Rattle.service.proofs.Prelude.{◌∙◌, List, ℕ, sym, subst, arith, Appends, take_all}
+use Rattle.service.proofs.Prelude.{◌∙◌, sym, subst, arith, Appends, take_all}
 use Rattle.service.proofs.Sent.{content_cut, content_within, content_ended}
 use Rattle.service.proofs.sending.send_object.Goals as goal
 
