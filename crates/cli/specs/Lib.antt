@@ -1,3 +1,4 @@
 pub mod Clocks
+pub mod Given
 pub mod Answers
 pub mod Statuses

@@ -1,5 +1,8 @@
 //! The message whose reply the command `foresee` prints.
 
+ghost use Rattle.std.specs.Prelude.{IfOk};
+ghost use Rattle.cli.specs.Given.{IsGiven};
+
 use crate::faults::Fault;
 use command_line::ForeseeArgs;
 use forms::Request;
@@ -27,7 +30,9 @@ pub(crate) fn message_in<'a>(
     alloc: Global,
     repo: &RepoName,
     input: &'a [u8],
-) -> Result<GivenMessage<'a>, Fault> {
+) -> Result<GivenMessage<'a>, Fault>
+    ensures { IfOk result (IsGiven input.now repo.now) }
+{
     let routes = Routes::new(alloc)?;
     let Message {
         asked,

@@ -1,5 +1,5 @@
 -- What a view foretells is what the world of the view foretells.
-use Rattle.operator.proofs.Prelude.{◌≡◌, Result, Ok, Err, World, subst}
+use Rattle.operator.proofs.Prelude.{⊤, ◌≡◌, IfOk, Result, Ok, Err, World, subst}
 use Rattle.names.specs.Names.{repo_text, user_text}
 use Rattle.policy.specs.Values.{policy_view}
 use Rattle.model.specs.Views.{View, view_of}
@@ -8,7 +8,7 @@ use Rattle.desk.specs.declared.foreseeing.ForeseeFault.{ForeseeFault}
 use Rattle.desk.specs.declared.foreseeing.ForeseeFault.TheVariants as fault
 use Rattle.desk.specs.declared.replies.Reply.{Reply}
 use Rattle.operator.specs.Faults.{of_foresight}
-use Rattle.operator.specs.Foresights.{Foretells}
+use Rattle.operator.specs.Foresights.{Foretells, HasForetold}
 use Rattle.operator.specs.declared.foreseeing.Foresight.{Foresight}
 
 -- the view of the task
@@ -25,3 +25,8 @@ foretold world f seen reply same is request read repo = seen_so world f seen (Ok
 pub not_foretold : (world : World) (f : Foresight) (seen : View) (why : ForeseeFault) → seen ≡ own_view world f → IsForeseen seen f.now f.request f.body.now (Err why) → Foretells world f (Err (of_foresight why))
 not_foretold world f seen fault.NoCaller same is request read repo = seen_so world f seen (Err fault.NoCaller) same is request read repo
 not_foretold world f seen fault.Memory same is request read repo = tt
+
+-- the reply, whether it could be written or not
+pub if_done : {E : Type 0} (world : World) (f : Foresight) (reply : Reply) (r : Result ⊤ E) → Foretells world f (Ok reply) → IfOk r (λ _. HasForetold world f)
+if_done world f reply (Ok done) is = (reply, is)
+if_done world f reply (Err e) is = tt

@@ -9,7 +9,7 @@ pub use Rattle.operator.specs.Works.{Work, Works, bound_of_works, keeps, steps_o
 pub use Rattle.refinement.proofs.Leading.{from_weaker, leads_none, reads_lead, takes_then}
 pub use Rattle.refinement.proofs.ReadOnly.{reads_then, reads_weaker}
 pub use Rattle.refinement.specs.Left.{From, IsAmong, IsBoundedBy, Keeps, Leads, Reads, Takes}
-pub use Rattle.std.proofs.Common.{Err, List, MatchResult, Ok, Result, Some, [], ap, append_assoc, arith, false, inl, inr, length, refl, rules, string_bytes, subst, sym, true, ℕ, ◌++◌, ◌∙◌, ◌∷◌, ◌≡◌, ◌≤◌, ◌⊎◌}
+pub use Rattle.std.proofs.Common.{Err, List, IfOk, MatchResult, Ok, Result, Some, [], ap, append_assoc, arith, false, inl, inr, length, refl, rules, string_bytes, subst, sym, true, ℕ, ◌++◌, ◌∙◌, ◌∷◌, ◌≡◌, ◌≤◌, ◌⊎◌}
 pub use Rattle.std.proofs.lemmas.Result.{IfOk-weaker, err_from_is_err_and}
 pub use Rattle.std.specs.Prelude.{⊤}
 pub use Rattle.tokens.specs.Pruning.{Prunes}

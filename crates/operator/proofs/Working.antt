@@ -1,5 +1,5 @@
 -- Calls that lead a store by the steps of a run, one after another; for proofs in other crates too.
-use Rattle.operator.proofs.Prelude.{⊤, ◌≡◌, ℕ, List, [], ◌∷◌, ◌++◌, Result, Ok, Err, MatchResult, refl, sym, ap, subst, World, Event, Run, Bound, bound_after, reports_are_true, run_append, IsBoundedBy, Leads, Keeps, Takes, From, Reads, leads_none, reads_lead, from_weaker, Prunes, Sweeps, Work, takes, keeps, steps_of, bound_of_works, Works}
+use Rattle.operator.proofs.Prelude.{⊤, ◌≡◌, ℕ, List, [], ◌∷◌, ◌++◌, Result, Ok, Err, IfOk, MatchResult, refl, sym, ap, subst, World, Event, Run, Bound, bound_after, reports_are_true, run_append, IsBoundedBy, Leads, Keeps, Takes, From, Reads, leads_none, reads_lead, from_weaker, Prunes, Sweeps, Work, takes, keeps, steps_of, bound_of_works, Works}
 use Rattle.sqlite_trees.specs.declared.store.Store.{Ghosts}
 use Rattle.tables.specs.declared.Store.{Store}
 use Rattle.tables.specs.declared.fault.StoreFault.{StoreFault}
@@ -109,7 +109,7 @@ module _ {S : Type 0} (g : Ghosts S) where
   does_work a b (Prune now) world d = prunes_work a b now (Ok d.0) world d.1
   does_work a b Sweep world d = sweeps_work a b (Ok d.0) world d.1
   does_work a b (CheckPush push) world d = works_still a b world d
-  does_work a b (Foresee asked) world d = works_still a b world d
+  does_work a b (Foresee asked) world d = works_still a b world d.0
   does_work a b (ListLocks repo) world d = works_still a b world d
   does_work a b (ListObjects repo) world d = works_still a b world d
   does_work a b (CheckObjects terminal) world d = works_still a b world d
@@ -124,6 +124,12 @@ module _ {S : Type 0} (g : Ghosts S) where
       → From g a b (λ world. MatchResult r (λ _. Leads g a b world (λ bound. bound)) (λ _. Works g a b world))
   from_reading a b P (Ok u) p = record { honest = p.same.was_honest; each = λ honest world h. reads_lead g a b P world p h }
   from_reading a b P (Err e) p = from_reads a b P p
+
+  -- the same, with what a task that was done has found in the world
+  pub from_finding : {E : Type 0} (a b : Store S) (P : World → Type 0) (r : Result ⊤ E) → Reads g a b (λ world. IfOk r (λ _. P world))
+      → From g a b (λ world. MatchResult r (λ _. Leads g a b world (λ bound. bound) × P world) (λ _. Works g a b world))
+  from_finding a b P (Ok u) p = record { honest = p.same.was_honest; each = λ honest world h. (reads_lead g a b P world p h, p.each honest world h) }
+  from_finding a b P (Err e) p = from_reads a b (λ world. ⊤) p
 
   -- a token is issued, or the world is as before
   pub from_granting : {E : Type 0} (a b : Store S) (asked : TokenRequest) (r : Result ⊤ E)

@@ -25,3 +25,7 @@ abbrev pub Foretells : World → Foresight → Result Reply TaskFault → Type 0
 Foretells world f r =
     (request : Request) → request_read f.request ≡ Ok request → f.request.repo.now ≡ repo_text f.repo.now
     → IsToldAs r (foresee (view_of world (policy_view f.policy.now) (user_text f.user.now) (repo_text f.repo.now)) f.now (caller_request f.request f.body.now request))
+
+-- some reply is foreseen
+abbrev pub HasForetold : World → Foresight → Type 0
+HasForetold world f = (reply : Reply) × Foretells world f (Ok reply)

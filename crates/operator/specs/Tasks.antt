@@ -7,16 +7,18 @@ use Rattle.refinement.specs.Left.{Leads}
 use Rattle.tokens.specs.Issuing.{Issues}
 use Rattle.tokens.specs.Pruning.{Prunes}
 use Rattle.uploads.specs.Removing.{Sweeps}
+use Rattle.operator.specs.Foresights.{HasForetold}
 use Rattle.operator.specs.declared.tasks.Task.{Task}
 use Rattle.operator.specs.declared.tasks.Task.TheVariants.{Issue, Prune, CheckPush, Foresee, ListLocks, ListObjects, CheckObjects, Sweep}
 
--- the token is issued, the expired ones are removed, or no upload is left staged; the other tasks only read
+-- the token is issued, the expired ones are removed, or no upload is left staged; the other tasks only read, and a reply is
+-- foreseen
 abbrev pub Does : {S : Type 0} (g : Ghosts S) → Store S → Store S → World → Task → Type 0
 Does g old new world (Issue policy asked) = (text : List ℕ) × Issues g world old new asked text
 Does g old new world (Prune now) = (n : ℕ) × Prunes g world now old new (Ok n)
 Does g old new world Sweep = (n : ℕ) × Sweeps g world old new (Ok n)
 Does g old new world (CheckPush push) = Leads g old new world (λ bound. bound)
-Does g old new world (Foresee asked) = Leads g old new world (λ bound. bound)
+Does g old new world (Foresee asked) = Leads g old new world (λ bound. bound) × HasForetold world asked
 Does g old new world (ListLocks repo) = Leads g old new world (λ bound. bound)
 Does g old new world (ListObjects repo) = Leads g old new world (λ bound. bound)
 Does g old new world (CheckObjects terminal) = Leads g old new world (λ bound. bound)

@@ -1,8 +1,8 @@
 //! Foresees the reply to a request of a user.
 
-ghost use Rattle.std.specs.Prelude.{⊤};
+ghost use Rattle.std.specs.Prelude.{IfOk};
 ghost use Rattle.refinement.specs.Left.{Reads};
-ghost use Rattle.operator.specs.Foresights.{Foretells};
+ghost use Rattle.operator.specs.Foresights.{Foretells, HasForetold};
 
 use crate::escapes::{Destination, shown};
 use crate::faults::TaskFault;
@@ -70,7 +70,7 @@ fn write_reply<W: Write>(
 }
 
 /// Prints the reply that the user would get to the request: its status and the rule that refuses it, and then its body, or
-/// the name and the size of the object that it sends. Nothing is changed.
+/// the name and the size of the object that it sends. Nothing is changed. If it succeeds, a reply is foreseen.
 ///
 /// # Errors
 ///
@@ -83,7 +83,8 @@ pub(crate) fn print_foreseen<S: Alter, W: Write>(
     destination: Destination,
     output: &mut W,
 ) -> Result<(), TaskFault>
-    ensures { Reads S.Store store.old store.new (λ _. ⊤) }
+    ensures { Reads S.Store store.old store.new (λ world.
+        IfOk result (λ _. HasForetold world asked.entry.now)) }
 {
     let reply = reply_to(alloc, store, asked)?;
     write_reply(alloc, &reply, destination, output)

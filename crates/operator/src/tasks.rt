@@ -48,7 +48,7 @@ impl Task<'_> {
     /// destination is what the output writes to: on a terminal, control characters of paths are escaped.
     ///
     /// The store is led by the steps of a run of the definitions: at most one token is issued, or the expired ones are
-    /// removed. After an error the world is the same, but for an `Output` after tokens were removed.
+    /// removed. If the task is to foresee a reply and succeeds, the definitions foresee one. After an error the world is the same, but for an `Output` after tokens were removed.
     ///
     /// # Errors
     ///

@@ -421,28 +421,31 @@ fn a_reply_is_foreseen_from_the_view_of_its_user(rt: HostRuntime) {
     }
 }
 
-/// Bob's token is no token of ann's view, and ann's is valid up to its expiry.
+/// Tokens and moments, and whether ann's view has the caller: bob's token is none of hers, and hers is valid up to its expiry.
+const CALLERS: &[(Option<&[u8]>, u64, bool)] = &[
+    (Some(BOB), NOW, false),
+    (None, NOW, false),
+    (Some(b"Basic YTpi"), NOW, false),
+    (Some(ANN), EXPIRY, false),
+    (Some(ANN), EXPIRY - 1, true),
+];
+
 #[test]
 fn a_token_that_is_not_of_the_view_has_no_caller(rt: HostRuntime) {
     let mut server = Server::new(&rt);
     let request = Ok(lock_request(&rt));
-    let cases: [(Option<&[u8]>, u64, bool); 5] = [
-        (Some(BOB), NOW, false),
-        (None, NOW, false),
-        (Some(b"Basic YTpi"), NOW, false),
-        (Some(ANN), EXPIRY, false),
-        (Some(ANN), EXPIRY - 1, true),
-    ];
-    for (authorization, second, is_caller) in cases {
+    for &(authorization, second, is_caller) in CALLERS {
         let asked = RepoRequest {
             authorization,
             repo: "studio/film",
             request: &request,
         };
-        let reply = foreseen(&rt, &mut server, "ann", &asked, second, b"");
-        match reply {
-            Ok(_) => assert!(rt; is_caller),
-            Err(fault) => assert!(rt; !is_caller && fault == ForeseeFault::NoCaller),
-        }
+        let fault = foreseen(&rt, &mut server, "ann", &asked, second, b"").err();
+        let want = if is_caller {
+            None
+        } else {
+            Some(ForeseeFault::NoCaller)
+        };
+        assert!(rt; fault == want);
     }
 }

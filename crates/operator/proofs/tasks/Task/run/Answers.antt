@@ -1,4 +1,4 @@
-use Rattle.operator.proofs.Working.{from_granting, from_reading}
+use Rattle.operator.proofs.Working.{from_finding, from_granting, from_reading}
 use Rattle.operator.proofs.tasks.Task.run.Goals as goal
 
 pub returns-in-Issue : goal.returns-in-Issue
@@ -16,7 +16,7 @@ pub returns-in-CheckPush : goal.returns-in-CheckPush
 returns-in-CheckPush g c = record { world = rw c.in-CheckPush.is (from_reading g.S.Store c.args.store.now c.check_push.new.store _ c.check_push.result c.check_push.ensures) }
 
 pub returns-in-Foresee : goal.returns-in-Foresee
-returns-in-Foresee g c = record { world = rw c.in-Foresee.is (from_reading g.S.Store c.args.store.now c.print_foreseen.new.store _ c.print_foreseen.result c.print_foreseen.ensures) }
+returns-in-Foresee g c = record { world = rw c.in-Foresee.is (from_finding g.S.Store c.args.store.now c.print_foreseen.new.store _ c.print_foreseen.result c.print_foreseen.ensures) }
 
 pub returns-in-ListLocks : goal.returns-in-ListLocks
 returns-in-ListLocks g c = record { world = rw c.in-ListLocks.is (from_reading g.S.Store c.args.store.now c.list_locks.new.store _ c.list_locks.result c.list_locks.ensures) }
