@@ -116,7 +116,7 @@ fn push_check<S: Start, R: Read, W: Write>(
 ) -> Result<(), Fault> {
     let alloc = rt.alloc();
     let policy = read_policy(rt, files.policy)?;
-    // The last byte of so many is one too many, which is noticed.
+    // The limit is one byte more than a push check takes, so a longer input is refused and not cut.
     let lines = read_input(alloc, input, LONGEST_PATHS)?;
     let push = push_of(alloc, &policy, asked, lines.as_slice())?;
     let task = Task::CheckPush(push);
@@ -162,8 +162,8 @@ fn check<S: Start, W: Write>(
 ///
 /// `Clock`, `PolicyFile`, `Policy`, `Repository`, `Random`, `BadPath`, `TooManyPaths` and `NoMessage`, which leave the
 /// database unopened; `Store`, `Token` (K1, K2), `NoCaller` and `Memory`; `Output` if the input could not be read, or a
-/// line not be written; and `Reported` if a path may not be pushed, or an object is damaged. After any of them no token is stored, except
-/// perhaps if the database failed while storing it, and no object or lock is changed.
+/// line not be written; and `Reported` if a path may not be pushed, or an object is damaged. After any of them no token
+/// is stored, except perhaps if the database failed while storing it, and no object or lock is changed.
 pub(crate) fn operate<S: Start, R: Read, W: Write>(
     rt: &HostRuntime,
     files: &Files<'_>,
