@@ -12,7 +12,7 @@ import sys
 import tempfile
 
 sys.dont_write_bytecode = True
-from compare_sessions import NOW, Maker, new_database, new_server, run
+from compare_sessions import NOW, Maker, new_database, new_server, report, run
 from needs import program_given
 
 USERS = ["ann", "ann", "bob", "eve"]
@@ -61,12 +61,8 @@ def main():
     messages = int(sys.argv[2]) if len(sys.argv) > 2 else 1000
     seed = int(sys.argv[3]) if len(sys.argv) > 3 else random.randrange(2**32)
     with tempfile.TemporaryDirectory() as room:
-        agreed, seen, difference = compare(program, room, Maker(seed), messages)
-    counts = ", ".join(f"{first} {count}" for first, count in sorted(seen.items()))
-    print(f"seed {seed}: {agreed} messages agreed: {counts}")
-    if difference:
-        print(f"and then they differ, {difference}")
-    return 1 if difference else 0
+        compared = compare(program, room, Maker(seed), messages)
+    return report(seed, "messages agreed", compared)
 
 
 if __name__ == "__main__":

@@ -425,17 +425,23 @@ def compare(program, room, make, until):
     return agreed, seen, None
 
 
+def report(seed, what, compared):
+    """Prints how a comparison went. Returns the status with which its tool ends."""
+    agreed, seen, difference = compared
+    counts = ", ".join(f"{name} {count}" for name, count in sorted(seen.items()))
+    print(f"seed {seed}: {agreed} {what}: {counts}")
+    if difference:
+        print(f"and then they differ, {difference}")
+    return 1 if difference else 0
+
+
 def main():
     program = program_given()
     seconds = float(sys.argv[2]) if len(sys.argv) > 2 else 60
     seed = int(sys.argv[3]) if len(sys.argv) > 3 else random.randrange(2**32)
     with tempfile.TemporaryDirectory() as room:
-        agreed, seen, difference = compare(program, room, Maker(seed), time.time() + seconds)
-    counts = ", ".join(f"{code} {count}" for code, count in sorted(seen.items()))
-    print(f"seed {seed}: {agreed} connections agreed; replies: {counts}")
-    if difference:
-        print(f"and then they differ, {difference}")
-    return 1 if difference else 0
+        compared = compare(program, room, Maker(seed), time.time() + seconds)
+    return report(seed, "connections agreed; replies", compared)
 
 
 if __name__ == "__main__":
