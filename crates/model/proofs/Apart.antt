@@ -15,7 +15,7 @@ use Rattle.model.specs.Reading.{◌>>=◌, check, ok_or, none_or}
 use Rattle.model.specs.Orders.{sort_by, text_before}
 use Rattle.model.specs.Policy.{Policy, Repo, repo_named}
 use Rattle.model.specs.World.{World, Object, Lock, with_lock, without_lock, with_object, one_more, has_id, object_named, total, name_of}
-use Rattle.model.specs.RepoState.{object_size, locks_of, objects_of, size_of, has_room, lock_at}
+use Rattle.model.specs.RepoState.{object_size, locks_of, objects_of, retired_of, size_of, is_gone, has_room, lock_at}
 use Rattle.model.specs.Forms.{Request, asks_batch, asks_get, asks_put, asks_verify, asks_lock, asks_list, asks_verify_locks, asks_unlock}
 use Rattle.model.specs.Heads.{Target, head_verdict}
 use Rattle.model.specs.Callers.{Caller, caller_by, sees, lock_question, push_question}
@@ -83,10 +83,12 @@ module _ (world : World) (setting : Setting) (caller : Caller) (repo : Repo) whe
   plans_in left (asks_batch asked) = plan_in_repo repo.name (batch_verdict c asked) (then_any In (may_batch c asked asked.operation) _ (λ may. tt))
   plans_in left (asks_get name) =
       then_any PlanIn (may_pull setting.policy caller.user repo.name 404) _ (λ may.
-      then_any PlanIn (by_rules (ok_or (size_of name c.state) rule.X1)) _ (λ size. tt))
+      then_any PlanIn (by_rules (check (not (is_gone name c.state)) rule.X4)) _ (λ there.
+      then_any PlanIn (by_rules (ok_or (size_of name c.state) rule.X1)) _ (λ size. tt)))
   plans_in left (asks_put asked) =
       then_any PlanIn (may_push setting.policy caller.user repo.name (ref_or_default asked.ref repo)) _ (λ may.
-      then_any PlanIn (by_rules (check (has_room left c.state || is_some (size_of asked.name c.state)) rule.X3)) _ (λ fits. tt))
+      then_any PlanIn (by_rules (check (not (is_gone asked.name c.state)) rule.X4)) _ (λ there.
+      then_any PlanIn (by_rules (check (has_room left c.state || is_some (size_of asked.name c.state)) rule.X3)) _ (λ fits. tt)))
   plans_in left (asks_verify asked) =
       plan_in_repo repo.name (verify_verdict c asked)
       (then_any In (may_push setting.policy caller.user repo.name (ref_or_default asked.ref repo)) _ (λ may.
@@ -159,6 +161,7 @@ view_with old policy user repo locks made room = record {
   tokens = tokens_of user repo old;
   state = record {
     objects = cond (sees_objects policy user repo) (objects_of repo old) [];
+    retired = cond (sees_objects policy user repo) (retired_of repo old) [];
     locks = filter (sees policy user) (sort_by (λ a b. nat_lt a.id b.id) locks);
     made = made;
     room = room;
@@ -207,6 +210,7 @@ view_by old policy user repo objects room = record {
   tokens = tokens_of user repo old;
   state = record {
     objects = cond (sees_objects policy user repo) (sort_by (λ a b. text_before a.name b.name) (map object_size objects)) [];
+    retired = cond (sees_objects policy user repo) (retired_of repo old) [];
     locks = filter (sees policy user) (locks_of repo old);
     made = old.made repo;
     room = room;

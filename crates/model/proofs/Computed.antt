@@ -1,7 +1,7 @@
 -- The worked examples that are proved by computation.
 use Rattle.std.proofs.Common.{refl}
 use Rattle.model.proofs.OnLiterals.{on_literals}
-use Rattle.model.specs.Examples.{FirstIsLocked, SecondIsRefused, OtherRefIsLocked, HeadsAreRefused, MethodIsRefused, RoutesLead, NamelessIsRefused, TokenExpires, RepositoryIsUnknown, DownloadLocksNothing, CutIsUnanswered, FolderIsFrozen, PushIsDenied, ContentHasItsName, ContentIsServed, QuotaIsKept, UploadIsRefusedEarly, StoredIsConfirmed, UploadIsOffered, DownloadIsOffered, ObjectsAreRefused, ObjectsAreInvalid, HashIsRefused, BatchIsRefused, HiddenIsLeftOut, PagesAreCut, PagesAreRefused, LocksAreSplit, LockIsReleased, LocksAreServed, RefusalCloses, TokenIsIssued, TokenIsPruned, MomentsArePrinted}
+use Rattle.model.specs.Examples.{FirstIsLocked, SecondIsRefused, OtherRefIsLocked, HeadsAreRefused, MethodIsRefused, RoutesLead, NamelessIsRefused, TokenExpires, RepositoryIsUnknown, DownloadLocksNothing, CutIsUnanswered, FolderIsFrozen, PushIsDenied, ContentHasItsName, ContentIsServed, QuotaIsKept, UploadIsRefusedEarly, StoredIsConfirmed, UploadIsOffered, DownloadIsOffered, ObjectsAreRefused, ObjectsAreInvalid, RetiredIsGone, HashIsRefused, BatchIsRefused, HiddenIsLeftOut, PagesAreCut, PagesAreRefused, LocksAreSplit, LockIsReleased, LocksAreServed, RefusalCloses, TokenIsIssued, TokenIsPruned, ObjectIsRemoved, MomentsArePrinted}
 
 pub first_is_locked : FirstIsLocked
 unfolding on_literals
@@ -91,6 +91,10 @@ pub objects_are_invalid : ObjectsAreInvalid
 unfolding on_literals
 objects_are_invalid = (refl, refl)
 
+pub retired_is_gone : RetiredIsGone
+unfolding on_literals
+retired_is_gone = (refl, refl, refl, refl, refl)
+
 pub hash_is_refused : HashIsRefused
 unfolding on_literals
 hash_is_refused = refl
@@ -134,6 +138,10 @@ token_is_issued = (refl, refl, refl)
 pub token_is_pruned : TokenIsPruned
 unfolding on_literals
 token_is_pruned = (refl, refl)
+
+pub object_is_removed : ObjectIsRemoved
+unfolding on_literals
+object_is_removed = (refl, refl, refl)
 
 pub moments_are_printed : MomentsArePrinted
 unfolding on_literals

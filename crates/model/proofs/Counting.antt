@@ -2,8 +2,8 @@
 use Rattle.std.proofs.Common.{◌≡◌, ℕ, ◌+◌, ◌≤◌, List, [], ◌∷◌, refl, sym, ap, subst, ◌∙◌, arith, Result, Ok, Err, Option, Some, None, cond, is_some}
 use Rattle.model.specs.World.{World, Object, Lock, Token, object_named, with_object}
 use Rattle.model.specs.Answers.{stores, makes_lock, offers, serves, confirms, lists, splits, releases, Answer}
-use Rattle.model.specs.Operator.{TokenDenial, token_verdict, after_token, Outcome, issue_outcome, prune_outcome, Reports, by_success, by_fault}
-use Rattle.model.specs.Steps.{Exchange, judgement, Carries, by_verdict, by_refusal, after, Event, exchanged, issues, prunes, IsStep}
+use Rattle.model.specs.Operator.{TokenDenial, token_verdict, after_token, Outcome, issue_outcome, prune_outcome, Removal, removed_now, removed_before, no_object, removal_of, after_removal, retire_outcome, Reports, by_success, by_fault}
+use Rattle.model.specs.Steps.{Exchange, judgement, Carries, by_verdict, by_refusal, after, Event, exchanged, issues, prunes, retires, IsStep}
 use Rattle.model.specs.Laws.{CountsOn, NewIdIsNext, NoIdComesAgain}
 use Rattle.model.proofs.Keeping.{counted_itself, counted_above, IsNewLock, IfGranted, exchange_grantable, keeps_step, keeps_run}
 
@@ -39,10 +39,16 @@ token_counts : (old : World) (v : Result Token TokenDenial) (repo : List ℕ) �
 token_counts old (Ok i) repo = refl
 token_counts old (Err d) repo = refl
 
+removal_counts : (old : World) (r n : List ℕ) (removal : Removal) (repo : List ℕ) → (after_removal old r n removal).made repo ≡ old.made repo
+removal_counts old r n removed_now repo = refl
+removal_counts old r n removed_before repo = refl
+removal_counts old r n no_object repo = refl
+
 step_counts : (old : World) (event : Event) (new : World) (repo : List ℕ) → IsStep old event new → old.made repo ≤ new.made repo
 step_counts old (exchanged e) new repo step = exchange_counts old e new repo step.carries
 step_counts old (issues asked given) new repo step = report_counts given (issue_outcome old asked) old new repo step.1 (token_counts old (token_verdict old asked) repo)
 step_counts old (prunes now given) new repo step = report_counts given (prune_outcome old now) old new repo step.1 refl
+step_counts old (retires r n given) new repo step = report_counts given (retire_outcome old r n) old new repo step.2 (removal_counts old r n (removal_of old r n) repo)
 
 pub counts_on : CountsOn
 counts_on old [] new run repo = omega (arith, ap (λ (w : World). w.made repo) run)

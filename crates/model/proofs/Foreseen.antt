@@ -15,7 +15,8 @@ use Rattle.model.specs.Views.{View, OwnToken, own_token, is_issued_to, tokens_of
 use Rattle.model.specs.Laws.{IsCallerOf, OnlyCallersAreForeseen}
 use Rattle.model.proofs.Lists.{In, IsOnly, only_filter, only_map, find_rising, find_map, find_filter, found_passes, in_found, each_in}
 use Rattle.model.proofs.Tests.{both_true}
-use Rattle.model.proofs.Views.{only_of, caller_as}
+use Rattle.model.proofs.Once.{only_of}
+use Rattle.model.proofs.Views.{caller_as}
 
 -- the only element that passes is found
 only_found : {A : Type 0} (p : A → Bool) (xs : List A) (x : A) → IsOnly p xs → In xs x → p x ≡ true → find p xs ≡ Some x

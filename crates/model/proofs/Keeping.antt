@@ -18,8 +18,8 @@ use Rattle.model.specs.declared.Form.TheVariants as form
 use Rattle.model.specs.declared.Right.TheVariants as right
 use Rattle.model.specs.Reading.{◌>>=◌, check, ok_or, none_or, or_default}
 use Rattle.model.specs.Policy.{Policy, IsPolicy, Repo, repo_named}
-use Rattle.model.specs.World.{World, Object, Lock, Token, IsWorld, IsObject, IsLock, IsToken, DiffersInName, DiffersInId, DiffersInPlace, DiffersInDigest, object_named, find_token, with_lock, without_lock, with_object, with_token, without_expired, has_id, one_more, nothing, name_of}
-use Rattle.model.specs.RepoState.{lock_at, locks_of, size_of, has_room}
+use Rattle.model.specs.World.{World, Object, Lock, Token, Retired, IsWorld, IsObject, IsLock, IsToken, IsRetired, IsUnretired, DiffersInName, DiffersInId, DiffersInPlace, DiffersInDigest, DiffersInRetired, object_named, is_retired, find_token, with_lock, without_lock, with_object, without_object, with_token, without_expired, has_id, has_name, one_more, nothing, name_of}
+use Rattle.model.specs.RepoState.{lock_at, locks_of, size_of, is_gone, has_room}
 use Rattle.model.specs.Forms.{LockForm, Request, asks_batch, asks_get, asks_put, asks_verify, asks_lock, asks_list, asks_verify_locks, asks_unlock, lock_form, batch_form, put_form, verify_form, list_form, verify_locks_form, unlock_form, is_if_given, members_of, required_member, optional, as_name, request_of}
 use Rattle.model.specs.Heads.{Target, head_verdict, query_of, content_length, body_length}
 use Rattle.model.specs.Callers.{Caller, bearer, caller_by, lock_question, push_question}
@@ -30,12 +30,13 @@ use Rattle.model.specs.Batch.{may_batch, batch_verdict}
 use Rattle.model.specs.Pages.{cursor_in}
 use Rattle.model.specs.Objects.{finish, verify_verdict}
 use Rattle.model.specs.Verdict.{plan_to, plan_for, is_covered, caller_plan, desk_plan, desk_request, verdict, early_verdict}
-use Rattle.model.specs.Operator.{TokenRequest, IsTokenRequest, new_token, already_issued, expires_too_late, token_verdict, after_token, Outcome, issue_outcome, prune_outcome, Reports, by_success, by_fault}
-use Rattle.model.specs.Steps.{verdict_on, denial_alone, after, after_grant, Message, message, bad_head, IsMessage, Exchange, judgement, Carries, by_verdict, by_refusal, IsExchange, exchanged, issues, prunes}
+use Rattle.model.specs.Operator.{TokenRequest, IsTokenRequest, new_token, already_issued, expires_too_late, token_verdict, after_token, Outcome, issue_outcome, prune_outcome, Removal, removed_now, removed_before, no_object, removal_of, after_removal, retire_outcome, Reports, by_success, by_fault}
+use Rattle.model.specs.Steps.{verdict_on, denial_alone, after, after_grant, Message, message, bad_head, IsMessage, Exchange, judgement, Carries, by_verdict, by_refusal, IsExchange, exchanged, issues, prunes, retires}
 use Rattle.model.specs.Laws.{StepsKeepWorlds, RunsKeepWorlds, RunsMakeWorlds, NeverLocksTwice, DenialsChangeNothing, SilenceChangesNothing}
 use Rattle.model.proofs.Tests.{both_true}
 use Rattle.model.proofs.Checks.{passed, then_any, by_rules_ok, found_ok, check_ok, rules_check_ok, find_ok}
 use Rattle.model.proofs.Lists.{not_found, none_rising, none_filter}
+use Rattle.model.proofs.Once.{gone_is}
 use Rattle.model.proofs.Sizes.{judged_small}
 
 -- ---- what is in range
@@ -66,9 +67,20 @@ repos_in_range : (repos : List Repo) → AllByRecursion (λ r. IsTrue (is_repo r
 repos_in_range [] all = tt
 repos_in_range (r ∷ repos) all = (record { name = all.0.0; default_ref = all.0.1 }, repos_in_range repos all.1)
 
-repo_in_range : (name : List ℕ) (policy : Policy) → IsPolicy policy → IfSome (repo_named name policy) IsRepoInRange
-repo_in_range name policy p =
-    find_ok IsRepoInRange (λ r. bytes_eq r.name name) policy.repos (repos_in_range policy.repos (recursion_from_All _ policy.repos p))
+-- the entry that a name finds is in range, and has the name
+abbrev IsEntryOf : List ℕ → Repo → Type 0
+IsEntryOf name r = IsRepoInRange r × (bytes_eq r.name name ≡ true)
+
+entry_found : (name : List ℕ) (repos : List Repo) → AllByRecursion IsRepoInRange repos → IfSome (find (λ r. bytes_eq r.name name) repos) (IsEntryOf name)
+entry_found name [] all = tt
+entry_found name (r ∷ repos) all = at (bytes_eq r.name name) refl (entry_found name repos all.1)
+  where
+    at : (v : Bool) → bytes_eq r.name name ≡ v → IfSome (find (λ r. bytes_eq r.name name) repos) (IsEntryOf name) → IfSome (cond v (Some r) (find (λ r. bytes_eq r.name name) repos)) (IsEntryOf name)
+    at true e rest = (all.0, e)
+    at false e rest = rest
+
+repo_in_range : (name : List ℕ) (policy : Policy) → IsPolicy policy → IfSome (repo_named name policy) (IsEntryOf name)
+repo_in_range name policy p = entry_found name policy.repos (repos_in_range policy.repos (recursion_from_All _ policy.repos p))
 
 form_is : (path : List ℕ) (ref : Option (List ℕ)) → IfOk (check {E = Rule} (is_lock_path path && is_if_given is_ref ref) rule.J2 >>= λ _. Ok (record { path = path; ref = ref })) IsLockForm
 form_is path ref =
@@ -107,12 +119,13 @@ pub record IsNewLock (world : World) (l : Lock) : Type 0 where
 
 abbrev pub IsGrantable : World → Grant → Type 0
 IsGrantable world (makes_lock l) = IsNewLock world l
-IsGrantable world (stores o) = IsObject o
+IsGrantable world (stores o) = IsObject o × IsUnretired world o
 IsGrantable world _ = ⊤
 
-abbrev pub IsFeasible : World → Plan → Type 0
-IsFeasible world (grants grant) = IsGrantable world grant
-IsFeasible world _ = ⊤
+abbrev pub IsFeasible : World → List ℕ → Plan → Type 0
+IsFeasible world repo (grants grant) = IsGrantable world grant
+IsFeasible world repo (sends name size) = ⊤
+IsFeasible world repo (receives name) = IsTrue (not (is_retired repo name world))
 
 pub counted_itself : (repo : List ℕ) (made : List ℕ → ℕ) → one_more repo made repo ≡ made repo + 1
 counted_itself repo made = rw ((bytes_eq-Decides repo repo).1 refl) refl
@@ -165,31 +178,34 @@ module _ (world : World) (setting : Setting) (caller : Caller) (repo : Repo) whe
       (λ _. then_any (IsGrantable world) (permit setting.policy (lock_question right.Lock caller.user l) 403) _ (λ may. tt))
       (λ _. then_any (IsGrantable world) (by_rules (check force rule.L3)) _ (λ forced. then_any (IsGrantable world) (permit setting.policy (lock_question right.Force caller.user l) 403) _ (λ may. tt)))
 
-  plan_feasible : (answer : Answer) → IfOk answer (IsGrantable world) → IfOk (plan_to answer) (IsFeasible world)
-  plan_feasible answer is = passed (IsGrantable world) (IsFeasible world) answer _ is (λ g good. good)
+  plan_feasible : (answer : Answer) → IfOk answer (IsGrantable world) → IfOk (plan_to answer) (IsFeasible world repo.name)
+  plan_feasible answer is = passed (IsGrantable world) (IsFeasible world repo.name) answer _ is (λ g good. good)
 
-  plans_feasible : (left : ℕ) (asked : Request) → IsCase setting caller repo → IsRequest asked → IfOk (plan_for c left asked) (IsFeasible world)
-  plans_feasible left (asks_lock asked) is what = plan_feasible _ (lock_grantable asked is what)
-  plans_feasible left (asks_batch asked) is what = plan_feasible (batch_verdict c asked) (then_any (IsGrantable world) (may_batch c asked asked.operation) _ (λ may. tt))
-  plans_feasible left (asks_get name) is what =
-      then_any (IsFeasible world) (may_pull setting.policy caller.user repo.name 404) _ (λ may.
-      then_any (IsFeasible world) (by_rules (ok_or (size_of name c.state) rule.X1)) _ (λ size. tt))
-  plans_feasible left (asks_put asked) is what =
-      then_any (IsFeasible world) (may_push setting.policy caller.user repo.name (ref_or_default asked.ref repo)) _ (λ may.
-      then_any (IsFeasible world) (by_rules (check (has_room left c.state || is_some (size_of asked.name c.state)) rule.X3)) _ (λ fits. tt))
-  plans_feasible left (asks_verify asked) is what =
+  plans_feasible : (left : ℕ) (asked : Request) → IsWorld world → IsCase setting caller repo → IsRequest asked → IfOk (plan_for c left asked) (IsFeasible world repo.name)
+  plans_feasible left (asks_lock asked) w is what = plan_feasible _ (lock_grantable asked is what)
+  plans_feasible left (asks_batch asked) w is what = plan_feasible (batch_verdict c asked) (then_any (IsGrantable world) (may_batch c asked asked.operation) _ (λ may. tt))
+  plans_feasible left (asks_get name) w is what =
+      then_any (IsFeasible world repo.name) (may_pull setting.policy caller.user repo.name 404) _ (λ may.
+      then_any (IsFeasible world repo.name) (by_rules (check (not (is_gone name c.state)) rule.X4)) _ (λ there.
+      then_any (IsFeasible world repo.name) (by_rules (ok_or (size_of name c.state) rule.X1)) _ (λ size. tt)))
+  plans_feasible left (asks_put asked) w is what =
+      then_any (IsFeasible world repo.name) (may_push setting.policy caller.user repo.name (ref_or_default asked.ref repo)) _ (λ may.
+      passed (λ _. IsTrue (not (is_gone asked.name c.state))) (IsFeasible world repo.name) (by_rules (check (not (is_gone asked.name c.state)) rule.X4)) _ (rules_check_ok (not (is_gone asked.name c.state)) rule.X4) (λ _ there.
+      then_any (IsFeasible world repo.name) (by_rules (check (has_room left c.state || is_some (size_of asked.name c.state)) rule.X3)) _ (λ fits.
+      subst (λ (v : Bool). IsTrue (not v)) (gone_is world repo asked.name w) there)))
+  plans_feasible left (asks_verify asked) w is what =
       plan_feasible (verify_verdict c asked)
       (then_any (IsGrantable world) (may_push setting.policy caller.user repo.name (ref_or_default asked.ref repo)) _ (λ may.
       then_any (IsGrantable world) (by_rules (ok_or (size_of asked.name c.state) rule.V1)) _ (λ size.
       then_any (IsGrantable world) (by_rules (check (size == asked.size) rule.V2)) _ (λ same. tt))))
-  plans_feasible left (asks_list asked) is what =
+  plans_feasible left (asks_list asked) w is what =
       plan_feasible (list_verdict c asked)
       (then_any (IsGrantable world) (may_pull setting.policy caller.user repo.name 403) _ (λ may. then_any (IsGrantable world) (by_rules (cursor_in asked.cursor)) _ (λ cursor. tt)))
-  plans_feasible left (asks_verify_locks asked) is what =
+  plans_feasible left (asks_verify_locks asked) w is what =
       plan_feasible (verify_locks_verdict c asked)
       (then_any (IsGrantable world) (permit setting.policy (push_question caller.user repo.name (ref_or_default asked.ref repo)) 403) _ (λ may.
       then_any (IsGrantable world) (by_rules (cursor_in asked.cursor)) _ (λ cursor. tt)))
-  plans_feasible left (asks_unlock asked) is what =
+  plans_feasible left (asks_unlock asked) w is what =
       plan_feasible (unlock_verdict c asked)
       (then_any (IsGrantable world) (by_rules (ok_or (visible_lock c asked.id) rule.L2)) _ (λ l. release_grantable asked.force l))
 
@@ -199,25 +215,26 @@ both_ok P (Err e) Q is also = tt
 
 -- the plan of a caller's request is feasible, and its repository is in range
 abbrev IsGoodPlan : World → List ℕ → Plan → Type 0
-IsGoodPlan world repo plan = IsFeasible world plan × IsTrue (is_repo repo)
+IsGoodPlan world repo plan = IsFeasible world repo plan × IsTrue (is_repo repo)
 
-caller_feasible : (world : World) (setting : Setting) (caller : Caller) (asked : DeskRequest) → IsSetting setting → IsCaller caller → IfOk asked.request IsRequest
+caller_feasible : (world : World) (setting : Setting) (caller : Caller) (asked : DeskRequest) → IsWorld world → IsSetting setting → IsCaller caller → IfOk asked.request IsRequest
     → IfOk (caller_plan world setting caller asked) (IsGoodPlan world asked.repo)
-caller_feasible world setting caller asked is who what =
+caller_feasible world setting caller asked w is who what =
     let P : Plan → Type 0 = IsGoodPlan world asked.repo in
     passed (λ _. IsTrue (bytes_eq caller.repo asked.repo)) P (by_rules (check (bytes_eq caller.repo asked.repo) rule.A4)) _ (rules_check_ok (bytes_eq caller.repo asked.repo) rule.A4) (λ _ own.
-    passed IsRepoInRange P (by_rules (ok_or (repo_named asked.repo setting.policy) rule.R1)) _ (by_rules_ok IsRepoInRange _ (found_ok IsRepoInRange _ rule.R1 (repo_in_range asked.repo setting.policy is.policy))) (λ repo entry.
+    passed (IsEntryOf asked.repo) P (by_rules (ok_or (repo_named asked.repo setting.policy) rule.R1)) _ (by_rules_ok (IsEntryOf asked.repo) _ (found_ok (IsEntryOf asked.repo) _ rule.R1 (repo_in_range asked.repo setting.policy is.policy))) (λ repo entry.
     passed IsRequest P (by_rules asked.request) _ (by_rules_ok IsRequest _ what) (λ request fine.
     then_any P (by_rules (check (is_covered caller request) rule.A5)) _ (λ covered.
-    both_ok (IsFeasible world) (plan_for (case_in world setting caller repo) asked.left request) (IsTrue (is_repo asked.repo))
-    (plans_feasible world setting caller repo asked.left request (record { now = is.now; caller = who; repo = entry }) fine)
+    both_ok (IsFeasible world asked.repo) (plan_for (case_in world setting caller repo) asked.left request) (IsTrue (is_repo asked.repo))
+    (subst (λ (n : List ℕ). IfOk (plan_for (case_in world setting caller repo) asked.left request) (IsFeasible world n)) ((bytes_eq-Decides repo.name asked.repo).0 entry.1)
+    (plans_feasible world setting caller repo asked.left request w (record { now = is.now; caller = who; repo = entry.0 }) fine))
     (subst (λ (r : List ℕ). IsTrue (is_repo r)) ((bytes_eq-Decides caller.repo asked.repo).0 own) who.repo)))))
 
 desk_feasible : (world : World) (setting : Setting) (asked : DeskRequest) → IsWorld world → IsSetting setting → IfOk asked.request IsRequest
     → IfOk (desk_plan world setting asked) (IsGoodPlan world asked.repo)
 desk_feasible world setting asked w is what =
     passed IsCaller (IsGoodPlan world asked.repo) (by_rules (caller_by world setting.now asked.bearers)) _ (by_rules_ok IsCaller _ (caller_in_range world setting.now asked.bearers w)) (λ caller who.
-    caller_feasible world setting caller asked is who what)
+    caller_feasible world setting caller asked w is who what)
 
 finish_grantable : (world : World) (repo body : List ℕ) (plan : Plan) → IsGoodPlan world repo plan → length body ≤ largest_object
     → IfOk (finish world repo body plan) (IsGrantable world)
@@ -225,7 +242,7 @@ finish_grantable world repo body (grants g) good small = good.0
 finish_grantable world repo body (sends name size) good small = then_any (IsGrantable world) (by_rules (ok_or (object_named repo name world) rule.X1)) _ (λ o. tt)
 finish_grantable world repo body (receives name) good small =
     passed (λ _. IsTrue (bytes_eq name (name_of body))) (IsGrantable world) (by_rules (check (bytes_eq name (name_of body)) rule.X2)) _ (rules_check_ok (bytes_eq name (name_of body)) rule.X2) (λ _ same.
-    record { repo = good.1; name = (bytes_eq-Decides name (name_of body)).0 same; size = small })
+    (record { repo = good.1; name = (bytes_eq-Decides name (name_of body)).0 same; size = small }, good.0))
 
 body_small : (head : RequestHead) (body : List ℕ) → IsMessage (message head body true) → IfOk (head_verdict head) (λ _. length body ≤ largest_object)
 body_small head body is = at (head_verdict head) refl (judged_small head)
@@ -245,6 +262,22 @@ verdict_grantable world setting head body w at is =
     passed (IsGoodPlan world target.repo) (IsGrantable world) (desk_plan world setting (desk_request head target body)) _
     (desk_feasible world setting (desk_request head target body) w at (request_in_range target.form target.parameter (query_of head.target) body)) (λ plan good.
     finish_grantable world target.repo body plan good small))
+
+-- ---- tests that turn
+
+none_some : {A : Type 0} (o : Option A) → is_some o ≡ false → o ≡ None
+none_some None e = refl
+none_some (Some x) e = absurd (true≢false e)
+
+-- whether an object has a name, and whether the name is the object's
+turned_false : (repo name : List ℕ) (o : Object) → has_name repo name o ≡ false → (bytes_eq repo o.repo && bytes_eq name o.name) ≡ false
+turned_false repo name o e = at (bytes_eq repo o.repo && bytes_eq name o.name) refl
+  where
+    at : (v : Bool) → (bytes_eq repo o.repo && bytes_eq name o.name) ≡ v → v ≡ false
+    at false h = refl
+    at true h =
+        let both = both_true (bytes_eq repo o.repo) (bytes_eq name o.name) h in
+        absurd (true≢false (sym (and_from _ _ ((bytes_eq-Decides o.repo repo).1 (sym ((bytes_eq-Decides repo o.repo).0 both.0))) ((bytes_eq-Decides o.name name).1 (sym ((bytes_eq-Decides name o.name).0 both.1)))) ∙ e))
 
 -- ---- one more lock
 
@@ -300,6 +333,9 @@ keeps_with_lock world l new w =
     record {
       objects = w.objects;
       names = w.names;
+      retired = w.retired;
+      once = w.once;
+      gone = w.gone;
       locks = All-cons (IsLock (one_more l.repo world.made)) l world.locks new.is (All-from_recursion (IsLock (one_more l.repo world.made)) world.locks (still_locks l.repo world.made world.locks locks));
       ids = AllPairs-cons DiffersInId l world.locks (All-from_recursion (DiffersInId l) world.locks (new_id l world.made world.locks new.next locks)) w.ids;
       places = AllPairs-cons DiffersInPlace l world.locks (All-from_recursion (DiffersInPlace l) world.locks (free_place world l new)) w.places;
@@ -323,6 +359,9 @@ pub keeps_with_token : (world : World) (i : Token) → IsToken i → find_token 
 keeps_with_token world i is new w = record {
   objects = w.objects;
   names = w.names;
+  retired = w.retired;
+  once = w.once;
+  gone = w.gone;
   locks = w.locks;
   ids = w.ids;
   places = w.places;
@@ -335,6 +374,9 @@ pub keeps_without_expired : (now : ℕ) (world : World) → IsWorld world → Is
 keeps_without_expired now world w = record {
   objects = w.objects;
   names = w.names;
+  retired = w.retired;
+  once = w.once;
+  gone = w.gone;
   locks = w.locks;
   ids = w.ids;
   places = w.places;
@@ -347,6 +389,9 @@ pub keeps_without_lock : (l : Lock) (world : World) → IsWorld world → IsWorl
 keeps_without_lock l world w = record {
   objects = w.objects;
   names = w.names;
+  retired = w.retired;
+  once = w.once;
+  gone = w.gone;
   locks = All-filter (λ k. not (has_id l.repo l.id k)) (IsLock world.made) world.locks w.locks;
   ids = AllPairs-filter DiffersInId (λ k. not (has_id l.repo l.id k)) world.locks w.ids;
   places = AllPairs-filter DiffersInPlace (λ k. not (has_id l.repo l.id k)) world.locks w.places;
@@ -366,14 +411,17 @@ new_name o (p ∷ objects) e =
     let none = not_found (bytes_eq p.repo o.repo && bytes_eq p.name o.name) p (find (λ (q : Object). bytes_eq q.repo o.repo && bytes_eq q.name o.name) objects) e in
     (other_name o p none.0, new_name o objects none.1)
 
-pub keeps_with_object : (world : World) (o : Object) → IsObject o → IsWorld world → IsWorld (with_object o world)
-keeps_with_object world o is w = at (object_named o.repo o.name world) refl
+pub keeps_with_object : (world : World) (o : Object) → IsObject o → IsUnretired world o → IsWorld world → IsWorld (with_object o world)
+keeps_with_object world o is unretired w = at (object_named o.repo o.name world) refl
   where
     at : (there : Option Object) → object_named o.repo o.name world ≡ there → IsWorld (cond (is_some there) world (record world { objects = o ∷ world.objects }))
     at (Some p) stored = w
     at None free = record {
       objects = All-cons IsObject o world.objects is w.objects;
       names = AllPairs-cons DiffersInName o world.objects (All-from_recursion (DiffersInName o) world.objects (new_name o world.objects free)) w.names;
+      retired = w.retired;
+      once = w.once;
+      gone = All-cons (IsUnretired world) o world.objects unretired w.gone;
       locks = w.locks;
       ids = w.ids;
       places = w.places;
@@ -381,6 +429,61 @@ keeps_with_object world o is w = at (object_named o.repo o.name world) refl
       tokens = w.tokens;
       digests = w.digests;
     }
+
+-- ---- one object less
+
+-- the name was not retired, so each retired name is another
+new_retired : (r : Retired) (names : List Retired) → find (λ (s : Retired). bytes_eq s.repo r.repo && bytes_eq s.name r.name) names ≡ None → AllByRecursion (DiffersInRetired r) names
+new_retired r [] e = tt
+new_retired r (s ∷ names) e =
+    let none = not_found (bytes_eq s.repo r.repo && bytes_eq s.name r.name) s (find (λ (q : Retired). bytes_eq q.repo r.repo && bytes_eq q.name r.name) names) e in
+    (
+      λ repo name. true≢false (sym (and_from _ _ ((bytes_eq-Decides s.repo r.repo).1 (sym repo)) ((bytes_eq-Decides s.name r.name).1 (sym name))) ∙ none.0),
+      new_retired r names none.1,
+    )
+
+-- the names of the objects that are left are not retired
+still_gone : (repo name : List ℕ) (world : World) (objects : List Object) → AllByRecursion (IsUnretired world) objects
+    → AllByRecursion (IsUnretired (without_object repo name world)) (filter (λ o. not (has_name repo name o)) objects)
+still_gone repo name world [] all = tt
+still_gone repo name world (o ∷ objects) all = at (has_name repo name o) refl (still_gone repo name world objects all.1)
+  where
+    left : List Object
+    left = filter (λ p. not (has_name repo name p)) objects
+
+    other : has_name repo name o ≡ false → IsUnretired (without_object repo name world) o
+    other e = subst (λ (v : Bool). IsTrue (not (is_some (cond v (Some (record { repo = repo; name = name })) (find (λ r. bytes_eq r.repo o.repo && bytes_eq r.name o.name) world.retired))))) (sym (turned_false repo name o e)) all.0
+
+    at : (v : Bool) → has_name repo name o ≡ v → AllByRecursion (IsUnretired (without_object repo name world)) left → AllByRecursion (IsUnretired (without_object repo name world)) (cond (not v) (o ∷ left) left)
+    at true e rest = rest
+    at false e rest = (other e, rest)
+
+pub keeps_without_object : (repo name : List ℕ) (world : World) → IsTrue (is_repo repo) → IsTrue (is_hex_64 name) → is_retired repo name world ≡ false → IsWorld world
+    → IsWorld (without_object repo name world)
+keeps_without_object repo name world in_repo in_name unretired w =
+    let r : Retired = record { repo = repo; name = name } in
+    record {
+      objects = All-filter (λ o. not (has_name repo name o)) IsObject world.objects w.objects;
+      names = AllPairs-filter DiffersInName (λ o. not (has_name repo name o)) world.objects w.names;
+      retired = All-cons IsRetired r world.retired (record { repo = in_repo; name = in_name }) w.retired;
+      once = AllPairs-cons DiffersInRetired r world.retired (All-from_recursion (DiffersInRetired r) world.retired (new_retired r world.retired (none_some _ unretired))) w.once;
+      gone = All-from_recursion (IsUnretired (without_object repo name world)) _ (still_gone repo name world world.objects (recursion_from_All (IsUnretired world) world.objects w.gone));
+      locks = w.locks;
+      ids = w.ids;
+      places = w.places;
+      made = w.made;
+      tokens = w.tokens;
+      digests = w.digests;
+    }
+
+keeps_removal : (repo name : List ℕ) (world : World) → IsTrue (is_repo repo) → IsTrue (is_hex_64 name) → IsWorld world → IsWorld (after_removal world repo name (removal_of world repo name))
+keeps_removal repo name world in_repo in_name w = at (is_retired repo name world) refl (is_some (object_named repo name world))
+  where
+    at : (before : Bool) → is_retired repo name world ≡ before → (there : Bool)
+        → IsWorld (after_removal world repo name (cond before removed_before (cond there removed_now no_object)))
+    at true e there = w
+    at false e true = keeps_without_object repo name world in_repo in_name e w
+    at false e false = w
 
 keeps_token : (world : World) (asked : TokenRequest) → IsTokenRequest asked → IsWorld world → IsWorld (after_token world (token_verdict world asked))
 keeps_token world asked is w = at (find_token asked.text world) refl (nat_le (asked.now + asked.seconds) last_moment) refl
@@ -398,7 +501,7 @@ keeps_token world asked is w = at (find_token asked.text world) refl (nat_le (as
 
 keeps_grant : (world : World) (g : Grant) → IsGrantable world g → IsWorld world → IsWorld (after_grant world g)
 keeps_grant world (makes_lock l) new w = keeps_with_lock world l new w
-keeps_grant world (stores o) is w = keeps_with_object world o is w
+keeps_grant world (stores o) is w = keeps_with_object world o is.0 is.1 w
 keeps_grant world (releases l) is w = keeps_without_lock l world w
 keeps_grant world (offers some) is w = w
 keeps_grant world (serves o) is w = w
@@ -440,6 +543,7 @@ keeps_report given outcome old new (by_fault t is) w d = subst IsWorld (sym is) 
 pub keeps_step : StepsKeepWorlds
 keeps_step old (issues asked given) new step w = keeps_report given (issue_outcome old asked) old new step.1 w (keeps_token old asked step.0 w)
 keeps_step old (prunes now given) new step w = keeps_report given (prune_outcome old now) old new step.1 w (keeps_without_expired now old w)
+keeps_step old (retires repo name given) new step w = keeps_report given (retire_outcome old repo name) old new step.2 w (keeps_removal repo name old step.0 step.1 w)
 keeps_step old (exchanged e) new step w = keeps_exchange old e new step step.carries w
 
 pub keeps_run : RunsKeepWorlds
@@ -450,6 +554,9 @@ nothing_is : IsWorld nothing
 nothing_is = record {
   objects = λ k d h. absurd (omega arith);
   names = λ i j d h l. absurd (omega arith);
+  retired = λ k d h. absurd (omega arith);
+  once = λ i j d h l. absurd (omega arith);
+  gone = λ k d h. absurd (omega arith);
   locks = λ k d h. absurd (omega arith);
   ids = λ i j d h l. absurd (omega arith);
   places = λ i j d h l. absurd (omega arith);

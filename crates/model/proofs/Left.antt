@@ -6,8 +6,8 @@ use Rattle.std.proofs.lemmas.Option.{none-some, same_Some}
 use Rattle.std.proofs.lemmas.List.Elements.{All-from_recursion, recursion_from_All}
 use Rattle.model.specs.World.{World, Object, Token, object_named, with_object, without_expired, expired_count}
 use Rattle.model.specs.Answers.{stores, makes_lock, offers, serves, confirms, lists, splits, releases, Answer, Grant, is_store_refusal}
-use Rattle.model.specs.Operator.{TokenRequest, TokenDenial, token_verdict, after_token, issue_outcome, prune_outcome, Reports, by_success, by_fault}
-use Rattle.model.specs.Steps.{Exchange, judgement, Carries, by_verdict, by_refusal, after, after_grant, Event, exchanged, issues, prunes, IsStep, Run}
+use Rattle.model.specs.Operator.{TokenRequest, TokenDenial, token_verdict, after_token, issue_outcome, prune_outcome, Removal, removed_now, removed_before, no_object, removal_of, after_removal, retire_outcome, Reports, by_success, by_fault}
+use Rattle.model.specs.Steps.{Exchange, judgement, Carries, by_verdict, by_refusal, after, after_grant, Event, exchanged, issues, prunes, retires, IsStep, Run}
 use Rattle.model.specs.Bounds.{SameWorld, Bound, IsWithin, Ending, changed, unchanged, failed, is_changed, left_by, is_change, answer_ending, ending_of, intended_world, world_by, next_world, bound_after, bound_of_run}
 use Rattle.model.specs.Laws.{ReportsAreTrue, OnlyReportedChanges, IsHalfDone, LeavesOneChange}
 
@@ -82,10 +82,24 @@ prune_true old now (Some n) new (by_fault none is) = absurd (none-some n (sym no
 prune_true old now None new (by_success e is) = absurd (none-some (expired_count now old) e)
 prune_true old now (Some n) new (by_success e is) = is ∙ pruned_true now n old (sym (same_Some n (expired_count now old) e))
 
+-- a removal that is reported as none left the world
+removed_true : (r n : List ℕ) (old new : World) (removal : Removal) → removal_of old r n ≡ removal → new ≡ after_removal old r n removal → new ≡ next_world old (retires r n (Some removal))
+removed_true r n old new removed_now e is = is ∙ sym (ap (after_removal old r n) e)
+removed_true r n old new removed_before e is = is
+removed_true r n old new no_object e is = is
+
+retire_true : (old : World) (r n : List ℕ) (given : Option Removal) (new : World) → Reports given (retire_outcome old r n) old new → new ≡ next_world old (retires r n given)
+retire_true old r n None new (by_fault none is) = is
+retire_true old r n (Some x) new (by_fault none is) = absurd (none-some x (sym none))
+retire_true old r n None new (by_success e is) = absurd (none-some (removal_of old r n) e)
+retire_true old r n (Some x) new (by_success e is) =
+    let same = sym (same_Some x (removal_of old r n) e) in removed_true r n old new x same (is ∙ ap (after_removal old r n) same)
+
 pub reports_are_true : ReportsAreTrue
 reports_are_true old (exchanged e) new step = exchange_true old e new step.carries
 reports_are_true old (issues asked given) new step = issue_true old asked given new step.1
 reports_are_true old (prunes now given) new step = prune_true old now given new step.1
+reports_are_true old (retires r n given) new step = retire_true old r n given new step.2
 
 -- ---- the worlds of a bound
 
@@ -97,6 +111,7 @@ can_make world mid (exchanged e) step = (
 )
 can_make world mid (issues asked given) step = (issues asked (Some (issue_outcome world asked).answer), (step.0, by_success refl refl))
 can_make world mid (prunes now given) step = (prunes now (Some (prune_outcome world now).answer), (step.0, by_success refl refl))
+can_make world mid (retires r n given) step = (retires r n (Some (retire_outcome world r n).answer), (step.0, step.1, by_success refl refl))
 
 -- what holds of the world before a call, of the one that it was to make, and of a bound, holds of the next bound
 pub all_left : (P : World → Type 0) (ending : Ending) (old made : World) (bound : Bound) → P old → P made → AllByRecursion P bound → AllByRecursion P (left_by ending old made bound)

@@ -7,7 +7,9 @@ pub mod Rooms
 pub mod Moments
 pub mod Sizes
 pub mod Heads
+pub mod Once
 pub mod Keeping
+pub mod Retired
 pub mod Progress
 pub mod Counting
 pub mod Serving
@@ -19,6 +21,7 @@ pub mod Refusals
 pub mod OnLiterals
 pub mod Computed
 pub mod Streamed
+pub mod Totals
 pub mod Quota
 pub mod Uploads
 pub mod Digests

@@ -1,5 +1,5 @@
 -- A stored total within its quota stays within it.
-use Rattle.std.proofs.Common.{◌≡◌, ℕ, ◌+◌, ◌≤◌, Bool, true, false, ◌||◌, List, [], ◌∷◌, length, filter, refl, sym, ap, subst, ◌∙◌, arith, Result, Ok, Err, Option, Some, None, bytes_eq, cond, IfOk, IfSome, IsTrue, is_some, is_err, sum_by, option_map}
+use Rattle.std.proofs.Common.{not, ◌≡◌, ℕ, ◌+◌, ◌≤◌, Bool, true, false, ◌||◌, List, [], ◌∷◌, length, filter, refl, sym, ap, subst, ◌∙◌, arith, Result, Ok, Err, Option, Some, None, bytes_eq, cond, IfOk, IfSome, IsTrue, is_some, is_err, sum_by, option_map}
 use Rattle.std.specs.Bool.{⊤}
 use Rattle.std.specs.List.{AllByRecursion}
 use Rattle.std.proofs.lemmas.Bool.{true≢false}
@@ -14,7 +14,7 @@ use Rattle.model.specs.declared.Form.TheVariants as form
 use Rattle.model.specs.Reading.{check, ok_or, or_default}
 use Rattle.model.specs.Policy.{Policy, Repo, repo_named}
 use Rattle.model.specs.World.{World, Object, Token, IsWorld, object_named, name_of, with_object, total}
-use Rattle.model.specs.RepoState.{ObjectSize, object_size, repo_state, size_of, has_room}
+use Rattle.model.specs.RepoState.{ObjectSize, object_size, repo_state, size_of, is_gone, has_room}
 use Rattle.model.specs.Forms.{Request, asks_batch, asks_get, asks_put, asks_verify, asks_lock, asks_list, asks_verify_locks, asks_unlock}
 use Rattle.model.specs.Heads.{Target, head_verdict, query_of, content_length, body_length}
 use Rattle.model.specs.Callers.{caller_by, Caller}
@@ -24,8 +24,8 @@ use Rattle.model.specs.Locks.{ref_or_default, lock_verdict, list_verdict, verify
 use Rattle.model.specs.Batch.{batch_verdict}
 use Rattle.model.specs.Objects.{finish, verify_verdict}
 use Rattle.model.specs.Verdict.{plan_to, plan_for, is_covered, desk_plan, desk_request, verdict, early_verdict, desk_verdict}
-use Rattle.model.specs.Operator.{TokenDenial, token_verdict, after_token, Outcome, issue_outcome, prune_outcome, Reports, by_success, by_fault}
-use Rattle.model.specs.Steps.{verdict_on, denial_alone, after, after_grant, Message, message, bad_head, IsMessage, Exchange, Carries, by_verdict, by_refusal, Event, exchanged, issues, prunes, IsStep, Run}
+use Rattle.model.specs.Operator.{TokenDenial, token_verdict, after_token, Outcome, issue_outcome, prune_outcome, Removal, removed_now, removed_before, no_object, removal_of, after_removal, retire_outcome, Reports, by_success, by_fault}
+use Rattle.model.specs.Steps.{verdict_on, denial_alone, after, after_grant, Message, message, bad_head, IsMessage, Exchange, Carries, by_verdict, by_refusal, Event, exchanged, issues, prunes, retires, IsStep, Run}
 use Rattle.model.specs.Bounds.{Bound, ending_of, intended_world, bound_after, bound_of_run}
 use Rattle.model.specs.Laws.{quota_of, HasQuotaWithin, StaysInQuota}
 use Rattle.model.proofs.Checks.{passed, then_any, by_rules_ok, found_ok, rules_check_ok}
@@ -34,6 +34,7 @@ use Rattle.model.proofs.Left.{all_left, can_make, reports_are_true}
 use Rattle.model.proofs.Refusals.{verdict_at, verdict_refused}
 use Rattle.model.proofs.Rooms.{room_is_quota}
 use Rattle.model.proofs.Serving.{IsPlain, IsFrom, IsAsked, desk_from}
+use Rattle.model.proofs.Totals.{total_without}
 use Rattle.model.proofs.Views.{size_stored}
 use Rattle.model.proofs.Lists.{found_passes}
 
@@ -68,12 +69,14 @@ module _ (world : World) (setting : Setting) (caller : Caller) (entry : Repo) (n
   plans_fit left (asks_get oid) =
       let P = PlanFits world setting.policy name left in
       then_any P (may_pull setting.policy caller.user entry.name 404) _ (λ may.
-      then_any P (by_rules (ok_or (size_of oid c.state) rule.X1)) _ (λ size. tt))
+      then_any P (by_rules (check (not (is_gone oid c.state)) rule.X4)) _ (λ there.
+      then_any P (by_rules (ok_or (size_of oid c.state) rule.X1)) _ (λ size. tt)))
   plans_fit left (asks_put asked) =
       let P = PlanFits world setting.policy name left in
       let room = has_room left c.state || is_some (size_of asked.name c.state) in
       then_any P (may_push setting.policy caller.user entry.name (ref_or_default asked.ref entry)) _ (λ may.
-      passed (λ _. IsTrue room) P (by_rules (check room rule.X3)) _ (rules_check_ok room rule.X3) (λ _ fits. record { entry = entry; named = named; quota = quota; fits = fits }))
+      then_any P (by_rules (check (not (is_gone asked.name c.state)) rule.X4)) _ (λ there.
+      passed (λ _. IsTrue room) P (by_rules (check room rule.X3)) _ (rules_check_ok room rule.X3) (λ _ fits. record { entry = entry; named = named; quota = quota; fits = fits })))
 
 -- the policy's entry
 pub record IsEntry (policy : Policy) (name : List ℕ) (entry : Repo) : Type 0 where
@@ -242,7 +245,7 @@ exchange_stays old e new n most w asked (by_verdict given is) within quota =
     subst (λ (x : World). total n x ≤ most) (sym is) (message_stays old e.setting e.asked n most w asked within quota)
 
 report_stays : {A : Type 0} (given : Option A) (outcome : Outcome A) (old new : World) (n : List ℕ) (most : ℕ) → Reports given outcome old new
-    → total n outcome.world ≡ total n old → total n old ≤ most → total n new ≤ most
+    → total n outcome.world ≤ total n old → total n old ≤ most → total n new ≤ most
 report_stays given outcome old new n most (by_success t is) same within = omega (arith, within, same, ap (λ (x : World). total n x) is)
 report_stays given outcome old new n most (by_fault t is) same within = omega (arith, within, ap (λ (x : World). total n x) is)
 
@@ -250,11 +253,17 @@ token_total : (old : World) (v : Result Token TokenDenial) (n : List ℕ) → to
 token_total old (Ok t) n = refl
 token_total old (Err d) n = refl
 
+removal_total : (old : World) (r n : List ℕ) (removal : Removal) (repo : List ℕ) → IsWorld old → total repo (after_removal old r n removal) ≤ total repo old
+removal_total old r n removed_now repo w = omega (arith, total_without old r n repo w (bytes_eq r repo) refl)
+removal_total old r n removed_before repo w = omega arith
+removal_total old r n no_object repo w = omega arith
+
 step_stays : (old : World) (event : Event) (new : World) (n : List ℕ) (most : ℕ) → IsWorld old → IsStep old event new → HasQuotaWithin n most event
     → total n old ≤ most → total n new ≤ most
 step_stays old (exchanged e) new n most w step quota within = exchange_stays old e new n most w step.asked step.carries within quota
-step_stays old (issues asked given) new n most w step quota within = report_stays given (issue_outcome old asked) old new n most step.1 (token_total old (token_verdict old asked) n) within
-step_stays old (prunes now given) new n most w step quota within = report_stays given (prune_outcome old now) old new n most step.1 refl within
+step_stays old (issues asked given) new n most w step quota within = report_stays given (issue_outcome old asked) old new n most step.1 (omega (arith, token_total old (token_verdict old asked) n)) within
+step_stays old (prunes now given) new n most w step quota within = report_stays given (prune_outcome old now) old new n most step.1 (omega arith) within
+step_stays old (retires r name given) new n most w step quota within = report_stays given (retire_outcome old r name) old new n most step.2 (removal_total old r name (removal_of old r name) n w) within
 
 run_stays : (n : List ℕ) (most : ℕ) (old : World) (events : List Event) (new : World) → IsWorld old → Run old events new → AllByRecursion (HasQuotaWithin n most) events
     → total n old ≤ most → total n new ≤ most
@@ -270,6 +279,7 @@ same_quota : (repo : List ℕ) (most : ℕ) (old mid : World) (event : Event) (s
 same_quota repo most old mid (exchanged e) step quota = quota
 same_quota repo most old mid (issues asked given) step quota = tt
 same_quota repo most old mid (prunes now given) step quota = tt
+same_quota repo most old mid (retires r n given) step quota = tt
 
 -- so do the totals of all worlds that a stop may leave, if they were within the bound before
 pub bound_in_quota : (repo : List ℕ) (most : ℕ) (old : World) (events : List Event) (new : World) → IsWorld old → Run old events new → AllByRecursion (HasQuotaWithin repo most) events → total repo old ≤ most

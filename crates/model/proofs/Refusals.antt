@@ -19,7 +19,7 @@ use Rattle.names.specs.declared.operations.Operation.TheVariants as operation
 use Rattle.model.specs.Reading.{◌>>=◌, check, ok_or, none_or}
 use Rattle.model.specs.Policy.{Policy, Decision, allowed, denied, decide, repo_named}
 use Rattle.model.specs.World.{World, Lock, find_token, object_named, name_of}
-use Rattle.model.specs.RepoState.{size_of, has_room, lock_at}
+use Rattle.model.specs.RepoState.{size_of, is_gone, has_room, lock_at}
 use Rattle.model.specs.Forms.{Request, asks_batch, asks_get, asks_put, asks_verify, asks_lock, asks_list, asks_verify_locks, asks_unlock, BatchForm, request_of, batch_keys, batch_form, put_form, verify_form, lock_form, list_form, verify_locks_form, unlock_form, members_of, if_given, optional, required_member, as_name, as_array_of, as_batch_object, operation_in, is_if_given, has_basic, object_limit, query_value, query_values, query_single, query_ref, read_if_given, limit_in, whole_if_given, is_size}
 use Rattle.model.specs.Heads.{Target, RouteRow, head_verdict, check_framing, is_measured, is_clear, is_small, at_most, form_of, accepts, values, route_at, routes, route_of_parts, path_of, repo_text, row_fits}
 use Rattle.model.specs.Callers.{Caller, caller_by, bearer, pull_question, push_question, lock_question}
@@ -273,11 +273,13 @@ module _ (c : Case) where
   plan_fails left (asks_batch asked) = plan_late (batch_verdict c asked) (and_late (may_batch c asked asked.operation) _ (batch_may_late asked asked.operation) (λ may. tt))
   plan_fails left (asks_get name) =
       and_late (may_pull c.setting.policy c.caller.user c.repo.name 404) _ (pull_late c.setting.policy c.caller.user c.repo.name 404) (λ may.
-      and_late (by_rules (ok_or (size_of name c.state) rule.X1)) _ (rule_late (ok_or (size_of name c.state) rule.X1) (found_late (size_of name c.state) rule.X1 (late refl refl refl refl refl))) (λ size. tt))
+      and_late (by_rules (check (not (is_gone name c.state)) rule.X4)) _ (rule_late (check (not (is_gone name c.state)) rule.X4) (check_late (not (is_gone name c.state)) rule.X4 (late refl refl refl refl refl))) (λ there.
+      and_late (by_rules (ok_or (size_of name c.state) rule.X1)) _ (rule_late (ok_or (size_of name c.state) rule.X1) (found_late (size_of name c.state) rule.X1 (late refl refl refl refl refl))) (λ size. tt)))
   plan_fails left (asks_put asked) =
       let room = has_room left c.state || is_some (size_of asked.name c.state) in
       and_late (may_push c.setting.policy c.caller.user c.repo.name (ref_or_default asked.ref c.repo)) _ (push_late c.setting.policy c.caller.user c.repo.name (ref_or_default asked.ref c.repo)) (λ may.
-      and_late (by_rules (check room rule.X3)) _ (rule_late (check room rule.X3) (check_late room rule.X3 (late refl refl refl refl refl))) (λ fits. tt))
+      and_late (by_rules (check (not (is_gone asked.name c.state)) rule.X4)) _ (rule_late (check (not (is_gone asked.name c.state)) rule.X4) (check_late (not (is_gone asked.name c.state)) rule.X4 (late refl refl refl refl refl))) (λ there.
+      and_late (by_rules (check room rule.X3)) _ (rule_late (check room rule.X3) (check_late room rule.X3 (late refl refl refl refl refl))) (λ fits. tt)))
   plan_fails left (asks_verify asked) =
       plan_late (verify_verdict c asked)
       (and_late (may_push c.setting.policy c.caller.user c.repo.name (ref_or_default asked.ref c.repo)) _ (push_late c.setting.policy c.caller.user c.repo.name (ref_or_default asked.ref c.repo)) (λ may.

@@ -1,5 +1,5 @@
 -- The replies to a user do not depend on what the user does not see.
-use Rattle.std.proofs.Common.{◌≡◌, ℕ, ◌+◌, Bool, true, false, ◌||◌, ◌&&◌, nat_lt, List, [], ◌∷◌, filter, refl, sym, ap, ◌∙◌, Result, Ok, Err, Option, Some, bytes_eq, cond, IsTrue, ◌==◌, is_some}
+use Rattle.std.proofs.Common.{◌≡◌, ℕ, ◌+◌, Bool, true, false, not, ◌||◌, ◌&&◌, nat_lt, List, [], ◌∷◌, filter, refl, sym, ap, ◌∙◌, Result, Ok, Err, Option, Some, bytes_eq, cond, IsTrue, ◌==◌, is_some}
 use Rattle.std.specs.Prelude.{ℤ}
 use Rattle.std.specs.Bool.{⊤}
 use Rattle.std.specs.List.{AllByRecursion, list_any}
@@ -16,7 +16,7 @@ use Rattle.names.specs.declared.operations.Operation.TheVariants as operation
 use Rattle.model.specs.Reading.{◌>>=◌, check, ok_or, none_or}
 use Rattle.model.specs.Policy.{Policy, Repo, Row, Question, Decision, allowed, denied, decide, decision_by, decide_from, matches}
 use Rattle.model.specs.World.{Lock}
-use Rattle.model.specs.RepoState.{RepoState, ObjectSize, size_of, has_room}
+use Rattle.model.specs.RepoState.{RepoState, ObjectSize, size_of, is_gone, has_room}
 use Rattle.model.specs.Forms.{BatchForm, PutForm, VerifyForm, LockForm, ListForm, VerifyLocksForm, UnlockForm, Request, asks_batch, asks_get, asks_put, asks_verify, asks_lock, asks_list, asks_verify_locks, asks_unlock}
 use Rattle.model.specs.Callers.{Caller, pull_question, push_question, lock_question, is_allowed, is_own, may_list, sees}
 use Rattle.model.specs.Cases.{Setting, Case}
@@ -83,7 +83,7 @@ push_shows policy user repo ref x e =
 
 -- ---- the verdicts
 
-module _ (setting : Setting) (caller : Caller) (repo : Repo) (objects : List ObjectSize) (locks : List Lock) (made : ℕ) (room : ℤ)
+module _ (setting : Setting) (caller : Caller) (repo : Repo) (objects : List ObjectSize) (retired : List (List ℕ)) (locks : List Lock) (made : ℕ) (room : ℤ)
     (own : AllByRecursion (λ (l : Lock). l.repo ≡ repo.name) locks) where
   abbrev policy : Policy
   policy = setting.policy
@@ -95,17 +95,14 @@ module _ (setting : Setting) (caller : Caller) (repo : Repo) (objects : List Obj
   at_state state = record { setting = setting; caller = caller; repo = repo; state = state }
 
   abbrev pub whole : RepoState
-  whole = record { objects = objects; locks = locks; made = made; room = room }
+  whole = record { objects = objects; retired = retired; locks = locks; made = made; room = room }
 
-  -- the visible part of the state, with these objects
-  abbrev seen_with_objects : List ObjectSize → RepoState
-  seen_with_objects os = record { objects = os; locks = filter (sees policy user) locks; made = made; room = room }
-
-  abbrev pub shown : List ObjectSize
-  shown = cond (sees_objects policy user repo.name) objects []
+  -- the visible part of the state, with the objects and the retired names or without
+  abbrev seen_if : Bool → RepoState
+  seen_if all = record { objects = cond all objects []; retired = cond all retired []; locks = filter (sees policy user) locks; made = made; room = room }
 
   abbrev pub seen : RepoState
-  seen = seen_with_objects shown
+  seen = seen_if (sees_objects policy user repo.name)
 
   abbrev here : Case
   here = at_state seen
@@ -113,39 +110,36 @@ module _ (setting : Setting) (caller : Caller) (repo : Repo) (objects : List Obj
   abbrev there : Case
   there = at_state whole
 
-  all_shown : sees_objects policy user repo.name ≡ true → shown ≡ objects
-  all_shown e = ap (λ (b : Bool). cond b objects []) e
-
   batch_shows : (asked : BatchForm) (op : Operation) (x : ⊤) → may_batch there asked op ≡ Ok x → sees_objects policy user repo.name ≡ true
   batch_shows asked operation.Download x e = pull_shows policy user repo.name 404 x e
   batch_shows asked operation.Upload x e = push_shows policy user repo.name (ref_or_default asked.ref repo) x e
 
-  same_offers : (asked : BatchForm) (op : Operation) → shown ≡ objects → offers_for here asked op ≡ offers_for there asked op
-  same_offers asked operation.Download e = ap (λ os. offers_for (at_state (seen_with_objects os)) asked operation.Download) e
-  same_offers asked operation.Upload e = ap (λ os. offers_for (at_state (seen_with_objects os)) asked operation.Upload) e
+  same_offers : (asked : BatchForm) (op : Operation) → sees_objects policy user repo.name ≡ true → offers_for here asked op ≡ offers_for there asked op
+  same_offers asked operation.Download e = ap (λ (all : Bool). offers_for (at_state (seen_if all)) asked operation.Download) e
+  same_offers asked operation.Upload e = ap (λ (all : Bool). offers_for (at_state (seen_if all)) asked operation.Upload) e
 
   same_batch : (asked : BatchForm) → batch_verdict here asked ≡ batch_verdict there asked
   same_batch asked =
       let given_is : List Offer → Answer = λ some. Ok (offers some) in
       same_then (may_batch there asked asked.operation) _ _ (λ x e.
-      ap given_is (same_offers asked asked.operation (all_shown (batch_shows asked asked.operation x e))))
+      ap given_is (same_offers asked asked.operation (batch_shows asked asked.operation x e)))
 
   same_get : (name : List ℕ) → get_verdict here name ≡ get_verdict there name
   same_get name =
       same_then (may_pull policy user repo.name 404) _ _ (λ x e.
-      ap (λ (os : List ObjectSize). by_rules (ok_or (size_of name (seen_with_objects os)) rule.X1) >>= λ size. Ok (sends name size)) (all_shown (pull_shows policy user repo.name 404 x e)))
+      ap (λ (all : Bool). by_rules (check (not (is_gone name (seen_if all))) rule.X4) >>= λ there. by_rules (ok_or (size_of name (seen_if all)) rule.X1) >>= λ size. Ok (sends name size)) (pull_shows policy user repo.name 404 x e))
 
   same_put : (left : ℕ) (asked : PutForm) → put_verdict here left asked ≡ put_verdict there left asked
   same_put left asked =
       same_then (may_push policy user repo.name (ref_or_default asked.ref repo)) _ _ (λ x e.
-      ap (λ (os : List ObjectSize). by_rules (check (has_room left (seen_with_objects os) || is_some (size_of asked.name (seen_with_objects os))) rule.X3) >>= λ fits. Ok (receives asked.name))
-      (all_shown (push_shows policy user repo.name (ref_or_default asked.ref repo) x e)))
+      ap (λ (all : Bool). by_rules (check (not (is_gone asked.name (seen_if all))) rule.X4) >>= λ there. by_rules (check (has_room left (seen_if all) || is_some (size_of asked.name (seen_if all))) rule.X3) >>= λ fits. Ok (receives asked.name))
+      (push_shows policy user repo.name (ref_or_default asked.ref repo) x e))
 
   same_verify : (asked : VerifyForm) → verify_verdict here asked ≡ verify_verdict there asked
   same_verify asked =
       same_then (may_push policy user repo.name (ref_or_default asked.ref repo)) _ _ (λ x e.
-      ap (λ (os : List ObjectSize). by_rules (ok_or (size_of asked.name (seen_with_objects os)) rule.V1) >>= λ size. by_rules (check (size == asked.size) rule.V2) >>= λ same. Ok confirms)
-      (all_shown (push_shows policy user repo.name (ref_or_default asked.ref repo) x e)))
+      ap (λ (all : Bool). by_rules (ok_or (size_of asked.name (seen_if all)) rule.V1) >>= λ size. by_rules (check (size == asked.size) rule.V2) >>= λ same. Ok confirms)
+      (push_shows policy user repo.name (ref_or_default asked.ref repo) x e))
 
   -- the question on a lock in this place
   abbrev place_question : Right → List ℕ → List ℕ → List ℕ → Question

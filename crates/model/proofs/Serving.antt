@@ -1,9 +1,9 @@
 -- What is served was uploaded.
-use Rattle.std.proofs.Common.{◌≡◌, ℕ, inl, inr, ◌⊎◌, Bool, true, false, ◌||◌, List, [], ◌∷◌, refl, sym, ap, subst, ◌∙◌, arith, Result, Ok, Err, Option, Some, None, bytes_eq, cond, IfOk, ◌==◌, is_some, ◌&&◌, nat_lt, suc}
+use Rattle.std.proofs.Common.{not, ◌≡◌, ℕ, inl, inr, ◌⊎◌, Bool, true, false, ◌||◌, List, [], ◌∷◌, refl, sym, ap, subst, ◌∙◌, arith, Result, Ok, Err, Option, Some, None, bytes_eq, cond, IfOk, ◌==◌, is_some, ◌&&◌, nat_lt, suc}
 use Rattle.std.specs.Bool.{⊤}
 use Rattle.std.proofs.lemmas.Option.{none-some, same_Some}
 use Rattle.std.proofs.lemmas.Bool.{cond_both}
-use Rattle.std.proofs.lemmas.List.Elements.{recursion_from_All}
+use Rattle.std.proofs.lemmas.List.Elements.{recursion_from_All, All-from_recursion}
 use Rattle.std.proofs.lemmas.Slice.Eq.{bytes_eq-Decides}
 use Rattle.httparse.specs.Grammar.{RequestHead}
 use Rattle.names.specs.Texts.{is_hex_64, last_lock_id}
@@ -14,8 +14,8 @@ use Rattle.model.specs.declared.Form.TheVariants as form
 use Rattle.model.specs.declared.Right.TheVariants as right
 use Rattle.model.specs.Reading.{◌>>=◌, check, ok_or, none_or}
 use Rattle.model.specs.Policy.{repo_named}
-use Rattle.model.specs.World.{World, Object, Lock, Token, IsObject, object_named, name_of, nothing, with_object}
-use Rattle.model.specs.RepoState.{lock_at, size_of, has_room}
+use Rattle.model.specs.World.{World, Object, Lock, Token, IsObject, IsUnretired, is_retired, object_named, has_name, name_of, nothing, with_object}
+use Rattle.model.specs.RepoState.{lock_at, size_of, is_gone, has_room}
 use Rattle.model.specs.Forms.{PutForm, Request, asks_batch, asks_get, asks_put, asks_verify, asks_lock, asks_list, asks_verify_locks, asks_unlock, request_of, put_form, query_ref, batch_form, verify_form, lock_form, list_form, verify_locks_form, unlock_form}
 use Rattle.model.specs.Heads.{Target, head_verdict, query_of}
 use Rattle.model.specs.Callers.{caller_by, lock_question, push_question}
@@ -26,11 +26,13 @@ use Rattle.model.specs.Batch.{may_batch, batch_verdict}
 use Rattle.model.specs.Pages.{cursor_in}
 use Rattle.model.specs.Objects.{finish, verify_verdict}
 use Rattle.model.specs.Verdict.{plan_to, plan_for, is_covered, desk_plan, desk_request, verdict, early_verdict, desk_verdict}
-use Rattle.model.specs.Operator.{TokenDenial, token_verdict, after_token, Outcome, issue_outcome, prune_outcome, Reports, by_success, by_fault}
-use Rattle.model.specs.Steps.{verdict_on, denial_alone, after, Message, message, bad_head, Exchange, judgement, Carries, by_verdict, by_refusal, Event, exchanged, issues, prunes, IsStep, Run}
-use Rattle.model.specs.Laws.{IsPutOf, IsGetOf, ServesWhatIsAsked, ServesWhatIsKept, ServedHasItsName, ServedWasPut, WasPut}
+use Rattle.model.specs.Operator.{TokenDenial, token_verdict, after_token, Outcome, issue_outcome, prune_outcome, Removal, removed_now, removed_before, no_object, removal_of, after_removal, retire_outcome, Reports, by_success, by_fault}
+use Rattle.model.specs.Steps.{verdict_on, denial_alone, after, Message, message, bad_head, Exchange, judgement, Carries, by_verdict, by_refusal, Event, exchanged, issues, prunes, retires, IsStep, Run}
+use Rattle.model.specs.Laws.{IsPutOf, IsGetOf, ServesWhatIsAsked, ServesWhatIsKept, ServedHasItsName, Removes, ServedWasPut, WasPut}
 use Rattle.model.proofs.Checks.{passed, then_any, by_rules_ok, ok_is}
-use Rattle.model.proofs.Lists.{In, into, each_in, in_found, found_passes}
+use Rattle.model.proofs.Keeping.{makes_world}
+use Rattle.model.proofs.Lists.{In, into, each_in, in_before_filter, in_found, found_passes}
+use Rattle.model.proofs.Retired.{none_removes}
 use Rattle.model.proofs.Tests.{both_true}
 
 -- ---- which requests touch contents
@@ -95,10 +97,12 @@ module _ (c : Case) (f : Form) (parameter : List ℕ) where
   plans_from left (asks_batch asked) is = plan_from (batch_verdict c asked) (then_any IsPlain (may_batch c asked asked.operation) _ (λ may. tt))
   plans_from left (asks_get name) is =
       then_any (IsFrom f parameter) (may_pull c.setting.policy c.caller.user c.repo.name 404) _ (λ may.
-      then_any (IsFrom f parameter) (by_rules (ok_or (size_of name c.state) rule.X1)) _ (λ size. is))
+      then_any (IsFrom f parameter) (by_rules (check (not (is_gone name c.state)) rule.X4)) _ (λ there.
+      then_any (IsFrom f parameter) (by_rules (ok_or (size_of name c.state) rule.X1)) _ (λ size. is)))
   plans_from left (asks_put asked) is =
       then_any (IsFrom f parameter) (may_push c.setting.policy c.caller.user c.repo.name (ref_or_default asked.ref c.repo)) _ (λ may.
-      then_any (IsFrom f parameter) (by_rules (check (has_room left c.state || is_some (size_of asked.name c.state)) rule.X3)) _ (λ fits. is))
+      then_any (IsFrom f parameter) (by_rules (check (not (is_gone asked.name c.state)) rule.X4)) _ (λ there.
+      then_any (IsFrom f parameter) (by_rules (check (has_room left c.state || is_some (size_of asked.name c.state)) rule.X3)) _ (λ fits. is)))
   plans_from left (asks_verify asked) is =
       plan_from (verify_verdict c asked)
       (then_any IsPlain (may_push c.setting.policy c.caller.user c.repo.name (ref_or_default asked.ref c.repo)) _ (λ may.
@@ -311,28 +315,54 @@ pub token_same : (old : World) (v : Result Token TokenDenial) → (after_token o
 token_same old (Ok i) = refl
 token_same old (Err d) = refl
 
+removal_old : (repo name : List ℕ) (old : World) (removal : Removal) (o : Object) → In (after_removal old repo name removal).objects o → In old.objects o
+removal_old repo name old removed_now o there = in_before_filter (λ p. not (has_name repo name p)) old.objects o there
+removal_old repo name old removed_before o there = there
+removal_old repo name old no_object o there = there
+
+retired_old : (repo name : List ℕ) (given : Option Removal) (old new : World) (o : Object) → Reports given (retire_outcome old repo name) old new → In new.objects o → In old.objects o
+retired_old repo name given old new o (by_success t is) there = removal_old repo name old (removal_of old repo name) o (subst (λ (w : World). In w.objects o) is there)
+retired_old repo name given old new o (by_fault t is) there = subst (λ (w : World). In w.objects o) is there
+
 step_old : (old : World) (event : Event) (new : World) (o : Object) → IsStep old event new → In new.objects o → IsOldOrPut old event o
 step_old old (exchanged e) new o step there = exchange_old old e new o step.carries there
 step_old old (issues asked given) new o step there = inl (report_old given (issue_outcome old asked) old new o step.1 (token_same old (token_verdict old asked)) there)
 step_old old (prunes now given) new o step there = inl (report_old given (prune_outcome old now) old new o step.1 refl there)
+step_old old (retires repo name given) new o step there = inl (retired_old repo name given old new o step.2 there)
 
 later : (event : Event) (events : List Event) (o : Object) → WasPut events o → WasPut (event ∷ events) o
-later event events o p = record { put = p.put; among = (suc p.among.0, omega (arith, p.among.1), p.among.2); is = p.is }
+later event events o p = record {
+  put = p.put;
+  before = event ∷ p.before;
+  later = p.later;
+  order = ap (λ (es : List Event). event ∷ es) p.order;
+  is = p.is;
+  since = p.since;
+}
 
-now_put : (event : Event) (events : List Event) (o : Object) (e : Exchange) → event ≡ exchanged e → IsPutOf o e → WasPut (event ∷ events) o
-now_put event events o e is p = record { put = e; among = (0, omega arith, is); is = p }
+-- the object has a name that is not retired in the end
+module _ (new : World) (o : Object) (unretired : IsUnretired new o) where
+  now_put : (event : Event) (mid : World) (events : List Event) (e : Exchange) → event ≡ exchanged e → IsPutOf o e → Run mid events new → WasPut (event ∷ events) o
+  now_put event mid events e is p run = record {
+    put = e;
+    before = [];
+    later = events;
+    order = ap (λ (first : Event). first ∷ events) is;
+    is = p;
+    since = All-from_recursion (λ event. ¬ (Removes o.repo o.name event)) events (none_removes mid events new o.repo o.name run unretired);
+  }
 
-run_old : (old : World) (events : List Event) (new : World) (o : Object) → Run old events new → In new.objects o → In old.objects o ⊎ WasPut events o
-run_old old [] new o run there = inl (subst (λ (w : World). In w.objects o) run there)
-run_old old (event ∷ events) new o run there = moved (run_old run.0 events new o run.2 there) (step_old old event run.0 o run.1)
-  where
-    first_put : IsOldOrPut old event o → In old.objects o ⊎ WasPut (event ∷ events) o
-    first_put (inl x) = inl x
-    first_put (inr p) = inr (now_put event events o p.0 p.1 p.2)
+  run_old : (old : World) (events : List Event) → Run old events new → In new.objects o → In old.objects o ⊎ WasPut events o
+  run_old old [] run there = inl (subst (λ (w : World). In w.objects o) run there)
+  run_old old (event ∷ events) run there = moved (run_old run.0 events run.2 there) (step_old old event run.0 o run.1)
+    where
+      first_put : IsOldOrPut old event o → In old.objects o ⊎ WasPut (event ∷ events) o
+      first_put (inl x) = inl x
+      first_put (inr p) = inr (now_put event run.0 events p.0 p.1 p.2 run.2)
 
-    moved : In run.0.objects o ⊎ WasPut events o → (In run.0.objects o → IsOldOrPut old event o) → In old.objects o ⊎ WasPut (event ∷ events) o
-    moved (inl x) f = first_put (f x)
-    moved (inr p) f = inr (later event events o p)
+      moved : In run.0.objects o ⊎ WasPut events o → (In run.0.objects o → IsOldOrPut old event o) → In old.objects o ⊎ WasPut (event ∷ events) o
+      moved (inl x) f = first_put (f x)
+      moved (inr p) f = inr (later event events o p)
 
 nothing_before : (events : List Event) (o : Object) → In nothing.objects o ⊎ WasPut events o → WasPut events o
 nothing_before events o (inl x) = absurd x
@@ -341,4 +371,5 @@ nothing_before events o (inr p) = p
 pub served_was_put : ServedWasPut
 served_was_put events old e o new run step given_is =
     let g = grant_of old e (serves o) new step.carries given_is in
-    nothing_before events o (run_old nothing events old o run g.came.stored)
+    let unretired = each_in (IsUnretired old) old.objects o (recursion_from_All (IsUnretired old) old.objects (makes_world events old run).gone) g.came.stored in
+    nothing_before events o (run_old old o unretired nothing events run g.came.stored)

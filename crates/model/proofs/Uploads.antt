@@ -1,12 +1,14 @@
--- What a step adds to the objects of a world.
-use Rattle.std.proofs.Common.{◌≡◌, ℕ, ◌+◌, Bool, true, false, not, ◌&&◌, List, ◌∷◌, length, refl, ap, sym, ◌∙◌, add-zero, add_comm, Ok, Err, Option, Some, None, bytes_eq, cond, is_some}
-use Rattle.model.specs.World.{World, Object, object_named, total, with_object}
+-- What a step adds to the objects of a world, and takes from them.
+use Rattle.std.proofs.Common.{arith, ◌≡◌, ℕ, ◌+◌, Bool, true, false, not, ◌&&◌, List, ◌∷◌, length, refl, ap, sym, ◌∙◌, add-zero, add_comm, Ok, Err, Option, Some, None, bytes_eq, cond, is_some}
+use Rattle.model.specs.World.{World, Object, IsWorld, object_named, total, with_object, without_object}
 use Rattle.model.specs.Answers.{stores, makes_lock, offers, serves, confirms, lists, splits, releases, Answer}
-use Rattle.model.specs.Operator.{token_verdict, Outcome, issue_outcome, prune_outcome, Reports, by_success, by_fault}
-use Rattle.model.specs.Steps.{after, Exchange, Carries, by_verdict, by_refusal, exchanged, issues, prunes}
-use Rattle.model.specs.Laws.{stored_by, object_stored, objects_with, size_added, OnlyUploadsAddObjects, TotalsGrowByUploads}
+use Rattle.model.specs.Operator.{token_verdict, Outcome, issue_outcome, prune_outcome, Removal, removed_now, removed_before, no_object, removal_of, after_removal, retire_outcome, Reports, by_success, by_fault}
+use Rattle.model.specs.Steps.{after, Event, IsStep, Exchange, Carries, by_verdict, by_refusal, exchanged, issues, prunes, retires}
+use Rattle.model.specs.Laws.{stored_by, object_stored, objects_with, objects_after, size_added, size_removed, OnlyTheseChangeObjects, TotalsFollowObjects}
 use Rattle.model.proofs.Quota.{total_with}
 use Rattle.model.proofs.Serving.{token_same}
+use Rattle.model.proofs.Totals.{total_without}
+use Rattle.std.proofs.lemmas.Option.{none-some, same_Some}
 
 after_adds : (old : World) (given : Option Answer) → (after old given).objects ≡ objects_with (stored_by given) old
 after_adds old (Some (Ok (stores o))) = refl
@@ -30,10 +32,20 @@ report_adds : {A : Type 0} (given : Option A) (outcome : Outcome A) (old new : W
 report_adds given outcome old new (by_success t is) same = ap (λ (w : World). w.objects) is ∙ same
 report_adds given outcome old new (by_fault t is) same = ap (λ (w : World). w.objects) is
 
-pub only_uploads_add_objects : OnlyUploadsAddObjects
-only_uploads_add_objects old (exchanged e) new step = exchange_adds old e new step.carries
-only_uploads_add_objects old (issues asked given) new step = report_adds given (issue_outcome old asked) old new step.1 (token_same old (token_verdict old asked))
-only_uploads_add_objects old (prunes now given) new step = report_adds given (prune_outcome old now) old new step.1 refl
+-- a removal that is reported as none left the objects
+removal_leaves : (old : World) (r n : List ℕ) (given : Option Removal) (new : World) → Reports given (retire_outcome old r n) old new → new.objects ≡ objects_after old (retires r n given)
+removal_leaves old r n None new (by_fault none is) = ap (λ (w : World). w.objects) is
+removal_leaves old r n (Some x) new (by_fault none is) = absurd (none-some x (sym none))
+removal_leaves old r n None new (by_success e is) = absurd (none-some (removal_of old r n) e)
+removal_leaves old r n (Some removed_now) new (by_success e is) = ap (λ (w : World). w.objects) (is ∙ ap (after_removal old r n) (sym (same_Some removed_now (removal_of old r n) e)))
+removal_leaves old r n (Some removed_before) new (by_success e is) = ap (λ (w : World). w.objects) (is ∙ ap (after_removal old r n) (sym (same_Some removed_before (removal_of old r n) e)))
+removal_leaves old r n (Some no_object) new (by_success e is) = ap (λ (w : World). w.objects) (is ∙ ap (after_removal old r n) (sym (same_Some no_object (removal_of old r n) e)))
+
+pub only_these_change_objects : OnlyTheseChangeObjects
+only_these_change_objects old (exchanged e) new step = exchange_adds old e new step.carries
+only_these_change_objects old (issues asked given) new step = report_adds given (issue_outcome old asked) old new step.1 (token_same old (token_verdict old asked))
+only_these_change_objects old (prunes now given) new step = report_adds given (prune_outcome old now) old new step.1 refl
+only_these_change_objects old (retires r n given) new step = removal_leaves old r n given new step.2
 
 -- the total of the objects, of which it is a function
 total_of : (repo : List ℕ) (a b : World) → a.objects ≡ b.objects → total repo a ≡ total repo b
@@ -53,5 +65,18 @@ stored_grows : (old new : World) (stored : Option Object) (repo : List ℕ) → 
 stored_grows old new (Some o) repo is = total_of repo new (with_object o old) is ∙ object_grows old o repo
 stored_grows old new None repo is = total_of repo new old is ∙ sym (add-zero (total repo old))
 
-pub totals_grow_by_uploads : TotalsGrowByUploads
-totals_grow_by_uploads old event new repo step = stored_grows old new (object_stored event) repo (only_uploads_add_objects old event new step)
+-- a step that removes nothing
+grows : (old : World) (event : Event) (new : World) (repo : List ℕ) → new.objects ≡ objects_with (object_stored event) old → size_removed repo old event ≡ 0
+    → total repo new + size_removed repo old event ≡ total repo old + size_added repo old (object_stored event)
+grows old event new repo is none = omega (arith, none, stored_grows old new (object_stored event) repo is)
+
+pub totals_follow_objects : TotalsFollowObjects
+totals_follow_objects old (exchanged e) new repo w step = grows old (exchanged e) new repo (only_these_change_objects old (exchanged e) new step) refl
+totals_follow_objects old (issues asked given) new repo w step = grows old (issues asked given) new repo (only_these_change_objects old (issues asked given) new step) refl
+totals_follow_objects old (prunes now given) new repo w step = grows old (prunes now given) new repo (only_these_change_objects old (prunes now given) new step) refl
+totals_follow_objects old (retires r n (Some removed_now)) new repo w step =
+    ap (λ (t : ℕ). t + size_removed repo old (retires r n (Some removed_now))) (total_of repo new (without_object r n old) (only_these_change_objects old (retires r n (Some removed_now)) new step))
+    ∙ total_without old r n repo w (bytes_eq r repo) refl ∙ sym (add-zero (total repo old))
+totals_follow_objects old (retires r n (Some removed_before)) new repo w step = grows old (retires r n (Some removed_before)) new repo (only_these_change_objects old (retires r n (Some removed_before)) new step) refl
+totals_follow_objects old (retires r n (Some no_object)) new repo w step = grows old (retires r n (Some no_object)) new repo (only_these_change_objects old (retires r n (Some no_object)) new step) refl
+totals_follow_objects old (retires r n None) new repo w step = grows old (retires r n None) new repo (only_these_change_objects old (retires r n None) new step) refl

@@ -1,5 +1,5 @@
 -- A view determines the replies.
-use Rattle.std.proofs.Common.{◌≡◌, ℕ, Bool, true, false, ◌||◌, ◌&&◌, nat_lt, List, [], ◌∷◌, length, filter, map, refl, sym, ap, subst, ◌∙◌, arith, Result, Ok, Err, Option, Some, None, find, bytes_eq, cond, suc, option_map, IfOk, IfSome, is_some}
+use Rattle.std.proofs.Common.{◌≡◌, ℕ, Bool, true, false, not, ◌||◌, ◌&&◌, nat_lt, List, [], ◌∷◌, length, filter, map, refl, sym, ap, subst, ◌∙◌, arith, Result, Ok, Err, Option, Some, None, find, bytes_eq, cond, suc, option_map, IfOk, IfSome, is_some}
 use Rattle.std.specs.Bool.{⊤}
 use Rattle.std.specs.List.{AllByRecursion, AllPairs}
 use Rattle.std.proofs.lemmas.List.Elements.{recursion_from_All, All-from_recursion}
@@ -13,7 +13,7 @@ use Rattle.model.specs.Reading.{◌>>=◌, check, ok_or}
 use Rattle.model.specs.Orders.{text_before}
 use Rattle.model.specs.Policy.{Policy, Repo, repo_named}
 use Rattle.model.specs.World.{World, Object, Lock, Token, IsWorld, DiffersInDigest, DiffersInName, object_named, find_token}
-use Rattle.model.specs.RepoState.{RepoState, ObjectSize, object_size, repo_state, size_of, has_room, objects_of, locks_of}
+use Rattle.model.specs.RepoState.{RepoState, ObjectSize, object_size, repo_state, size_of, is_gone, has_room, objects_of, retired_of, locks_of}
 use Rattle.model.specs.Forms.{Request, asks_batch, asks_get, asks_put, asks_verify, asks_lock, asks_list, asks_verify_locks, asks_unlock}
 use Rattle.model.specs.Callers.{Caller, bearer, caller_by, sees}
 use Rattle.model.specs.Cases.{Setting, Case, case_in, DeskRequest}
@@ -28,26 +28,8 @@ use Rattle.model.specs.Laws.{ViewsForetell, ViewsShowWhatIsSeen}
 use Rattle.model.proofs.Lists.{IsOnly, only_filter, only_map, find_rising, find_map, find_filter, find_and, found_passes, only_left, each_rising, each_weaker, each_passes}
 use Rattle.model.proofs.Checks.{passed, then_any, by_rules_ok, found_ok}
 use Rattle.model.proofs.Tests.{both_true}
+use Rattle.model.proofs.Once.{only_of}
 use Rattle.model.proofs.Seen.{same_plan}
-
--- ---- elements that occur once
-
-fails : {A : Type 0} (p : A → Bool) (x y : A) → (p x ≡ true → p y ≡ true → ⊥) → p x ≡ true → (v : Bool) → p y ≡ v → v ≡ false
-fails p x y apart e true is = absurd (apart e is)
-fails p x y apart e false is = refl
-
-others : {A : Type 0} (Differ : A → A → Type 0) (p : A → Bool) (x : A) → ((y : A) → Differ x y → p x ≡ true → p y ≡ true → ⊥) → p x ≡ true → (ys : List A)
-    → AllByRecursion (Differ x) ys → AllByRecursion (λ y. p y ≡ false) ys
-others Differ p x apart e [] all = tt
-others Differ p x apart e (y ∷ ys) all = (fails p x y (apart y all.0) e (p y) refl, others Differ p x apart e ys all.1)
-
--- if no two elements that pass the test can be in the list, only one passes
-pub only_of : {A : Type 0} (Differ : A → A → Type 0) (p : A → Bool) (xs : List A) → ((x y : A) → Differ x y → p x ≡ true → p y ≡ true → ⊥) → AllPairs Differ xs → IsOnly p xs
-only_of Differ p [] apart all = tt
-only_of Differ p (x ∷ xs) apart all = (
-  λ e. others Differ p x (apart x) e xs (recursion_from_All (Differ x) xs (λ j d less. all 0 (suc j) d (omega arith) (omega (arith, less)))),
-  only_of Differ p xs apart (λ i j d below less. all (suc i) (suc j) d (omega (arith, below)) (omega (arith, less))),
-)
 
 -- ---- the caller
 
@@ -126,6 +108,7 @@ module _ (world : World) (setting : Setting) (caller : Caller) (left : ℕ) (req
   abbrev seen_as : List ℕ → Option Repo → RepoState
   seen_as name entry = record {
     objects = cond (sees_objects setting.policy caller.user name) (objects_of name world) [];
+    retired = cond (sees_objects setting.policy caller.user name) (retired_of name world) [];
     locks = filter (sees setting.policy caller.user) (locks_of name world);
     made = world.made name;
     room = room_in entry world;
@@ -141,7 +124,7 @@ module _ (world : World) (setting : Setting) (caller : Caller) (left : ℕ) (req
       → plan_for (with_state repo (seen_as caller.repo (Some repo))) left request ≡ plan_for (case_in world setting caller repo) left request
   same_state repo named =
       subst (λ (n : List ℕ). plan_for (with_state repo (seen_as n (Some repo))) left request ≡ plan_for (case_in world setting caller repo) left request) named
-      (same_plan setting caller repo (objects_of repo.name world) (locks_of repo.name world) (world.made repo.name) (room_in (Some repo) world) (own_locks repo.name world) left request)
+      (same_plan setting caller repo (objects_of repo.name world) (retired_of repo.name world) (locks_of repo.name world) (world.made repo.name) (room_in (Some repo) world) (own_locks repo.name world) left request)
 
   same_entry : (entry : Option Repo) → repo_named caller.repo setting.policy ≡ entry
       → (by_rules (ok_or entry rule.R1) >>= λ repo. then_covered (plan_for (with_state repo (seen_as caller.repo entry)) left request))
@@ -210,10 +193,12 @@ plans_stored : (world : World) (setting : Setting) (caller : Caller) (repo : Rep
     → IfOk (plan_for (case_in world setting caller repo) left asked) (Stored world repo.name)
 plans_stored world setting caller repo left (asks_batch asked) w = plan_stored world repo.name (batch_verdict (case_in world setting caller repo) asked)
 plans_stored world setting caller repo left (asks_get name) w =
-    then_any (Stored world repo.name) (may_pull setting.policy caller.user repo.name 404) _ (λ may. get_stored world repo name (size_of name (repo_state repo world)) w refl)
+    then_any (Stored world repo.name) (may_pull setting.policy caller.user repo.name 404) _ (λ may.
+    then_any (Stored world repo.name) (by_rules (check (not (is_gone name (repo_state repo world))) rule.X4)) _ (λ there. get_stored world repo name (size_of name (repo_state repo world)) w refl))
 plans_stored world setting caller repo left (asks_put asked) w =
     then_any (Stored world repo.name) (may_push setting.policy caller.user repo.name (ref_or_default asked.ref repo)) _ (λ may.
-    then_any (Stored world repo.name) (by_rules (check (has_room left (repo_state repo world) || is_some (size_of asked.name (repo_state repo world))) rule.X3)) _ (λ fits. tt))
+    then_any (Stored world repo.name) (by_rules (check (not (is_gone asked.name (repo_state repo world))) rule.X4)) _ (λ there.
+    then_any (Stored world repo.name) (by_rules (check (has_room left (repo_state repo world) || is_some (size_of asked.name (repo_state repo world))) rule.X3)) _ (λ fits. tt)))
 plans_stored world setting caller repo left (asks_verify asked) w = plan_stored world repo.name (verify_verdict (case_in world setting caller repo) asked)
 plans_stored world setting caller repo left (asks_lock asked) w = plan_stored world repo.name (lock_verdict (case_in world setting caller repo) asked)
 plans_stored world setting caller repo left (asks_list asked) w = plan_stored world repo.name (list_verdict (case_in world setting caller repo) asked)
@@ -275,5 +260,5 @@ hidden v xs e = ap (λ (b : Bool). cond b xs []) e
 pub views_show_what_is_seen : ViewsShowWhatIsSeen
 views_show_what_is_seen world policy user repo = record {
   locks = All-from_recursion (λ (l : Lock). sees policy user l ≡ true) (filter (sees policy user) (locks_of repo world)) (each_passes (sees policy user) (locks_of repo world));
-  objects = λ e. hidden (sees_objects policy user repo) (objects_of repo world) e;
+  objects = λ e. (hidden (sees_objects policy user repo) (objects_of repo world) e, hidden (sees_objects policy user repo) (retired_of repo world) e);
 }

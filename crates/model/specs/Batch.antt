@@ -1,13 +1,13 @@
 -- The verdict on a batch (Git LFS API, Batch).
-use Rattle.std.specs.Prelude.{ℕ, ◌-◌, ◌==◌, ◌&&◌, List, ◌++◌, map, Option, Some, None, Result, Ok, codes, bytes_eq, ⊤}
+use Rattle.std.specs.Prelude.{ℕ, ◌-◌, ◌==◌, ◌&&◌, List, ◌++◌, map, Option, Some, None, Result, Ok, codes, bytes_eq, not, ⊤}
 use Rattle.form_urlencoded.specs.Form.{byte_serialize}
 use Rattle.names.specs.Texts.{is_hex_64}
 use Rattle.names.specs.declared.rules.Rule.{Rule}
-use Rattle.names.specs.declared.rules.Rule.TheVariants.{B1, B2, B3, B4, B5}
+use Rattle.names.specs.declared.rules.Rule.TheVariants.{B1, B2, B3, B4, B5, B6}
 use Rattle.names.specs.declared.operations.Operation.{Operation}
 use Rattle.names.specs.declared.operations.Operation.TheVariants as operation
 use Rattle.model.specs.Reading.{◌>>=◌, check, ok_or, or_default}
-use Rattle.model.specs.RepoState.{RepoState, size_of, has_room}
+use Rattle.model.specs.RepoState.{RepoState, size_of, is_gone, has_room}
 use Rattle.model.specs.Forms.{BatchObject, BatchForm, is_size, is_if_given}
 use Rattle.model.specs.Cases.{Case}
 use Rattle.model.specs.Answers.{Denial, may_pull, may_push, Answer, offers, Offer, Action, Actions, downloads, uploads, is_stored}
@@ -49,11 +49,16 @@ valid_size o = do
 abbrev pub check_hash : Option (List ℕ) → Result ⊤ Rule
 check_hash hash_algo = check (is_if_given (λ h. bytes_eq h (codes "sha256")) hash_algo) B3
 
+-- the name of the object is not retired
+abbrev pub check_gone : RepoState → List ℕ → Result ⊤ Rule
+check_gone state name = check (not (is_gone name state)) B6
+
 -- in a download, an object that is stored with this size has a download action
 abbrev pub download_of : Case → Option (List ℕ) → BatchObject → Result Actions Rule
 download_of c hash_algo o = do
   size ← valid_size o
   hash ← check_hash hash_algo
+  kept ← check_gone c.state o.oid
   there ← ok_or (size_of o.oid c.state) B1
   same ← check (there == size) B4
   Ok (downloads (action_at c (content_href c.setting.policy.base c.repo.name o.oid)))
@@ -75,6 +80,7 @@ abbrev pub upload_of : Case → List ℕ → Option (List ℕ) → BatchObject �
 upload_of c ref hash_algo o = do
   size ← valid_size o
   hash ← check_hash hash_algo
+  kept ← check_gone c.state o.oid
   unless_stored c.state (upload_actions c ref o.oid) (size_of o.oid c.state) size
 
 -- the object as it was given, with its actions; a size that is not a whole number of 64 bits is shown as 0

@@ -4,8 +4,8 @@ use Rattle.sha2.specs.Sha256.{sha256}
 use Rattle.names.specs.declared.operations.Operation.{Operation}
 use Rattle.model.specs.World.{World, Token, object_named}
 use Rattle.model.specs.Answers.{Answer, Grant, stores, makes_lock, releases, is_store_refusal}
-use Rattle.model.specs.Operator.{issue_outcome, prune_outcome}
-use Rattle.model.specs.Steps.{Event, exchanged, issues, prunes, judgement, after}
+use Rattle.model.specs.Operator.{issue_outcome, prune_outcome, retire_outcome, removed_now}
+use Rattle.model.specs.Steps.{Event, exchanged, issues, prunes, retires, judgement, after}
 
 -- ---- worlds that count as one
 
@@ -25,6 +25,7 @@ token_digest t =
 -- the same sets and the same counts; token texts with one digest count as one
 pub record SameWorld (a b : World) : Type 0 where
   pub objects : IsPermutation a.objects b.objects
+  pub retired : IsPermutation a.retired b.retired
   pub locks : IsPermutation a.locks b.locks
   pub made : (repo : List ℕ) → a.made repo ≡ b.made repo
   pub tokens : IsPermutation (map token_digest a.tokens) (map token_digest b.tokens)
@@ -79,12 +80,16 @@ ending_of old (issues asked (Some _)) = unchanged
 ending_of old (issues asked None) = failed
 ending_of old (prunes now (Some n)) = if nat_lt 0 n then changed else unchanged
 ending_of old (prunes now None) = failed
+ending_of old (retires repo name (Some removed_now)) = changed
+ending_of old (retires repo name (Some _)) = unchanged
+ending_of old (retires repo name None) = failed
 
 -- the world that an event makes if the store does not refuse
 abbrev pub intended_world : World → Event → World
 intended_world old (exchanged e) = after old (judgement old e)
 intended_world old (issues asked given) = (issue_outcome old asked).world
 intended_world old (prunes now given) = (prune_outcome old now).world
+intended_world old (retires repo name given) = (retire_outcome old repo name).world
 
 -- the world after an event that ended so
 abbrev pub world_by : Ending → (old made : World) → World

@@ -13,13 +13,13 @@ use Rattle.model.specs.Callers.{caller_by}
 use Rattle.model.specs.Cases.{DeskRequest}
 use Rattle.model.specs.Answers.{Answer, Denial, by_rule, by_row, by_lock, makes_lock, stores, confirms, releases, may_push, store_refusal}
 use Rattle.model.specs.Verdict.{caller_plan, desk_plan, desk_request, early_check}
-use Rattle.model.specs.Operator.{TokenRequest, token_verdict, after_token, already_issued, expires_too_late}
+use Rattle.model.specs.Operator.{TokenRequest, token_verdict, after_token, already_issued, expires_too_late, removed_now, removed_before, no_object, retire_outcome}
 use Rattle.model.specs.Steps.{Message, message, bad_head, verdict_on, closes_after, Exchange}
 use Rattle.model.specs.Moments.{moment_text}
 use Rattle.model.specs.Stream.{BeginsWith}
 use Rattle.model.specs.Replies.{reply_text}
 use Rattle.model.specs.Sessions.{Session, InputEnded, Closed, IsSession, text_if}
-use Rattle.model.specs.Studio.{film, main_branch, studio, small_studio, frozen_art, paths_alone, readers, b_is_hidden, forcing, now, at_now, token_of, with_ann, expires_at_100, caller_named, ann, bob, Asking, with_body, put, get, list, unlock, answer, status_and_body, field, authorization, length_field, lfs, head_of, post_lock, first_head, first_body, with_field, judge, lock_by, first_lock, object_of, with_one, hello, abc, nil, lines, json_head, close_line, bearer_line, message_of, lock_text}
+use Rattle.model.specs.Studio.{film, main_branch, studio, small_studio, frozen_art, paths_alone, readers, b_is_hidden, forcing, now, at_now, token_of, with_ann, expires_at_100, caller_named, ann, bob, Asking, with_body, put, get, list, unlock, answer, status_and_body, field, authorization, length_field, lfs, head_of, post_lock, first_head, first_body, with_field, judge, lock_by, first_lock, object_of, with_one, hello, hello_gone, abc, nil, lines, json_head, close_line, bearer_line, message_of, lock_text}
 
 -- ---- a lock, and the same request again
 
@@ -394,6 +394,16 @@ ObjectsAreRefused =
     × has_error (answer nothing small_studio ann (one_object (codes "upload") hello (codes "6")))
     (error_body (codes "507") (codes "B5: the quota does not hold the object") hello (codes "6"))
 
+-- hello was removed for good: a download and an upload of it are X4, and it is V1 to verify; in a batch it is B6
+abbrev pub RetiredIsGone : Type 0
+RetiredIsGone =
+    let gone = error_body (codes "410") (codes "B6: the object was removed by its owner") hello (codes "5") in
+    (answer hello_gone studio ann (get hello) ≡ Err (by_rule rule.X4))
+    × (answer hello_gone studio ann (put hello (codes "hello")) ≡ Err (by_rule rule.X4))
+    × (answer hello_gone studio ann (verify hello (codes "5")) ≡ Err (by_rule rule.V1))
+    × has_error (answer hello_gone studio ann (one_object (codes "download") hello (codes "5"))) gone
+    × has_error (answer hello_gone studio ann (one_object (codes "upload") hello (codes "5"))) gone
+
 -- an upload of hello with another hash
 abbrev pub other_hash : Asking
 other_hash =
@@ -589,6 +599,13 @@ TokenIsIssued =
 -- it is removed at its expiry, and not before
 abbrev pub TokenIsPruned : Type 0
 TokenIsPruned = (without_expired 99 expires_at_100 ≡ expires_at_100) × (without_expired 100 expires_at_100 ≡ nothing)
+
+-- an object is removed, was removed before, or is not there
+abbrev pub ObjectIsRemoved : Type 0
+ObjectIsRemoved =
+    (retire_outcome (with_one hello (codes "hello")) film hello ≡ record { answer = removed_now; world = hello_gone })
+    × (retire_outcome hello_gone film hello ≡ record { answer = removed_before; world = hello_gone })
+    × (retire_outcome nothing film hello ≡ record { answer = no_object; world = nothing })
 
 -- the first and the last moment
 abbrev pub MomentsArePrinted : Type 0

@@ -7,15 +7,16 @@ use Rattle.names.specs.Moments.{IsMomentText}
 use Rattle.model.specs.declared.Form.TheVariants as form
 use Rattle.model.specs.Reading.{or_default}
 use Rattle.model.specs.Policy.{Policy, Repo, repo_named}
-use Rattle.model.specs.World.{World, Object, Lock, IsWorld, DiffersInPlace, name_of, nothing, object_named, total, with_object}
+use Rattle.model.specs.World.{World, Object, Lock, IsWorld, DiffersInPlace, name_of, nothing, object_named, is_retired, total, with_object, without_object}
 use Rattle.model.specs.Heads.{Target, head_verdict}
 use Rattle.model.specs.RepoState.{RepoState, repo_state, has_room, locks_of}
 use Rattle.model.specs.Callers.{Caller, caller_by, sees}
+use Rattle.model.specs.Operator.{removed_now}
 use Rattle.model.specs.Cases.{Setting}
 use Rattle.model.specs.Answers.{Answer, Denial, serves, stores, makes_lock}
 use Rattle.model.specs.Pages.{page_of, IsPage, IsBelow, Leg, IsWalk, walk_locks}
 use Rattle.model.specs.Verdict.{verdict, early_verdict, early_check, desk_plan, desk_request, desk_verdict}
-use Rattle.model.specs.Steps.{Message, message, IsMessage, repo_asked, Event, exchanged, Exchange, IsExchange, IsStep, Run}
+use Rattle.model.specs.Steps.{Message, message, IsMessage, repo_asked, Event, exchanged, retires, Exchange, IsExchange, IsStep, Run}
 use Rattle.model.specs.Stream.{HasNoHead, NeverIsHead, BeginsWith, IsUnfinished, head_limit}
 use Rattle.model.specs.Moments.{moment_text}
 use Rattle.model.specs.Replies.{Reply, reply_of}
@@ -192,13 +193,21 @@ ServedHasItsName =
     (old : World) (e : Exchange) (o : Object) (new : World)
     → IsWorld old → IsExchange old e new → e.given ≡ Some (Ok (serves o)) → o.name ≡ name_of o.bytes
 
--- among the events there is a granted upload of the object
+-- the event removed the repository's object of this name
+abbrev pub Removes : List ℕ → List ℕ → Event → Type 0
+Removes repo name (retires r n (Some removed_now)) = (r ≡ repo) × (n ≡ name)
+Removes repo name _ = ⊥
+
+-- among the events there is a granted upload of the object, and none since removed the object of its name
 pub record WasPut (events : List Event) (o : Object) : Type 0 where
   pub put : Exchange
-  pub among : Contains events (exchanged put)
+  pub before : List Event
+  pub later : List Event
+  pub order : events ≡ before ++ exchanged put ∷ later
   pub is : IsPutOf o put
+  pub since : All (λ event. ¬ (Removes o.repo o.name event)) later
 
--- what is served was uploaded before, in a run from the empty world
+-- what is served was uploaded before and not removed since, in a run from the empty world
 abbrev pub ServedWasPut : Type 0
 ServedWasPut =
     (events : List Event) (old : World) (e : Exchange) (o : Object) (new : World)
@@ -219,11 +228,28 @@ abbrev pub objects_with : Option Object → World → List Object
 objects_with (Some o) world = (with_object o world).objects
 objects_with None world = world.objects
 
--- no step changes the objects, but an upload that is answered as stored, which adds its object
-abbrev pub OnlyUploadsAddObjects : Type 0
-OnlyUploadsAddObjects =
-    (old : World) (event : Event) (new : World) → IsStep old event new
-    → new.objects ≡ objects_with (object_stored event) old
+-- the objects after an event: an upload that is answered as stored adds its object, and a removal that is reported takes
+-- the object away
+abbrev pub objects_after : World → Event → List Object
+objects_after old (retires repo name (Some removed_now)) = (without_object repo name old).objects
+objects_after old event = objects_with (object_stored event) old
+
+-- no other step changes the objects
+abbrev pub OnlyTheseChangeObjects : Type 0
+OnlyTheseChangeObjects =
+    (old : World) (event : Event) (new : World) → IsStep old event new → new.objects ≡ objects_after old event
+
+-- a name that was retired stays so, and no object has it
+abbrev pub RetiredForGood : Type 0
+RetiredForGood =
+    (old : World) (events : List Event) (new : World) (repo name : List ℕ) → IsWorld old → Run old events new
+    → is_retired repo name old ≡ true → (is_retired repo name new ≡ true) × (object_named repo name new ≡ None)
+
+-- a removal that is reported retires the name
+abbrev pub RemovedIsRetired : Type 0
+RemovedIsRetired =
+    (old : World) (event : Event) (new : World) (repo name : List ℕ) → IsStep old event new → Removes repo name event
+    → is_retired repo name new ≡ true
 
 -- ---- the quota
 
@@ -233,11 +259,18 @@ size_added repo world (Some o) =
     if bytes_eq o.repo repo && not (is_some (object_named o.repo o.name world)) then length o.bytes else 0
 size_added repo world None = 0
 
--- a repository's total changes by no step but such an upload of a new object, and grows by its size
-abbrev pub TotalsGrowByUploads : Type 0
-TotalsGrowByUploads =
-    (old : World) (event : Event) (new : World) (repo : List ℕ) → IsStep old event new
-    → total repo new ≡ total repo old + size_added repo old (object_stored event)
+-- the size that the event takes from the repository's total: that of the object that it removes
+abbrev pub size_removed : List ℕ → World → Event → ℕ
+size_removed repo world (retires r name (Some removed_now)) =
+    if bytes_eq r repo then or_default (option_map (λ o. length o.bytes) (object_named r name world)) 0 else 0
+size_removed repo world _ = 0
+
+-- a repository's total changes by no step but such an upload of a new object, and grows by its size; and but a removal,
+-- and falls by the object's size
+abbrev pub TotalsFollowObjects : Type 0
+TotalsFollowObjects =
+    (old : World) (event : Event) (new : World) (repo : List ℕ) → IsWorld old → IsStep old event new
+    → total repo new + size_removed repo old event ≡ total repo old + size_added repo old (object_stored event)
 
 -- an object fits exactly if the stored total and its size are within the quota
 abbrev pub RoomIsQuota : Type 0
@@ -324,9 +357,9 @@ OnlyCallersAreForeseen =
 -- what the user does not see is not in the view
 pub record IsSeen (policy : Policy) (user repo : List ℕ) (state : RepoState) : Type 0 where
   pub locks : All (λ l. sees policy user l ≡ true) state.locks
-  pub objects : sees_objects policy user repo ≡ false → state.objects ≡ []
+  pub objects : sees_objects policy user repo ≡ false → (state.objects ≡ []) × (state.retired ≡ [])
 
--- a view has only the locks that the user sees, and no objects unless the user sees them
+-- a view has only the locks that the user sees, and no objects and retired names unless the user sees them
 abbrev pub ViewsShowWhatIsSeen : Type 0
 ViewsShowWhatIsSeen =
     (world : World) (policy : Policy) (user repo : List ℕ)

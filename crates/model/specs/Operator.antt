@@ -1,9 +1,9 @@
--- What the operator of a server does: issuing tokens and removing those that expired.
-use Rattle.std.specs.Prelude.{◌≡◌, ℕ, ◌+◌, ◌≤◌, nat_le, List, Option, Some, None, Result, Ok, Err, IsTrue}
+-- What the operator of a server does: issuing tokens, removing those that expired, removing an object for good.
+use Rattle.std.specs.Prelude.{◌≡◌, ℕ, ◌+◌, ◌≤◌, nat_le, List, Option, Some, None, Result, Ok, Err, IsTrue, is_some, if◌then◌else◌}
 use Rattle.names.specs.Texts.{last_moment, is_hex_64, is_user, is_repo}
 use Rattle.names.specs.declared.operations.Operation.{Operation}
 use Rattle.model.specs.Reading.{◌>>=◌, check, none_or}
-use Rattle.model.specs.World.{World, Token, find_token, with_token, without_expired, expired_count}
+use Rattle.model.specs.World.{World, Token, find_token, with_token, without_expired, expired_count, is_retired, object_named, without_object}
 
 -- a token that the operator asks for, valid for this many seconds from now on
 pub record TokenRequest : Type 0 where
@@ -60,6 +60,26 @@ issue_outcome old asked =
 -- what removing tokens leads to: the answer is how many there were
 abbrev pub prune_outcome : World → ℕ → Outcome ℕ
 prune_outcome old now = record { answer = expired_count now old; world = without_expired now old }
+
+-- what became of an object that the operator removes: it was removed now, or its name was retired before, or there is none
+pub data Removal : Type 0 where
+  removed_now removed_before no_object : Removal
+
+-- what becomes of the object of this name
+abbrev pub removal_of : World → List ℕ → List ℕ → Removal
+removal_of world repo name =
+    if is_retired repo name world then removed_before
+    else (if is_some (object_named repo name world) then removed_now else no_object)
+
+-- the world after the removal
+abbrev pub after_removal : World → List ℕ → List ℕ → Removal → World
+after_removal world repo name removed_now = without_object repo name world
+after_removal world repo name _ = world
+
+-- what the removal of an object leads to
+abbrev pub retire_outcome : World → List ℕ → List ℕ → Outcome Removal
+retire_outcome old repo name =
+    let given = removal_of old repo name in record { answer = given; world = after_removal old repo name given }
 
 -- the outcome is reported and the world is its; or nothing is reported, as the store refused, and nothing changed
 pub data Reports {A : Type 0} (given : Option A) (outcome : Outcome A) (old new : World) : Type 0 where

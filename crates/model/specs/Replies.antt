@@ -214,7 +214,7 @@ abbrev pub phrases : List (ℕ × List ℕ)
 phrases =
     (200, codes "OK") ∷ (201, codes "Created") ∷ (400, codes "Bad Request") ∷ (401, codes "Unauthorized")
     ∷ (403, codes "Forbidden") ∷ (404, codes "Not Found") ∷ (405, codes "Method Not Allowed")
-    ∷ (406, codes "Not Acceptable") ∷ (409, codes "Conflict") ∷ (411, codes "Length Required")
+    ∷ (406, codes "Not Acceptable") ∷ (409, codes "Conflict") ∷ (410, codes "Gone") ∷ (411, codes "Length Required")
     ∷ (413, codes "Content Too Large") ∷ (422, codes "Unprocessable Content")
     ∷ (500, codes "Internal Server Error") ∷ (501, codes "Not Implemented") ∷ (507, codes "Insufficient Storage") ∷ []
 

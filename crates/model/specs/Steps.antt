@@ -1,7 +1,7 @@
 -- One step of the server: the answer to a message, and the world after it.
-use Rattle.std.specs.Prelude.{◌≡◌, ℕ, ◌<◌, ◌≤◌, length, Bool, true, false, not, ◌&&◌, ◌||◌, List, [], ◌∷◌, Option, Some, None, Result, Ok, Err, codes, if◌then◌else◌, ⊤}
+use Rattle.std.specs.Prelude.{◌≡◌, ℕ, ◌<◌, ◌≤◌, length, Bool, true, false, not, ◌&&◌, ◌||◌, List, [], ◌∷◌, Option, Some, None, Result, Ok, Err, codes, if◌then◌else◌, IsTrue, ⊤}
 use Rattle.httparse.specs.Grammar.{RequestHead}
-use Rattle.names.specs.Texts.{last_moment}
+use Rattle.names.specs.Texts.{last_moment, is_hex_64, is_repo}
 use Rattle.names.specs.declared.rules.Rule.{Rule}
 use Rattle.names.specs.declared.rules.Rule.TheVariants as rule
 use Rattle.model.specs.Policy.{IsPolicy}
@@ -10,7 +10,7 @@ use Rattle.model.specs.Heads.{Target, head_verdict, body_length, is_method, meth
 use Rattle.model.specs.Cases.{Setting}
 use Rattle.model.specs.Answers.{Denial, by_rule, Answer, Grant, stores, makes_lock, releases, store_refusal, is_rule, is_store_refusal}
 use Rattle.model.specs.Verdict.{verdict, early_verdict}
-use Rattle.model.specs.Operator.{TokenRequest, IsTokenRequest, TokenDenial, issue_outcome, prune_outcome, Reports}
+use Rattle.model.specs.Operator.{TokenRequest, IsTokenRequest, TokenDenial, Removal, issue_outcome, prune_outcome, retire_outcome, Reports}
 
 -- ---- messages
 
@@ -107,17 +107,21 @@ pub record IsExchange (old : World) (e : Exchange) (new : World) : Type 0 where
 
 -- ---- runs
 
--- a message is answered; or the operator issues a token or removes those not valid at a moment, and gets a report
+-- a message is answered; or the operator issues a token, removes those not valid at a moment, or removes an object for
+-- good, and gets a report
 pub data Event : Type 0 where
   exchanged : Exchange → Event
   issues : TokenRequest → (given : Option (Result Token TokenDenial)) → Event
   prunes : (now : ℕ) → (given : Option ℕ) → Event
+  retires : (repo name : List ℕ) → (given : Option Removal) → Event
 
 -- the event leads from one world to another
 abbrev pub IsStep : World → Event → World → Type 0
 IsStep old (exchanged e) new = IsExchange old e new
 IsStep old (issues asked given) new = IsTokenRequest asked × Reports given (issue_outcome old asked) old new
 IsStep old (prunes now given) new = (now ≤ last_moment) × Reports given (prune_outcome old now) old new
+IsStep old (retires repo name given) new =
+    IsTrue (is_repo repo) × IsTrue (is_hex_64 name) × Reports given (retire_outcome old repo name) old new
 
 -- the events lead from the old world to the new one, step by step
 abbrev pub Run : World → List Event → World → Type 0

@@ -250,6 +250,10 @@ with_one name bytes = record nothing { objects = object_of name bytes ∷ [] }
 abbrev pub hello : List ℕ
 hello = codes "2cf24dba5fb0a30e26e83b2ac5b9e29e1b161e5c1fa7425e73043362938b9824"
 
+-- a world whose object hello was removed for good
+abbrev pub hello_gone : World
+hello_gone = record nothing { retired = record { repo = film; name = hello } ∷ [] }
+
 -- the SHA-256 of abc
 abbrev pub abc : List ℕ
 abc = codes "ba7816bf8f01cfea414140de5dae2223b00361a396177a9cb410ff61f20015ad"

@@ -11,7 +11,7 @@ use Rattle.model.specs.Reading.{◌>>=◌, check, ok_or}
 use Rattle.model.specs.Policy.{Policy, Repo, Row, held_by, same_right, repo_named, decide}
 use Rattle.model.specs.World.{World, Token, total}
 use Rattle.model.specs.Orders.{sort_by, text_before}
-use Rattle.model.specs.RepoState.{RepoState, objects_of, locks_of}
+use Rattle.model.specs.RepoState.{RepoState, objects_of, retired_of, locks_of}
 use Rattle.model.specs.Forms.{Request}
 use Rattle.model.specs.Callers.{Caller, bearer, pull_question, is_allowed, sees}
 use Rattle.model.specs.Cases.{Case, DeskRequest}
@@ -60,7 +60,7 @@ may_allow_push user repo row =
     is_allow row.effect && held_by row.users user && held_by row.repos repo
     && list_any (same_right right.Push) row.rights
 
--- names and sizes are seen by those who may pull, or may push to some ref
+-- names and sizes, and retired names, are seen by those who may pull, or may push to some ref
 abbrev pub sees_objects : Policy → List ℕ → List ℕ → Bool
 sees_objects policy user repo =
     is_allowed (decide policy (pull_question user repo)) || list_any (may_allow_push user repo) policy.rows
@@ -74,6 +74,7 @@ room_in None world = pos 0
 abbrev pub visible_state : World → Policy → List ℕ → List ℕ → RepoState
 visible_state world policy user repo = record {
   objects = if sees_objects policy user repo then objects_of repo world else [];
+  retired = if sees_objects policy user repo then retired_of repo world else [];
   locks = filter (sees policy user) (locks_of repo world);
   made = world.made repo;
   room = room_in (repo_named repo policy) world;

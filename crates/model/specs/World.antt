@@ -28,16 +28,22 @@ pub record Token : Type 0 where
   pub operation : Operation
   pub expires : ℕ
 
--- the three lists are sets: their order does not matter; made is how many locks each repository ever made
+-- a name whose object a repository removed for good
+pub record Retired : Type 0 where
+  pub repo : List ℕ
+  pub name : List ℕ
+
+-- the four lists are sets: their order does not matter; made is how many locks each repository ever made
 pub record World : Type 0 where
   pub objects : List Object
+  pub retired : List Retired
   pub locks : List Lock
   pub made : List ℕ → ℕ
   pub tokens : List Token
 
 -- the world of a new server
 abbrev pub nothing : World
-nothing = record { objects = []; locks = []; made = λ _. 0; tokens = [] }
+nothing = record { objects = []; retired = []; locks = []; made = λ _. 0; tokens = [] }
 
 -- ---- the laws of worlds
 
@@ -68,6 +74,15 @@ pub record IsToken (t : Token) : Type 0 where
   pub repo : IsTrue (is_repo t.repo)
   pub expires : t.expires ≤ last_moment
 
+-- a retired name's parts are in range
+pub record IsRetired (r : Retired) : Type 0 where
+  pub repo : IsTrue (is_repo r.repo)
+  pub name : IsTrue (is_hex_64 r.name)
+
+-- two retired names of one repository differ
+abbrev pub DiffersInRetired : Retired → Retired → Type 0
+DiffersInRetired a b = a.repo ≡ b.repo → a.name ≡ b.name → ⊥
+
 -- two objects of one repository differ in name
 abbrev pub DiffersInName : Object → Object → Type 0
 DiffersInName a b = a.repo ≡ b.repo → a.name ≡ b.name → ⊥
@@ -84,10 +99,21 @@ DiffersInPlace a b = a.repo ≡ b.repo → a.ref ≡ b.ref → a.path ≡ b.path
 abbrev pub DiffersInDigest : Token → Token → Type 0
 DiffersInDigest a b = sha256 a.text ≡ sha256 b.text → ⊥
 
--- everything is in range and nothing occurs twice
+-- the repository has retired the name
+abbrev pub is_retired : List ℕ → List ℕ → World → Bool
+is_retired repo name world = is_some (find (λ r. bytes_eq r.repo repo && bytes_eq r.name name) world.retired)
+
+-- the name of the object is not retired
+abbrev pub IsUnretired : World → Object → Type 0
+IsUnretired world o = IsTrue (not (is_retired o.repo o.name world))
+
+-- everything is in range and nothing occurs twice; no object has a retired name
 pub record IsWorld (world : World) : Type 0 where
   pub objects : All IsObject world.objects
   pub names : AllPairs DiffersInName world.objects
+  pub retired : All IsRetired world.retired
+  pub once : AllPairs DiffersInRetired world.retired
+  pub gone : All (IsUnretired world) world.objects
   pub locks : All (IsLock world.made) world.locks
   pub ids : AllPairs DiffersInId world.locks
   pub places : AllPairs DiffersInPlace world.locks
@@ -132,6 +158,17 @@ abbrev pub with_object : Object → World → World
 with_object o world =
     if is_some (object_named o.repo o.name world) then world
     else record world { objects = o ∷ world.objects }
+
+-- the object is the repository's of this name
+abbrev pub has_name : List ℕ → List ℕ → Object → Bool
+has_name repo name o = bytes_eq o.repo repo && bytes_eq o.name name
+
+-- the world without the object of this name, which is retired
+abbrev pub without_object : List ℕ → List ℕ → World → World
+without_object repo name world = record world {
+  objects = filter (λ o. not (has_name repo name o)) world.objects;
+  retired = record { repo = repo; name = name } ∷ world.retired;
+}
 
 -- the world with a new token
 abbrev pub with_token : Token → World → World

@@ -5,9 +5,9 @@ ghost use Rattle.model.specs.Examples.{FirstIsFirst, FirstIsLocked, SecondIsRefu
 ghost use Rattle.model.specs.Examples.{CrowdedIsRefused, HeadsAreRefused, MethodIsRefused, RoutesLead, NamelessIsRefused, TokenExpires};
 ghost use Rattle.model.specs.Examples.{RepositoryIsUnknown, DownloadLocksNothing, CutIsUnanswered, FolderIsFrozen, PushIsDenied};
 ghost use Rattle.model.specs.Examples.{ContentHasItsName, ContentIsServed, QuotaIsKept, UploadIsRefusedEarly, StoredIsConfirmed};
-ghost use Rattle.model.specs.Examples.{UploadIsOffered, DownloadIsOffered, ObjectsAreInvalid, ObjectsAreRefused, HashIsRefused, BatchIsRefused};
+ghost use Rattle.model.specs.Examples.{UploadIsOffered, DownloadIsOffered, ObjectsAreInvalid, ObjectsAreRefused, RetiredIsGone, HashIsRefused, BatchIsRefused};
 ghost use Rattle.model.specs.Examples.{HiddenIsLeftOut, PagesAreCut, PagesAreRefused, LocksAreSplit, LockIsReleased, LocksAreServed};
-ghost use Rattle.model.specs.Examples.{RefusalCloses, TokenIsIssued, TokenIsPruned, MomentsArePrinted};
+ghost use Rattle.model.specs.Examples.{RefusalCloses, TokenIsIssued, TokenIsPruned, ObjectIsRemoved, MomentsArePrinted};
 ghost use Rattle.model.specs.PushExamples.{LockBlocksOthers, DenialComesFirst};
 
 /// The first message of a stream makes the first lock. The same message again finds it (L1). The path is
@@ -66,6 +66,7 @@ pub fn batches()
     ensures download_is_offered { DownloadIsOffered }
     ensures objects_are_invalid { ObjectsAreInvalid }
     ensures objects_are_refused { ObjectsAreRefused }
+    ensures retired_is_gone { RetiredIsGone }
     ensures hash_is_refused { HashIsRefused }
     ensures batch_is_refused { BatchIsRefused }
 {}
@@ -81,11 +82,12 @@ pub fn pages()
     ensures locks_are_served { LocksAreServed }
 {}
 
-/// The store refusal; tokens that are issued and removed; the first and the last moment.
+/// The store refusal; tokens that are issued and removed; an object that is removed for good; the first and the last moment.
 pub fn operator()
     ensures refusal_closes { RefusalCloses }
     ensures token_is_issued { TokenIsIssued }
     ensures token_is_pruned { TokenIsPruned }
+    ensures object_is_removed { ObjectIsRemoved }
     ensures moments_are_printed { MomentsArePrinted }
 {}
 

@@ -3,7 +3,7 @@
 ghost use Rattle.model.specs.Laws.{HasOneFirst, BeginsWithMessage, CutIsLast, ChoosesOnlyThere, MessageIsFinished, HeadDecides, TargetDecides};
 ghost use Rattle.model.specs.Laws.{StepsKeepWorlds, RunsKeepWorlds, RunsMakeWorlds, ServesWhatIsAsked, ServesWhatIsKept, ServedHasItsName, ServedWasPut};
 ghost use Rattle.model.specs.Laws.{DenialsChangeNothing, SilenceChangesNothing, OnlyReportedChanges, OnlyCutIsSilent, NeverLocksTwice, CountsOn, NewIdIsNext, NoIdComesAgain};
-ghost use Rattle.model.specs.Laws.{OnlyUploadsAddObjects, TotalsGrowByUploads};
+ghost use Rattle.model.specs.Laws.{OnlyTheseChangeObjects, RetiredForGood, RemovedIsRetired, TotalsFollowObjects};
 ghost use Rattle.model.specs.Laws.{RoomIsQuota, StaysInQuota, PageIsLeast, LocksRise, LocksAreThose, LocksIgnoreOrder, WalksAreWhole, ViewsForetell, OnlyCallersAreForeseen, ViewsServeOneDigest, ViewsShowWhatIsSeen, OthersLeaveViews, SessionsLeaveViews};
 ghost use Rattle.model.specs.Laws.{ReportsAreTrue, LeavesOneChange, MomentIsText, MomentHasText};
 
@@ -36,7 +36,7 @@ pub fn step_law()
 
 /// A run keeps the laws of worlds, and one from the empty world has them. A download is answered with the
 /// object that it asks for, which is stored and has its name, and in such a run just these bytes were uploaded
-/// before, under this name in this repository.
+/// before, under this name in this repository, and not removed since.
 pub fn run_law()
     ensures keeps { RunsKeepWorlds }
     ensures makes { RunsMakeWorlds }
@@ -56,12 +56,19 @@ pub fn denial_law()
     ensures cut { OnlyCutIsSilent }
 {}
 
-/// No step changes the objects, but an upload that is answered as stored: it adds its object, if the
-/// repository has none of that name. So a repository's total changes by no other step, and grows by the size
-/// of a new object.
+/// No step changes the objects, but an upload that is answered as stored, which adds its object if the
+/// repository has none of that name, and a removal that is reported, which takes the object away. So a
+/// repository's total changes by no other step: it grows by the size of a new object, and falls by that of a
+/// removed one.
 pub fn upload_law()
-    ensures objects { OnlyUploadsAddObjects }
-    ensures totals { TotalsGrowByUploads }
+    ensures objects { OnlyTheseChangeObjects }
+    ensures totals { TotalsFollowObjects }
+{}
+
+/// A removal that is reported retires the name. A name that was retired stays so, and no object ever has it.
+pub fn retire_law()
+    ensures retires { RemovedIsRetired }
+    ensures stays { RetiredForGood }
 {}
 
 /// No path of a repository's ref is ever locked twice.

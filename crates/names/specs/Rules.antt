@@ -1,7 +1,7 @@
 -- The rules that refuse a request: one table of their codes, statuses and reasons.
 use Rattle.std.specs.Prelude.{ℕ, List, ◌++◌, codes, decimal, Option, Some, None}
 use Rattle.names.specs.declared.rules.Rule.{Rule}
-use Rattle.names.specs.declared.rules.Rule.TheVariants.{H1, H2, H3, H4, H5, H6, H7, H8, A1, A2, A3, A4, A5, R1, J1, J2, J3, J4, P, B1, B2, B3, B4, B5, X1, X2, X3, V1, V2, L1, L2, L3, L4, L5, S1}
+use Rattle.names.specs.declared.rules.Rule.TheVariants.{H1, H2, H3, H4, H5, H6, H7, H8, A1, A2, A3, A4, A5, R1, J1, J2, J3, J4, P, B1, B2, B3, B4, B5, B6, X1, X2, X3, X4, V1, V2, L1, L2, L3, L4, L5, S1}
 
 -- the code, status and reason of a rule; a denial by the policy gets its status and its reason from the request
 pub record RuleRow : Type 0 where
@@ -39,9 +39,11 @@ row_of B2 = row (codes "B2") 422 (codes "the object name or size is not valid")
 row_of B3 = row (codes "B3") 409 (codes "the hash algorithm is not served")
 row_of B4 = row (codes "B4") 422 (codes "the stored size differs")
 row_of B5 = row (codes "B5") 507 (codes "the quota does not hold the object")
+row_of B6 = row (codes "B6") 410 (codes "the object was removed by its owner")
 row_of X1 = row (codes "X1") 404 (codes "the object is not stored")
 row_of X2 = row (codes "X2") 422 (codes "the bytes do not have this name")
 row_of X3 = row (codes "X3") 507 (codes "the quota does not hold the object")
+row_of X4 = row (codes "X4") 410 (codes "the object was removed by its owner")
 row_of V1 = row (codes "V1") 404 (codes "the object is not stored")
 row_of V2 = row (codes "V2") 422 (codes "the stored size differs")
 row_of L1 = row (codes "L1") 409 (codes "the path is already locked")

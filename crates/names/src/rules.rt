@@ -56,12 +56,16 @@ pub enum Rule {
     B4,
     /// Batch: the quota does not hold the object.
     B5,
+    /// Batch: the object was removed for good.
+    B6,
     /// Download: the object is not stored.
     X1,
     /// Upload: the bytes do not match the object's name.
     X2,
     /// Upload: the quota does not hold the object.
     X3,
+    /// Download and upload: the object was removed for good.
+    X4,
     /// Verify: the object is not stored.
     V1,
     /// Verify: the object is stored with another size.
@@ -93,6 +97,7 @@ impl Rule {
             Rule::H7 => 405,
             Rule::H8 => 406,
             Rule::B3 | Rule::L1 => 409,
+            Rule::B6 | Rule::X4 => 410,
             Rule::H3 => 411,
             Rule::H5 | Rule::J3 => 413,
             Rule::J1 | Rule::J2 | Rule::J4 | Rule::B2 | Rule::B4 | Rule::X2 | Rule::V2 | Rule::L4 =>
@@ -132,6 +137,7 @@ impl Rule {
             Rule::B3 => "the hash algorithm is not served",
             Rule::B4 | Rule::V2 => "the stored size differs",
             Rule::B5 | Rule::X3 => "the quota does not hold the object",
+            Rule::B6 | Rule::X4 => "the object was removed by its owner",
             Rule::X2 => "the bytes do not have this name",
             Rule::L1 => "the path is already locked",
             Rule::L2 => "no such lock",
@@ -174,9 +180,11 @@ impl fmt::Display for Rule {
             Rule::B3 => "B3",
             Rule::B4 => "B4",
             Rule::B5 => "B5",
+            Rule::B6 => "B6",
             Rule::X1 => "X1",
             Rule::X2 => "X2",
             Rule::X3 => "X3",
+            Rule::X4 => "X4",
             Rule::V1 => "V1",
             Rule::V2 => "V2",
             Rule::L1 => "L1",

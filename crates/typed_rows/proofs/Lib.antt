@@ -5,6 +5,7 @@ pub mod Inserts
 pub mod Counted
 pub mod Writes
 pub mod Creates
+pub mod Drops
 pub mod Selects
 pub mod Columns
 pub mod Found

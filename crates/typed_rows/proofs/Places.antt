@@ -1,5 +1,5 @@
 -- The first place in a list at which a test passes.
-use Rattle.typed_rows.proofs.Prelude.{arith, ◌≡◌, ℕ, zero, suc, ◌+◌, Bool, true, false, cond, List, [], ◌∷◌, ◌++◌, length, Some, None, Option, option_map, option_and_then, slice_get, find, refl, ap, ◌∙◌, position_from}
+use Rattle.typed_rows.proofs.Prelude.{arith, ◌≡◌, ℕ, zero, suc, ◌+◌, Bool, true, false, cond, List, [], ◌∷◌, ◌++◌, length, Some, None, Option, option_map, option_and_then, slice_get, find, filter, refl, ap, ◌∙◌, position_from}
 
 module _ {X : Type 0} (p : X → Bool) where
   shift : (xs : List X) (n : ℕ) → position_from p (n + 1) xs ≡ option_map suc (position_from p n xs)
@@ -50,6 +50,27 @@ module _ {X : Type 0} (p : X → Bool) where
       go : (b : Bool) → (position_from p (n + 1) xs ≡ None → position_from p (n + 1) (xs ++ ys) ≡ None) → cond b (Some n) (position_from p (n + 1) xs) ≡ None → cond b (Some n) (position_from p (n + 1) (xs ++ ys)) ≡ None
       go true more h = absurd (let a : Some n ≡ None = h in cc)
       go false more h = more h
+
+-- the first element that passes a test, in a list without some that fail another
+module _ {X : Type 0} (p q : X → Bool) where
+  pub found_left : (xs : List X) (x : X) → find p xs ≡ Some x → q x ≡ true → find p (filter q xs) ≡ Some x
+  found_left [] x h keep = absurd (let a : None ≡ Some x = h in cc)
+  found_left (y ∷ ys) x h keep = go (p y) (q y) refl refl (found_left ys x) h
+    where
+      go : (a b : Bool) → p y ≡ a → q y ≡ b → (find p ys ≡ Some x → q x ≡ true → find p (filter q ys) ≡ Some x) → cond a (Some y) (find p ys) ≡ Some x
+          → find p (cond b (y ∷ filter q ys) (filter q ys)) ≡ Some x
+      go true true e f more h = rw e h
+      go true false e f more h = absurd (let same : y ≡ x = (let a : Some y ≡ Some x = h in cc) in let b : q y ≡ true = ap q same ∙ keep in cc)
+      go false true e f more h = rw e (more h keep)
+      go false false e f more h = more h keep
+
+-- the place of an element that is found
+pub placed_at : {X : Type 0} (p : X → Bool) (xs : List X) (x : X) → find p xs ≡ Some x → (k : ℕ) × (position_from p 0 xs ≡ Some k) × (slice_get xs k ≡ Some x)
+placed_at p xs x h = go (position_from p 0 xs) refl (at_first p xs ∙ h)
+  where
+    go : (o : Option ℕ) → position_from p 0 xs ≡ o → option_and_then (slice_get xs) o ≡ Some x → (k : ℕ) × (position_from p 0 xs ≡ Some k) × (slice_get xs k ≡ Some x)
+    go None e got = absurd (let a : None ≡ Some x = got in cc)
+    go (Some k) e got = (k, e, got)
 
 pub still_got : {X : Type 0} (xs ys : List X) (k : ℕ) (x : X) → slice_get xs k ≡ Some x → slice_get (xs ++ ys) k ≡ Some x
 still_got [] ys k x h = absurd (let a : None ≡ Some x = h in cc)

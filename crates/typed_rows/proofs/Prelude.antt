@@ -46,7 +46,7 @@ pub use Rattle.sqlite_typed.proofs.RowLemmas.{deletes-map, puts-map}
 pub use Rattle.sqlite_value.proofs.OrderLemmas.{value_cmp-Int}
 pub use Rattle.sqlite_value.specs.Order.{value_cmp}
 pub use Rattle.sqlite_value.specs.declared.keys.Collation.{Collation}
-pub use Rattle.std.proofs.Common.{Bool, Equal, Err, Greater, IfErr, IfOk, IsTrue, Less, List, MatchBool, None, Ok, OnOk, Option, Ordering, Result, Some, [], ap, ap₂, arith, codes, cond, drop, eqb, eqb-true, false, filter_map, find, flat_map, fold, get_or, get_or-take, if◌then◌else◌, inl, inr, int_cmp, is_lt, is_some, length, map, map-id, nat_le, nat_lt, ne_eqb, not, option_and_then, option_map, pos, refl, slice_get, slice_index, subst, suc, sym, take, true, unwrap_or, zero, ℕ, ℤ, ◌&&◌, ◌++◌, ◌+ℤ◌, ◌+◌, ◌/◌, ◌<ℤ◌, ◌<◌, ◌==◌, ◌^◌, ◌||◌, ◌∙◌, ◌∷◌, ◌≡◌, ◌≢◌, ◌≤ℤ◌, ◌≤◌, ◌⊎◌}
+pub use Rattle.std.proofs.Common.{Bool, Equal, Err, Greater, IfErr, IfOk, IsTrue, Less, List, MatchBool, None, Ok, OnOk, Option, Ordering, Result, Some, [], ap, ap₂, arith, codes, cond, drop, eqb, eqb-true, false, filter, filter_map, find, flat_map, fold, get_or, get_or-take, if◌then◌else◌, inl, inr, int_cmp, is_lt, is_some, length, map, map-id, nat_le, nat_lt, ne_eqb, not, option_and_then, option_map, pos, refl, slice_get, slice_index, subst, suc, sym, take, true, unwrap_or, zero, ℕ, ℤ, ◌&&◌, ◌++◌, ◌+ℤ◌, ◌+◌, ◌/◌, ◌<ℤ◌, ◌<◌, ◌==◌, ◌^◌, ◌||◌, ◌∙◌, ◌∷◌, ◌≡◌, ◌≢◌, ◌≤ℤ◌, ◌≤◌, ◌⊎◌}
 pub use Rattle.std.proofs.lemmas.Int.{ints}
 pub use Rattle.std.specs.List.{AllByRecursion, AllZip, list_all, list_any, position_from}
 pub use Rattle.typed_rows.specs.Rows.{IsTypedBy, Rises, bytes_of, int_of}

@@ -94,6 +94,7 @@ fn phrase_of(status: StatusCode) -> &'static str
         405 => "Method Not Allowed",
         406 => "Not Acceptable",
         409 => "Conflict",
+        410 => "Gone",
         411 => "Length Required",
         413 => "Content Too Large",
         422 => "Unprocessable Content",
