@@ -1,5 +1,5 @@
 -- The rows of `meta`, decoded.
-use Rattle.tables.proofs.Prelude.{◌≡◌, ℕ, ◌<◌, ◌≤◌, ℤ, pos, List, [], ◌∷◌, length, map, get_or, sym, ap, ◌∙◌, arith, Value, Int, column, Meta, show_meta, first_meta}
+use Rattle.tables.proofs.Prelude.{◌≡◌, ℕ, ◌<◌, ◌≤◌, ℤ, pos, List, [], ◌∷◌, length, map, get_or, sym, ap, ◌∙◌, arith, Value, Int, column, Meta, show_meta, current_meta}
 use Rattle.sqlite_value.specs.Order.{Row}
 
 same_int : {a b : ℤ} → ◌≡◌ {A = Value} (Int a) (Int b) → a ≡ b
@@ -10,7 +10,7 @@ same_pos h = cc
 
 -- the only row of `meta`, if both its numbers are 1
 pub one_meta : (rows : List Row) (row : Row) (metas : List Meta) (one version : ℕ) → 1 ≤ length rows → length rows < 2 → row ≡ get_or rows 0 row → rows ≡ map show_meta metas → column row 0 ≡ Int (pos one) → column row 1 ≡ Int (pos version)
-    → one ≡ 1 → version ≡ 1 → metas ≡ first_meta ∷ []
+    → one ≡ 1 → version ≡ 1 → metas ≡ current_meta ∷ []
 one_meta rows row [] one version some few at all first second is_one is_version = absurd (let none : length rows ≡ 0 = ap length all in omega arith)
 one_meta rows row (m ∷ []) one version some few at all first second is_one is_version =
     let is : row ≡ show_meta m = at ∙ ap (λ l. get_or l 0 row) all in
@@ -22,9 +22,9 @@ one_meta rows row (m ∷ []) one version some few at all first second is_one is_
 one_meta rows row (m ∷ n ∷ more) one version some few at all first second is_one is_version = absurd (let many : length rows ≡ length (map show_meta (m ∷ n ∷ more)) = ap length all in omega arith)
 
 -- and the converse
-pub meta_one : (rows : List Row) (row : Row) (metas : List Meta) (one version : ℕ) → row ≡ get_or rows 0 row → rows ≡ map show_meta metas → column row 0 ≡ Int (pos one) → column row 1 ≡ Int (pos version) → metas ≡ first_meta ∷ [] → (one ≡ 1) × (version ≡ 1)
+pub meta_one : (rows : List Row) (row : Row) (metas : List Meta) (one version : ℕ) → row ≡ get_or rows 0 row → rows ≡ map show_meta metas → column row 0 ≡ Int (pos one) → column row 1 ≡ Int (pos version) → metas ≡ current_meta ∷ [] → (one ≡ 1) × (version ≡ 1)
 meta_one rows row metas one version at all first second is =
-    let shown : row ≡ show_meta first_meta = at ∙ ap (λ l. get_or l 0 row) (all ∙ ap (map show_meta) is) in
+    let shown : row ≡ show_meta current_meta = at ∙ ap (λ l. get_or l 0 row) (all ∙ ap (map show_meta) is) in
     let a : Int (pos one) ≡ Int (pos 1) = sym first ∙ ap (λ r. column r 0) shown in
     let b : Int (pos version) ≡ Int (pos 1) = sym second ∙ ap (λ r. column r 1) shown in
     (same_pos (same_int a), same_pos (same_int b))

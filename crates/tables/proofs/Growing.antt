@@ -1,5 +1,5 @@
 -- A schema that gets one more table.
-use Rattle.tables.proofs.Prelude.{arith, IsSome, ◌≡◌, ◌≢◌, ◌⊎◌, inl, inr, map, codes, eq-eqb, ℕ, ◌+◌, ◌==◌, ◌||◌, Bool, true, false, List, [], ◌∷◌, ◌++◌, length, Some, None, Option, option_map, option_and_then, unwrap_or, slice_get, find, cond, eqb, refl, sym, ap, subst, ◌∙◌, list_any, position_from, Schema, Database, next_tree, sequence, IsAscending, KeepsRows, automatics, Reference, table_named, all_has, has_got, at_first, still_placed, placed_last, still_none, still_got, got_last, Part, repos, tokens, uploads, chunks, locks, name_of, table_for, HasPart, LacksPart, HasCounts, is_parent, counts_name, code_of, HasSome, to_ascii_lowercase, is_eq-slice_cmp, bytes_eq-Decides}
+use Rattle.tables.proofs.Prelude.{arith, IsSome, ◌≡◌, ◌≢◌, ◌⊎◌, inl, inr, map, codes, eq-eqb, ℕ, ◌+◌, ◌==◌, ◌||◌, Bool, true, false, List, [], ◌∷◌, ◌++◌, length, Some, None, Option, option_map, option_and_then, unwrap_or, slice_get, find, cond, eqb, refl, sym, ap, subst, ◌∙◌, list_any, position_from, Schema, Database, next_tree, sequence, IsAscending, KeepsRows, automatics, Reference, table_named, all_has, has_got, at_first, still_placed, placed_last, still_none, still_got, got_last, Part, repos, tokens, uploads, chunks, locks, name_of, table_for, HasPart, LacksPart, HasCounts, is_parent, counts_name, code_of, to_ascii_lowercase, is_eq-slice_cmp, bytes_eq-Decides}
 use Rattle.std.proofs.Common.{eqb-true}
 use Rattle.sqlite.specs.Tree.{Trees}
 use Rattle.sqlite.specs.Table.{Table}
@@ -8,26 +8,28 @@ use Rattle.sqlite_catalog.proofs.ListFacts.{ascending_push}
 use Rattle.sqlite_catalog.proofs.StepLemmas.{table_below}
 use Rattle.sqlite_schema.specs.declared.schema.Index.{Index}
 use Rattle.sqlite_schema.specs.Names.{same_name}
-use Rattle.tables.specs.Rows.{meta, place_of, tree_of}
-use Rattle.tables.specs.Making.{is_in}
+use Rattle.sqlite_schema.specs.Names.{index_named}
+use Rattle.tables.specs.Layout.{Version}
+use Rattle.tables.specs.Rows.{meta, retired, place_of, tree_of, is_in}
+use Rattle.tables.specs.Schemas.{HasParts}
 use Rattle.std.specs.Fmt.{decimal}
 use Rattle.schema_compare.specs.Plain.{is_plain_table}
 use Rattle.tables.proofs.Parts.{tree_is, by_name, by_name_is}
 
 -- a part that is found in the schema
-pub part_is : (schema : Schema) (p : Part) (at tree : ℕ) → table_named schema (name_of p) ≡ Some at → slice_get schema.tables at ≡ Some (table_for p tree) → is_parent schema (name_of p) ≡ false → HasPart schema p × (tree_of schema p ≡ tree)
+pub part_is : (v : Version) (schema : Schema) (p : Part) (at tree : ℕ) → table_named schema (name_of p) ≡ Some at → slice_get schema.tables at ≡ Some (table_for v p tree) → is_parent schema (name_of p) ≡ false → HasPart v schema p × (tree_of schema p ≡ tree)
 unfolding tree_of place_of
-part_is schema p at tree named found unreferred =
+part_is v schema p at tree named found unreferred =
     let place : place_of schema p ≡ at = ap (λ o. unwrap_or o 0) named in
-    let there : slice_get schema.tables (place_of schema p) ≡ Some (table_for p tree) = ap (slice_get schema.tables) place ∙ found in
-    let is : tree_of schema p ≡ tree = ap (λ o. unwrap_or (option_map (λ (t : Table). t.tree) o) 0) there ∙ tree_is p tree in
-    (record { named = named ∙ ap Some (sym place); found = there ∙ ap (λ n. Some (table_for p n)) (sym is); unreferred = unreferred }, is)
+    let there : slice_get schema.tables (place_of schema p) ≡ Some (table_for v p tree) = ap (slice_get schema.tables) place ∙ found in
+    let is : tree_of schema p ≡ tree = ap (λ o. unwrap_or (option_map (λ (t : Table). t.tree) o) 0) there ∙ tree_is v p tree in
+    (record { named = named ∙ ap Some (sym place); found = there ∙ ap (λ n. Some (table_for v p n)) (sym is); unreferred = unreferred }, is)
 
 own_name : (n : List ℕ) → same_name n n ≡ true
 unfolding same_name
 own_name n = is_eq-slice_cmp (map to_ascii_lowercase n) (map to_ascii_lowercase n) ∙ (bytes_eq-Decides (map to_ascii_lowercase n) (map to_ascii_lowercase n)).1 refl
 
--- the name of an index that SQLite makes is none of the six
+-- the name of an index that SQLite makes is none of the tables
 not_automatic : (q : Part) (rest : List ℕ) → same_name (codes "sqlite_autoindex_" ++ rest) (name_of q) ≡ false
 unfolding same_name
 not_automatic meta rest = refl
@@ -36,6 +38,7 @@ not_automatic tokens rest = refl
 not_automatic uploads rest = refl
 not_automatic chunks rest = refl
 not_automatic locks rest = refl
+not_automatic retired rest = refl
 
 pub not_counts : (q : Part) → same_name counts_name (name_of q) ≡ false
 unfolding same_name
@@ -45,6 +48,7 @@ not_counts tokens = refl
 not_counts uploads = refl
 not_counts chunks = refl
 not_counts locks = refl
+not_counts retired = refl
 
 lower_is : (q : Part) → map to_ascii_lowercase (name_of q) ≡ name_of q
 lower_is meta = refl
@@ -53,12 +57,13 @@ lower_is tokens = refl
 lower_is uploads = refl
 lower_is chunks = refl
 lower_is locks = refl
+lower_is retired = refl
 
 pub same_code : (p q : Part) → (code_of p == code_of q) ≡ true → p ≡ q
 same_code p q h = sym (by_code_is p) ∙ ap by_code (eqb-true (code_of p) (code_of q) h) ∙ by_code_is q
   where
     by_code : ℕ → Part
-    by_code n = cond (eqb n 0) meta (cond (eqb n 1) repos (cond (eqb n 2) tokens (cond (eqb n 3) uploads (cond (eqb n 4) chunks locks))))
+    by_code n = cond (eqb n 0) meta (cond (eqb n 1) repos (cond (eqb n 2) tokens (cond (eqb n 3) uploads (cond (eqb n 4) chunks (cond (eqb n 5) locks retired)))))
 
     by_code_is : (p : Part) → by_code (code_of p) ≡ p
     by_code_is meta = refl
@@ -67,8 +72,9 @@ same_code p q h = sym (by_code_is p) ∙ ap by_code (eqb-true (code_of p) (code_
     by_code_is uploads = refl
     by_code_is chunks = refl
     by_code_is locks = refl
+    by_code_is retired = refl
 
--- two of the six with other numbers have other names
+-- two of the tables with other numbers have other names
 pub other_names : (p q : Part) → (code_of q == code_of p) ≡ false → same_name (name_of p) (name_of q) ≡ false
 unfolding same_name
 other_names p q h = go (same_name (name_of p) (name_of q)) refl
@@ -82,21 +88,23 @@ other_names p q h = go (same_name (name_of p) (name_of q)) refl
         let it : true ≡ false = sym (eq-eqb (code_of q) (code_of q) refl) ∙ ap (λ r. code_of q == code_of r) same ∙ h in
         cc
 
-pub plain_is : (p : Part) → (table_for p 0).references ≡ []
-plain_is meta = refl
-plain_is repos = refl
-plain_is tokens = refl
-plain_is uploads = refl
-plain_is chunks = refl
-plain_is locks = refl
+pub plain_is : (v : Version) (p : Part) → (table_for v p 0).references ≡ []
+plain_is v meta = refl
+plain_is v repos = refl
+plain_is v tokens = refl
+plain_is v uploads = refl
+plain_is v chunks = refl
+plain_is v locks = refl
+plain_is v retired = refl
 
-pub retree : (p : Part) (n : ℕ) → record (table_for p 0) { tree = n } ≡ table_for p n
-retree meta n = refl
-retree repos n = refl
-retree tokens n = refl
-retree uploads n = refl
-retree chunks n = refl
-retree locks n = refl
+pub retreed : (v : Version) (p : Part) (m n : ℕ) → record (table_for v p m) { tree = n } ≡ table_for v p n
+retreed v meta m n = refl
+retreed v repos m n = refl
+retreed v tokens m n = refl
+retreed v uploads m n = refl
+retreed v chunks m n = refl
+retreed v locks m n = refl
+retreed v retired m n = refl
 
 pub any_last : {X : Type 0} (p : X → Bool) (xs : List X) (y : X) → p y ≡ false → list_any p (xs ++ y ∷ []) ≡ list_any p xs
 any_last p [] y h = rw h refl
@@ -109,37 +117,30 @@ referred schema name ts b is same = is ∙ ap (list_any (λ (t : Table). list_an
 some_same : {X : Type 0} {a b : X} → ◌≡◌ {A = Option X} (Some a) (Some b) → a ≡ b
 some_same e = cc
 
-plain_part : (p : Part) (n : ℕ) → is_plain_table (table_for p n) ≡ true
-plain_part meta n = refl
-plain_part repos n = refl
-plain_part tokens n = refl
-plain_part uploads n = refl
-plain_part chunks n = refl
-plain_part locks n = refl
-
-pub retreed : (p : Part) (m n : ℕ) → record (table_for p m) { tree = n } ≡ table_for p n
-retreed meta m n = refl
-retreed repos m n = refl
-retreed tokens m n = refl
-retreed uploads m n = refl
-retreed chunks m n = refl
-retreed locks m n = refl
+plain_part : (v : Version) (p : Part) (n : ℕ) → is_plain_table (table_for v p n) ≡ true
+plain_part v meta n = refl
+plain_part v repos n = refl
+plain_part v tokens n = refl
+plain_part v uploads n = refl
+plain_part v chunks n = refl
+plain_part v locks n = refl
+plain_part v retired n = refl
 
 -- two schemas have a table of one name, and the other has our definition of it
-pub shares_definition : (schema ours : Schema) (name : List ℕ) (p : Part) → name ≡ name_of p → HasPart ours p → (at own : ℕ) (table wanted : Table) → table_named schema name ≡ Some at → table_named ours name ≡ Some own
+pub shares_definition : (v : Version) (schema ours : Schema) (name : List ℕ) (p : Part) → name ≡ name_of p → HasPart v ours p → (at own : ℕ) (table wanted : Table) → table_named schema name ≡ Some at → table_named ours name ≡ Some own
     → slice_get schema.tables at ≡ Some table → slice_get ours.tables own ≡ Some wanted
-    → (record wanted { tree = table.tree } ≡ table → is_parent schema name ≡ false → HasPart schema p) × (HasPart schema p → record wanted { tree = table.tree } ≡ table) × (is_plain_table wanted ≡ true)
-shares_definition schema ours name p named has at own table wanted here there got other =
+    → (record wanted { tree = table.tree } ≡ table → is_parent schema name ≡ false → HasPart v schema p) × (HasPart v schema p → record wanted { tree = table.tree } ≡ table) × (is_plain_table wanted ≡ true)
+shares_definition v schema ours name p named has at own table wanted here there got other =
     let place : own ≡ place_of ours p = some_same (sym there ∙ ap (table_named ours) named ∙ has.named) in
-    let is : wanted ≡ table_for p (tree_of ours p) = some_same (sym other ∙ ap (slice_get ours.tables) place ∙ has.found) in
-    let ours_is : record wanted { tree = table.tree } ≡ table_for p table.tree = ap (λ (t : Table). record t { tree = table.tree }) is ∙ retreed p (tree_of ours p) table.tree in
+    let is : wanted ≡ table_for v p (tree_of ours p) = some_same (sym other ∙ ap (slice_get ours.tables) place ∙ has.found) in
+    let ours_is : record wanted { tree = table.tree } ≡ table_for v p table.tree = ap (λ (t : Table). record t { tree = table.tree }) is ∙ retreed v p (tree_of ours p) table.tree in
     let named_here = sym (ap (table_named schema) named) ∙ here in (
-      λ same unreferred. (part_is schema p at table.tree named_here (got ∙ ap Some (sym same ∙ ours_is)) (sym (ap (is_parent schema) named) ∙ unreferred)).0,
+      λ same unreferred. (part_is v schema p at table.tree named_here (got ∙ ap Some (sym same ∙ ours_is)) (sym (ap (is_parent schema) named) ∙ unreferred)).0,
       λ all.
           let spot : at ≡ place_of schema p = some_same (sym here ∙ ap (table_named schema) named ∙ all.named) in
-          let table_is : table ≡ table_for p (tree_of schema p) = some_same (sym got ∙ ap (slice_get schema.tables) spot ∙ all.found) in
-          ours_is ∙ ap (table_for p) (ap (λ (t : Table). t.tree) table_is ∙ tree_is p (tree_of schema p)) ∙ sym table_is,
-      ap is_plain_table is ∙ plain_part p (tree_of ours p),
+          let table_is : table ≡ table_for v p (tree_of schema p) = some_same (sym got ∙ ap (slice_get schema.tables) spot ∙ all.found) in
+          ours_is ∙ ap (table_for v p) (ap (λ (t : Table). t.tree) table_is ∙ tree_is v p (tree_of schema p)) ∙ sym table_is,
+      ap is_plain_table is ∙ plain_part v p (tree_of ours p),
     )
 
 module _ (schema : Schema) (table : Table) (plain : table.references ≡ []) where
@@ -155,12 +156,12 @@ module _ (schema : Schema) (table : Table) (plain : table.references ≡ []) whe
   pub still_apart : IsAscending (λ (s t : Table). s.tree ≢ t.tree) schema.tables → IsAscending (λ (s t : Table). s.tree ≢ t.tree) grown.tables
   still_apart apart = ascending_push (λ (s t : Table). s.tree ≢ t.tree) schema.tables new apart (λ t h e. let below = table_below schema t h in omega (arith, below, e))
 
-  pub still_part : (q : Part) → HasPart schema q → HasPart grown q × (tree_of grown q ≡ tree_of schema q)
-  still_part q has = part_is grown q (place_of schema q) (tree_of schema q) (still_placed (λ (t : Table). same_name t.name (name_of q)) schema.tables (new ∷ []) 0 (place_of schema q) has.named)
-      (still_got schema.tables (new ∷ []) (place_of schema q) (table_for q (tree_of schema q)) has.found) (parents (name_of q) ∙ has.unreferred)
+  pub still_part : (v : Version) (q : Part) → HasPart v schema q → HasPart v grown q × (tree_of grown q ≡ tree_of schema q)
+  still_part v q has = part_is v grown q (place_of schema q) (tree_of schema q) (still_placed (λ (t : Table). same_name t.name (name_of q)) schema.tables (new ∷ []) 0 (place_of schema q) has.named)
+      (still_got schema.tables (new ∷ []) (place_of schema q) (table_for v q (tree_of schema q)) has.found) (parents (name_of q) ∙ has.unreferred)
 
-  pub new_part : (p : Part) → LacksPart schema p → new ≡ table_for p (next_tree schema) → new.name ≡ name_of p → HasPart grown p × (tree_of grown p ≡ next_tree schema)
-  new_part p lacks is named = part_is grown p (length schema.tables) (next_tree schema)
+  pub new_part : (v : Version) (p : Part) → LacksPart schema p → new ≡ table_for v p (next_tree schema) → new.name ≡ name_of p → HasPart v grown p × (tree_of grown p ≡ next_tree schema)
+  new_part v p lacks is named = part_is v grown p (length schema.tables) (next_tree schema)
       (placed_last (λ (t : Table). same_name t.name (name_of p)) schema.tables new 0 lacks.free.table (ap (λ n. same_name n (name_of p)) named ∙ own_name (name_of p)) ∙ ap Some (let e : 0 + length schema.tables ≡ length schema.tables = omega arith in e))
       (got_last schema.tables new ∙ ap Some is) (parents (name_of p) ∙ lacks.unreferred)
 
@@ -168,11 +169,15 @@ module _ (schema : Schema) (table : Table) (plain : table.references ≡ []) whe
   automatic_names q at tree [] m = refl
   automatic_names q at tree (key ∷ keys) m = rw (not_automatic q (table.name ++ 95 ∷ decimal (at + 1))) (automatic_names q (at + 1) (tree + 1) keys (m + 1))
 
+  -- no new index has the name of one of the tables
+  pub still_clear : (q : Part) → index_named schema (name_of q) ≡ None → index_named grown (name_of q) ≡ None
+  still_clear q clear = still_none (λ (i : Index). same_name i.name (name_of q)) schema.indexes (automatics new 0 (new.tree + 1) new.uniques) 0 clear (automatic_names q 0 (new.tree + 1) new.uniques)
+
   pub still_lacks : (q : Part) → LacksPart schema q → same_name table.name (name_of q) ≡ false → LacksPart grown q
   still_lacks q lacks other = record {
     free = record {
       table = still_none (λ (t : Table). same_name t.name (name_of q)) schema.tables (new ∷ []) 0 lacks.free.table (λ m. rw other refl);
-      index = still_none (λ (i : Index). same_name i.name (name_of q)) schema.indexes (automatics new 0 (new.tree + 1) new.uniques) 0 lacks.free.index (automatic_names q 0 (new.tree + 1) new.uniques);
+      index = still_clear q lacks.free.index;
       view = lacks.free.view;
     };
     unreferred = parents (name_of q) ∙ lacks.unreferred;
@@ -191,24 +196,18 @@ module _ (schema : Schema) (table : Table) (plain : table.references ≡ []) whe
           go true more e = e
           go false more e = more e
 
-  -- the rows that the old tables have stay
-  module _ (db : Database) (here : db.schema ≡ schema) (trees : Trees) (kept : KeepsRows schema.tables db.trees trees) (done later : List Part) (was : HasSome done db) where
-    still_empty : (q : Part) → HasPart schema q → db.trees (tree_of schema q) ≡ [] → trees (tree_of grown q) ≡ []
-    still_empty q has empty =
-        let there = has_got schema.tables (place_of schema q) (table_for q (tree_of schema q)) has.found in
-        let same : trees (tree_of schema q) ≡ db.trees (tree_of schema q) = subst (λ n. trees n ≡ db.trees n) (tree_is q (tree_of schema q)) (all_has (λ (t : Table). trees t.tree ≡ db.trees t.tree) schema.tables (table_for q (tree_of schema q)) kept there) in
-        ap trees (still_part q has).1 ∙ same ∙ empty
+  -- the rows of a table that was there stay
+  pub rows_stay : (v : Version) (q : Part) → HasPart v schema q → (old trees : Trees) → KeepsRows schema.tables old trees → trees (tree_of grown q) ≡ old (tree_of schema q)
+  rows_stay v q has old trees kept =
+      let there = has_got schema.tables (place_of schema q) (table_for v q (tree_of schema q)) has.found in
+      ap trees (still_part v q has).1 ∙ subst (λ n. trees n ≡ old n) (tree_is v q (tree_of schema q)) (all_has (λ (t : Table). trees t.tree ≡ old t.tree) schema.tables (table_for v q (tree_of schema q)) kept there)
 
-    pub step : ((q : Part) → is_in q later ≡ true → (is_in q done ≡ true) ⊎ (HasPart grown q × (trees (tree_of grown q) ≡ []))) → ((q : Part) → is_in q later ≡ false → (is_in q done ≡ false) × (same_name table.name (name_of q) ≡ false))
-        → HasSome later (record { schema = grown; trees = trees })
-    step more left =
-        let old = subst (λ s. HasSome done (record { schema = s; trees = db.trees })) here was in
-        record {
-          made = λ q h. elim (more q h) [ inl before ↦ (let it = old.made q before in ((still_part q it.0).0, still_empty q it.0 it.1)) | inr new ↦ new ];
-          left = λ q h. let it = left q h in still_lacks q (old.left q it.0) it.1;
-          unreferred = parents counts_name ∙ old.unreferred;
-          apart = still_apart old.apart;
-        }
+  pub step : (v : Version) (done later : List Part) → HasParts v done schema → ((q : Part) → is_in q later ≡ true → (is_in q done ≡ true) ⊎ HasPart v grown q)
+      → ((q : Part) → is_in q later ≡ false → (is_in q done ≡ false) × (same_name table.name (name_of q) ≡ false)) → HasParts v later grown
+  step v done later was more left = record {
+    made = λ q h. elim (more q h) [ inl before ↦ (still_part v q (was.made q before)).0 | inr new ↦ new ];
+    left = λ q h. let it = left q h in still_lacks q (was.left q it.0) it.1;
+  }
 
 -- ---- what the comparison decides
 

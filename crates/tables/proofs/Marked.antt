@@ -8,7 +8,7 @@ use Rattle.sqlite_schema.specs.Rules.{passes_checks}
 use Rattle.sqlite_schema.specs.declared.schema.Constraint.TheVariants.{Check}
 use Rattle.tables.specs.Rows.{tables_under}
 use Rattle.sqlite.specs.Table.{Table}
-use Rattle.tables.proofs.Parts.{six_of, each, typed_at}
+use Rattle.tables.proofs.Parts.{whole_of, each, typed_at}
 use Rattle.tables.proofs.Opened.{kept_is_sound}
 
 -- the upload is staged or complete
@@ -63,7 +63,7 @@ unfolding tables_under
 kept_marked db kept =
     let tree = tree_of db.schema uploads in
     all_marked (map upload_in (db.trees tree)) (subst (AllByRecursion PassesChecks) (typed_at uploads db.schema db.trees kept.typed).same
-    (each db.schema (six_of db kept) (λ (t : Table). AllByRecursion (λ row. passes_checks t row ≡ true) (db.trees t.tree)) ((kept_is_sound db kept).obeys.rules Check) uploads))
+    (each db.schema (whole_of db kept) (λ (t : Table). AllByRecursion (λ row. passes_checks t row ≡ true) (db.trees t.tree)) ((kept_is_sound db kept).obeys.rules Check) uploads))
 
 pub uploads_marked : {S : Type 0} (g : Ghosts S) (s : Store S) → HasTables g s → IsHonest g s → IsOpen g s → AllByRecursion IsMarked (shown g s).uploads
 uploads_marked g s has honest opened = kept_marked (state g s.conn).now (has.ready honest opened)

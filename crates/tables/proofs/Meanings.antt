@@ -1,13 +1,15 @@
--- The meaning of each statement under a schema that has the six tables, computed from the texts.
-use Rattle.tables.proofs.Prelude.{◌≡◌, ℕ, ℤ, pos, negsuc, List, [], ◌∷◌, false, codes, refl, Null, Int, Term, lit, col, op2, Insert, Select, Update, Delete, Values, Eq, Le, Ge, understood, reads_listing, IsPlain, command_of, query_of, plain_query, sorted_by, ordered_by, is_given, Schema, first, Means, Plans, means, HasSix, Part, name_of, table_for, place_of, tree_of, Token, Chunk, Lock, made_by, lock_at, lock_with_id, locks_in, locks_from, token, tokens_of, used_by, object, objects_in, objects, staged, chunk_at, read_text, add_lock, add_repo, set_made, remove_lock, add_token, remove_expired, add_chunk, remove_row, remove_chunks, remove_chunks_from, set_done, add_used, set_used, write_text}
+-- The meaning of each statement under a schema that has them tables, computed from the texts.
+use Rattle.tables.proofs.Prelude.{◌≡◌, ℕ, ℤ, pos, negsuc, List, [], ◌∷◌, false, codes, refl, Null, Int, Term, lit, col, op2, Insert, Select, Update, Delete, Values, Eq, Le, Ge, understood, reads_listing, IsPlain, command_of, query_of, plain_query, sorted_by, ordered_by, is_given, Schema, first, Means, Plans, means, HasWhole, Part, name_of, table_for, place_of, tree_of, Token, Chunk, Lock, made_by, lock_at, lock_with_id, locks_in, locks_from, token, tokens_of, used_by, object, objects_in, objects, staged, chunk_at, read_text, add_lock, add_repo, set_made, remove_lock, add_token, remove_expired, add_chunk, remove_row, remove_chunks, remove_chunks_from, set_done, add_used, set_used, write_text}
 use Rattle.sqlite.specs.Query.{Query}
 use Rattle.sqlite.specs.Command.{Command}
 use Rattle.sqlite_sql.specs.declared.ops.BinaryOp.TheVariants.{Compare}
 use Rattle.sqlite.specs.Collation.TheVariants.{Binary}
 use Rattle.sqlite_tied.specs.Compute.{everything}
 use Rattle.tables.specs.Rows as part
-use Rattle.tables.proofs.Parts.{low, high, by_tree}
-use Rattle.tables.specs.Statements.{meta, staged_with, reading, writing}
+use Rattle.tables.proofs.Parts.{low_in, by_tree_in}
+use Rattle.tables.specs.Layout.{Version, current}
+use Rattle.tables.specs.Schemas.{HasPart, IsLaid}
+use Rattle.tables.specs.Statements.{staged_with, meta_query_text, retired_as, retired_in, add_retired, reading, writing}
 
 abbrev pub lock_columns : List Term
 lock_columns = col 1 2 ∷ col 1 3 ∷ col 1 4 ∷ col 1 5 ∷ col 1 6 ∷ []
@@ -59,29 +61,44 @@ chunk_terms = lit Null ∷ col 0 0 ∷ col 0 1 ∷ col 0 2 ∷ []
 abbrev pub done_columns : List Term
 done_columns = col 1 0 ∷ col 1 0 ∷ lit Null ∷ col 1 2 ∷ col 1 3 ∷ col 1 4 ∷ lit (Int (pos 1)) ∷ []
 
+abbrev pub retired_terms : List Term
+retired_terms = lit Null ∷ col 0 0 ∷ col 0 1 ∷ []
+
 abbrev pub used_terms : List Term
 used_terms = lit Null ∷ col 0 0 ∷ lit (Int (pos 0)) ∷ col 0 1 ∷ []
 
 abbrev pub used_columns : List Term
 used_columns = col 1 0 ∷ col 1 0 ∷ col 1 1 ∷ col 1 2 ∷ col 0 1 ∷ []
 
-module _ (schema : Schema) (six : HasSix schema) where
-  -- what the text means, if it names this table alone
+-- what the text means, if it names this table of the version alone
+abbrev SaysIn : Version → Schema → Part → List ℕ → Command → Type 0
+SaysIn v schema p sql command = Plans schema (place_of schema p) (table_for v p (tree_of schema p)) (name_of p) (first sql) command
+
+meant_in : (v : Version) (schema : Schema) (laid : IsLaid schema) (p : Part) (has : HasPart v schema p) (sql : List ℕ) (command : Command) → SaysIn v schema p sql command → Means schema sql command
+meant_in v schema laid p has sql command says =
+    let low = low_in v schema laid p has in
+    means schema (place_of schema p) (table_for v p (tree_of schema p)) (name_of p) has.found low.0 low.1 (by_tree_in v schema laid p has) has.named sql command says
+
+-- the number of the version is read in a database of any
+pub meta_is : (v : Version) (schema : Schema) → IsLaid schema → HasPart v schema part.meta → IsQuery schema meta_query_text (query_of [] (col 1 0 ∷ col 1 2 ∷ []) (tree_of schema part.meta))
+unfolding everything
+meta_is v schema laid has =
+    let it = meant_in v schema laid part.meta has _ (Select (record { lets = []; body = query_of [] (col 1 0 ∷ col 1 2 ∷ []) (tree_of schema part.meta) }) (codes "one" ∷ codes "version" ∷ []))
+        (refl, (record { alone = refl; single = refl; source = (refl, refl, refl, refl, refl); ungrouped = refl; whole = refl; shown = refl; filter = refl; order = refl }, (refl, refl))) in
+    record { names = codes "one" ∷ codes "version" ∷ []; plain = it.plain; unlisted = it.unlisted; command = it.command }
+
+module _ (schema : Schema) (whole : HasWhole schema) where
   abbrev pub Says : Part → List ℕ → Command → Type 0
-  Says p sql command = Plans schema (place_of schema p) (table_for p (tree_of schema p)) (name_of p) (first sql) command
+  Says = SaysIn current schema
 
   meant : (p : Part) (sql : List ℕ) (command : Command) → Says p sql command → Means schema sql command
-  meant p sql command says = means schema (place_of schema p) (table_for p (tree_of schema p)) (name_of p) (six.parts p).found (low schema six p) (high schema six p) (by_tree schema six p) (six.parts p).named sql command says
+  meant p = meant_in current schema whole.laid p (whole.parts p)
 
   asks : (p : Part) (sql : List ℕ) (q : Query) (names : List (List ℕ)) → Says p sql (Select (record { lets = []; body = q }) names) → IsQuery schema sql q
   asks p sql q names says = let it = meant p sql (Select (record { lets = []; body = q }) names) says in record { names = names; plain = it.plain; unlisted = it.unlisted; command = it.command }
 
   pub has_meaning : (p : Part) (sql : List ℕ) (command : Command) → Says p sql command → IsCommand schema sql command
   has_meaning p sql command says = let it = meant p sql command says in record { plain = it.plain; is = it.command }
-
-  pub meta_is : IsQuery schema (read_text meta) (query_of [] (col 1 0 ∷ col 1 2 ∷ []) (tree_of schema part.meta))
-  unfolding reading everything
-  meta_is = asks part.meta _ _ (codes "one" ∷ codes "version" ∷ []) (refl, (record { alone = refl; single = refl; source = (refl, refl, refl, refl, refl); ungrouped = refl; whole = refl; shown = refl; filter = refl; order = refl }, (refl, refl)))
 
   pub made_is : (repo : List ℕ) → IsQuery schema (read_text (made_by repo)) (query_of (is_given 1 0 ∷ []) (col 1 0 ∷ col 1 2 ∷ []) (tree_of schema part.repos))
   unfolding reading everything
@@ -190,3 +207,15 @@ module _ (schema : Schema) (six : HasSix schema) where
   pub set_used_is : (rowid used : ℤ) → IsCommand schema (write_text (set_used rowid used)) (Update (place_of schema part.repos) (record { lets = []; body = plain_query (is_given 0 0 ∷ []) used_columns (tree_of schema part.repos) }))
   unfolding writing everything
   set_used_is rowid used = has_meaning part.repos _ _ (refl, (refl, refl, refl, (refl, refl)))
+
+  pub retired_as_is : (repo oid : List ℕ) → IsQuery schema (read_text (retired_as repo oid)) (query_of (is_given 1 0 ∷ is_given 2 1 ∷ []) (col 1 2 ∷ []) (tree_of schema part.retired))
+  unfolding reading everything
+  retired_as_is repo oid = asks part.retired _ _ (codes "oid" ∷ []) (refl, (record { alone = refl; single = refl; source = (refl, refl, refl, refl, refl); ungrouped = refl; whole = refl; shown = refl; filter = refl; order = refl }, (refl, refl)))
+
+  pub retired_in_is : (repo : List ℕ) → IsQuery schema (read_text (retired_in repo)) (ordered_by (2 ∷ 0 ∷ []) (is_given 1 0 ∷ []) (col 1 2 ∷ []) (tree_of schema part.retired))
+  unfolding reading everything
+  retired_in_is repo = asks part.retired _ _ (codes "oid" ∷ []) (refl, (record { alone = refl; single = refl; source = (refl, refl, refl, refl, refl); ungrouped = refl; whole = refl; shown = refl; filter = refl; order = refl }, (refl, refl)))
+
+  pub add_retired_is : (repo oid : List ℕ) → IsCommand schema (write_text (add_retired repo oid)) (Insert (place_of schema part.retired) (Values retired_terms 3))
+  unfolding writing everything
+  add_retired_is repo oid = has_meaning part.retired _ _ (refl, (refl, refl, refl))

@@ -1,4 +1,4 @@
--- The trees of a database that has the six tables determine its schema and the rows of the six.
+-- The trees of a database that has them tables determine its schema and the rows of the tables.
 use Rattle.tables.proofs.Prelude.{arith, ◌≡◌, ◌⊎◌, inl, inr, ◌+◌, ℕ, pos, ℤ, List, [], ◌∷◌, Bool, true, false, Option, None, Some, codes, filter, refl, sym, ap, ap₂, subst, ◌∙◌, ints, AllZip, IsAscending, Value, Null, Int, Text, Schema, table_defined_by, Database, catalog_tree, IsSound, IsTableRow, is_table_row, same_value, tables_of, IsKept}
 use Rattle.std.specs.Prelude.{MatchBool, length, slice_get, slice_index_or}
 use Rattle.sqlite.specs.declared.types.Value.TheVariants.{Real, Blob}

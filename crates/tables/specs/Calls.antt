@@ -1,14 +1,15 @@
 -- The contracts of the functions on a connection, each as one definition.
-use Rattle.std.specs.Prelude.{◌≡◌, false, List, Result, IfOk, OnOk, OnErr, IsTrue}
+use Rattle.std.specs.Prelude.{◌≡◌, false, List, [], Result, IfOk, OnOk, OnErr, IsTrue}
 use Rattle.sqlite.specs.Tree.{Trees}
 use Rattle.sqlite.specs.State.{State, HasCleanDisk, Shows, IsRolledBack, Survives}
 use Rattle.sqlite.specs.Held.{Held, state}
 use Rattle.sqlite_trees.specs.declared.store.Store.{Ghosts}
 use Rattle.typed_rows.specs.Transactions.{Keeps, Inside}
 use Rattle.tables.specs.declared.fault.StoreFault.{StoreFault}
-use Rattle.tables.specs.Rows.{Part, Tables}
+use Rattle.tables.specs.Layout.{Version, version_one}
+use Rattle.tables.specs.Rows.{Part, Meta, Tables, parts_of}
 use Rattle.tables.specs.Making.{IsBlank}
-use Rattle.tables.specs.Runs.{IsReady, IsAfter, Blanks, Leads, Steps, tables_in, with_fresh}
+use Rattle.tables.specs.Runs.{IsReady, IsOld, HasMeta, IsAfter, Blanks, Leads, Steps, tables_in, with_fresh, migrated}
 
 module _ {S : Type 0} (g : Ghosts S) where
   -- ---- inside a transaction
@@ -31,17 +32,27 @@ module _ {S : Type 0} (g : Ghosts S) where
     pub within : Inside g old new result
     pub ok : MakesStep old new result step
 
-  -- if the result is Ok, a database with some of the six tables, and no rows in them, got more
+  -- if the result is Ok, a database with some of the tables of version 1, and no rows in them, got more
   abbrev pub MakesBlank : {T E : Type 0} → Held S → Held S → Result T E → List Part → List Part → Type 0
   MakesBlank old new result before after =
       HasCleanDisk (state g new) → IsTrue old.in_transaction
       → OnOk result (Blanks before after (state g old) (state g new))
 
-  -- if the result is Ok, a blank database got the fresh tables
-  abbrev pub MakesFresh : {T E : Type 0} → Held S → Held S → Result T E → List Part → Type 0
-  MakesFresh old new result done =
-      HasCleanDisk (state g new) → IsTrue old.in_transaction → (IsTrue (state g old).is_open → IsBlank done (state g old).now)
+  -- if the result is Ok, a database with none of our tables got those of version 1
+  abbrev pub MakesFirst : {T E : Type 0} → Held S → Held S → Result T E → Type 0
+  MakesFirst old new result = MakesBlank old new result [] (parts_of version_one)
+
+  -- if the result is Ok, a database with none of our tables got the fresh ones
+  abbrev pub MakesFresh : {T E : Type 0} → Held S → Held S → Result T E → Type 0
+  MakesFresh old new result =
+      HasCleanDisk (state g new) → IsTrue old.in_transaction → (IsTrue (state g old).is_open → IsBlank [] (state g old).now)
       → OnOk result (Steps (with_fresh (state g old).now.schema) (state g old) (state g new))
+
+  -- if the result is Ok, a database of version 1 became one of version 2
+  abbrev pub Upgrades : {T E : Type 0} → Held S → Held S → Result T E → Type 0
+  Upgrades old new result =
+      HasCleanDisk (state g new) → IsTrue old.in_transaction → (IsTrue (state g old).is_open → IsOld (state g old).now)
+      → OnOk result (Steps migrated (state g old) (state g new))
 
   -- ---- a transaction of its own
 
@@ -55,6 +66,15 @@ module _ {S : Type 0} (g : Ghosts S) where
   pub record Looks {T : Type 0} (old new : Held S) (result : Result T StoreFault)
       (P : Tables → T → Type 0) : Type 0 where
     pub answers : Answers old new result P
+    pub same : HasCleanDisk (state g new) → Keeps (state g old) (state g new)
+    pub survives : Survives (state g old) (state g new) (λ _. ⊥)
+
+  -- a call that reads `meta` alone, in a database of any version
+  pub record LooksAtMeta {T : Type 0} (old new : Held S) (result : Result T StoreFault)
+      (P : List Meta → T → Type 0) : Type 0 where
+    pub answers : (v : Version) → HasCleanDisk (state g new)
+        → (IsTrue (state g old).is_open → HasMeta v (state g old).now)
+        → IfOk result (λ x. IsTrue (state g old).is_open × P (tables_in (state g old)).meta x)
     pub same : HasCleanDisk (state g new) → Keeps (state g old) (state g new)
     pub survives : Survives (state g old) (state g new) (λ _. ⊥)
 

@@ -7,25 +7,40 @@ use Rattle.sqlite.specs.Schema.{Schema}
 use Rattle.sqlite_catalog.specs.Listing.{IsSound}
 use Rattle.std.specs.Prelude.{pos}
 use Rattle.typed_rows.specs.Transactions.{Keeps}
-use Rattle.tables.specs.Layout.{Version, version_one}
-use Rattle.tables.specs.Making.{IsBlank, all_six, with_parts}
-use Rattle.tables.specs.Six.{HasAll, HasSix, HasNone}
-use Rattle.tables.specs.Rows.{Part, Meta, AreTyped, Tables, tables_of}
+use Rattle.tables.specs.Layout.{Version, version_one, number_of, current}
+use Rattle.tables.specs.Making.{IsBlank, with_parts, upgraded}
+use Rattle.tables.specs.Schemas.{HasPart, HasAll, HasFirst, HasWhole, HasNone, IsLaid}
+use Rattle.tables.specs.Rows.{Part, meta, Meta, AreTyped, IsTyped, Tables, tables_of, is_in, parts_of}
 use Rattle.tables.specs.Statements.{Write, HasRemoved, after}
+use Rattle.tables.specs.declared.rows.Migrated.{Migrated}
+use Rattle.tables.specs.declared.rows.Migrated.TheVariants as result
 
 -- the trees list the schema and obey it; a definition of its own, so that proof search does not unfold it
 unfoldable pub IsOurs : Database → Type 0
 IsOurs db = IsSound db.schema db.trees
 
--- the schema has the six tables; a definition of its own, so that proof search does not unfold it
-unfoldable pub IsSix : Schema → Type 0
-IsSix = HasSix
+-- the schema has the tables; a definition of its own, so that proof search does not unfold it
+unfoldable pub IsWhole : Schema → Type 0
+IsWhole = HasWhole
 
 -- the database has the tables, and rows of their types
 pub record IsKept (db : Database) : Type 0 where
-  pub schema : IsSix db.schema
+  pub schema : IsWhole db.schema
   pub typed : AreTyped db.schema db.trees
   pub ours : IsOurs db
+
+-- the database has the tables of version 1, and rows of their types
+pub record IsOld (db : Database) : Type 0 where
+  pub schema : HasFirst db.schema
+  pub laid : IsLaid db.schema
+  pub typed : (p : Part) → is_in p (parts_of version_one) ≡ true → IsTyped p db.schema db.trees
+  pub ours : IsOurs db
+
+-- the database has the table `meta` of the version, and rows of its type in it
+pub record HasMeta (v : Version) (db : Database) : Type 0 where
+  pub part : HasPart v db.schema meta
+  pub laid : IsLaid db.schema
+  pub typed : IsTyped meta db.schema db.trees
 
 -- while it is open, the connection has the tables
 abbrev pub IsReady : State → Type 0
@@ -57,7 +72,7 @@ pub record IsAfter (step : Tables → Tables) (old new : Database) : Type 0 wher
 abbrev pub Leads : (Tables → Tables) → State → Trees → Type 0
 Leads step old trees = (db : Database) × IsTrue old.is_open × IsAfter step old.now db × (trees ≡ db.trees)
 
--- inside a transaction, a database with some of the six tables, and no rows in them, got more
+-- inside a transaction, a database with some of the tables of version 1, and no rows in them, got more
 pub record Blanks (before after : List Part) (old new : State) : Type 0 where
   pub was_open : IsTrue old.is_open
   pub is_open : IsTrue new.is_open
@@ -67,38 +82,47 @@ pub record Blanks (before after : List Part) (old new : State) : Type 0 where
 
 -- the only row of `meta`
 abbrev pub meta_of : Version → Meta
-meta_of v = record { one = pos 1; version = v.number }
+meta_of v = record { one = pos 1; version = pos (number_of v) }
 
--- the row of `meta` of the first version
-abbrev pub first_meta : Meta
-first_meta = meta_of version_one
+-- the row of `meta` of the version that this program makes
+abbrev pub current_meta : Meta
+current_meta = meta_of current
 
--- the tables of a new database: the six, made beside those of this schema, and the row of `meta`
+-- the tables of version 2 that are made of those of version 1: all rows stay, and no name is retired
+unfoldable pub migrated : Tables → Tables
+migrated t = record t { meta = current_meta ∷ []; retired = []; schema = upgraded t.schema }
+
+-- the tables of a new database: those of version 1, made beside those of this schema, and then the step to version 2
 abbrev pub fresh : Schema → Tables
-fresh schema = record { meta = first_meta ∷ []; repos = []; tokens = []; uploads = []; chunks = []; locks = []; schema = with_parts all_six schema }
+fresh schema = record {
+  meta = current_meta ∷ [];
+  repos = [];
+  tokens = [];
+  uploads = [];
+  chunks = [];
+  locks = [];
+  retired = [];
+  schema = upgraded (with_parts (parts_of version_one) schema);
+}
 
 -- the step to the tables of a new database
 unfoldable pub with_fresh : Schema → Tables → Tables
 with_fresh schema _ = fresh schema
 
--- the database has none of the six tables
+-- the database has none of our tables
 abbrev pub HasNoTable : State → Type 0
 HasNoTable s = HasNone s.now.schema
 
--- the database does not have none of the six tables, and does not have the six with the number of the version
-pub record IsNotOf (v : Version) (s : State) : Type 0 where
+-- the database does not have none of our tables, and does not have those of the current version with its number
+pub record IsForeign (s : State) : Type 0 where
   pub some : ¬ HasNoTable s
-  pub other : HasAll s.now.schema → ¬ ((tables_in s).meta ≡ meta_of v ∷ [])
+  pub other : HasAll current s.now.schema → ¬ ((tables_in s).meta ≡ current_meta ∷ [])
 
--- the same for the first version
-abbrev pub IsForeign : State → Type 0
-IsForeign = IsNotOf version_one
-
--- the trees of a new database, if the old one had none of the six tables
+-- the trees of a new database, if the old one had none of our tables
 abbrev pub LeadsIfBlank : State → Trees → Type 0
 LeadsIfBlank old trees = HasNoTable old × Leads (with_fresh old.now.schema) old trees
 
--- a database with none of the six tables got them, or nothing was changed
+-- a database with none of our tables got them, or nothing was changed
 abbrev pub MakesOrKeeps : State → State → Type 0
 MakesOrKeeps old new = (HasNoTable old × IsTrue old.is_open × IsAfter (with_fresh old.now.schema) old.now new.now) ⊎ Keeps old new
 
@@ -106,19 +130,44 @@ MakesOrKeeps old new = (HasNoTable old × IsTrue old.is_open × IsAfter (with_fr
 abbrev pub LeavesOurs : State → Type 0
 LeavesOurs s = (trees : Trees) → s.may_leave trees → (db : Database) × IsKept db × (trees ≡ db.trees)
 
--- it is open, with nothing pending, and its tables are those of the version
-pub record HasVersion (v : Version) (s : State) : Type 0 where
+-- it is open, with nothing pending, and its tables are those of the current version
+pub record HasOurs (s : State) : Type 0 where
   pub is_open : IsTrue s.is_open
   pub settled : s.now ≡ s.committed
   pub kept : IsKept s.now
-  pub version : (tables_in s).meta ≡ meta_of v ∷ []
+  pub version : (tables_in s).meta ≡ current_meta ∷ []
 
--- it is open, with nothing pending, and its tables are those of the first version
-abbrev pub HasOurs : State → Type 0
-HasOurs = HasVersion version_one
-
--- the next open finds the six new tables, if there was none of them before, or our tables unchanged
+-- the next open finds the new tables, if there was none of them before, or our tables unchanged
 abbrev pub LeavesOnly : State → State → Type 0
 LeavesOnly old new =
     (db : Database) → IsKept db → new.may_leave db.trees
     → (HasNoTable old × (tables_of db ≡ fresh old.now.schema)) ⊎ (HasOurs old × (tables_of db ≡ tables_in old))
+
+-- ---- a migration
+
+-- it is open, with nothing pending, and its tables are those of version 1 with their number
+pub record HasOld (s : State) : Type 0 where
+  pub is_open : IsTrue s.is_open
+  pub settled : s.now ≡ s.committed
+  pub old : IsOld s.now
+  pub version : (tables_in s).meta ≡ meta_of version_one ∷ []
+
+-- the database is foreign, and does not have the tables of version 1 with their number
+pub record IsUnknown (s : State) : Type 0 where
+  pub foreign : IsForeign s
+  pub other : HasFirst s.now.schema → ¬ ((tables_in s).meta ≡ meta_of version_one ∷ [])
+
+-- what a migration did: it migrated a database of version 1; or the database had nothing of ours, or the current tables
+abbrev pub Migrates : State → State → Migrated → Type 0
+Migrates old new result.From1 = HasOld old × IsAfter migrated old.now new.now
+Migrates old new result.Already = MakesOrKeeps old new
+
+-- the next open finds the migrated tables, or what it finds after `MakesOrKeeps`
+abbrev pub LeavesMigrated : State → State → Migrated → Type 0
+LeavesMigrated old new result.From1 =
+    HasOld old × ((db : Database) → IsKept db → new.may_leave db.trees → tables_of db ≡ migrated (tables_in old))
+LeavesMigrated old new result.Already = LeavesOnly old new
+
+-- the trees of a new database, if the old one had nothing of ours, or of a migrated one, if it was of version 1
+abbrev pub LeadsIfAny : State → Trees → Type 0
+LeadsIfAny old trees = LeadsIfBlank old trees ⊎ (HasOld old × Leads migrated old trees)

@@ -7,7 +7,7 @@ use Rattle.sqlite.specs.declared.types.Value.TheVariants.{Int, Text, Blob}
 use Rattle.sqlite.specs.Order.{Row}
 use Rattle.sqlite_keyed.specs.Keyed.{next_key}
 use Rattle.sqlite_keyed.specs.Lists.{sort_by, update_where, delete_where}
-use Rattle.tables.specs.Rows.{Meta, Repo, Token, Upload, Chunk, Lock, Tables}
+use Rattle.tables.specs.Rows.{Meta, Repo, Token, Upload, Chunk, Lock, Retired, Tables}
 
 -- ---- which rows
 
@@ -87,6 +87,14 @@ is_of_from upload n c = int_eq c.upload upload && int_le n c.n
 abbrev pub is_chunk : ℤ → ℤ → Chunk → Bool
 is_chunk upload n c = int_eq c.upload upload && int_eq c.n n
 
+-- the row is that of this name, which the repository has retired
+abbrev pub is_retired_as : List ℕ → List ℕ → Retired → Bool
+is_retired_as repo oid r = same_bytes r.repo repo && same_bytes r.oid oid
+
+-- the row is that of a name which the repository has retired
+abbrev pub is_retired_in : List ℕ → Retired → Bool
+is_retired_in repo r = same_bytes r.repo repo
+
 -- the order of locks by id; equal ids are ordered by the rowid
 abbrev pub id_cmp : Lock → Lock → Ordering
 id_cmp a b = ordering_then (int_cmp a.id b.id) (int_cmp a.rowid b.rowid)
@@ -102,6 +110,14 @@ name_cmp a b = ordering_then (slice_cmp nat_cmp a.repo b.repo) (ordering_then (s
 -- the uploads in the order of repositories and names
 abbrev pub by_name : List Upload → List Upload
 by_name = sort_by name_cmp
+
+-- the order of retired names; equal ones are ordered by the rowid
+abbrev pub oid_cmp : Retired → Retired → Ordering
+oid_cmp a b = ordering_then (slice_cmp nat_cmp a.oid b.oid) (int_cmp a.rowid b.rowid)
+
+-- the retired names in rising order
+abbrev pub by_oid : List Retired → List Retired
+by_oid = sort_by oid_cmp
 
 -- ---- the columns that are returned of a row
 
@@ -133,6 +149,14 @@ show_upload u = Int u.id ∷ Text u.repo ∷ Text u.oid ∷ Int u.size ∷ Int u
 abbrev pub show_bytes : Chunk → Row
 show_bytes c = Blob c.bytes ∷ []
 
+-- the column that is returned of a retired name
+abbrev pub show_retired : Retired → Row
+show_retired r = Text r.oid ∷ []
+
+-- the statement that reads the number of the version, in a database of any version
+abbrev pub meta_query_text : List ℕ
+meta_query_text = codes "SELECT one, version FROM meta ORDER BY rowid"
+
 -- ---- reading
 
 -- a statement: its text, the values bound to it, and its meaning
@@ -143,7 +167,6 @@ pub record Statement (M : Type 0) : Type 0 where
 
 -- the reading statements, each with the values bound to it
 pub data Read : Type 0 where
-  meta : Read
   made_by : List ℕ → Read
   lock_at : List ℕ → List ℕ → List ℕ → Read
   lock_with_id : List ℕ → ℕ → Read
@@ -158,14 +181,11 @@ pub data Read : Type 0 where
   objects : Read
   staged : Read
   chunk_at : ℤ → ℕ → Read
+  retired_as : List ℕ → List ℕ → Read
+  retired_in : List ℕ → Read
 
 -- each reading statement, with the rows that it returns
 unfoldable pub reading : Read → Statement (Tables → List Row)
-reading meta = record {
-  text = codes "SELECT one, version FROM meta ORDER BY rowid";
-  params = [];
-  meaning = λ t. map show_meta t.meta;
-}
 reading (made_by repo) = record {
   text = codes "SELECT rowid, made FROM repos WHERE name = ?1 ORDER BY rowid";
   params = Text repo ∷ [];
@@ -236,6 +256,16 @@ reading (chunk_at upload n) = record {
   params = Int upload ∷ Int (pos n) ∷ [];
   meaning = λ t. map show_bytes (filter (is_chunk upload (pos n)) t.chunks);
 }
+reading (retired_as repo oid) = record {
+  text = codes "SELECT oid FROM retired WHERE repo = ?1 AND oid = ?2 ORDER BY rowid";
+  params = Text repo ∷ Text oid ∷ [];
+  meaning = λ t. map show_retired (filter (is_retired_as repo oid) t.retired);
+}
+reading (retired_in repo) = record {
+  text = codes "SELECT oid FROM retired WHERE repo = ?1 ORDER BY oid, rowid";
+  params = Text repo ∷ [];
+  meaning = λ t. map show_retired (by_oid (filter (is_retired_in repo) t.retired));
+}
 
 -- the text of a reading statement
 abbrev pub read_text : Read → List ℕ
@@ -270,6 +300,7 @@ pub data Write : Type 0 where
   set_done : ℤ → Write
   add_used : List ℕ → ℤ → Write
   set_used : ℤ → ℤ → Write
+  add_retired : List ℕ → List ℕ → Write
 
 -- the tables with one more lock
 unfoldable pub with_lock : Lock → Tables → Tables
@@ -326,6 +357,10 @@ with_used_row name used t = record t { repos = t.repos ++ record { rowid = next_
 -- the tables with this number of stored bytes, in the row with this rowid
 unfoldable pub with_used_at : ℤ → ℤ → Tables → Tables
 with_used_at rowid used t = record t { repos = update_where (λ r. int_eq r.rowid rowid) (λ r. record r { used = used }) t.repos }
+
+-- the tables with one more retired name
+unfoldable pub with_retired : List ℕ → List ℕ → Tables → Tables
+with_retired repo oid t = record t { retired = t.retired ++ record { rowid = next_key (λ x. x.rowid) t.retired; repo = repo; oid = oid } ∷ [] }
 
 -- the effect of a writing statement on the tables, and the number of rows that a removal takes away
 pub record Effect : Type 0 where
@@ -407,6 +442,11 @@ writing (set_used rowid used) = record {
   text = codes "UPDATE repos SET used = ?2 WHERE rowid = ?1";
   params = Int rowid ∷ Int used ∷ [];
   meaning = record { step = with_used_at rowid used; removed = None };
+}
+writing (add_retired repo oid) = record {
+  text = codes "INSERT INTO retired (repo, oid) VALUES (?1, ?2)";
+  params = Text repo ∷ Text oid ∷ [];
+  meaning = record { step = with_retired repo oid; removed = None };
 }
 
 -- the text of a writing statement

@@ -1,9 +1,10 @@
-//! The database of a custody server: its six tables, and the typed calls on them.
+//! The database of a custody server: its tables, and the typed calls on them.
 //!
 //! A studio keeps one file, `custody.db`, which sqlite3 reads too. It has the large files that the studio pushed, the
-//! locks that keep two artists off one file, and the tokens that let a client in. This crate is the only one that uses
-//! SQL. A call takes and returns rows with named fields, and each change is one transaction: after a stop, at whatever
-//! moment, the next open finds the rows before the call or those after it, and nothing between.
+//! names of those that were removed for good, the locks that keep two artists off one file, and the tokens that let a
+//! client in. This crate is the only one that uses SQL. A call takes and returns rows with named fields, and each change
+//! is one transaction: after a stop, at whatever moment, the next open finds the rows before the call or those after it,
+//! and nothing between.
 #![tactic(auto)]
 
 use sqlite::Connection;
@@ -13,9 +14,11 @@ mod beginning;
 mod chunks;
 mod fault;
 mod locks;
+mod making;
 mod new_rows;
 mod open;
 mod read;
+mod retiring;
 mod rows;
 mod schema;
 mod staged;
@@ -27,7 +30,7 @@ mod write;
 pub use chunks::ChunkRow;
 pub use fault::{OpenFault, StoreFault};
 pub use new_rows::{LastChunk, NewLock, NewToken, NewUpload};
-pub use rows::{Completion, Creation, LockRow, ObjectRow, TokenRow, UploadId, UploadRow};
+pub use rows::{Completion, Creation, LockRow, Migrated, ObjectRow, TokenRow, UploadId, UploadRow};
 pub use sqlite::{Alter, Start, Unknown};
 pub use storage::Storage;
 

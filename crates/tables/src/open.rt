@@ -7,11 +7,13 @@ ghost use Rattle.sqlite.specs.Steps.{over_memory};
 ghost use Rattle.sqlite.specs.Files.{over_files, file_state, IsNothing};
 ghost use Rattle.sqlite_catalog.specs.Listing.{IsSound};
 ghost use Rattle.sqlite_trees.specs.Objects.{catalog_tree};
-ghost use Rattle.tables.specs.Six.{HasAll};
-ghost use Rattle.tables.specs.Runs.{first_meta};
-ghost use Rattle.tables.specs.Shown.{connection, committed, IsHonest, IsOpen, HasNoTable, HasOurs, IsForeign, fresh_on, HasTables, shown, Leaves, IsSafe, Rests, AddsFresh};
+ghost use Rattle.tables.specs.Layout.{current};
+ghost use Rattle.tables.specs.Schemas.{HasAll};
+ghost use Rattle.tables.specs.Runs.{current_meta};
+ghost use Rattle.tables.specs.Shown.{connection, committed, IsHonest, IsOpen, HasNoTable, HasOurs, IsForeign, IsUnknown, fresh_on, HasTables, shown, Leaves, IsSafe, Rests, AddsFresh, AddsMigrated, MigratesTo, IsMigrated};
 
 use crate::fault::{OpenFault, StoreFault};
+use crate::rows::Migrated;
 use crate::storage::Storage;
 use crate::{Store, schema};
 use sqlite::{Alter, Connection, FileFrom, FileStore, MemStore, Start};
@@ -80,18 +82,18 @@ impl<S: Alter> Store<S> {
 }
 
 impl<S: Storage> Store<S> {
-    /// Gives a database that has none of the six tables the six of version 1, all or none, and leaves one that has
+    /// Gives a database that has none of our tables those of the current version, all or none, and leaves one that has
     /// them, whatever other tables it has. The result holds whatever the file held before.
     ///
     /// # Errors
     ///
-    /// `UnknownSchema` for any other database; `Store` of `Refused` or `Memory`. The database is unchanged, but if it
-    /// had none of the six, a stop may still leave them.
+    /// `UnknownSchema` for any other database, one of version 1 too; `Store` of `Refused` or `Memory`. The database is
+    /// unchanged, but if it had none of our tables, a stop may still leave them.
     pub fn create_or_check(&mut self, alloc: Global) -> Result<(), OpenFault>
         ensures ready { OnOk result (HasTables S.Store self.new) }
         ensures version { IsHonest S.Store self.new
             → OnOk result (IsOpen S.Store self.new
-            → (shown S.Store self.new).meta ≡ first_meta ∷ []) }
+            → (shown S.Store self.new).meta ≡ current_meta ∷ []) }
         ensures ok { IsHonest S.Store self.new
             → OnOk result ((HasNoTable S.Store self.old × (shown S.Store self.new ≡ fresh_on S.Store self.old))
             ⊎ Rests S.Store self.old self.new) }
@@ -100,7 +102,7 @@ impl<S: Storage> Store<S> {
             → OnOk result ((t : _) → Leaves S.Store self.new t
             → (HasNoTable S.Store self.old × (t ≡ fresh_on S.Store self.old))
             ⊎ (HasOurs S.Store self.old × (t ≡ shown S.Store self.old))) }
-        ensures ours { IsHonest S.Store self.new → (schema : _) → HasAll schema
+        ensures ours { IsHonest S.Store self.new → (schema : _) → HasAll current schema
             → IsSound schema (committed S.Store self.old)
             → OnOk result (HasOurs S.Store self.old) }
         ensures empty { IsHonest S.Store self.new → committed S.Store self.old catalog_tree ≡ []
@@ -112,5 +114,32 @@ impl<S: Storage> Store<S> {
     {
         self.staged = None;
         schema::create_or_check(alloc, &mut self.conn)
+    }
+
+    /// Gives a database of version 1 the tables of the current version, all or none, and leaves its other rows. Any
+    /// other database is treated as [`create_or_check`](Store::create_or_check) treats it.
+    ///
+    /// # Errors
+    ///
+    /// `UnknownSchema` for a database that is neither, `Store` of `Refused` or `Memory`. The database is unchanged, but
+    /// a stop may still leave the current version, if it was of version 1 or had none of our tables.
+    pub fn migrate(&mut self, alloc: Global) -> Result<Migrated, OpenFault>
+        ensures ready { OnOk result (HasTables S.Store self.new) }
+        ensures version { IsHonest S.Store self.new
+            → OnOk result (IsOpen S.Store self.new
+            → (shown S.Store self.new).meta ≡ current_meta ∷ []) }
+        ensures ok { IsHonest S.Store self.new
+            → IfOk result (MigratesTo S.Store self.old self.new) }
+        ensures safe { IsHonest S.Store self.new → OnOk result (IsSafe S.Store self.new) }
+        ensures only { IsHonest S.Store self.new
+            → IfOk result (λ migrated. (t : _) → Leaves S.Store self.new t
+            → IsMigrated S.Store self.old migrated t) }
+        ensures err { IsHonest S.Store self.new → OnErr result (Rests S.Store self.old self.new) }
+        ensures unknown { IsHonest S.Store self.new → result ≡ Err OpenFault.UnknownSchema
+            → IsUnknown S.Store self.old }
+        ensures stop { AddsMigrated S.Store self.old self.new }
+    {
+        self.staged = None;
+        schema::migrate(alloc, &mut self.conn)
     }
 }

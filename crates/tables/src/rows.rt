@@ -81,6 +81,15 @@ pub enum Completion {
     Differs,
 }
 
+/// The result of migrating a database.
+#[derive(Clone, Copy, Debug, PartialEq, Eq)]
+pub enum Migrated {
+    /// It was of version 1, and is of the current version now.
+    From1,
+    /// It was of the current version, or it had none of our tables and has those of the current version now.
+    Already,
+}
+
 /// The number of the operation in the database.
 pub(crate) fn code_of(operation: Operation) -> u32
     ensures { pos result ≡ code_of operation }

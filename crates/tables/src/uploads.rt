@@ -44,7 +44,7 @@ fn object_from(row: &Row) -> Result<ObjectRow, StoreFault>
 }
 
 /// The object in the first of the rows.
-fn first_object(rows: &[Row]) -> Result<Option<ObjectRow>, StoreFault>
+pub(crate) fn first_object(rows: &[Row]) -> Result<Option<ObjectRow>, StoreFault>
     ensures { (uploads : _) → rows.now ≡ map show_upload uploads → IfOk result
         (λ found. IsObjectOf found (slice_get uploads 0)) }
 {
@@ -76,7 +76,7 @@ fn first_total(rows: &[Row]) -> Result<Option<Total>, StoreFault>
 }
 
 /// The number of bytes stored; 0 if the repository has no row yet.
-fn used_so_far(total: Option<Total>) -> i64
+pub(crate) fn used_so_far(total: Option<Total>) -> i64
     ensures { (repo : _) → IsTotalOf total repo → result ≡ used_in repo }
 {
     match total {
@@ -146,7 +146,7 @@ fn is_stored<S: Alter>(
     Ok(!rows.is_empty())
 }
 
-fn total_in<S: Alter>(
+pub(crate) fn total_in<S: Alter>(
     tx: &mut Transaction<'_, S>,
     repo: &RepoName,
 ) -> Result<Option<Total>, StoreFault>
@@ -213,7 +213,7 @@ fn done_into<S: Alter>(tx: &mut Transaction<'_, S>, id: UploadId) -> Result<usiz
 }
 
 /// Sets the number of bytes that the repository stores, in the row that was found or in a new one.
-fn set_used<S: Alter>(
+pub(crate) fn set_used<S: Alter>(
     tx: &mut Transaction<'_, S>,
     repo: &RepoName,
     total: Option<Total>,

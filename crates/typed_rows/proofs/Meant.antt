@@ -2,16 +2,17 @@
 use Rattle.typed_rows.proofs.Prelude.{◌≡◌, ℕ, ◌+◌, ◌^◌, nat_lt, nat_le, ◌==◌, true, false, List, [], refl, Some, None, slice_get, Ok, Err, find, if◌then◌else◌, ◌&&◌, not, length, sym, subst, ◌∙◌, Command, table_named, Checked, and_then, Name, new_rows, small, with_command, is_reserved, Unsupported, reads_listing, IsPlain, command_of, statement_of, text_of, paging}
 use Rattle.sqlite_schema.specs.declared.schema.Schema.{Schema}
 use Rattle.sqlite_schema.specs.declared.schema.Table.{Table}
-use Rattle.sqlite_schema.specs.declared.command.Command.TheVariants.{Insert, Update, Delete, CreateTable}
+use Rattle.sqlite_schema.specs.declared.command.Command.TheVariants.{Insert, Update, Delete, CreateTable, DropTable}
 use Rattle.sqlite_ast.specs.declared.Conflict.TheVariants as conflict
 use Rattle.sqlite_ast.specs.declared.Statement.{Statement}
 use Rattle.sqlite_ast.specs.declared.Statement.TheVariants as written
 use Rattle.sqlite_syntax.specs.declared.statement.Parsed.{Parsed}
 use Rattle.sqlite_resolve.specs.Write.{deleted, updated}
 pub use Rattle.sqlite_resolve.specs.Compile.{first}
-use Rattle.sqlite_resolve.specs.Compile.{compiled, planned, meaning, timed, returning, shows, command, insert_or_abort, create_table, is_attached, creates}
+use Rattle.sqlite_resolve.specs.Compile.{compiled, planned, meaning, timed, returning, shows, command, insert_or_abort, create_table, drop_table, is_attached, creates}
 use Rattle.sqlite_resolve.specs.Define as define
 use Rattle.sqlite.specs.Listing.{understood}
+use Rattle.sqlite_schema.specs.Names.{view_named}
 use Rattle.typed_rows.specs.Queries.{IsFree}
 use Rattle.typed_rows.proofs.Scopes.{lone}
 use Rattle.typed_rows.proofs.ScopedSelects.{IsPlainSelect, TakesPage, read_is}
@@ -101,4 +102,34 @@ module _ (schema : Schema) (wanted : Name) (free : IsFree schema wanted) where
       go : (r : Checked Parsed) → PlansTable sql wanted r
           → (p : Parsed) × (and_then r (λ p. and_then (planned schema p) (λ plan. Ok (with_command p plan))) ≡ Ok (with_command p ([], (CreateTable, None)))) × (sql ≡ text_of sql (with_command p ([], (CreateTable, None))))
       go (Ok p) k = let it = creates_table (small p.names + 0) p.statement k.1 in (p, planned_is schema p CreateTable k.0 it.0 it.1 it.2, k.2)
+      go (Err e) k = absurd k
+
+-- the statement drops the table of this name
+abbrev pub Drops : Name → Statement → Type 0
+Drops wanted (written.DropTable false name) = (name ≡ wanted) × (is_reserved wanted ≡ false)
+Drops wanted _ = ⊥
+
+-- the text is such a statement, and asks for no time
+abbrev pub PlansDrop : Name → Checked Parsed → Type 0
+PlansDrop wanted (Ok p) = (p.formats ≡ []) × Drops wanted p.statement
+PlansDrop wanted (Err e) = ⊥
+
+module _ (schema : Schema) (at : ℕ) (wanted : Name) (named : table_named schema wanted ≡ Some at) (unseen : view_named schema wanted ≡ None) where
+  drops_table : (base : ℕ) (st : Statement) → Drops wanted st → (timed schema [] st ≡ []) × (returning schema base st ≡ Ok None) × (command schema [] base st ≡ Ok (DropTable at))
+  unfolding timed returning command drop_table
+  drops_table base (written.DropTable false name) h =
+      let here : table_named schema name ≡ Some at = subst (λ n. table_named schema n ≡ Some at) (sym h.0) named in
+      let view : view_named schema name ≡ None = subst (λ n. view_named schema n ≡ None) (sym h.0) unseen in
+      let plain : is_reserved name ≡ false = subst (λ n. is_reserved n ≡ false) (sym h.0) h.1 in
+      (refl, refl, rw (plain, view, here) refl)
+  drops_table base _ h = absurd h
+
+  pub means_drop : (sql : List ℕ) → PlansDrop wanted (first sql) → Means schema sql (DropTable at)
+  unfolding compiled understood
+  means_drop sql h =
+      let it = go (first sql) h in
+      record { plain = rw it.1 (refl, refl); unlisted = rw it.1 refl; command = rw it.1 refl }
+    where
+      go : (r : Checked Parsed) → PlansDrop wanted r → (p : Parsed) × (and_then r (λ p. and_then (planned schema p) (λ plan. Ok (with_command p plan))) ≡ Ok (with_command p ([], (DropTable at, None))))
+      go (Ok p) k = let it = drops_table (small p.names + 0) p.statement k.1 in (p, planned_is schema p (DropTable at) k.0 it.0 it.1 it.2)
       go (Err e) k = absurd k

@@ -1,5 +1,6 @@
 -- The first place in a list at which a test passes.
-use Rattle.typed_rows.proofs.Prelude.{arith, ◌≡◌, ℕ, zero, suc, ◌+◌, Bool, true, false, cond, List, [], ◌∷◌, ◌++◌, length, Some, None, Option, option_map, option_and_then, slice_get, find, filter, refl, ap, ◌∙◌, position_from}
+use Rattle.typed_rows.proofs.Prelude.{arith, ◌≡◌, inl, inr, ℕ, zero, suc, ◌+◌, Bool, true, false, cond, List, [], ◌∷◌, ◌++◌, length, Some, None, Option, option_map, option_and_then, slice_get, find, filter, refl, ap, ◌∙◌, position_from}
+use Rattle.sqlite_rules.specs.Lists.{Has}
 
 module _ {X : Type 0} (p : X → Bool) where
   shift : (xs : List X) (n : ℕ) → position_from p (n + 1) xs ≡ option_map suc (position_from p n xs)
@@ -63,6 +64,21 @@ module _ {X : Type 0} (p q : X → Bool) where
       go true false e f more h = absurd (let same : y ≡ x = (let a : Some y ≡ Some x = h in cc) in let b : q y ≡ true = ap q same ∙ keep in cc)
       go false true e f more h = rw e (more h keep)
       go false false e f more h = more h keep
+
+  pub none_left : (xs : List X) (n : ℕ) → position_from p n xs ≡ None → (m : ℕ) → position_from p m (filter q xs) ≡ None
+  none_left [] n h m = refl
+  none_left (x ∷ xs) n h m = go (p x) (q x) refl (none_left xs (n + 1)) h
+    where
+      go : (a b : Bool) → p x ≡ a → (position_from p (n + 1) xs ≡ None → (m : ℕ) → position_from p m (filter q xs) ≡ None) → cond a (Some n) (position_from p (n + 1) xs) ≡ None
+          → position_from p m (cond b (x ∷ filter q xs) (filter q xs)) ≡ None
+      go true b e more h = absurd (let a : Some n ≡ None = h in cc)
+      go false true e more h = rw e (more h (m + 1))
+      go false false e more h = more h m
+
+-- no element passes the test
+pub none_placed : {X : Type 0} (p : X → Bool) (xs : List X) (n : ℕ) → ((x : X) → Has xs x → p x ≡ false) → position_from p n xs ≡ None
+none_placed p [] n none = refl
+none_placed p (x ∷ xs) n none = rw (none x (inl refl)) (none_placed p xs (n + 1) (λ y h. none y (inr h)))
 
 -- the place of an element that is found
 pub placed_at : {X : Type 0} (p : X → Bool) (xs : List X) (x : X) → find p xs ≡ Some x → (k : ℕ) × (position_from p 0 xs ≡ Some k) × (slice_get xs k ≡ Some x)

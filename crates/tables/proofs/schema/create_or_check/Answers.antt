@@ -54,12 +54,12 @@ returns-then-has_none-clause-only g c clean db kept left =
     inl (none, same_tables db (state g.S.Store c.create.new.conn).now kept it.1.kept (c.in_ok-create.ensures.saved clean db.trees left) ∙ it.1.tables)
 
 pub returns-then-has_none-clause-ours : goal.returns-then-has_none-clause-ours
-returns-then-has_none-clause-ours g c clean schema six sound =
+returns-then-has_none-clause-ours g c clean schema whole sound =
     let none = none_by c.schema.result.now c.args.conn.now.schema c.schema.ensures.value (c.has_none.ensures.meta c.if-has_none.true) (c.has_none.ensures.repos c.if-has_none.true) (c.has_none.ensures.tokens c.if-has_none.true) (c.has_none.ensures.uploads c.if-has_none.true) (c.has_none.ensures.chunks c.if-has_none.true) (c.has_none.ensures.locks c.if-has_none.true) (c.has_none.ensures.unreferred c.if-has_none.true) in
     let laid = laid_from g.S.Store c.args.conn.now (g.met.S.Storage.in_order c.args.conn.now.store) c.schema.ensures.live (c.if-not-is_autocommit.ensures.settled refl) in
     let it = c.in_ok-create.ensures.ok clean (given g.S.Store c.args.conn.now c.create.new.conn none laid) in
     let settled = c.if-not-is_autocommit.ensures.settled refl it.0 in
-    absurd (not_none (state g.S.Store c.args.conn.now).committed.schema schema (subst (λ (d : Database). HasNone d.schema) settled none) six (committed_once g.S.Store c.args.conn.now schema it.0 c.schema.ensures.live sound))
+    absurd (not_none (state g.S.Store c.args.conn.now).committed.schema schema (subst (λ (d : Database). HasNone d.schema) settled none) whole (committed_once g.S.Store c.args.conn.now schema it.0 c.schema.ensures.live sound))
 
 pub returns-then-branch-2-clause-only : goal.returns-then-branch-2-clause-only
 returns-then-branch-2-clause-only g c clean db kept left =

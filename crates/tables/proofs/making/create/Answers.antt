@@ -1,6 +1,6 @@
 use Rattle.tables.proofs.Prelude.{refl, rules, [], Ok, IsTrue, sym, subst, Held, state, IsBlank, Steps, with_fresh, goes_on}
 use Rattle.tables.proofs.Calls.{commits_from}
-use Rattle.tables.proofs.schema.create.Goals as goal
+use Rattle.tables.proofs.making.create.Goals as goal
 
 pub returns : goal.returns
 returns g c =

@@ -1,6 +1,6 @@
 use Rattle.tables.proofs.Prelude.{arith, refl, state, HasCleanDisk, uploads, chunks, locks}
 use Rattle.tables.proofs.Stages.{last_three}
-use Rattle.tables.proofs.schema.last_tables_into.Goals as goal
+use Rattle.tables.proofs.making.last_tables_into.Goals as goal
 
 pub returns-clause-ok : goal.returns-clause-ok
 returns-clause-ok g c clean inside =

@@ -1,7 +1,7 @@
 use Rattle.tables.proofs.Prelude.{arith, refl, state, HasCleanDisk, repos, tokens}
 use Rattle.tables.specs.Rows.{meta}
 use Rattle.tables.proofs.Stages.{first_three}
-use Rattle.tables.proofs.schema.first_tables_into.Goals as goal
+use Rattle.tables.proofs.making.first_tables_into.Goals as goal
 
 pub returns-clause-ok : goal.returns-clause-ok
 returns-clause-ok g c clean inside =
