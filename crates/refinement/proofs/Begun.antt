@@ -4,6 +4,7 @@ use Rattle.std.specs.Option.{option_or}
 use Rattle.std.proofs.lemmas.List.{append-nil}
 use Rattle.std.proofs.lemmas.List.Quantifiers.{all_pairs_push}
 use Rattle.sqlite_keyed.specs.Lists.{sort_by}
+use Rattle.model.specs.World.{is_retired}
 use Rattle.tables.specs.Rows as row
 use Rattle.tables.specs.Statements.{with_upload, without_row, without_chunks}
 use Rattle.tables.specs.Staging.{without_upload, without_found, without_staged_in, after_begin}
@@ -141,10 +142,10 @@ module _ (us : List row.Upload) (cs : List row.Chunk) (objects : List Object) (i
   }
 
 -- a begun upload is not an object yet
-pub begun_represented : (t : Tables) (world : World) (id : ℤ) (repo name : List ℕ) (size : ℕ) → Represents t world → IsAbove t id → size ≤ largest_object
+pub begun_represented : (t : Tables) (world : World) (id : ℤ) (repo name : List ℕ) (size : ℕ) → Represents t world → IsAbove t id → size ≤ largest_object → is_retired repo name world ≡ false
     → Represents (after_begin (staged_row id repo name size) t) world
 unfolding after_begin with_upload
-begun_represented t world id repo name size r above in_range =
+begun_represented t world id repo name size r above in_range unretired =
     let c = cleared t world repo id r above in
     record {
       meta = c.same.meta;
@@ -153,6 +154,8 @@ begun_represented t world id repo name size r above in_range =
       used = c.same.used;
       tokens = c.same.tokens;
       objects = objects_begun (without_staged_in repo t).uploads (without_staged_in repo t).chunks world.objects id repo name size c.same.objects c.above c.none in_range;
+      retired = c.same.retired;
+      unretired = all-append (λ (u : row.Upload). is_staged u ≡ true → is_retired u.repo u.oid world ≡ false) (without_staged_in repo t).uploads (staged_row id repo name size ∷ []) c.same.unretired ((λ _. unretired), tt);
     }
 
 -- and it is staged

@@ -24,6 +24,8 @@ fresh_represented schema = record {
     staged = into_pairs DiffersInRepo [] tt;
     rise = tt;
   };
+  retired = IsPermutation-refl [];
+  unretired = tt;
 }
 
 -- ---- one more lock
@@ -62,4 +64,6 @@ new_lock_represented t world asked id l s kept repo e = record {
   used = λ other. used_kept asked.repo id (next_key (λ x. x.rowid) t.repos) other t.repos ∙ s.used other;
   tokens = s.tokens;
   objects = s.objects;
+  retired = s.retired;
+  unretired = s.unretired;
 }

@@ -2,6 +2,8 @@
 use Rattle.refinement.proofs.Prelude.{◌≡◌, ◌∙◌, ℕ, ◌+◌, ◌+ℤ◌, ◌<ℤ◌, ℤ, pos, Bool, true, false, not, List, [], ◌∷◌, map, filter, find, cond, length, Some, is_some, bytes_eq, IsTrue, refl, sym, ap, subst, AllPairs, IsPermutation, arith, sum_by, AllByRecursion, int_eq, ints, AllPairs-filter, IsPermutation-refl, IsPermutation-trans, IsPermutation-cons, IsPermutation-middle, is_eq-slice_cmp, IsKeyedBy, next_key, update_where, all_both, all_map, all_weaker, World, Object, total, Repo, Tables, same_bytes, is_upload, is_complete, is_staged, used_in, used_of, set_used, bytes_of, object_in, HasSize, DiffersInRepo, RepresentObjects, Represents}
 use Rattle.std.proofs.lemmas.List.Sums.{sum_by-cons}
 use Rattle.sqlite_keyed.proofs.KeyedLemmas.{IsKeyedBy-update_where, has_key-update_where}
+use Rattle.model.specs.World.{is_retired}
+use Rattle.refinement.specs.Representation.{AreUnretired}
 use Rattle.tables.specs.Rows as row
 use Rattle.tables.specs.Statements.{is_named, with_done}
 use Rattle.tables.specs.Staging.{with_used, with_kept}
@@ -89,6 +91,16 @@ module _ (us : List row.Upload) (cs : List row.Chunk) (objects : List Object) (s
 
 -- ---- the tables
 
+done_unretired : (world : World) (id : ℤ) (us : List row.Upload) → AreUnretired world us → AreUnretired world (update_where (is_upload id) done us)
+done_unretired world id us all =
+    all_map (λ u. is_staged u ≡ true → is_retired u.repo u.oid world ≡ false) (λ u. cond (is_upload id u) (done u) u) us
+    (all_weaker (λ u. is_staged u ≡ true → is_retired u.repo u.oid world ≡ false) (λ u. is_staged (cond (is_upload id u) (done u) u) ≡ true → is_retired (cond (is_upload id u) (done u) u).repo (cond (is_upload id u) (done u) u).oid world ≡ false)
+    (λ u was. at u (is_upload id u) was) us all)
+  where
+    at : (u : row.Upload) (v : Bool) → (is_staged u ≡ true → is_retired u.repo u.oid world ≡ false) → is_staged (cond v (done u) u) ≡ true → is_retired (cond v (done u) u).repo (cond v (done u) u).oid world ≡ false
+    at u true was is = absurd (let e : false ≡ true = is in cc)
+    at u false was is = was is
+
 more_of : (a b : ℕ) (x y : ℤ) → x ≡ pos a → y ≡ pos b → x +ℤ y ≡ pos (b + a)
 more_of a b x y p q = omega (arith, ints, p, q)
 
@@ -123,4 +135,6 @@ kept_represented t world s r there staged whole = record {
   used = used_more t.repos (next_key (λ x. x.rowid) t.repos) world (object_in t.chunks s) (used_of s.repo t) s.size r.used refl whole;
   tokens = r.tokens;
   objects = objects_with t.uploads t.chunks world.objects s r.objects there staged whole;
+  retired = r.retired;
+  unretired = done_unretired world s.id t.uploads r.unretired;
 }

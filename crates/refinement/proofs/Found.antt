@@ -52,7 +52,7 @@ one_permuted {A = A} p x xs ys same only e =
 pairs_tail : {A : Type 0} (R : A → A → Type 0) (x : A) (xs : List A) → AllPairs R (x ∷ xs) → AllPairs R xs
 pairs_tail R x xs all i j d below within = all (suc i) (suc j) d (omega arith) (omega arith)
 
-pairs_head : {A : Type 0} (R : A → A → Type 0) (x : A) (xs : List A) → AllPairs R (x ∷ xs) → All (R x) xs
+pub pairs_head : {A : Type 0} (R : A → A → Type 0) (x : A) (xs : List A) → AllPairs R (x ∷ xs) → All (R x) xs
 pairs_head R x xs all k d within = all 0 (suc k) d (omega arith) (omega arith)
 
 -- two elements related by R do not both pass

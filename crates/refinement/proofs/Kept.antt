@@ -18,6 +18,14 @@ three false true false = refl
 three false false true = refl
 three false false false = refl
 
+-- the complete upload that is found, among the complete ones
+pub found_among : (t : Tables) (repo name : List ℕ) → find (λ u. is_named repo name (object_in t.chunks u)) (filter is_complete t.uploads) ≡ find (is_object repo name) t.uploads
+found_among t repo name =
+    let is = is_named repo name in
+    find_filter (λ u. is (object_in t.chunks u)) is_complete t.uploads
+    ∙ find_alike (λ u. is_complete u && is (object_in t.chunks u)) (is_object repo name) t.uploads
+    (λ u. rw (is_eq-slice_cmp u.repo repo, is_eq-slice_cmp u.oid name) (three (bytes_eq u.repo repo) (bytes_eq u.oid name) (is_complete u)))
+
 -- the complete upload that is found is the world's object of the name
 pub object_found : (t : Tables) (world : World) (repo name : List ℕ) → Represents t world → IsWorld world
     → option_map (object_in t.chunks) (find (is_object repo name) t.uploads) ≡ object_named repo name world
@@ -26,9 +34,7 @@ object_found t world repo name s w =
     let one : Excludes is DiffersInName = λ x y differ a b.
     let p = both_true _ _ a in let q = both_true _ _ b in
     differ (same_is x.repo repo p.0 ∙ sym (same_is y.repo repo q.0)) (same_is x.name name p.1 ∙ sym (same_is y.name name q.1)) in
-    ap (option_map (object_in t.chunks)) (sym (find_filter (λ u. is (object_in t.chunks u)) is_complete t.uploads
-    ∙ find_alike (λ u. is_complete u && is (object_in t.chunks u)) (is_object repo name) t.uploads
-    (λ u. rw (is_eq-slice_cmp u.repo repo, is_eq-slice_cmp u.oid name) (three (bytes_eq u.repo repo) (bytes_eq u.oid name) (is_complete u)))))
+    ap (option_map (object_in t.chunks)) (sym (found_among t repo name))
     ∙ found_of (object_in t.chunks) is DiffersInName (filter is_complete t.uploads) world.objects s.objects.complete one w.names
 
 -- a complete upload is found exactly if the world has the object

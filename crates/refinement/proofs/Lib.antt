@@ -26,3 +26,4 @@ pub mod Rising
 pub mod Orders
 pub mod Same
 pub mod TakenUp
+pub mod Retired

@@ -30,6 +30,8 @@ dropped_represented t world repo id s =
       used = s.used;
       tokens = s.tokens;
       objects = s.objects;
+      retired = s.retired;
+      unretired = s.unretired;
     }
 
 -- a test that finds nothing keeps everything

@@ -2,6 +2,8 @@
 use Rattle.refinement.proofs.Prelude.{◌≡◌, ◌∙◌, inl, inr, ℕ, ℤ, pos, List, [], ◌∷◌, map, filter, cond, refl, sym, ap, ap₂, subst, IsPermutation, int_eq, IsPermutation-trans, IsPermutation-sym, IsPermutation-map, sha256, World, Object, Lock, Token, TokenDigest, token_digest, SameWorld, Bound, IsWithin, Tables, is_complete, code_of, object_in, RepresentObjects, Represents, lock_kept, lock_row, token_kept, token_row, IsAmong}
 use Rattle.names.specs.declared.operations.Operation.{Operation}
 use Rattle.names.specs.declared.operations.Operation.TheVariants.{Download, Upload}
+use Rattle.model.specs.World.{Retired}
+use Rattle.refinement.specs.Representation.{retired_kept, retired_row}
 use Rattle.tables.specs.Rows as row
 use Rattle.refinement.proofs.Found.{map_itself}
 
@@ -18,6 +20,13 @@ operation_in code = cond (int_eq code (pos 1)) Download Upload
 
 token_of : row.Token → TokenDigest
 token_of r = record { digest = r.digest; user = r.user; repo = r.repo; operation = operation_in r.op; expires = nat_of r.expires }
+
+retired_of : row.Retired → Retired
+retired_of r = record { repo = r.repo; name = r.oid }
+
+retired_back : (r : Retired) → retired_of (retired_row r) ≡ r
+unfolding retired_of
+retired_back r = refl
 
 lock_back : (l : Lock) → lock_of (lock_row l) ≡ l
 unfolding lock_of nat_of
@@ -59,6 +68,8 @@ same_objects uploads chunks xs ys p q =
 pub same_world : (t : Tables) (a b : World) → Represents t a → Represents t b → SameWorld a b
 same_world t a b p q = record {
   objects = same_objects t.uploads t.chunks a.objects b.objects p.objects q.objects;
+  retired = subst (λ (rs : List Retired). IsPermutation rs b.retired) (map_itself a.retired) (subst (λ (rs : List Retired). IsPermutation (map (λ r. r) a.retired) rs) (map_itself b.retired)
+      (same_lists retired_of retired_row (λ r. r) (map retired_kept t.retired) a.retired b.retired retired_back p.retired q.retired));
   locks = subst (λ (ls : List Lock). IsPermutation ls b.locks) (map_itself a.locks) (subst (λ (ls : List Lock). IsPermutation (map (λ l. l) a.locks) ls) (map_itself b.locks)
       (same_lists lock_of lock_row (λ l. l) (map lock_kept t.locks) a.locks b.locks lock_back p.locks q.locks));
   made = λ repo. same_pos (a.made repo) (b.made repo) (sym (p.made repo) ∙ q.made repo);

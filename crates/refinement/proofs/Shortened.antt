@@ -140,4 +140,6 @@ staged_shortened t world id n r = at (staged_with id t) refl
           used = r.used;
           tokens = r.tokens;
           objects = objects_shortened t.uploads t.chunks world.objects s r.objects found is n;
+          retired = r.retired;
+          unretired = r.unretired;
         }

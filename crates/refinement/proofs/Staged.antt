@@ -1,6 +1,7 @@
 -- What calls on uploads leave of the world that a store holds, and of a staged upload.
-use Rattle.refinement.proofs.Prelude.{◌∙◌, ℕ, pos, ◌+◌, ◌≤◌, ℤ, List, [], ◌∷◌, ◌++◌, length, Result, Ok, Err, OnOk, OnErr, refl, sym, ap, subst, concat, Ghosts, largest_object, World, Tables, IsHonest, HasTables, Moves, Makes, Fails, Begins, shown, with_chunk, upload_number, asked_upload, asked_chunk, staged_with, IsBegun, without_staged, without_staged_from, after_begin, Store, Represents, Holds, Keeps, IsStaged, Stages, StagesNone}
+use Rattle.refinement.proofs.Prelude.{◌≡◌, false, ◌∙◌, ℕ, pos, ◌+◌, ◌≤◌, ℤ, List, [], ◌∷◌, ◌++◌, length, Result, Ok, Err, OnOk, OnErr, refl, sym, ap, subst, concat, Ghosts, largest_object, World, Tables, IsHonest, HasTables, Moves, Makes, Fails, Begins, shown, with_chunk, upload_number, asked_upload, asked_chunk, staged_with, IsBegun, without_staged, without_staged_from, after_begin, Store, Represents, Holds, Keeps, IsStaged, Stages, StagesNone}
 use Rattle.names.specs.Names.{repo_text}
+use Rattle.model.specs.World.{is_retired}
 use Rattle.tables.specs.declared.fault.StoreFault.{StoreFault}
 use Rattle.tables.specs.declared.new_rows.NewUpload.{NewUpload}
 use Rattle.tables.specs.declared.rows.UploadId.{UploadId}
@@ -32,10 +33,10 @@ module _ {S : Type 0} (g : Ghosts S) (a b : Store S) (id : ℤ) (repo name : Lis
 
 -- ---- an upload that is begun
 
-module _ {S : Type 0} (g : Ghosts S) (a b : Store S) (asked : NewUpload) (in_range : asked.size ≤ largest_object) (world : World) where
+module _ {S : Type 0} (g : Ghosts S) (a b : Store S) (asked : NewUpload) (in_range : asked.size ≤ largest_object) (world : World) (unretired : is_retired (repo_text asked.repo.now) asked.oid.now world ≡ false) where
   would_begin : (t : Tables) → Represents (shown g a) world → IsBegun asked (shown g a) t → Represents t world
   would_begin t s begun =
-      subst (λ (u : Tables). Represents u world) (sym begun.2) (begun_represented (shown g a) world begun.0 (repo_text asked.repo.now) asked.oid.now asked.size s begun.1 in_range)
+      subst (λ (u : Tables). Represents u world) (sym begun.2) (begun_represented (shown g a) world begun.0 (repo_text asked.repo.now) asked.oid.now asked.size s begun.1 in_range unretired)
 
   pub keeps_begun : (r : Result UploadId StoreFault) → Begins g a b r asked → IsHonest g b → Holds g a world → Keeps g a b world
   keeps_begun (Ok id) e honest h =

@@ -102,4 +102,6 @@ chunk_represented t world id repo name size pieces bytes s h fits =
       used = s.used;
       tokens = s.tokens;
       objects = objects_after_chunk t.uploads t.chunks world.objects id repo name size pieces bytes c s.objects h.upload h.stored refl fits;
+      retired = s.retired;
+      unretired = s.unretired;
     }

@@ -11,7 +11,8 @@ use Rattle.sqlite.proofs.Theorems.{opens_again}
 use Rattle.model.proofs.Keeping.{makes_world}
 use Rattle.tables.specs.Runs.{IsKept}
 use Rattle.tables.specs.Rows.{tables_under}
-use Rattle.tables.specs.Six.{HasAll}
+use Rattle.tables.specs.Layout.{current}
+use Rattle.tables.specs.Schemas.{HasAll}
 use Rattle.tables.proofs.Opened.{kept_is_sound, kept_some, all_of, shown_once}
 use Rattle.refinement.specs.Opening.{HoldsAmong, IsAt, IsAtOne}
 use Rattle.refinement.proofs.Changes.{fresh_represented}
@@ -83,7 +84,7 @@ module _ {S : Type 0} (g : Ghosts S) (old new : Store S) where
 pub left_image : {D : Type 0} {g : disk.Ghosts D} (s : Store (FileStore D g)) (bound : Bound) → IsHonest over_files s → IsBoundedBy over_files s bound → IsTrue (files.view s.conn.store).is_numbered
     → (image : Image) → (files.state s.conn.store).may_leave image → HoldsAmong image bound
 left_image s bound honest b numbered image may =
-    let sound : (db : Trees) → files.recovers s.conn.store db → (schema : Schema) × HasAll schema × IsSound schema db × IsAmong (tables_under schema db) bound =
+    let sound : (db : Trees) → files.recovers s.conn.store db → (schema : Schema) × HasAll current schema × IsSound schema db × IsAmong (tables_under schema db) bound =
     λ db found.
     let kept = b.safe honest db found in
     let left : Leaves over_files s (tables_of kept.0) = (kept.0, kept.1, subst (files.recovers s.conn.store) kept.2 found, refl) in

@@ -18,6 +18,8 @@ new_token_represented t world k i s kept = record {
   used = s.used;
   tokens = one_item_more token_kept token_row t.tokens world.tokens _ i s.tokens kept;
   objects = s.objects;
+  retired = s.retired;
+  unretired = s.unretired;
 }
 
 after_adding : (k : row.Token) (t : Tables) → has_token k.digest t ≡ false → after_add k t ≡ tables.with_token k t
@@ -79,6 +81,8 @@ expired_gone t world now s =
           (subst Q (filter-map (stays now) token_row world.tokens ∙ ap (map token_row) (filter_alike (λ i. stays now (token_row i)) (λ i. nat_lt now i.expires) world.tokens (λ i. is_good now i.expires)))
           (IsPermutation-filter (stays now) (map token_kept t.tokens) (map token_row world.tokens) s.tokens));
       objects = s.objects;
+      retired = s.retired;
+      unretired = s.unretired;
     }
 
 -- the tables have as many expired tokens as the world

@@ -2,6 +2,8 @@
 use Rattle.refinement.proofs.Prelude.{◌≡◌, ◌∙◌, ℕ, ℤ, pos, Bool, true, false, not, ◌&&◌, List, [], ◌∷◌, map, filter, find, cond, length, Option, Some, None, is_some, IsTrue, refl, sym, ap, subst, AllPairs, IsPermutation, AllByRecursion, int_eq, true≢false, AllPairs-filter, delete_where, all_weaker, all_of, World, Object, filter_weaker, in_found, found_passes, none_where, both_true, Tables, is_upload, is_complete, is_staged, is_staged_with, is_staged_in, is_of, staged_with, chunk_kept, number_cmp, chunks_of, pieces_of, bytes_of, HasPieces, object_in, HasSize, DiffersInRepo, RepresentObjects, Represents}
 use Rattle.sqlite_keyed.specs.Lists.{sort_by}
 use Rattle.sqlite_keyed.proofs.KeyedLemmas.{IsKeyedBy-delete_where, has_key-delete_where}
+use Rattle.model.specs.World.{is_retired}
+use Rattle.sqlite_keyed.proofs.ListLemmas.{all-filter}
 use Rattle.tables.specs.Rows as row
 use Rattle.tables.specs.Statements.{without_row, without_chunks}
 use Rattle.tables.specs.Staging.{without_upload, without_found, without_staged, without_staged_in}
@@ -44,8 +46,7 @@ not_is true e = absurd (true≢false (sym e))
 
 -- ---- without an upload that is not complete
 
-module _ (us : List row.Upload) (cs : List row.Chunk) (objects : List Object) (s : row.Upload) (r : RepresentObjects us cs objects) (there : find (is_upload s.id) us ≡ Some s)
-    (staged : s.done ≡ pos 0) where
+module _ (us : List row.Upload) (cs : List row.Chunk) (objects : List Object) (s : row.Upload) (r : RepresentObjects us cs objects) (there : find (is_upload s.id) us ≡ Some s) where
   abbrev pub left : List row.Upload
   left = delete_where (is_upload s.id) us
 
@@ -55,39 +56,39 @@ module _ (us : List row.Upload) (cs : List row.Chunk) (objects : List Object) (s
   pub alone : IsAlone s.id s us
   alone = found_alone us s.id s r.rise there
 
-  others : (other : ℤ) → int_eq other s.id ≡ false → chunks_of other rest ≡ chunks_of other cs
+  pub others : (other : ℤ) → int_eq other s.id ≡ false → chunks_of other rest ≡ chunks_of other cs
   others other apart = ap (sort_by number_cmp) (filter_weaker (is_of other) (λ c. not (is_of s.id c)) cs (all_of (λ (c : row.Chunk). is_of other c ≡ true → not (is_of s.id c) ≡ true) also cs))
     where
       also : (c : row.Chunk) → is_of other c ≡ true → not (is_of s.id c) ≡ true
       also c is = ap not (ap (λ n. int_eq n s.id) (same_number c.upload other is) ∙ apart)
 
   -- a complete upload has another id
-  pub complete_apart : (u : row.Upload) → (is_upload s.id u ≡ true → u ≡ s) → is_complete u ≡ true → is_upload s.id u ≡ false
-  complete_apart u only whole = at (is_upload s.id u) refl
+  pub complete_apart : s.done ≡ pos 0 → (u : row.Upload) → (is_upload s.id u ≡ true → u ≡ s) → is_complete u ≡ true → is_upload s.id u ≡ false
+  complete_apart staged u only whole = at (is_upload s.id u) refl
     where
       at : (v : Bool) → is_upload s.id u ≡ v → is_upload s.id u ≡ false
       at true e = absurd (not_complete u s staged (only e) whole)
       at false e = e
 
-  complete_left : filter is_complete left ≡ filter is_complete us
-  complete_left =
+  complete_left : s.done ≡ pos 0 → filter is_complete left ≡ filter is_complete us
+  complete_left staged =
       filter_weaker is_complete (λ u. not (is_upload s.id u)) us
-      (all_weaker (λ u. is_upload s.id u ≡ true → u ≡ s) (λ u. is_complete u ≡ true → not (is_upload s.id u) ≡ true) (λ u only whole. ap not (complete_apart u only whole)) us alone)
+      (all_weaker (λ u. is_upload s.id u ≡ true → u ≡ s) (λ u. is_complete u ≡ true → not (is_upload s.id u) ≡ true) (λ u only whole. ap not (complete_apart staged u only whole)) us alone)
 
-  objects_left : map (object_in rest) (filter is_complete left) ≡ map (object_in cs) (filter is_complete us)
-  objects_left =
-      ap (map (object_in rest)) complete_left
+  objects_left : s.done ≡ pos 0 → map (object_in rest) (filter is_complete left) ≡ map (object_in cs) (filter is_complete us)
+  objects_left staged =
+      ap (map (object_in rest)) (complete_left staged)
       ∙ map_alike is_complete (object_in rest) (object_in cs) us
       (all_weaker (λ u. is_upload s.id u ≡ true → u ≡ s) (λ u. is_complete u ≡ true → object_in rest u ≡ object_in cs u)
-      (λ u only whole. same_object cs rest u (others u.id (complete_apart u only whole))) us alone)
+      (λ u only whole. same_object cs rest u (others u.id (complete_apart staged u only whole))) us alone)
 
-  sizes_left : AllByRecursion (λ u. HasSize (length (bytes_of u.id rest)) u) left
+  pub sizes_left : AllByRecursion (λ u. HasSize (length (bytes_of u.id rest)) u) left
   sizes_left =
       each_left (λ u. HasSize (length (bytes_of u.id rest)) u) (λ u. not (is_upload s.id u)) us
       (all_weaker (λ u. HasSize (length (bytes_of u.id cs)) u) (λ u. not (is_upload s.id u) ≡ true → HasSize (length (bytes_of u.id rest)) u)
       (λ u h stays. same_size cs rest u (others u.id (not_is (is_upload s.id u) stays)) h) us r.sizes)
 
-  numbered_left : (other : ℤ) → HasPieces other (pieces_of other rest) rest
+  pub numbered_left : (other : ℤ) → HasPieces other (pieces_of other rest) rest
   numbered_left other = at (int_eq other s.id) refl
     where
       none : HasPieces s.id [] rest
@@ -97,7 +98,7 @@ module _ (us : List row.Upload) (cs : List row.Chunk) (objects : List Object) (s
       at true e = subst (λ n. HasPieces n (pieces_of n rest) rest) (sym (same_number other s.id e)) (own_pieces s.id [] rest none)
       at false e = own_pieces other (pieces_of other cs) rest (same_pieces other (pieces_of other cs) cs rest (others other e) (r.numbered other))
 
-  owned_left : AllByRecursion (λ (c : row.Chunk). IsTrue (is_some (find (is_upload c.upload) left))) rest
+  pub owned_left : AllByRecursion (λ (c : row.Chunk). IsTrue (is_some (find (is_upload c.upload) left))) rest
   owned_left =
       each_left (λ (c : row.Chunk). IsTrue (is_some (find (is_upload c.upload) left))) (λ c. not (is_of s.id c)) cs
       (all_weaker (λ (c : row.Chunk). IsTrue (is_some (find (is_upload c.upload) us))) (λ (c : row.Chunk). not (is_of s.id c) ≡ true → IsTrue (is_some (find (is_upload c.upload) left))) kept cs r.owned)
@@ -110,9 +111,9 @@ module _ (us : List row.Upload) (cs : List row.Chunk) (objects : List Object) (s
           has_key-delete_where (λ (u : row.Upload). u.id) (is_upload s.id) us c.upload
           (all_of (λ (u : row.Upload). is_upload s.id u ≡ true → int_eq u.id c.upload ≡ false) (apart c (not_is (is_of s.id c) stays)) us) ∙ has
 
-  pub objects_without : RepresentObjects left rest objects
-  objects_without = record {
-    complete = subst (λ (os : List Object). IsPermutation os objects) (sym objects_left) r.complete;
+  pub objects_without : s.done ≡ pos 0 → RepresentObjects left rest objects
+  objects_without staged = record {
+    complete = subst (λ (os : List Object). IsPermutation os objects) (sym (objects_left staged)) r.complete;
     sizes = sizes_left;
     numbered = numbered_left;
     owned = owned_left;
@@ -130,6 +131,8 @@ upload_withdrawn t world s r there staged = record {
   used = r.used;
   tokens = r.tokens;
   objects = objects_without t.uploads t.chunks world.objects s r.objects there staged;
+  retired = r.retired;
+  unretired = all-filter (λ u. is_staged u ≡ true → is_retired u.repo u.oid world ≡ false) (λ u. not (is_upload s.id u)) t.uploads r.unretired;
 }
 
 withdrawn_by : (t : Tables) (world : World) (p : row.Upload → Bool) → ((u : row.Upload) → p u ≡ true → is_staged u ≡ true) → Represents t world → Represents (without_found (find p t.uploads) t) world

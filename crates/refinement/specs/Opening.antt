@@ -8,7 +8,8 @@ use Rattle.sqlite.specs.Files.{HoldsDatabase}
 use Rattle.model.specs.World.{World}
 use Rattle.model.specs.Bounds.{Bound}
 use Rattle.sqlite.specs.Schema.{Schema}
-use Rattle.tables.specs.Six.{HasAll}
+use Rattle.tables.specs.Layout.{current}
+use Rattle.tables.specs.Schemas.{HasAll}
 use Rattle.tables.specs.Rows.{tables_under}
 use Rattle.tables.specs.declared.Store.{Store}
 use Rattle.refinement.specs.Representation.{Holds}
@@ -16,7 +17,7 @@ use Rattle.refinement.specs.Left.{IsAmong, IsBoundedBy}
 
 -- the trees list a schema that has our tables, which represent one of these worlds
 abbrev pub AreAmong : Trees → Bound → Type 0
-AreAmong db bound = (schema : Schema) × HasAll schema × IsSound schema db × IsAmong (tables_under schema db) bound
+AreAmong db bound = (schema : Schema) × HasAll current schema × IsSound schema db × IsAmong (tables_under schema db) bound
 
 -- the same for the database that the files hold
 abbrev pub HoldsAmong : Image → Bound → Type 0

@@ -1,11 +1,13 @@
 -- The worlds that tables represent.
-use Rattle.std.specs.Prelude.{◌≡◌, ℕ, pos, List, [], ◌∷◌, map, IsPermutation}
+use Rattle.std.specs.Prelude.{◌≡◌, ℕ, pos, true, false, List, [], ◌∷◌, map, IsPermutation}
+use Rattle.std.specs.List.{AllByRecursion}
 use Rattle.sha2.specs.Sha256.{sha256}
 use Rattle.sqlite_trees.specs.declared.store.Store.{Ghosts}
-use Rattle.model.specs.World.{World, IsWorld, Lock, Token, total}
+use Rattle.model.specs.World.{World, IsWorld, Lock, Token, Retired, total, is_retired}
 use Rattle.tables.specs.Rows as row
 use Rattle.tables.specs.Rows.{Tables}
-use Rattle.tables.specs.Runs.{first_meta}
+use Rattle.tables.specs.Runs.{current_meta}
+use Rattle.tables.specs.Statements.{is_staged}
 use Rattle.tables.specs.Steps.{code_of, made_of, used_of}
 use Rattle.tables.specs.Shown.{IsHonest, IsOpen, HasTables, shown}
 use Rattle.tables.specs.declared.Store.{Store}
@@ -27,14 +29,29 @@ lock_row l = record { rowid = pos 0; repo = l.repo; id = pos l.id; ref_name = l.
 abbrev pub token_row : Token → row.Token
 token_row t = record { rowid = pos 0; digest = sha256 t.text; user = t.user; repo = t.repo; op = code_of t.operation; expires = pos t.expires }
 
--- the rows are those of the world's locks, tokens and objects, in any order; each repository has its counts
+-- a row of `retired`, without its place in the table
+abbrev pub retired_kept : row.Retired → row.Retired
+retired_kept r = record r { rowid = pos 0 }
+
+-- the row of a retired name
+abbrev pub retired_row : Retired → row.Retired
+retired_row r = record { rowid = pos 0; repo = r.repo; oid = r.name }
+
+-- no staged upload has a retired name
+abbrev pub AreUnretired : World → List row.Upload → Type 0
+AreUnretired world = AllByRecursion (λ u. is_staged u ≡ true → is_retired u.repo u.oid world ≡ false)
+
+-- the rows are those of the world's locks, tokens, objects and retired names, in any order; each repository has its
+-- counts; and no staged upload has a retired name
 pub record Represents (t : Tables) (world : World) : Type 0 where
-  pub meta : t.meta ≡ first_meta ∷ []
+  pub meta : t.meta ≡ current_meta ∷ []
   pub locks : IsPermutation (map lock_kept t.locks) (map lock_row world.locks)
   pub made : (repo : List ℕ) → made_of repo t ≡ pos (world.made repo)
   pub used : (repo : List ℕ) → used_of repo t ≡ pos (total repo world)
   pub tokens : IsPermutation (map token_kept t.tokens) (map token_row world.tokens)
   pub objects : RepresentObjects t.uploads t.chunks world.objects
+  pub retired : IsPermutation (map retired_kept t.retired) (map retired_row world.retired)
+  pub unretired : AreUnretired world t.uploads
 
 -- the store holds the world: while the disk is honest and the store open, its tables represent it
 pub record Holds {S : Type 0} (g : Ghosts S) (s : Store S) (world : World) : Type 0 where

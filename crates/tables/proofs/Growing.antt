@@ -11,7 +11,7 @@ use Rattle.sqlite_schema.specs.Names.{same_name}
 use Rattle.sqlite_schema.specs.Names.{index_named}
 use Rattle.tables.specs.Layout.{Version}
 use Rattle.tables.specs.Rows.{meta, retired, place_of, tree_of, is_in}
-use Rattle.tables.specs.Schemas.{HasParts}
+use Rattle.tables.specs.Schemas.{HasParts, HasSome, IsShared}
 use Rattle.std.specs.Fmt.{decimal}
 use Rattle.schema_compare.specs.Plain.{is_plain_table}
 use Rattle.tables.proofs.Parts.{tree_is, by_name, by_name_is}
@@ -142,6 +142,35 @@ shares_definition v schema ours name p named has at own table wanted here there 
           ours_is ∙ ap (table_for v p) (ap (λ (t : Table). t.tree) table_is ∙ tree_is v p (tree_of schema p)) ∙ sym table_is,
       ap is_plain_table is ∙ plain_part v p (tree_of ours p),
     )
+
+-- a table that both schemas have as one version has it
+pub shared_by : (v : Version) (schema ours : Schema) (p : Part) → HasPart v schema p → HasPart v ours p → IsShared schema ours p
+unfolding IsShared
+shared_by v schema ours p has own w other =
+    let here : table_for v p (tree_of ours p) ≡ table_for w p (tree_of ours p) = some_same (sym own.found ∙ other.found) in
+    let there : table_for v p (tree_of schema p) ≡ table_for w p (tree_of schema p) = sym (retreed v p (tree_of ours p) (tree_of schema p)) ∙ ap (λ (t : Table). record t { tree = tree_of schema p }) here ∙ retreed w p (tree_of ours p) (tree_of schema p) in
+    record { named = has.named; found = has.found ∙ ap Some there; unreferred = has.unreferred }
+
+-- where both schemas have the table
+pub record AreThere (schema ours : Schema) (p : Part) (table own : Table) : Type 0 where
+  pub named : table_named schema (name_of p) ≡ Some (place_of schema p)
+  pub found : slice_get schema.tables (place_of schema p) ≡ Some table
+  pub own_named : table_named ours (name_of p) ≡ Some (place_of ours p)
+  pub own_found : slice_get ours.tables (place_of ours p) ≡ Some own
+
+pub there_in : (schema ours : Schema) (p : Part) → HasSome ours p → IsShared schema ours p → (table : Table) × (own : Table) × AreThere schema ours p table own
+unfolding HasSome IsShared
+there_in schema ours p some shared =
+    let has = shared some.0 some.1 in
+    (table_for some.0 p (tree_of schema p), table_for some.0 p (tree_of ours p), record { named = has.named; found = has.found; own_named = some.1.named; own_found = some.1.found })
+
+pub some_by : (v : Version) (ours : Schema) (p : Part) → HasPart v ours p → HasSome ours p
+unfolding HasSome
+some_by v ours p has = (v, has)
+
+pub share : (schema ours : Schema) (p : Part) → IsShared schema ours p → (v : Version) → HasPart v ours p → HasPart v schema p
+unfolding IsShared
+share schema ours p shared v has = shared v has
 
 module _ (schema : Schema) (table : Table) (plain : table.references ≡ []) where
   abbrev new : Table

@@ -84,7 +84,7 @@ pub meta_is : (v : Version) (schema : Schema) → IsLaid schema → HasPart v sc
 unfolding everything
 meta_is v schema laid has =
     let it = meant_in v schema laid part.meta has _ (Select (record { lets = []; body = query_of [] (col 1 0 ∷ col 1 2 ∷ []) (tree_of schema part.meta) }) (codes "one" ∷ codes "version" ∷ []))
-        (refl, (record { alone = refl; single = refl; source = (refl, refl, refl, refl, refl); ungrouped = refl; whole = refl; shown = refl; filter = refl; order = refl }, (refl, refl))) in
+    (refl, (record { alone = refl; single = refl; source = (refl, refl, refl, refl, refl); ungrouped = refl; whole = refl; shown = refl; filter = refl; order = refl }, (refl, refl))) in
     record { names = codes "one" ∷ codes "version" ∷ []; plain = it.plain; unlisted = it.unlisted; command = it.command }
 
 module _ (schema : Schema) (whole : HasWhole schema) where

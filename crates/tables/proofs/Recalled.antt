@@ -67,7 +67,7 @@ done_known (Some known) p us h =
     go u true was is = absurd (let e : false ≡ true = is in cc)
     go u false was is = was is
 
-upload_keeps : (id : ℤ) → KeepsKnown (without_upload id)
+pub upload_keeps : (id : ℤ) → KeepsKnown (without_upload id)
 unfolding without_upload without_row without_chunks
 upload_keeps id known t h = fewer_known known (is_upload id) t.uploads h
 

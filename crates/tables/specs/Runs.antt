@@ -46,6 +46,10 @@ pub record HasMeta (v : Version) (db : Database) : Type 0 where
 abbrev pub IsReady : State → Type 0
 IsReady s = HasCleanDisk s → IsTrue s.is_open → IsKept s.now
 
+-- while it is open, the connection has the tables of version 1
+abbrev pub IsReadyOld : State → Type 0
+IsReadyOld s = HasCleanDisk s → IsTrue s.is_open → IsOld s.now
+
 -- the rows of the tables of the connection, with the changes of an open transaction
 abbrev pub tables_in : State → Tables
 tables_in s = tables_of s.now

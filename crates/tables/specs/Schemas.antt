@@ -20,6 +20,14 @@ pub record HasPart (v : Version) (schema : Schema) (p : Part) : Type 0 where
   pub found : slice_get schema.tables (place_of schema p) ≡ Some (table_for v p (tree_of schema p))
   pub unreferred : is_parent schema (name_of p) ≡ false
 
+-- the schema has the table as some version has it
+unfoldable pub HasSome : Schema → Part → Type 0
+HasSome schema p = (v : Version) × HasPart v schema p
+
+-- the first schema has the table as the second one has it
+unfoldable pub IsShared : Schema → Schema → Part → Type 0
+IsShared schema ours p = (v : Version) → HasPart v ours p → HasPart v schema p
+
 -- the name of SQLite's own table that counts the ids of uploads
 abbrev pub counts_name : List ℕ
 counts_name = codes "sqlite_sequence"

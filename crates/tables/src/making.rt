@@ -8,7 +8,7 @@ ghost use Rattle.tables.specs.Rows as part;
 ghost use Rattle.tables.specs.Rows.{Part, parts_of};
 ghost use Rattle.tables.specs.Layout.{version_one};
 ghost use Rattle.tables.specs.Making.{text_for, before, after, IsBlank};
-ghost use Rattle.tables.specs.Runs.{IsOld, with_fresh, migrated};
+ghost use Rattle.tables.specs.Runs.{IsReadyOld, with_fresh, migrated};
 ghost use Rattle.typed_rows.specs.Transactions.{Inside};
 ghost use Rattle.tables.specs.Calls.{MakesBlank, MakesFirst, MakesFresh, Upgrades, Commits};
 
@@ -132,8 +132,7 @@ pub(crate) fn create<S: Alter>(conn: &mut Connection<S>) -> Result<(), StoreFaul
 /// Gives a database of version 1 the tables of version 2, all or none. Its other rows stay.
 #[tactic(auto, using(crate::proofs::Calls::led))]
 pub(crate) fn upgrade<S: Alter>(conn: &mut Connection<S>) -> Result<(), StoreFault>
-    ensures { Commits S.Store (IsTrue (state S.Store conn.old).is_open
-        → IsOld (state S.Store conn.old).now) conn.old conn.new result migrated }
+    ensures { Commits S.Store (IsReadyOld (state S.Store conn.old)) conn.old conn.new result migrated }
 {
     if !conn.is_autocommit() {
         return Err(StoreFault::Refused);

@@ -8,8 +8,8 @@ ghost use Rattle.sqlite_catalog.specs.Listing.{IsSound};
 ghost use Rattle.sqlite_trees.specs.Objects.{catalog_tree};
 ghost use Rattle.tables.specs.Rows as part;
 ghost use Rattle.tables.specs.Rows.{Part, name_of};
-ghost use Rattle.tables.specs.Layout.{Version, current};
-ghost use Rattle.tables.specs.Schemas.{HasPart, HasAll, HasFirst, is_parent, counts_name};
+ghost use Rattle.tables.specs.Layout.{current};
+ghost use Rattle.tables.specs.Schemas.{HasSome, IsShared, HasAll, HasFirst, is_parent, counts_name};
 ghost use Rattle.typed_rows.specs.Queries.{IsFree};
 ghost use Rattle.sqlite_schema.specs.Names.{table_named, index_named, view_named};
 ghost use Rattle.tables.specs.Statements.{show_meta};
@@ -74,9 +74,10 @@ fn has_none(schema: &Schema) -> bool
 }
 
 /// Whether both schemas have a table of the name, with one definition, and no foreign key of the first refers to it.
+#[tactic(auto, using(crate::proofs::Growing::there_in))]
 fn has_part(schema: &Schema, ours: &Schema, name: &[u8]) -> bool
-    ensures { (v : Version) (part : Part) → name.now ≡ name_of part → HasPart v ours.now part
-        → IsTrue result ↔ HasPart v schema.now part }
+    ensures { (part : Part) → name.now ≡ name_of part → HasSome ours.now part
+        → IsTrue result ↔ IsShared schema.now ours.now part }
 {
     let (Some(at), Some(own)) = (schema.table_named(name), ours.table_named(name)) else {
         return false;
@@ -91,26 +92,20 @@ fn has_part(schema: &Schema, ours: &Schema, name: &[u8]) -> bool
 
 /// Whether the schema has the six tables that both versions have, as the other schema has them.
 fn has_six(schema: &Schema, ours: &Schema) -> bool
-    ensures meta { (v : Version) → HasPart v ours.now part.meta → IsTrue result
-        → HasPart v schema.now part.meta }
-    ensures repos { (v : Version) → HasPart v ours.now part.repos → IsTrue result
-        → HasPart v schema.now part.repos }
-    ensures tokens { (v : Version) → HasPart v ours.now part.tokens → IsTrue result
-        → HasPart v schema.now part.tokens }
-    ensures uploads { (v : Version) → HasPart v ours.now part.uploads → IsTrue result
-        → HasPart v schema.now part.uploads }
-    ensures chunks { (v : Version) → HasPart v ours.now part.chunks → IsTrue result
-        → HasPart v schema.now part.chunks }
-    ensures locks { (v : Version) → HasPart v ours.now part.locks → IsTrue result
-        → HasPart v schema.now part.locks }
+    ensures meta { HasSome ours.now part.meta → IsTrue result → IsShared schema.now ours.now part.meta }
+    ensures repos { HasSome ours.now part.repos → IsTrue result → IsShared schema.now ours.now part.repos }
+    ensures tokens { HasSome ours.now part.tokens → IsTrue result → IsShared schema.now ours.now part.tokens }
+    ensures uploads { HasSome ours.now part.uploads → IsTrue result → IsShared schema.now ours.now part.uploads }
+    ensures chunks { HasSome ours.now part.chunks → IsTrue result → IsShared schema.now ours.now part.chunks }
+    ensures locks { HasSome ours.now part.locks → IsTrue result → IsShared schema.now ours.now part.locks }
     ensures counted { IsTrue result → IsSome (table_named schema.now counts_name) }
     ensures unreferred { IsTrue result → is_parent schema.now counts_name ≡ false }
-    ensures complete { (v : Version) → HasPart v ours.now part.meta → HasPart v schema.now part.meta
-        → HasPart v ours.now part.repos → HasPart v schema.now part.repos
-        → HasPart v ours.now part.tokens → HasPart v schema.now part.tokens
-        → HasPart v ours.now part.uploads → HasPart v schema.now part.uploads
-        → HasPart v ours.now part.chunks → HasPart v schema.now part.chunks
-        → HasPart v ours.now part.locks → HasPart v schema.now part.locks
+    ensures complete { HasSome ours.now part.meta → IsShared schema.now ours.now part.meta
+        → HasSome ours.now part.repos → IsShared schema.now ours.now part.repos
+        → HasSome ours.now part.tokens → IsShared schema.now ours.now part.tokens
+        → HasSome ours.now part.uploads → IsShared schema.now ours.now part.uploads
+        → HasSome ours.now part.chunks → IsShared schema.now ours.now part.chunks
+        → HasSome ours.now part.locks → IsShared schema.now ours.now part.locks
         → IsSome (table_named schema.now counts_name)
         → is_parent schema.now counts_name ≡ false → IsTrue result }
 {
@@ -144,7 +139,10 @@ fn has_first(alloc: Global, schema: &Schema) -> Result<bool, StoreFault>
         return Err(StoreFault::Memory);
     };
     create_first(&mut made)?;
-    Ok(has_six(schema, made.schema()) && is_clear(schema))
+    if !is_clear(schema) {
+        return Ok(false);
+    }
+    Ok(has_six(schema, made.schema()))
 }
 
 /// Whether the schema has the tables of the current version, as `create` makes them.
@@ -156,7 +154,10 @@ fn has_all(alloc: Global, schema: &Schema) -> Result<bool, StoreFault>
     };
     create(&mut made)?;
     let ours = made.schema();
-    Ok(has_six(schema, ours) && has_part(schema, ours, b"retired"))
+    if !has_part(schema, ours, b"retired") {
+        return Ok(false);
+    }
+    Ok(has_six(schema, ours))
 }
 
 /// Whether `meta` has exactly one row, with this number.

@@ -1,0 +1,189 @@
+-- An object that is removed for good: what the tables represent then.
+use Rattle.refinement.proofs.Prelude.{◌≡◌, ◌∙◌, ℕ, ◌+◌, ◌≤◌, ℤ, pos, Bool, true, false, not, ◌&&◌, List, [], ◌∷◌, map, filter, find, cond, length, Option, Some, None, option_map, is_some, bytes_eq, IsTrue, refl, sym, ap, subst, AllPairs, IsPermutation, arith, ints, AllByRecursion, int_eq, true≢false, AllPairs-filter, IsPermutation-filter, filter-map, length-map, length_permutation, bytes_eq-Decides, is_eq-slice_cmp, next_key, all_weaker, all_kept, all_of, World, IsWorld, Object, object_named, total, Repo, Tables, same_bytes, is_upload, is_complete, is_staged, is_staged_in, is_object, used_in, used_of, set_used, bytes_of, object_in, chunks_of, HasSize, DiffersInName, DiffersInRepo, RepresentObjects, Represents, in_found, found_passes, both_true}
+use Rattle.std.specs.Prelude.{◌-ℤ◌}
+use Rattle.sqlite_keyed.proofs.ListLemmas.{all-filter}
+use Rattle.sqlite_keyed.proofs.KeyedLemmas.{IsKeyedBy-delete_where}
+use Rattle.model.specs.World.{Retired, has_name, is_retired, without_object}
+use Rattle.model.specs.Reading.{or_default}
+use Rattle.model.proofs.Totals.{total_without}
+use Rattle.tables.specs.Rows as row
+use Rattle.tables.specs.Statements.{is_named, without_row, without_chunks, with_retired}
+use Rattle.tables.specs.Staging.{with_used, without_upload}
+use Rattle.tables.specs.Retiring as tables
+use Rattle.refinement.specs.Representation.{AreUnretired, retired_kept, retired_row}
+use Rattle.refinement.proofs.Changes.{one_item_more}
+use Rattle.refinement.proofs.Counts.{named_itself, same_text, used_set, used_other, made_kept}
+use Rattle.refinement.proofs.Found.{Excludes, pairs_head, none_passes}
+use Rattle.refinement.proofs.Kept.{object_found, found_size, found_among}
+use Rattle.refinement.proofs.Lookups.{find_alike, same_is}
+use Rattle.refinement.proofs.Pieces.{own_number}
+use Rattle.refinement.proofs.Uploads.{found_itself, map_alike, same_object}
+use Rattle.refinement.proofs.Withdrawn.{left, rest, alone, others, sizes_left, numbered_left, owned_left, filters_meet, each_left, not_is}
+
+-- ---- the one element that passes
+
+-- at most one element of a list passes, if no two related ones do
+at_most_one : {A : Type 0} (p : A → Bool) (R : A → A → Type 0) (xs : List A) → Excludes p R → AllPairs R xs → length (filter p xs) ≤ 1
+at_most_one {A} p R xs excludes pairs = go (filter p xs) (AllPairs-filter R p xs pairs) (each_left (λ x. p x ≡ true) p xs (all_of (λ x. p x ≡ true → p x ≡ true) (λ x h. h) xs))
+  where
+    go : (ys : List A) → AllPairs R ys → AllByRecursion (λ y. p y ≡ true) ys → length ys ≤ 1
+    go [] rs all = omega arith
+    go (y ∷ []) rs all = omega arith
+    go (y ∷ z ∷ ys) rs all = absurd (excludes y z (pairs_head R y (z ∷ ys) rs 0 z refl (omega arith)) all.0 all.1.0)
+
+-- the first that passes is the first of those that do
+first_kept : {A : Type 0} (p : A → Bool) (xs : List A) (x : A) → find p xs ≡ Some x → (more : List A) × (filter p xs ≡ x ∷ more)
+first_kept p [] x e = absurd (let a : None ≡ Some x = e in cc)
+first_kept {A} p (y ∷ ys) x e = go (p y) (first_kept p ys x) e
+  where
+    go : (v : Bool) → (find p ys ≡ Some x → (more : List A) × (filter p ys ≡ x ∷ more)) → cond v (Some y) (find p ys) ≡ Some x → (more : List A) × (cond v (y ∷ filter p ys) (filter p ys) ≡ x ∷ more)
+    go true rest e = (filter p ys, let same : y ≡ x = cc in ap (λ z. z ∷ filter p ys) same)
+    go false rest e = rest e
+
+-- if at most one passes, each that does is the first
+only_one : {A : Type 0} (p : A → Bool) (xs : List A) (x : A) → find p xs ≡ Some x → length (filter p xs) ≤ 1 → AllByRecursion (λ y. p y ≡ true → y ≡ x) xs
+only_one {A} p xs x e few =
+    let it = first_kept p xs x e in
+    all_kept (λ y. y ≡ x) p xs (subst (AllByRecursion (λ y. y ≡ x)) (sym it.1) (alone_in it.0 (subst (λ (ys : List A). length ys ≤ 1) it.1 few)))
+  where
+    alone_in : (more : List A) → length (x ∷ more) ≤ 1 → AllByRecursion (λ y. y ≡ x) (x ∷ more)
+    alone_in [] h = (refl, tt)
+    alone_in (y ∷ ys) h = absurd (omega (arith, h))
+
+-- tests that agree on a list keep the same of it
+kept_alike : {A : Type 0} (p q : A → Bool) (xs : List A) → AllByRecursion (λ x. p x ≡ q x) xs → filter p xs ≡ filter q xs
+kept_alike p q [] all = refl
+kept_alike p q (x ∷ xs) all = rw all.0 (ap (λ ys. cond (q x) (x ∷ ys) ys) (kept_alike p q xs all.1))
+
+-- ---- without a complete upload
+
+module _ (us : List row.Upload) (cs : List row.Chunk) (objects : List Object) (s : row.Upload) (r : RepresentObjects us cs objects) (there : find (is_upload s.id) us ≡ Some s) (repo name : List ℕ)
+    (found : find (λ u. has_name repo name (object_in cs u)) (filter is_complete us) ≡ Some s) (differ : AllPairs DiffersInName objects) where
+  named : Object → Bool
+  named = has_name repo name
+
+  excludes : Excludes named DiffersInName
+  excludes x y apart a b =
+      let p = both_true (bytes_eq x.repo repo) (bytes_eq x.name name) a in let q = both_true (bytes_eq y.repo repo) (bytes_eq y.name name) b in
+      apart (same_is x.repo repo p.0 ∙ sym (same_is y.repo repo q.0)) (same_is x.name name p.1 ∙ sym (same_is y.name name q.1))
+
+  complete : List row.Upload
+  complete = filter is_complete us
+
+  -- of the complete uploads only this one has the name
+  only_named : AllByRecursion (λ u. named (object_in cs u) ≡ true → u ≡ s) complete
+  only_named =
+      let one : length (filter named objects) ≤ 1 = at_most_one named DiffersInName objects excludes differ in
+      let same : length (filter named (map (object_in cs) complete)) ≡ length (filter named objects) = sym (length_permutation _ _ (IsPermutation-filter named (map (object_in cs) complete) objects r.complete)) in
+      let mapped : length (filter (λ u. named (object_in cs u)) complete) ≡ length (filter named (map (object_in cs) complete)) =
+      sym (length-map (filter (λ u. named (object_in cs u)) complete) (object_in cs)) ∙ sym (ap length (filter-map named (object_in cs) complete)) in
+      only_one (λ u. named (object_in cs u)) complete s found (omega (arith, one, same, mapped))
+
+  by_id : AllByRecursion (λ u. not (is_upload s.id u) ≡ not (named (object_in cs u))) complete
+  by_id = agree complete (all-filter (λ u. is_upload s.id u ≡ true → u ≡ s) is_complete us (alone us cs objects s r there)) only_named
+    where
+      own : named (object_in cs s) ≡ true
+      own = found_passes (λ u. named (object_in cs u)) complete s found
+
+      at : (u : row.Upload) (v w : Bool) → is_upload s.id u ≡ v → named (object_in cs u) ≡ w → (is_upload s.id u ≡ true → u ≡ s) → (named (object_in cs u) ≡ true → u ≡ s) → not v ≡ not w
+      at u true true e f a b = refl
+      at u true false e f a b = absurd (true≢false (sym own ∙ ap (λ (v : row.Upload). named (object_in cs v)) (sym (a e)) ∙ f))
+      at u false true e f a b = absurd (true≢false (sym (ap (λ (v : row.Upload). int_eq v.id s.id) (b f) ∙ own_number s.id) ∙ e))
+      at u false false e f a b = refl
+
+      agree : (vs : List row.Upload) → AllByRecursion (λ u. is_upload s.id u ≡ true → u ≡ s) vs → AllByRecursion (λ u. named (object_in cs u) ≡ true → u ≡ s) vs → AllByRecursion (λ u. not (is_upload s.id u) ≡ not (named (object_in cs u))) vs
+      agree [] a b = tt
+      agree (u ∷ vs) a b = (at u (is_upload s.id u) (named (object_in cs u)) refl refl a.0 b.0, agree vs a.1 b.1)
+
+  pub objects_retired : RepresentObjects (left us cs objects s r there) (rest us cs objects s r there) (filter (λ o. not (named o)) objects)
+  objects_retired =
+      let fewer = rest us cs objects s r there in
+      let is : map (object_in fewer) (filter is_complete (left us cs objects s r there)) ≡ filter (λ o. not (named o)) (map (object_in cs) complete) =
+      ap (map (object_in fewer)) (filters_meet is_complete (λ u. not (is_upload s.id u)) us)
+      ∙ map_alike (λ u. not (is_upload s.id u)) (object_in fewer) (object_in cs) complete
+      (all_of (λ (u : row.Upload). not (is_upload s.id u) ≡ true → object_in fewer u ≡ object_in cs u) (λ u stays. same_object cs fewer u (others us cs objects s r there u.id (not_is (is_upload s.id u) stays))) complete)
+      ∙ ap (map (object_in cs)) (kept_alike (λ u. not (is_upload s.id u)) (λ u. not (named (object_in cs u))) complete by_id)
+      ∙ sym (filter-map (λ o. not (named o)) (object_in cs) complete) in
+      record {
+        complete = subst (λ (os : List Object). IsPermutation os (filter (λ o. not (named o)) objects)) (sym is) (IsPermutation-filter (λ o. not (named o)) (map (object_in cs) complete) objects r.complete);
+        sizes = sizes_left us cs objects s r there;
+        numbered = numbered_left us cs objects s r there;
+        owned = owned_left us cs objects s r there;
+        staged = subst (AllPairs DiffersInRepo) (filters_meet (λ u. not (is_upload s.id u)) is_staged us) (AllPairs-filter DiffersInRepo (λ u. not (is_upload s.id u)) (filter is_staged us) r.staged);
+        rise = IsKeyedBy-delete_where (λ (u : row.Upload). u.id) (is_upload s.id) us r.rise;
+      }
+
+-- ---- the tables
+
+less_of : (a b c : ℕ) (x y : ℤ) → x ≡ pos c → y ≡ pos b → a + b ≡ c → x -ℤ y ≡ pos a
+less_of a b c x y p q e = omega (arith, ints, p, q, e)
+
+-- no staged upload of another repository has the name that is retired now
+still_unretired : (world : World) (repo name : List ℕ) (us : List row.Upload) → AllByRecursion (λ u. is_staged_in repo u ≡ false) us → AreUnretired world us → AreUnretired (without_object repo name world) us
+still_unretired world repo name [] none all = tt
+still_unretired world repo name (u ∷ us) none all = (λ is. other is (all.0 is), still_unretired world repo name us none.1 all.1)
+  where
+    apart : is_staged u ≡ true → bytes_eq repo u.repo ≡ false
+    apart is = go (bytes_eq repo u.repo) refl
+      where
+        go : (v : Bool) → bytes_eq repo u.repo ≡ v → bytes_eq repo u.repo ≡ false
+        go false e = e
+        go true e = absurd (true≢false (sym (rw (ap (λ (n : List ℕ). same_bytes n repo) (sym ((bytes_eq-Decides repo u.repo).0 e)) ∙ named_itself repo) is) ∙ none.0))
+
+    other : is_staged u ≡ true → is_retired u.repo u.oid world ≡ false → is_retired u.repo u.oid (without_object repo name world) ≡ false
+    other is was = rw (apart is) was
+
+module _ (t : Tables) (world : World) (repo name : List ℕ) (u : row.Upload) (r : Represents t world) (w : IsWorld world) (there : find (is_object repo name) t.uploads ≡ Some u) (none : find (is_staged_in repo) t.uploads ≡ None) where
+  its : find (is_upload u.id) t.uploads ≡ Some u
+  its = found_itself t.uploads u r.objects.rise (in_found (is_object repo name) t.uploads u there)
+
+  among_complete : find (λ v. has_name repo name (object_in t.chunks v)) (filter is_complete t.uploads) ≡ Some u
+  among_complete = found_among t repo name ∙ there
+
+  whole : u.size ≡ pos (length (bytes_of u.id t.chunks))
+  whole = found_size t world repo name u r there
+
+  same_some : {A : Type 0} {x y : A} → Some x ≡ Some y → x ≡ y
+  same_some e = cc
+
+  size_is : (o : Object) → object_named repo name world ≡ Some o → length (bytes_of u.id t.chunks) ≡ length o.bytes
+  size_is o e = ap (λ (x : Object). length x.bytes) (same_some (ap (option_map (object_in t.chunks)) (sym there) ∙ object_found t world repo name r w ∙ e))
+
+  removed_total : (own : List ℕ) → own ≡ repo → total own (without_object repo name world) + length (bytes_of u.id t.chunks) ≡ total own world
+  removed_total own is = at (object_named repo name world) refl
+    where
+      at : (o : Option Object) → object_named repo name world ≡ o → total own (without_object repo name world) + length (bytes_of u.id t.chunks) ≡ total own world
+      at None e = absurd (let a : Some (object_in t.chunks u) ≡ None = ap (option_map (object_in t.chunks)) (sym there) ∙ object_found t world repo name r w ∙ e in cc)
+      at (Some o) e =
+          let it = total_without world repo name own w true ((bytes_eq-Decides repo own).1 (sym is)) in
+          let size = size_is o e in
+          let found = ap (λ (x : Option Object). or_default (option_map (λ (p : Object). length p.bytes) x) 0) e in
+          omega (arith, it, size, found)
+
+  used_less : (other : List ℕ) → used_in (find (is_named other) (set_used repo (used_of repo t -ℤ u.size) (next_key (λ x. x.rowid) t.repos) t.repos)) ≡ pos (total other (without_object repo name world))
+  used_less other = at (same_bytes repo other) refl
+    where
+      at : (v : Bool) → same_bytes repo other ≡ v → used_in (find (is_named other) (set_used repo (used_of repo t -ℤ u.size) (next_key (λ x. x.rowid) t.repos) t.repos)) ≡ pos (total other (without_object repo name world))
+      at true e =
+          let same = same_text repo other e in
+          ap (λ n. used_in (find (is_named n) (set_used repo (used_of repo t -ℤ u.size) (next_key (λ x. x.rowid) t.repos) t.repos))) (sym same)
+          ∙ used_set repo (used_of repo t -ℤ u.size) (next_key (λ x. x.rowid) t.repos) t.repos
+          ∙ less_of (total repo (without_object repo name world)) (length (bytes_of u.id t.chunks)) (total repo world) (used_of repo t) u.size (r.used repo) whole (removed_total repo refl)
+          ∙ ap (λ n. pos (total n (without_object repo name world))) same
+      at false e =
+          used_other repo (used_of repo t -ℤ u.size) (next_key (λ x. x.rowid) t.repos) other t.repos e ∙ r.used other
+          ∙ ap pos (let it = total_without world repo name other w false (sym (is_eq-slice_cmp repo other) ∙ e) in omega (arith, it))
+
+  pub retire_represented : Represents (tables.without_object repo name u t) (without_object repo name world)
+  unfolding tables.without_object with_retired with_used without_upload without_row without_chunks
+  retire_represented = record {
+    meta = r.meta;
+    locks = r.locks;
+    made = λ other. made_kept repo (used_of repo t -ℤ u.size) (next_key (λ x. x.rowid) t.repos) other t.repos ∙ r.made other;
+    used = used_less;
+    tokens = r.tokens;
+    objects = objects_retired t.uploads t.chunks world.objects u r.objects its repo name among_complete w.names;
+    retired = one_item_more retired_kept retired_row t.retired world.retired _ (record { repo = repo; name = name }) r.retired refl;
+    unretired = still_unretired world repo name _ (all-filter (λ v. is_staged_in repo v ≡ false) (λ v. not (is_upload u.id v)) t.uploads (none_passes (is_staged_in repo) t.uploads none))
+        (all-filter (λ v. is_staged v ≡ true → is_retired v.repo v.oid world ≡ false) (λ v. not (is_upload u.id v)) t.uploads r.unretired);
+  }
