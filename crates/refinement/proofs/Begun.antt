@@ -18,7 +18,7 @@ use Rattle.refinement.proofs.Withdrawn.{each_left, not_is, staged_in_withdrawn}
 -- ---- the repository has no staged upload
 
 -- no staged upload is the repository's
-abbrev NoneIn : List ℕ → List row.Upload → Type 0
+abbrev pub NoneIn : List ℕ → List row.Upload → Type 0
 NoneIn repo = AllByRecursion (λ u. is_staged u ≡ true → u.repo ≡ repo → ⊥)
 
 staged_there : (repo : List ℕ) (u : row.Upload) → is_staged u ≡ true → u.repo ≡ repo → is_staged_in repo u ≡ true
@@ -50,7 +50,7 @@ only_staged repo us s apart e =
     same_name : (u : row.Upload) → same_bytes u.repo repo ≡ true → u.repo ≡ repo
     same_name u is = same_text u.repo repo is
 
-none_left_in : (repo : List ℕ) (us : List row.Upload) (s : row.Upload) → AllPairs DiffersInRepo (filter is_staged us) → find (is_staged_in repo) us ≡ Some s
+pub none_left_in : (repo : List ℕ) (us : List row.Upload) (s : row.Upload) → AllPairs DiffersInRepo (filter is_staged us) → find (is_staged_in repo) us ≡ Some s
     → NoneIn repo (delete_where (is_upload s.id) us)
 none_left_in repo us s apart e =
     each_left (λ u. is_staged u ≡ true → u.repo ≡ repo → ⊥) (λ u. not (is_upload s.id u)) us

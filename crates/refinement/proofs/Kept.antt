@@ -4,7 +4,7 @@ use Rattle.tables.specs.Rows as row
 use Rattle.refinement.proofs.Found.{found_of, Excludes}
 use Rattle.refinement.proofs.Lookups.{find_alike, same_is}
 
-is_named : List ℕ → List ℕ → Object → Bool
+abbrev pub is_named : List ℕ → List ℕ → Object → Bool
 is_named repo name o = bytes_eq o.repo repo && bytes_eq o.name name
 
 -- the order of three tests

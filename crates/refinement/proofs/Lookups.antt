@@ -1,7 +1,7 @@
 -- What the calls read from the tables is what the world has.
 use Rattle.refinement.proofs.Prelude.{◌≡◌, ℕ, pos, Bool, true, ◌&&◌, ◌==◌, List, [], ◌∷◌, find, filter, cond, nat_lt, Option, Some, None, option_map, IfSome, bytes_eq, refl, sym, ap, ◌∙◌, arith, int_eq, nat_tests, ints, is_eq-slice_cmp, bytes_eq-Decides, sha256, both_true, find_rising, find_filter, only_left, in_found, into, World, IsWorld, Lock, Token, DiffersInId, DiffersInPlace, DiffersInDigest, find_token, locks_of, Tables, is_at, has_id, has_digest, lock_kept, token_kept, lock_row, token_row, Represents, lock_on, lock_with}
 use Rattle.model.proofs.Ordered.{locks_are_those}
-use Rattle.model.proofs.Views.{only_of}
+use Rattle.model.proofs.Once.{only_of}
 use Rattle.model.specs.World as model
 use Rattle.refinement.proofs.Found.{same_found, Excludes}
 

@@ -1,20 +1,25 @@
 -- An object that is removed for good: what the tables represent then.
-use Rattle.refinement.proofs.Prelude.{◌≡◌, ◌∙◌, ℕ, ◌+◌, ◌≤◌, ℤ, pos, Bool, true, false, not, ◌&&◌, List, [], ◌∷◌, map, filter, find, cond, length, Option, Some, None, option_map, is_some, bytes_eq, IsTrue, refl, sym, ap, subst, AllPairs, IsPermutation, arith, ints, AllByRecursion, int_eq, true≢false, AllPairs-filter, IsPermutation-filter, filter-map, length-map, length_permutation, bytes_eq-Decides, is_eq-slice_cmp, next_key, all_weaker, all_kept, all_of, World, IsWorld, Object, object_named, total, Repo, Tables, same_bytes, is_upload, is_complete, is_staged, is_staged_in, is_object, used_in, used_of, set_used, bytes_of, object_in, chunks_of, HasSize, DiffersInName, DiffersInRepo, RepresentObjects, Represents, in_found, found_passes, both_true}
+use Rattle.refinement.proofs.Prelude.{◌≡◌, ◌∙◌, ℕ, ◌+◌, ◌≤◌, ℤ, pos, Bool, true, false, not, ◌&&◌, List, [], ◌∷◌, map, filter, find, cond, length, Option, Some, None, option_map, is_some, bytes_eq, IsTrue, refl, sym, ap, subst, AllPairs, IsPermutation, arith, ints, AllByRecursion, int_eq, true≢false, AllPairs-filter, IsPermutation-filter, filter-map, length-map, length_permutation, bytes_eq-Decides, is_eq-slice_cmp, next_key, all_weaker, all_kept, all_of, World, IsWorld, Object, object_named, total, Repo, Tables, same_bytes, is_upload, is_complete, is_staged, is_staged_in, is_object, used_in, used_of, set_used, bytes_of, object_in, chunks_of, HasSize, DiffersInName, DiffersInRepo, RepresentObjects, Represents, in_found, found_passes, none_where, both_true}
 use Rattle.std.specs.Prelude.{◌-ℤ◌}
 use Rattle.sqlite_keyed.proofs.ListLemmas.{all-filter}
 use Rattle.sqlite_keyed.proofs.KeyedLemmas.{IsKeyedBy-delete_where}
-use Rattle.model.specs.World.{Retired, has_name, is_retired, without_object}
+use Rattle.names.specs.Texts.{is_hex_64, is_repo}
+use Rattle.model.specs.World.{Retired, DiffersInRetired, has_name, is_retired, without_object}
+use Rattle.model.proofs.Keeping.{keeps_without_object}
 use Rattle.model.specs.Reading.{or_default}
 use Rattle.model.proofs.Totals.{total_without}
 use Rattle.tables.specs.Rows as row
-use Rattle.tables.specs.Statements.{is_named, without_row, without_chunks, with_retired}
-use Rattle.tables.specs.Staging.{with_used, without_upload}
+use Rattle.tables.specs.Statements.{is_named, is_retired_as, without_row, without_chunks, with_retired}
+use Rattle.tables.specs.Staging.{staged_with, with_used, without_upload, without_found, without_staged}
+use Rattle.refinement.proofs.Begun.{NoneIn, none_left_in}
+use Rattle.refinement.proofs.Completing.{found_staged}
 use Rattle.tables.specs.Retiring as tables
 use Rattle.refinement.specs.Representation.{AreUnretired, retired_kept, retired_row}
 use Rattle.refinement.proofs.Changes.{one_item_more}
 use Rattle.refinement.proofs.Counts.{named_itself, same_text, used_set, used_other, made_kept}
-use Rattle.refinement.proofs.Found.{Excludes, pairs_head, none_passes}
-use Rattle.refinement.proofs.Kept.{object_found, found_size, found_among}
+use Rattle.refinement.proofs.Found.{Excludes, pairs_head, none_passes, same_found}
+use Rattle.refinement.proofs.Kept.{object_found, object_known, found_size, found_among}
+use Rattle.refinement.proofs.Tokens.{some_alike}
 use Rattle.refinement.proofs.Lookups.{find_alike, same_is}
 use Rattle.refinement.proofs.Pieces.{own_number}
 use Rattle.refinement.proofs.Uploads.{found_itself, map_alike, same_object}
@@ -29,7 +34,7 @@ at_most_one {A} p R xs excludes pairs = go (filter p xs) (AllPairs-filter R p xs
     go : (ys : List A) → AllPairs R ys → AllByRecursion (λ y. p y ≡ true) ys → length ys ≤ 1
     go [] rs all = omega arith
     go (y ∷ []) rs all = omega arith
-    go (y ∷ z ∷ ys) rs all = absurd (excludes y z (pairs_head R y (z ∷ ys) rs 0 z refl (omega arith)) all.0 all.1.0)
+    go (y ∷ z ∷ ys) rs all = absurd (excludes y z (pairs_head R y (z ∷ ys) rs 0 z (omega arith)) all.0 all.1.0)
 
 -- the first that passes is the first of those that do
 first_kept : {A : Type 0} (p : A → Bool) (xs : List A) (x : A) → find p xs ≡ Some x → (more : List A) × (filter p xs ≡ x ∷ more)
@@ -59,7 +64,7 @@ kept_alike p q (x ∷ xs) all = rw all.0 (ap (λ ys. cond (q x) (x ∷ ys) ys) (
 
 module _ (us : List row.Upload) (cs : List row.Chunk) (objects : List Object) (s : row.Upload) (r : RepresentObjects us cs objects) (there : find (is_upload s.id) us ≡ Some s) (repo name : List ℕ)
     (found : find (λ u. has_name repo name (object_in cs u)) (filter is_complete us) ≡ Some s) (differ : AllPairs DiffersInName objects) where
-  named : Object → Bool
+  abbrev pub named : Object → Bool
   named = has_name repo name
 
   excludes : Excludes named DiffersInName
@@ -67,7 +72,7 @@ module _ (us : List row.Upload) (cs : List row.Chunk) (objects : List Object) (s
       let p = both_true (bytes_eq x.repo repo) (bytes_eq x.name name) a in let q = both_true (bytes_eq y.repo repo) (bytes_eq y.name name) b in
       apart (same_is x.repo repo p.0 ∙ sym (same_is y.repo repo q.0)) (same_is x.name name p.1 ∙ sym (same_is y.name name q.1))
 
-  complete : List row.Upload
+  abbrev pub complete : List row.Upload
   complete = filter is_complete us
 
   -- of the complete uploads only this one has the name
@@ -187,3 +192,45 @@ module _ (t : Tables) (world : World) (repo name : List ℕ) (u : row.Upload) (r
     unretired = still_unretired world repo name _ (all-filter (λ v. is_staged_in repo v ≡ false) (λ v. not (is_upload u.id v)) t.uploads (none_passes (is_staged_in repo) t.uploads none))
         (all-filter (λ v. is_staged v ≡ true → is_retired v.repo v.oid world ≡ false) (λ v. not (is_upload u.id v)) t.uploads r.unretired);
   }
+
+-- ---- the staged upload of the repository
+
+-- no staged upload of the repository is found
+none_found : (repo : List ℕ) (us : List row.Upload) → NoneIn repo us → find (is_staged_in repo) us ≡ None
+none_found repo us none =
+    none_where (is_staged_in repo) us (all_weaker (λ u. is_staged u ≡ true → u.repo ≡ repo → ⊥) (λ u. is_staged_in repo u ≡ false) (λ u never. at u never (is_staged_in repo u) refl) us none)
+  where
+    at : (u : row.Upload) → (is_staged u ≡ true → u.repo ≡ repo → ⊥) → (v : Bool) → is_staged_in repo u ≡ v → is_staged_in repo u ≡ false
+    at u never false e = e
+    at u never true e = let both = both_true (same_bytes u.repo repo) (is_staged u) e in absurd (never both.1 (same_text u.repo repo both.0))
+
+-- nor after the one that the repository had was removed
+pub staged_in_gone : (t : Tables) (world : World) (repo : List ℕ) (s : row.Upload) → Represents t world → find (is_staged_in repo) t.uploads ≡ Some s → find (is_staged_in repo) (without_staged s.id t).uploads ≡ None
+unfolding without_staged without_upload without_row without_chunks
+staged_in_gone t world repo s r e =
+    let staged = (both_true _ _ (found_passes (is_staged_in repo) t.uploads s e)).1 in
+    let there : staged_with s.id t ≡ Some s = found_staged t.uploads s.id s (found_itself t.uploads s r.objects.rise (in_found (is_staged_in repo) t.uploads s e)) staged in
+    ap (λ o. find (is_staged_in repo) (without_found o t).uploads) there ∙ none_found repo _ (none_left_in repo t.uploads s r.objects.staged e)
+
+-- ---- the rows of retired names
+
+-- a row with the name exists exactly if the world has retired it
+pub retired_known : (t : Tables) (world : World) (repo name : List ℕ) → Represents t world → IsWorld world → is_some (find (is_retired_as repo name) t.retired) ≡ is_retired repo name world
+retired_known t world repo name r w =
+    let is : row.Retired → Bool = is_retired_as repo name in
+    let own : Excludes (λ (x : Retired). is (retired_row x)) DiffersInRetired = λ x y differ a b.
+    let p = both_true _ _ a in let q = both_true _ _ b in
+    differ (same_text x.repo repo p.0 ∙ sym (same_text y.repo repo q.0)) (same_text x.name name p.1 ∙ sym (same_text y.name name q.1)) in
+    let found = same_found retired_kept retired_row is DiffersInRetired t.retired world.retired r.retired own w.once in
+    some_alike retired_kept retired_row (find is t.retired) (find (λ x. is (retired_row x)) world.retired) found
+    ∙ ap is_some (find_alike (λ (x : Retired). is (retired_row x)) (λ x. bytes_eq x.repo repo && bytes_eq x.name name) world.retired (λ x. rw (is_eq-slice_cmp x.repo repo, is_eq-slice_cmp x.name name) refl))
+
+-- the object is removed, or the store has none
+pub would_retire : (t : Tables) (world : World) (repo name : List ℕ) → Represents t world → IsWorld world → IsTrue (is_repo repo) → IsTrue (is_hex_64 name) → is_retired repo name world ≡ false → find (is_staged_in repo) t.uploads ≡ None → is_some (object_named repo name world) ≡ true
+    → IsWorld (without_object repo name world) × Represents (tables.after_retire repo name t) (without_object repo name world)
+unfolding tables.after_retire
+would_retire t world repo name r w in_repo in_name unretired none there = (keeps_without_object repo name world in_repo in_name unretired w, at (find (is_object repo name) t.uploads) refl)
+  where
+    at : (o : Option row.Upload) → find (is_object repo name) t.uploads ≡ o → Represents (tables.without_found_object repo name o t) (without_object repo name world)
+    at None e = absurd (let a : false ≡ true = sym (ap is_some e) ∙ object_known t world repo name r w ∙ there in cc)
+    at (Some u) e = retire_represented t world repo name u r w e none

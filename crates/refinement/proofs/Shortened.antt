@@ -90,11 +90,11 @@ module _ (us : List row.Upload) (cs : List row.Chunk) (objects : List Object) (s
   objects_kept =
       map_alike is_complete (object_in rest) (object_in cs) us
       (all_weaker (λ u. is_upload s.id u ≡ true → u ≡ s) (λ u. is_complete u ≡ true → object_in rest u ≡ object_in cs u)
-      (λ u only whole. same_object cs rest u (others u.id (complete_apart us cs objects s r there staged u only whole))) us (alone us cs objects s r there staged))
+      (λ u only whole. same_object cs rest u (others u.id (complete_apart us cs objects s r there staged u only whole))) us (alone us cs objects s r there))
 
   sizes_kept : AllByRecursion (λ u. HasSize (length (bytes_of u.id rest)) u) us
   sizes_kept =
-      all_both (λ u. HasSize (length (bytes_of u.id cs)) u) (λ u. is_upload s.id u ≡ true → u ≡ s) (λ u. HasSize (length (bytes_of u.id rest)) u) each us r.sizes (alone us cs objects s r there staged)
+      all_both (λ u. HasSize (length (bytes_of u.id cs)) u) (λ u. is_upload s.id u ≡ true → u ≡ s) (λ u. HasSize (length (bytes_of u.id rest)) u) each us r.sizes (alone us cs objects s r there)
     where
       each : (u : row.Upload) → HasSize (length (bytes_of u.id cs)) u → (is_upload s.id u ≡ true → u ≡ s) → HasSize (length (bytes_of u.id rest)) u
       each u h only = by_test (is_upload s.id u) refl

@@ -11,9 +11,15 @@ use Rattle.sqlite.proofs.Theorems.{opens_again}
 use Rattle.model.proofs.Keeping.{makes_world}
 use Rattle.tables.specs.Runs.{IsKept}
 use Rattle.tables.specs.Rows.{tables_under}
-use Rattle.tables.specs.Layout.{current}
+use Rattle.std.specs.Prelude.{IfOk}
+use Rattle.tables.specs.declared.rows.Migrated.{Migrated}
+use Rattle.tables.specs.declared.rows.Migrated.TheVariants as result
+use Rattle.tables.specs.Shown.{HasOld, MigratesTo, IsMigrated}
+use Rattle.refinement.specs.Representation.{RepresentedFirst}
+use Rattle.tables.specs.Rows.{meta}
+use Rattle.tables.specs.Layout.{version_one, current}
 use Rattle.tables.specs.Schemas.{HasAll}
-use Rattle.tables.proofs.Opened.{kept_is_sound, kept_some, all_of, shown_once}
+use Rattle.tables.proofs.Opened.{kept_is_sound, kept_some, all_of, shown_once, not_none}
 use Rattle.refinement.specs.Opening.{HoldsAmong, IsAt, IsAtOne}
 use Rattle.refinement.proofs.Changes.{fresh_represented}
 
@@ -80,6 +86,41 @@ module _ {S : Type 0} (g : Ghosts S) (old new : Store S) where
   pub committed_among : (schema : Schema) (bound : Bound) → HasOurs g old → IsSound schema (committed g old) → IsAmong (tables_under schema (committed g old)) bound → IsAmong (shown g old) bound
   committed_among schema bound ours sound = subst (λ (t : Tables). IsAmong t bound) (shown_once schema (committed g old) _ sound ours.kept (ap (λ (d : Database). d.trees) (sym ours.settled)))
 
+-- a migration that succeeded
+module _ {S : Type 0} (g : Ghosts S) (old new : Store S) where
+  pub record MigratesBy (m : Migrated) : Type 0 where
+    pub ready : HasTables g new
+    pub ok : IsHonest g new → MigratesTo g old new m
+    pub safe : IsHonest g new → IsSafe g new
+    pub only : IsHonest g new → (t : Tables) → Leaves g new t → IsMigrated g old m t
+
+  pub migrates : {E : Type 0} (r : Result Migrated E) → OnOk r (HasTables g new) → (IsHonest g new → IfOk r (MigratesTo g old new)) → (IsHonest g new → OnOk r (IsSafe g new)) → (IsHonest g new → IfOk r (λ m. (t : Tables) → Leaves g new t → IsMigrated g old m t)) → IfOk r MigratesBy
+  migrates (Ok m) ready ok safe only = record { ready = ready; ok = ok; safe = safe; only = only }
+  migrates (Err e) ready ok safe only = tt
+
+  -- without a migration it is as after `create_or_check`
+  pub as_accepted : MigratesBy result.Already → Accepts g old new
+  as_accepted m = record { ready = m.ready; ok = m.ok; safe = m.safe; only = m.only }
+
+  pub is_migrated : MigratesBy result.From1 → IsHonest g new → (world : World) → IsWorld world → (HasOld g old → RepresentedFirst (shown g old) world) → IsAt g new world
+  is_migrated m honest world laws was =
+      let it = m.ok honest in
+      record {
+        holds = record { ready = m.ready; laws = laws; shows = λ k o. subst (λ (t : Tables). Represents t world) (sym it.1) (was it.0) };
+        left = record { safe = m.safe; among = λ k t left. inl (laws, subst (λ (u : Tables). Represents u world) (sym (m.only k t left).1) (was it.0)) };
+      }
+
+  -- a database with nothing of ours is not of version 1
+  none_is_old : HasNoTable g old → HasOld g old → ⊥
+  none_is_old none was = not_none version_one _ _ none (was.old.schema.all.parts.made meta refl) refl
+
+  pub none_is_new : HasNoTable g old → (m : Migrated) → MigratesBy m → IsAt g new nothing
+  none_is_new none result.From1 m = record {
+    holds = record { ready = m.ready; laws = makes_world [] nothing refl; shows = λ k o. absurd (none_is_old none (m.ok k).0) };
+    left = record { safe = m.safe; among = λ k t left. absurd (none_is_old none (m.ok k).0) };
+  }
+  none_is_new none result.Already m = is_new g old new (as_accepted m) none
+
 -- the next open can read what a stop leaves of a store
 pub left_image : {D : Type 0} {g : disk.Ghosts D} (s : Store (FileStore D g)) (bound : Bound) → IsHonest over_files s → IsBoundedBy over_files s bound → IsTrue (files.view s.conn.store).is_numbered
     → (image : Image) → (files.state s.conn.store).may_leave image → HoldsAmong image bound
@@ -90,6 +131,14 @@ left_image s bound honest b numbered image may =
     let left : Leaves over_files s (tables_of kept.0) = (kept.0, kept.1, subst (files.recovers s.conn.store) kept.2 found, refl) in
     (kept.0.schema, all_of kept.0 kept.1, subst (IsSound kept.0.schema) (sym kept.2) (kept_is_sound kept.0 kept.1), subst (λ (t : Trees). IsAmong (tables_under kept.0.schema t) bound) (sym kept.2) (b.among honest (tables_of kept.0) left)) in
     ∥∥₁_map (opens_again s.conn.store numbered (λ db found. let it = sound db found in (it.0, it.2)) image may) (λ db. (db.0, db.2, sound db.0 db.1))
+
+-- what a migration did that returned this
+pub told : {S E : Type 0} (g : Ghosts S) (old new : Store S) (r : Result Migrated E) (m : Migrated) → r ≡ Ok m → IfOk r (MigratesBy g old new) → MigratesBy g old new m
+told g old new r m is by = subst (λ q. IfOk q (MigratesBy g old new)) is by
+
+pub if_ok_on : {T E Q : Type 0} {P : T → Type 0} (r : Result T E) → ((x : T) → P x → Q) → IfOk r P → OnOk r Q
+if_ok_on (Ok x) f p = f x p
+if_ok_on (Err e) f p = tt
 
 pub both_ok : {T E P Q R : Type 0} (r : Result T E) → (P → Q → R) → OnOk r P → OnOk r Q → OnOk r R
 both_ok (Ok x) f p q = f p q

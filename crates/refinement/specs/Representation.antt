@@ -6,7 +6,7 @@ use Rattle.sqlite_trees.specs.declared.store.Store.{Ghosts}
 use Rattle.model.specs.World.{World, IsWorld, Lock, Token, Retired, total, is_retired}
 use Rattle.tables.specs.Rows as row
 use Rattle.tables.specs.Rows.{Tables}
-use Rattle.tables.specs.Runs.{current_meta}
+use Rattle.tables.specs.Runs.{current_meta, migrated}
 use Rattle.tables.specs.Statements.{is_staged}
 use Rattle.tables.specs.Steps.{code_of, made_of, used_of}
 use Rattle.tables.specs.Shown.{IsHonest, IsOpen, HasTables, shown}
@@ -52,6 +52,10 @@ pub record Represents (t : Tables) (world : World) : Type 0 where
   pub objects : RepresentObjects t.uploads t.chunks world.objects
   pub retired : IsPermutation (map retired_kept t.retired) (map retired_row world.retired)
   pub unretired : AreUnretired world t.uploads
+
+-- rows of version 1 represent the world that they represent once migrated
+abbrev pub RepresentedFirst : Tables → World → Type 0
+RepresentedFirst t = Represents (migrated t)
 
 -- the store holds the world: while the disk is honest and the store open, its tables represent it
 pub record Holds {S : Type 0} (g : Ghosts S) (s : Store S) (world : World) : Type 0 where

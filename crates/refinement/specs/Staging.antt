@@ -4,7 +4,7 @@ use Rattle.sqlite_trees.specs.declared.store.Store.{Ghosts}
 use Rattle.tables.specs.Rows as row
 use Rattle.tables.specs.Rows.{Tables}
 use Rattle.tables.specs.Shown.{IsHonest, IsOpen, shown}
-use Rattle.tables.specs.Statements.{is_upload}
+use Rattle.tables.specs.Statements.{is_upload, is_staged_in}
 use Rattle.tables.specs.Staging.{staged_with}
 use Rattle.tables.specs.declared.Store.{Store}
 use Rattle.refinement.specs.Objects.{HasPieces, IsStored}
@@ -32,6 +32,10 @@ module _ {S : Type 0} (g : Ghosts S) where
   -- while the disk is honest and the store open, it shows no staged upload with this id
   abbrev pub StagesNone : Store S → ℤ → Type 0
   StagesNone s id = IsHonest g s → IsOpen g s → staged_with id (shown g s) ≡ None
+
+  -- while the disk is honest and the store open, it shows no staged upload of the repository
+  abbrev pub StagesNoneIn : Store S → List ℕ → Type 0
+  StagesNoneIn s repo = IsHonest g s → IsOpen g s → find (is_staged_in repo) (shown g s).uploads ≡ None
 
   -- while the disk is honest and the store open, it shows these bytes of the upload
   abbrev pub Stores : Store S → ℤ → List ℕ → Type 0

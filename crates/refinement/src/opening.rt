@@ -1,6 +1,6 @@
 //! Opens a store: in the world of a new server, or in the one that its database holds.
 
-ghost use Rattle.std.specs.Prelude.{◌≡◌, [], IfOk, OnErr, OnOk};
+ghost use Rattle.std.specs.Prelude.{◌≡◌, [], Ok, IfOk, OnErr, OnOk};
 ghost use Rattle.sqlite_trees.specs.Objects.{catalog_tree};
 ghost use Rattle.sqlite_trees.specs.View.{IsClean};
 ghost use Rattle.sqlite_wal.specs.Files.{image_at};
@@ -10,8 +10,9 @@ ghost use Rattle.sqlite.specs.Files.{over_files, IsNothing};
 ghost use Rattle.model.specs.World.{World, IsWorld, nothing};
 ghost use Rattle.model.specs.Bounds.{Bound, IsWithin, SameWorld};
 ghost use Rattle.tables.specs.Rows.{Tables};
-ghost use Rattle.tables.specs.Shown.{connection, committed, IsHonest, HasNoTable, HasOurs, Rests, AddsFresh, shown};
-ghost use Rattle.refinement.specs.Representation.{Represents};
+ghost use Rattle.tables.specs.Shown.{connection, committed, IsHonest, HasNoTable, HasOurs, HasOld, Rests, AddsFresh, AddsMigrated, shown};
+ghost use Rattle.refinement.specs.Representation.{Represents, RepresentedFirst};
+ghost use Rattle.tables.specs.declared.rows.Migrated.TheVariants as Migrated;
 ghost use Rattle.refinement.specs.Left.{IsBoundedBy, IsLeft};
 ghost use Rattle.refinement.specs.Opening.{AreAmong, HoldsAmong, IsAt, IsAtOne};
 
@@ -19,14 +20,14 @@ use sqlite::{FileFrom, FileStore, Start};
 use sqlite_disk::Disk;
 use std::alloc::Global;
 use std::rt::HostRuntime;
-use tables::{Alter, OpenFault, Storage, Store};
+use tables::{Alter, Migrated, OpenFault, Storage, Store};
 
 /// Creates the tables of a database that has none, and accepts one that has them. The store then holds
 /// the world of a new server, or the one that the tables represent, and a stop leaves only that world.
 ///
 /// # Errors
 ///
-/// Those of `Store::create_or_check`, which leave the database unchanged; if it had none of the six tables, a stop may
+/// Those of `Store::create_or_check`, which leave the database unchanged; if it had none of our tables, a stop may
 /// still leave those of a new server.
 pub fn start<S: Storage>(alloc: Global, store: &mut Store<S>) -> Result<(), OpenFault>
     ensures honest { IsHonest S.Store store.new → IsHonest S.Store store.old }
@@ -44,6 +45,28 @@ pub fn start<S: Storage>(alloc: Global, store: &mut Store<S>) -> Result<(), Open
     ensures stop { AddsFresh S.Store store.old store.new }
 {
     store.create_or_check(alloc)
+}
+
+/// Migrates a database of version 1, and treats any other as [`start`] does. The rows of version 1 represent the world
+/// that they represent once migrated, in which no name is retired.
+///
+/// # Errors
+///
+/// Those of `Store::migrate`, which leave the database unchanged; a stop may still leave the migrated database, or that
+/// of a new server.
+pub fn migrate<S: Storage>(alloc: Global, store: &mut Store<S>) -> Result<Migrated, OpenFault>
+    ensures honest { IsHonest S.Store store.new → IsHonest S.Store store.old }
+    ensures migrated { IsHonest S.Store store.new → result ≡ Ok Migrated.From1 → (world : World) → IsWorld world
+        → (HasOld S.Store store.old → RepresentedFirst (shown S.Store store.old) world)
+        → IsAt S.Store store.new world }
+    ensures fresh { HasNoTable S.Store store.old → OnOk result (IsAt S.Store store.new nothing) }
+    ensures found { IsHonest S.Store store.new → result ≡ Ok Migrated.Already → (world : World) → IsWorld world
+        → HasOurs S.Store store.old → Represents (shown S.Store store.old) world
+        → IsAt S.Store store.new world }
+    ensures err { IsHonest S.Store store.new → OnErr result (Rests S.Store store.old store.new) }
+    ensures stop { AddsMigrated S.Store store.old store.new }
+{
+    store.migrate(alloc)
 }
 
 /// Opens the file at the path and accepts its tables as [`start`] does. `first` represents the contents
