@@ -8,9 +8,9 @@ use Rattle.std.proofs.lemmas.Slice.Eq.{bytes_eq-Decides}
 use Rattle.sqlite_keyed.specs.Lists.{insert_sorted, sort_by}
 use Rattle.sqlite_keyed.proofs.SortLemmas.{HasNoTies, sorted_is-sort_by}
 use Rattle.model.specs.Orders as model
-use Rattle.model.specs.RepoState.{ObjectSize, object_size, objects_of}
+use Rattle.model.specs.RepoState.{ObjectSize, object_size, objects_of, retired_of}
 use Rattle.model.specs.Views.{OwnToken, own_token, is_issued_to, tokens_of}
-use Rattle.model.specs.World.{DiffersInDigest, DiffersInName}
+use Rattle.model.specs.World.{Retired, DiffersInDigest, DiffersInName, DiffersInRetired}
 use Rattle.refinement.proofs.Sorting.{NotAfter, each_sorted, is_sorted}
 
 -- a list is sorted by a key if its keys are sorted
@@ -107,3 +107,13 @@ pub objects_in_order : (world : World) (repo : List ℕ) (ys : List ObjectSize) 
 objects_in_order world repo ys w same up =
     let apart = no_ties size_cmp size_total DiffersInName (λ o. bytes_eq o.repo repo) object_size (in_one repo) world.objects w.names in
     sorted_by size_cmp size_total _ ys apart same (is_sorted size_cmp size_total ys up)
+
+one_name : (repo : List ℕ) (a b : Retired) → bytes_eq a.repo repo ≡ true → bytes_eq b.repo repo ≡ true → DiffersInRetired a b → is_eq (slice_cmp nat_cmp a.name b.name) ≡ false
+one_name repo a b p q differ = texts_differ a.name b.name (differ ((bytes_eq-Decides a.repo repo).0 p ∙ sym ((bytes_eq-Decides b.repo repo).0 q)))
+
+-- the retired names of a repository, in rising order
+pub retired_in_order : (world : World) (repo : List ℕ) (ys : List (List ℕ)) → IsWorld world
+    → IsPermutation (map (λ (r : Retired). r.name) (filter (λ r. bytes_eq r.repo repo) world.retired)) ys → IsAscending (NotAfter (slice_cmp nat_cmp) nat_list_cmp_total) ys → ys ≡ retired_of repo world
+retired_in_order world repo ys w same up =
+    let apart = no_ties (slice_cmp nat_cmp) nat_list_cmp_total DiffersInRetired (λ r. bytes_eq r.repo repo) (λ (r : Retired). r.name) (one_name repo) world.retired w.once in
+    sorted_by (slice_cmp nat_cmp) nat_list_cmp_total _ ys apart same (is_sorted (slice_cmp nat_cmp) nat_list_cmp_total ys up)

@@ -1,7 +1,18 @@
 -- An object that is removed for good: what the tables represent then.
 use Rattle.refinement.proofs.Prelude.{◌≡◌, ◌∙◌, ℕ, ◌+◌, ◌≤◌, ℤ, pos, Bool, true, false, not, ◌&&◌, List, [], ◌∷◌, map, filter, find, cond, length, Option, Some, None, option_map, is_some, bytes_eq, IsTrue, refl, sym, ap, subst, AllPairs, IsPermutation, arith, ints, AllByRecursion, int_eq, true≢false, AllPairs-filter, IsPermutation-filter, filter-map, length-map, length_permutation, bytes_eq-Decides, is_eq-slice_cmp, next_key, all_weaker, all_kept, all_of, World, IsWorld, Object, object_named, total, Repo, Tables, same_bytes, is_upload, is_complete, is_staged, is_staged_in, is_object, used_in, used_of, set_used, bytes_of, object_in, chunks_of, HasSize, DiffersInName, DiffersInRepo, RepresentObjects, Represents, in_found, found_passes, none_where, both_true}
 use Rattle.std.specs.Prelude.{◌-ℤ◌}
-use Rattle.sqlite_keyed.proofs.ListLemmas.{all-filter}
+use Rattle.std.specs.Ordering.{is_gt, nat_cmp, ordering_then}
+use Rattle.std.specs.Cmp.{IsTotalOrder}
+use Rattle.std.specs.Cmp.Lexicographic.{slice_cmp}
+use Rattle.std.specs.declared.cmp.Ordering.{Ordering}
+use Rattle.std.specs.declared.cmp.Ordering.TheVariants.{Less, Equal, Greater}
+use Rattle.std.proofs.lemmas.Cmp.{on_total, then_total, int_cmp_total, nat_list_cmp_total}
+use Rattle.std.proofs.lemmas.List.Sorted.{IsPermutation-map, IsPermutation-sym, IsPermutation-trans}
+use Rattle.sqlite_keyed.proofs.ListLemmas.{all-filter, ascending-map, ascending_weaker, map-map}
+use Rattle.sqlite_keyed.proofs.SortLemmas.{IsPermutation-sort_by}
+use Rattle.model.specs.RepoState.{retired_of}
+use Rattle.refinement.proofs.Orders.{retired_in_order}
+use Rattle.refinement.proofs.Sorting.{NotAfter, sorted_rises}
 use Rattle.sqlite_keyed.proofs.KeyedLemmas.{IsKeyedBy-delete_where}
 use Rattle.names.specs.Texts.{is_hex_64, is_repo}
 use Rattle.model.specs.World.{Retired, DiffersInRetired, has_name, is_retired, without_object}
@@ -9,7 +20,7 @@ use Rattle.model.proofs.Keeping.{keeps_without_object}
 use Rattle.model.specs.Reading.{or_default}
 use Rattle.model.proofs.Totals.{total_without}
 use Rattle.tables.specs.Rows as row
-use Rattle.tables.specs.Statements.{is_named, is_retired_as, without_row, without_chunks, with_retired}
+use Rattle.tables.specs.Statements.{is_named, is_retired_as, is_retired_in, by_oid, oid_cmp, without_row, without_chunks, with_retired}
 use Rattle.tables.specs.Staging.{staged_with, with_used, without_upload, without_found, without_staged}
 use Rattle.refinement.proofs.Begun.{NoneIn, none_left_in}
 use Rattle.refinement.proofs.Completing.{found_staged}
@@ -234,3 +245,31 @@ would_retire t world repo name r w in_repo in_name unretired none there = (keeps
     at : (o : Option row.Upload) → find (is_object repo name) t.uploads ≡ o → Represents (tables.without_found_object repo name o t) (without_object repo name world)
     at None e = absurd (let a : false ≡ true = sym (ap is_some e) ∙ object_known t world repo name r w ∙ there in cc)
     at (Some u) e = retire_represented t world repo name u r w e none
+
+oid_total : IsTotalOrder oid_cmp
+oid_total = then_total (on_total (λ (r : row.Retired). r.oid) nat_list_cmp_total) (on_total (λ (r : row.Retired). r.rowid) int_cmp_total)
+
+first_of_two : (a b : Ordering) → is_gt (ordering_then a b) ≡ false → is_gt a ≡ false
+first_of_two Less b e = refl
+first_of_two Equal b e = refl
+first_of_two Greater b e = e
+
+-- the rows of a repository's retired names, in order, are those of the world
+pub names_retired : (t : Tables) (world : World) (repo : List ℕ) → Represents t world → IsWorld world → map (λ (r : row.Retired). r.oid) (by_oid (filter (is_retired_in repo) t.retired)) ≡ retired_of repo world
+names_retired t world repo r w =
+    let own : row.Retired → Bool = is_retired_in repo in
+    let name : row.Retired → List ℕ = λ x. x.oid in
+    let rows = filter own t.retired in
+    let kept : map name (map retired_kept rows) ≡ map name rows = map-map name retired_kept rows in
+    let world_names = map (λ (x : Retired). x.name) (filter (λ x. bytes_eq x.repo repo) world.retired) in
+    let wanted : map name (filter own (map retired_row world.retired)) ≡ world_names =
+    ap (map name) (filter-map own retired_row world.retired) ∙ map-map name retired_row (filter (λ x. own (retired_row x)) world.retired)
+    ∙ ap (map (λ (x : Retired). x.name)) (kept_alike (λ x. own (retired_row x)) (λ x. bytes_eq x.repo repo) world.retired (all_of (λ (x : Retired). own (retired_row x) ≡ bytes_eq x.repo repo) (λ x. is_eq-slice_cmp x.repo repo) world.retired)) in
+    let same : IsPermutation (map name rows) world_names =
+    subst (IsPermutation (map name rows)) wanted
+    (subst (λ (ns : List (List ℕ)). IsPermutation ns (map name (filter own (map retired_row world.retired)))) (ap (map name) (filter-map own retired_kept t.retired) ∙ kept)
+    (IsPermutation-map name (filter own (map retired_kept t.retired)) (filter own (map retired_row world.retired)) (IsPermutation-filter own (map retired_kept t.retired) (map retired_row world.retired) r.retired))) in
+    let sorted = IsPermutation-map name (by_oid rows) rows (IsPermutation-sort_by oid_cmp oid_total rows) in
+    retired_in_order world repo (map name (by_oid rows)) w (IsPermutation-sym (map name (by_oid rows)) world_names (IsPermutation-trans (map name (by_oid rows)) (map name rows) world_names sorted same))
+    (ascending-map (NotAfter (slice_cmp nat_cmp) nat_list_cmp_total) name (by_oid rows)
+    (ascending_weaker (NotAfter oid_cmp oid_total) (λ a b. NotAfter (slice_cmp nat_cmp) nat_list_cmp_total (name a) (name b)) (λ a b. first_of_two (slice_cmp nat_cmp a.oid b.oid) _) (by_oid rows) (sorted_rises oid_cmp oid_total rows)))
