@@ -8,7 +8,7 @@ use Rattle.tokens.specs.declared.issuing.TokenFault.{TokenFault}
 use Rattle.tokens.specs.declared.requests.TokenRequest.{TokenRequest}
 use Rattle.tokens.specs.Issuing.{Issues, Refuses}
 use Rattle.operator.specs.declared.tasks.Task.{Task}
-use Rattle.operator.specs.declared.tasks.Task.TheVariants.{Issue, Prune, CheckPush, Foresee, ListLocks, ListObjects, CheckObjects, Sweep}
+use Rattle.operator.specs.declared.tasks.Task.TheVariants.{Issue, Prune, CheckPush, Foresee, ListLocks, ListObjects, CheckObjects, Sweep, Retire}
 use Rattle.operator.specs.Tasks.{Does}
 
 -- the steps of the calls, and of more calls
@@ -108,6 +108,7 @@ module _ {S : Type 0} (g : Ghosts S) where
   does_work a b (Issue policy asked) world d = works_takes a b world _ _ d.1.takes
   does_work a b (Prune now) world d = prunes_work a b now (Ok d.0) world d.1
   does_work a b Sweep world d = sweeps_work a b (Ok d.0) world d.1
+  does_work a b (Retire repo oid) world d = works_takes a b world _ _ d.2
   does_work a b (CheckPush push) world d = works_still a b world d
   does_work a b (Foresee asked) world d = works_still a b world d.0
   does_work a b (ListLocks repo) world d = works_still a b world d
