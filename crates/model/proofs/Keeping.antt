@@ -436,8 +436,7 @@ keeps_with_object world o is unretired w = at (object_named o.repo o.name world)
 new_retired : (r : Retired) (names : List Retired) → find (λ (s : Retired). bytes_eq s.repo r.repo && bytes_eq s.name r.name) names ≡ None → AllByRecursion (DiffersInRetired r) names
 new_retired r [] e = tt
 new_retired r (s ∷ names) e =
-    let none = not_found (bytes_eq s.repo r.repo && bytes_eq s.name r.name) s (find (λ (q : Retired). bytes_eq q.repo r.repo && bytes_eq q.name r.name) names) e in
-    (
+    let none = not_found (bytes_eq s.repo r.repo && bytes_eq s.name r.name) s (find (λ (q : Retired). bytes_eq q.repo r.repo && bytes_eq q.name r.name) names) e in (
       λ repo name. true≢false (sym (and_from _ _ ((bytes_eq-Decides s.repo r.repo).1 (sym repo)) ((bytes_eq-Decides s.name r.name).1 (sym name))) ∙ none.0),
       new_retired r names none.1,
     )
