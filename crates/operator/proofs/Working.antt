@@ -7,6 +7,8 @@ use Rattle.refinement.specs.Representation.{Holds}
 use Rattle.tokens.specs.declared.issuing.TokenFault.{TokenFault}
 use Rattle.tokens.specs.declared.requests.TokenRequest.{TokenRequest}
 use Rattle.tokens.specs.Issuing.{Issues, Refuses}
+use Rattle.uploads.specs.declared.retiring.Retired.{Retired}
+use Rattle.uploads.specs.Retiring.{Retires}
 use Rattle.operator.specs.declared.tasks.Task.{Task}
 use Rattle.operator.specs.declared.tasks.Task.TheVariants.{Issue, Prune, CheckPush, Foresee, ListLocks, ListObjects, CheckObjects, Sweep, Retire}
 use Rattle.operator.specs.Tasks.{Does}
@@ -94,6 +96,11 @@ module _ {S : Type 0} (g : Ghosts S) where
   pub sweeps_work : (a b : Store S) (r : Result ℕ StoreFault) (world : World) → Sweeps g world a b r → Works g a b world
   sweeps_work a b (Ok n) world p = works_keeps a b world p.0
   sweeps_work a b (Err f) world p = works_keeps a b world p
+
+  -- an object is removed for good, or there is none, or the store refused
+  pub retires_work : (a b : Store S) (repo name : List ℕ) (r : Result Retired StoreFault) (world : World) → Retires g world repo name a b r → Works g a b world
+  retires_work a b repo name (Ok given) world t = works_takes a b world _ _ t
+  retires_work a b repo name (Err f) world t = works_takes a b world _ _ t.0
 
   -- a token is issued
   pub from_issues : (a b : Store S) (asked : TokenRequest) (text : List ℕ) → From g a b (λ world. Issues g world a b asked text) → From g a b (Works g a b)

@@ -30,9 +30,11 @@ const LATE: &str =
 
 const PRUNE: &str = "prune --db @/db --now 1463503600";
 
-const RETIRE: &str = "retire --db @/db --repo studio/film ba7816bf8f01cfea414140de5dae2223b00361a396177a9cb410ff61f20015ad";
+const RETIRE: &str =
+    "retire --db @/db --repo studio/film ba7816bf8f01cfea414140de5dae2223b00361a396177a9cb410ff61f20015ad";
 
-const RETIRE_NONE: &str = "retire --db @/db --repo studio/film 2cf24dba5fb0a30e26e83b2ac5b9e29e1b161e5c1fa7425e73043362938b9824";
+const RETIRE_NONE: &str =
+    "retire --db @/db --repo studio/film 2cf24dba5fb0a30e26e83b2ac5b9e29e1b161e5c1fa7425e73043362938b9824";
 
 const DENIED: &str = "policy --policy @/policy --user zoe --repo studio/film --right pull";
 
