@@ -148,7 +148,7 @@ sql INSERT INTO uploads VALUES (7, 'studio/game', 'ba7816bf8f01cfea414140de5dae2
 sql INSERT INTO chunks VALUES (7, 0, x'616263')
 sql INSERT INTO uploads VALUES (8, 'studio/film', '2cf24dba5fb0a30e26e83b2ac5b9e29e1b161e5c1fa7425e73043362938b9824', 5, 0)
 sql INSERT INTO uploads VALUES (9, 'studio/game', '2cf24dba5fb0a30e26e83b2ac5b9e29e1b161e5c1fa7425e73043362938b9824', 5, 0)
-# an object that is not stored, in either; nothing is removed
+# an object that is not stored, though an upload of it is staged; and one of another repository
 $ retire --db @/db --repo studio/film 2cf24dba5fb0a30e26e83b2ac5b9e29e1b161e5c1fa7425e73043362938b9824
 error custody: no such object
 status 1
@@ -158,25 +158,27 @@ status 1
 $ objects --db @/db --repo studio/film
 | ba7816bf8f01cfea414140de5dae2223b00361a396177a9cb410ff61f20015ad 3
 | e3b0c44298fc1c149afbf4c8996fb92427ae41e4649b934ca495991b7852b855 0
-# a server removes it, and the staged upload of the repository
-via retire --repo studio/film ba7816bf8f01cfea414140de5dae2223b00361a396177a9cb410ff61f20015ad
+# the object is removed, and the staged upload of its repository
+$ retire --db @/db --repo studio/film ba7816bf8f01cfea414140de5dae2223b00361a396177a9cb410ff61f20015ad
 | retired ba7816bf8f01cfea414140de5dae2223b00361a396177a9cb410ff61f20015ad
-via retire --repo studio/film ba7816bf8f01cfea414140de5dae2223b00361a396177a9cb410ff61f20015ad
-| already retired ba7816bf8f01cfea414140de5dae2223b00361a396177a9cb410ff61f20015ad
-via retire --repo studio/film 2cf24dba5fb0a30e26e83b2ac5b9e29e1b161e5c1fa7425e73043362938b9824
-error custody: no such object
-status 1
+$ sweep --db @/db
+| swept 1 uploads
 $ objects --db @/db --repo studio/film
 | e3b0c44298fc1c149afbf4c8996fb92427ae41e4649b934ca495991b7852b855 0
 $ objects --db @/db --repo studio/game
 | ba7816bf8f01cfea414140de5dae2223b00361a396177a9cb410ff61f20015ad 3
 $ check --db @/db
 | checked 2 objects
-$ sweep --db @/db
-| swept 1 uploads
-# the object of no bytes
-$ retire --db @/db --repo studio/film e3b0c44298fc1c149afbf4c8996fb92427ae41e4649b934ca495991b7852b855
+# a server removes the object of no bytes
+via retire --repo studio/film 2cf24dba5fb0a30e26e83b2ac5b9e29e1b161e5c1fa7425e73043362938b9824
+error custody: no such object
+status 1
+via retire --repo studio/film e3b0c44298fc1c149afbf4c8996fb92427ae41e4649b934ca495991b7852b855
 | retired e3b0c44298fc1c149afbf4c8996fb92427ae41e4649b934ca495991b7852b855
+via retire --repo studio/film e3b0c44298fc1c149afbf4c8996fb92427ae41e4649b934ca495991b7852b855
+| already retired e3b0c44298fc1c149afbf4c8996fb92427ae41e4649b934ca495991b7852b855
+$ retire --db @/db --repo studio/film e3b0c44298fc1c149afbf4c8996fb92427ae41e4649b934ca495991b7852b855
+| already retired e3b0c44298fc1c149afbf4c8996fb92427ae41e4649b934ca495991b7852b855
 $ objects --db @/db --repo studio/film
 $ session --db @/db --policy @/policy --now 1463500146
 > PUT /studio/film.git/info/lfs/content/e3b0c44298fc1c149afbf4c8996fb92427ae41e4649b934ca495991b7852b855 HTTP/1.1
