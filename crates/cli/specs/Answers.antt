@@ -2,8 +2,8 @@
 use Rattle.std.specs.Prelude.{ℕ, ◌+◌, ◌-◌, ◌==◌, Bool, true, false, List, [], ◌∷◌, Option, Some, None, codes, decimal, length, ◌++◌, slice_get, if◌then◌else◌}
 use Rattle.model.specs.Policy.{Policy, Row, Decision, allowed, denied}
 use Rattle.policy.specs.Covering.{covers}
-use Rattle.tables.specs.declared.migrating.Migrated.{Migrated}
-use Rattle.tables.specs.declared.migrating.Migrated.TheVariants.{From1, Already}
+use Rattle.tables.specs.declared.rows.Migrated.{Migrated}
+use Rattle.tables.specs.declared.rows.Migrated.TheVariants.{From1, Already}
 
 -- the question is allowed
 abbrev pub is_allowed : Decision → Bool

@@ -12,7 +12,7 @@ returns-in_err-removal-clause-world g c =
 pub returns-in_err-removal-clause-none : goal.returns-in_err-removal-clause-none
 returns-in_err-removal-clause-none g c =
     let p = err_from_is_err_and c.from_residual.result c.from_residual.ensures.1 in
-    from_weaker g.S.Store c.args.store.now c.retire.new.store _ _ (λ world t e. absurd (refused_otherwise _ c.from_residual.result (p.1 ∙ ap Err p.2) e)) c.retire.ensures
+    from_weaker g.S.Store c.args.store.now c.retire.new.store _ _ (λ world t e. absurd (refused_otherwise c.in_err-removal.field-0.0 c.from_residual.result (p.1 ∙ ap Err p.2) e)) c.retire.ensures
 
 pub returns-clause-world : goal.returns-clause-world
 returns-clause-world g c =
