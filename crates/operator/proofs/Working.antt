@@ -100,7 +100,7 @@ module _ {S : Type 0} (g : Ghosts S) where
   -- an object is removed for good, or there is none, or the store refused
   pub retires_work : (a b : Store S) (repo name : List ℕ) (r : Result Retired StoreFault) (world : World) → Retires g world repo name a b r → Works g a b world
   retires_work a b repo name (Ok given) world t = works_takes a b world _ _ t
-  retires_work a b repo name (Err f) world t = works_takes a b world _ _ t.0
+  retires_work a b repo name (Err f) world t = works_takes a b world _ _ t
 
   -- a token is issued
   pub from_issues : (a b : Store S) (asked : TokenRequest) (text : List ℕ) → From g a b (λ world. Issues g world a b asked text) → From g a b (Works g a b)

@@ -11,6 +11,7 @@ ghost use Rattle.operator.specs.Works.{Works};
 
 use crate::faults::TaskFault;
 use names::{Oid, RepoName};
+use std::alloc::Global;
 use std::io::{self, Write};
 use tables::{Alter, Store};
 use uploads::Retired;
@@ -48,6 +49,7 @@ fn report<W: Write>(output: &mut W, oid: &Oid, removal: Retired) -> Result<(), T
 /// `NoObject` if the repository has neither the object nor its name among those removed; `Store` and `Memory`, which leave
 /// the object; and `Output` if the line could not be written: the object is removed all the same.
 pub(crate) fn retire<S: Alter, W: Write>(
+    alloc: Global,
     store: &mut Store<S>,
     repo: &RepoName,
     oid: &Oid,
@@ -59,6 +61,6 @@ pub(crate) fn retire<S: Alter, W: Write>(
     ensures none { From S.Store store.old store.new (λ world. result ≡ Err NoObject
         → removal_of world (repo_text repo.now) oid.now ≡ no_object) }
 {
-    let removal = uploads::retire(store, repo, oid)?;
+    let removal = uploads::retire(alloc, store, repo, oid)?;
     report(output, oid, removal)
 }

@@ -78,7 +78,7 @@ impl Task<'_> {
             Task::ListObjects(repo) => list_objects(alloc, store, repo, output),
             Task::CheckObjects(terminal) => check_objects(alloc, store, *terminal, output),
             Task::Sweep => sweep(alloc, store, output),
-            Task::Retire(repo, oid) => retire(store, repo, oid, output),
+            Task::Retire(repo, oid) => retire(alloc, store, repo, oid, output),
         }
     }
 }
