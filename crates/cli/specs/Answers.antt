@@ -1,7 +1,9 @@
--- What the command `policy` answers, and the lines that it prints.
+-- What the command `policy` answers, the lines that it prints, and those of `migrate`.
 use Rattle.std.specs.Prelude.{ℕ, ◌+◌, ◌-◌, ◌==◌, Bool, true, false, List, [], ◌∷◌, Option, Some, None, codes, decimal, length, ◌++◌, slice_get, if◌then◌else◌}
 use Rattle.model.specs.Policy.{Policy, Row, Decision, allowed, denied}
 use Rattle.policy.specs.Covering.{covers}
+use Rattle.tables.specs.declared.rows.Migrated.{Migrated}
+use Rattle.tables.specs.declared.rows.Migrated.TheVariants.{From1, Already}
 
 -- the question is allowed
 abbrev pub is_allowed : Decision → Bool
@@ -46,3 +48,8 @@ abbrev pub row_line : ℕ → Option ℕ → List ℕ
 row_line row None = codes "row " ++ decimal row
 row_line row (Some earlier) =
     codes "row " ++ decimal row ++ codes ": never reached, row " ++ decimal earlier ++ codes " covers it"
+
+-- the line of a database that was migrated, or had version 2 already
+abbrev pub migrated_line : Migrated → List ℕ
+migrated_line From1 = codes "migrated from version 1"
+migrated_line Already = codes "already version 2"

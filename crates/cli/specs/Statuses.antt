@@ -19,7 +19,7 @@ use Rattle.operator.specs.declared.paths.PathsFault.TheVariants as paths
 use Rattle.control.specs.declared.status.Status.{Status}
 use Rattle.control.specs.declared.status.Status.TheVariants.{Good, Refused, Invalid}
 use Rattle.cli.specs.declared.faults.Fault.{Fault}
-use Rattle.cli.specs.declared.faults.Fault.TheVariants.{Arguments, Value, BadPath, TooManyPaths, InputTooLong, NoMessage, NoCaller, Clock, PolicyFile, Policy, PolicyDescribed, Repository, Random, Network, UnknownSchema, Store, Token, Memory, Output, Session, Control, Operator, Request, Reported}
+use Rattle.cli.specs.declared.faults.Fault.TheVariants.{Arguments, Value, BadPath, TooManyPaths, InputTooLong, NoMessage, NoCaller, NoObject, Clock, PolicyFile, Policy, PolicyDescribed, Repository, Random, Network, UnknownSchema, Store, Token, Memory, Output, Session, Control, Operator, Request, Reported}
 
 -- invalid for a fault of the arguments, of the paths, of a request or of its size, the status that was reported, else refused
 abbrev pub status_of : Fault → Status
@@ -31,6 +31,7 @@ status_of Request = Invalid
 status_of InputTooLong = Invalid
 status_of NoMessage = Refused
 status_of NoCaller = Refused
+status_of NoObject = Refused
 status_of Clock = Refused
 status_of PolicyFile = Refused
 status_of (Policy _) = Refused
@@ -80,6 +81,7 @@ abbrev pub of_task : TaskFault → Fault
 of_task (task.Store fault) = Store fault
 of_task (task.Token fault) = Token fault
 of_task task.NoCaller = NoCaller
+of_task task.NoObject = NoObject
 of_task task.Memory = Memory
 of_task task.Output = Output
 of_task task.Reported = Reported Refused

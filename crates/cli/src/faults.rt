@@ -38,6 +38,9 @@ pub enum Fault {
     /// The message presents no valid token of the user for the repository.
     #[error("no caller")]
     NoCaller,
+    /// The repository has no object of the name, and had none that was removed for good.
+    #[error("custody: no such object")]
+    NoObject,
     /// The machine's clock is out of range.
     #[error("custody: no moment")]
     Clock,
@@ -101,7 +104,7 @@ impl Fault {
             Fault::Arguments(_) | Fault::Value(_) => Status::Invalid,
             Fault::BadPath(_) | Fault::TooManyPaths => Status::Invalid,
             Fault::Request | Fault::InputTooLong => Status::Invalid,
-            Fault::NoMessage | Fault::NoCaller => Status::Refused,
+            Fault::NoMessage | Fault::NoCaller | Fault::NoObject => Status::Refused,
             Fault::Clock => Status::Refused,
             Fault::PolicyFile => Status::Refused,
             Fault::Policy(_) | Fault::PolicyDescribed(_) => Status::Refused,
@@ -185,6 +188,7 @@ impl From<TaskFault> for Fault {
             TaskFault::Store(fault) => Fault::Store(fault),
             TaskFault::Token(fault) => Fault::Token(fault),
             TaskFault::NoCaller => Fault::NoCaller,
+            TaskFault::NoObject => Fault::NoObject,
             TaskFault::Memory => Fault::Memory,
             TaskFault::Output => Fault::Output,
             TaskFault::Reported => Fault::Reported(Status::Refused),

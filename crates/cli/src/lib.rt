@@ -7,6 +7,7 @@
 mod faults;
 mod files;
 mod foreseeing;
+mod migrating;
 mod moments;
 mod opening;
 mod operating;

@@ -1,4 +1,4 @@
-//! Opens the database, for a job over it.
+//! Opens the database, for a job over it, or to migrate it.
 
 ghost use Rattle.refinement.specs.Left.{From};
 ghost use Rattle.operator.specs.Works.{Works};
@@ -8,7 +8,7 @@ use refinement::open_from;
 use std::fs::OpenOptions;
 use std::os::unix::fs::OpenOptionsExt;
 use std::rt::HostRuntime;
-use tables::{Start, Storage, Store};
+use tables::{Migrated, Start, Storage, Store};
 
 /// The mode of a new database: only the user of the process may read it. Its log is made with the same mode.
 const MODE: u32 = 0o600;
@@ -49,4 +49,21 @@ pub(crate) fn open_for<S: Start, J: Job>(
     make_file(rt, db);
     let mut store = open_from(rt, db, start)?;
     job.work(&mut store)
+}
+
+/// Opens the database, making it if it does not exist, and gives it the tables of version 2, if it has those of version 1
+/// or none.
+///
+/// # Errors
+///
+/// `UnknownSchema` if it has other tables, `Store` and `Memory`.
+pub(crate) fn migrate_at<S: Start>(
+    rt: &HostRuntime,
+    db: &str,
+    start: S,
+) -> Result<Migrated, Fault> {
+    make_file(rt, db);
+    let mut store = Store::open_from(rt, db, start)?;
+    let migrated = refinement::migrate(rt.alloc(), &mut store)?;
+    Ok(migrated)
 }

@@ -161,9 +161,10 @@ fn check<S: Start, W: Write>(
 /// # Errors
 ///
 /// `Clock`, `PolicyFile`, `Policy`, `Repository`, `Random`, `BadPath`, `TooManyPaths` and `NoMessage`, which leave the
-/// database unopened; `Store`, `Token` (K1, K2), `NoCaller` and `Memory`; `Output` if the input could not be read, or a
-/// line not be written; and `Reported` if a path may not be pushed, or an object is damaged. After any of them no token
-/// is stored, except perhaps if the database failed while storing it, and no object or lock is changed.
+/// database unopened; `Store`, `Token` (K1, K2), `NoCaller`, `NoObject` and `Memory`; `Output` if the input could not be
+/// read, or a line not be written; and `Reported` if a path may not be pushed, or an object is damaged. After any of them
+/// no token is stored and no object removed, except perhaps if the database failed while doing it, and an object if the
+/// line could not be written; and no lock is changed.
 pub(crate) fn operate<S: Start, R: Read, W: Write>(
     rt: &HostRuntime,
     files: &Files<'_>,
@@ -189,6 +190,7 @@ pub(crate) fn operate<S: Start, R: Read, W: Write>(
         OperatorCommand::Locks(repo) => Task::ListLocks(repo),
         OperatorCommand::Objects(repo) => Task::ListObjects(repo),
         OperatorCommand::Sweep => Task::Sweep,
+        OperatorCommand::Retire(asked) => Task::Retire(&asked.repo, &asked.oid),
     };
     run_task(rt, db, &task, destination, output, start)
 }

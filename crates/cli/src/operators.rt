@@ -137,6 +137,7 @@ impl<C: Clock> OperatorContext<'_, C> {
             OperatorCommand::Objects(repo) => Task::ListObjects(repo),
             OperatorCommand::Check => Task::CheckObjects(None),
             OperatorCommand::Sweep => Task::Sweep,
+            OperatorCommand::Retire(asked) => Task::Retire(&asked.repo, &asked.oid),
         };
         // The program that prints the reply escapes what it prints on a terminal.
         task.run(alloc, store, Destination::Other, output)?;

@@ -5,6 +5,7 @@ ghost use Rattle.std.specs.IoError.{error_kind};
 ghost use Rattle.cli.specs.Statuses.{status_of, status_of_end};
 
 use crate::faults::Fault;
+use crate::migrating::migrate;
 use crate::operating::operate;
 use crate::policy_command::policy_command;
 use crate::serve::serve;
@@ -38,6 +39,7 @@ fn dispatch<S: Start, R: Read, W: Write, E: Write>(
         Command::Session(asked) => session(rt, &asked, input, output, start),
         Command::Serve(asked) => serve(rt, &asked, output, errors, start),
         Command::Policy(asked) => policy_command(rt, &asked, output),
+        Command::Migrate(db) => migrate(rt, db, output, start),
         Command::Local(files, command) => {
             operate(rt, &files, &command, input, destination, output, start)
         }

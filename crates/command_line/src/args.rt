@@ -12,7 +12,7 @@ use crate::parameters::UPLOAD;
 use crate::policy_args::{PolicyArgs, policy_args};
 use clap::ArgMatches;
 use clap::error::ErrorKind;
-use names::{Moment, Operation, RefName, RepoName, UserName};
+use names::{Moment, Oid, Operation, RefName, RepoName, UserName};
 use std::alloc::Global;
 
 /// The largest number of connections that an argument can give.
@@ -35,6 +35,8 @@ pub enum Command<'a> {
     Serve(ServeArgs<'a>),
     /// The command `policy`.
     Policy(PolicyArgs<'a>),
+    /// The command `migrate`, with its database file.
+    Migrate(&'a str),
     /// A command of an operator, over these files.
     Local(Files<'a>, OperatorCommand<'a>),
     /// A command of an operator, which the server at this socket runs.
@@ -60,6 +62,8 @@ pub enum OperatorCommand<'a> {
     Check,
     /// The command `sweep`.
     Sweep,
+    /// The command `retire`.
+    Retire(RetireArgs),
 }
 
 /// The files of a command. A file that the command does not read has an empty name.
@@ -134,6 +138,15 @@ pub struct ForeseeArgs {
     pub repo: RepoName,
     /// The moment at which it would be answered; `None` for the clock's.
     pub now: Option<Moment>,
+}
+
+/// The arguments of `retire`.
+#[derive(Debug, Drop)]
+pub struct RetireArgs {
+    /// The repository that the object is removed from.
+    pub repo: RepoName,
+    /// The name of the object.
+    pub oid: Oid,
 }
 
 /// Whether each byte is a digit.
@@ -277,6 +290,19 @@ fn foresee_args(alloc: Global, matches: &ArgMatches<'_>) -> Result<ForeseeArgs, 
     })
 }
 
+/// The object's name given as an argument.
+fn oid_of(matches: &ArgMatches<'_>) -> Result<Oid, ArgsFault> {
+    let text = value_of(matches, "oid");
+    Oid::read(text.as_bytes()).ok_or(ArgsFault::Value("OID"))
+}
+
+fn retire_args(alloc: Global, matches: &ArgMatches<'_>) -> Result<RetireArgs, ArgsFault> {
+    Ok(RetireArgs {
+        repo: repo_of(alloc, matches)?,
+        oid: oid_of(matches)?,
+    })
+}
+
 /// Parses the arguments of a command of an operator; `None` if the name is of another command.
 fn operator_command_of<'a>(
     alloc: Global,
@@ -292,6 +318,7 @@ fn operator_command_of<'a>(
         "objects" => Some(OperatorCommand::Objects(repo_of(alloc, matches)?)),
         "check" => Some(OperatorCommand::Check),
         "sweep" => Some(OperatorCommand::Sweep),
+        "retire" => Some(OperatorCommand::Retire(retire_args(alloc, matches)?)),
         _ => None,
     })
 }
@@ -317,6 +344,7 @@ fn command_of<'a>(
         "session" => return Ok(Some(Command::Session(session_args(matches)?))),
         "serve" => return Ok(Some(Command::Serve(serve_args(matches)?))),
         "policy" => return Ok(Some(Command::Policy(policy_args(alloc, matches)?))),
+        "migrate" => return Ok(Some(Command::Migrate(value_of(matches, "db")))),
         _ => {}
     }
     let Some(command) = operator_command_of(alloc, name, matches)? else {

@@ -64,6 +64,21 @@ it: a row that one earlier row covers is never reached.
 No database is opened. The status is 0 if the file has no fault and the question is allowed, 1 if the file was \
 refused or the question is denied, and 2 if the arguments are wrong.";
 
+const MIGRATE_ABOUT: &str = "Gives a database of version 1 the tables of version 2, once";
+
+const MIGRATE_LONG_ABOUT: &str = "\
+Gives a database of version 1 the tables of version 2, once.
+
+Every other command refuses a database of version 1 with \"store G1\". This one adds the table of removed \
+objects, and keeps each token, object and lock as it is. It is done at once: if it is interrupted, the \
+database has version 1 or version 2, and the command can be run again. Copy the database and its log first: \
+there is no way back.
+
+It prints \"migrated from version 1\", or \"already version 2\". If the error stream is a terminal, it shows that \
+the command works. No server may have the database open.
+
+The status is 0 if the database then has version 2, 1 if something was refused, and 2 if the arguments are wrong.";
+
 pub(crate) const DB_HELP: &str =
     "The database file; it is created if it does not exist, in a folder that exists";
 
@@ -186,8 +201,15 @@ const POLICY_COMMAND: CommandText = CommandText {
     ],
 };
 
+const MIGRATE: CommandText = CommandText {
+    name: "migrate",
+    about: MIGRATE_ABOUT,
+    long_about: MIGRATE_LONG_ABOUT,
+    parameters: &[DB],
+};
+
 /// The commands that only the program itself runs.
-const OWN_COMMANDS: [CommandText; 3] = [SESSION, SERVE, POLICY_COMMAND];
+const OWN_COMMANDS: [CommandText; 4] = [SESSION, SERVE, POLICY_COMMAND, MIGRATE];
 
 /// The program, with its commands.
 pub(crate) fn program<'a>(alloc: Global) -> Result<Command<'a>, AllocError> {

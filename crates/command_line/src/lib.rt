@@ -12,8 +12,8 @@ mod parameters;
 mod policy_args;
 
 pub use args::{
-    Asked, Command, Files, ForeseeArgs, OperatorCommand, PushArgs, ServeArgs, SessionArgs,
-    TokenArgs, read_args, read_words,
+    Asked, Command, Files, ForeseeArgs, OperatorCommand, PushArgs, RetireArgs, ServeArgs,
+    SessionArgs, TokenArgs, read_args, read_words,
 };
 pub use faults::ArgsFault;
 pub use parameters::RANDOM;

@@ -89,6 +89,21 @@ Removes the uploads that were not completed, and prints their number.
 Such an upload is never served, and the next upload to its repository removes it too. No object is \
 removed. With --via it runs beside a server; with --db no other program may have the database open.";
 
+const RETIRE_ABOUT: &str = "Removes an object of a repository for good";
+
+const RETIRE_LONG_ABOUT: &str = "\
+Removes an object of a repository for good.
+
+Its bytes no longer count against the quota, and the server never takes an object of that name in the \
+repository again: whoever downloads or uploads it gets the status 410. This cannot be undone. Other \
+repositories keep their objects of that name. Uploads to the repository that were not completed are removed too.
+
+It prints \"retired OID\", or \"already retired OID\" if the object was removed before. With --via it runs beside \
+a server; with --db no other program may have the database open.
+
+The status is 0 in both cases, 1 if the repository has no such object or something was refused, and 2 if the \
+arguments are wrong.";
+
 pub(crate) const REPO_HELP: &str =
     "The repository: an owner, a slash and a name, each 1 to 40 of a-z, 0-9, _ and -";
 
@@ -169,6 +184,13 @@ const OPERATION: Parameter = Parameter {
     kind: Kind::Operation,
 };
 
+const OID: Parameter = Parameter {
+    name: "oid",
+    value_name: "OID",
+    help: "The name of the object, which is its SHA-256: 64 of 0-9 and a-f",
+    kind: Kind::Argument,
+};
+
 const AUTHENTICATE: CommandText = CommandText {
     name: "authenticate",
     about: AUTHENTICATE_ABOUT,
@@ -225,8 +247,15 @@ const SWEEP: CommandText = CommandText {
     parameters: &[DB, VIA],
 };
 
+const RETIRE: CommandText = CommandText {
+    name: "retire",
+    about: RETIRE_ABOUT,
+    long_about: RETIRE_LONG_ABOUT,
+    parameters: &[DB, VIA, REPO, OID],
+};
+
 /// The commands of an operator.
-pub(crate) const OPERATOR_COMMANDS: [CommandText; 8] = [
+pub(crate) const OPERATOR_COMMANDS: [CommandText; 9] = [
     AUTHENTICATE,
     PRUNE,
     PUSHCHECK,
@@ -235,4 +264,5 @@ pub(crate) const OPERATOR_COMMANDS: [CommandText; 8] = [
     OBJECTS,
     CHECK,
     SWEEP,
+    RETIRE,
 ];

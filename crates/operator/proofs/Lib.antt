@@ -3,3 +3,4 @@ mod Escaping
 pub mod Working
 pub mod Reached
 mod Foretold
+mod Removed

@@ -7,8 +7,10 @@ use Rattle.refinement.specs.Representation.{Holds}
 use Rattle.tokens.specs.declared.issuing.TokenFault.{TokenFault}
 use Rattle.tokens.specs.declared.requests.TokenRequest.{TokenRequest}
 use Rattle.tokens.specs.Issuing.{Issues, Refuses}
+use Rattle.uploads.specs.declared.retiring.Retired.{Retired}
+use Rattle.uploads.specs.Retiring.{Retires}
 use Rattle.operator.specs.declared.tasks.Task.{Task}
-use Rattle.operator.specs.declared.tasks.Task.TheVariants.{Issue, Prune, CheckPush, Foresee, ListLocks, ListObjects, CheckObjects, Sweep}
+use Rattle.operator.specs.declared.tasks.Task.TheVariants.{Issue, Prune, CheckPush, Foresee, ListLocks, ListObjects, CheckObjects, Sweep, Retire}
 use Rattle.operator.specs.Tasks.{Does}
 
 -- the steps of the calls, and of more calls
@@ -95,6 +97,11 @@ module _ {S : Type 0} (g : Ghosts S) where
   sweeps_work a b (Ok n) world p = works_keeps a b world p.0
   sweeps_work a b (Err f) world p = works_keeps a b world p
 
+  -- an object is removed for good, or there is none, or the store refused
+  pub retires_work : (a b : Store S) (repo name : List ℕ) (r : Result Retired StoreFault) (world : World) → Retires g world repo name a b r → Works g a b world
+  retires_work a b repo name (Ok given) world t = works_takes a b world _ _ t
+  retires_work a b repo name (Err f) world t = works_takes a b world _ _ t
+
   -- a token is issued
   pub from_issues : (a b : Store S) (asked : TokenRequest) (text : List ℕ) → From g a b (λ world. Issues g world a b asked text) → From g a b (Works g a b)
   from_issues a b asked text p = from_weaker g a b _ _ (λ world i. works_takes a b world _ _ i.takes) p
@@ -108,6 +115,7 @@ module _ {S : Type 0} (g : Ghosts S) where
   does_work a b (Issue policy asked) world d = works_takes a b world _ _ d.1.takes
   does_work a b (Prune now) world d = prunes_work a b now (Ok d.0) world d.1
   does_work a b Sweep world d = sweeps_work a b (Ok d.0) world d.1
+  does_work a b (Retire repo oid) world d = works_takes a b world _ _ d.2
   does_work a b (CheckPush push) world d = works_still a b world d
   does_work a b (Foresee asked) world d = works_still a b world d.0
   does_work a b (ListLocks repo) world d = works_still a b world d

@@ -7,16 +7,19 @@ use Rattle.refinement.specs.Left.{Leads}
 use Rattle.tokens.specs.Issuing.{Issues}
 use Rattle.tokens.specs.Pruning.{Prunes}
 use Rattle.uploads.specs.Removing.{Sweeps}
+use Rattle.names.specs.Names.{repo_text}
 use Rattle.operator.specs.Foresights.{HasForetold}
+use Rattle.operator.specs.Removals.{IsRemoved}
 use Rattle.operator.specs.declared.tasks.Task.{Task}
-use Rattle.operator.specs.declared.tasks.Task.TheVariants.{Issue, Prune, CheckPush, Foresee, ListLocks, ListObjects, CheckObjects, Sweep}
+use Rattle.operator.specs.declared.tasks.Task.TheVariants.{Issue, Prune, CheckPush, Foresee, ListLocks, ListObjects, CheckObjects, Sweep, Retire}
 
--- the token is issued, the expired ones are removed, or no upload is left staged; the other tasks only read, and a reply is
--- foreseen
+-- the token is issued, the expired ones are removed, no upload is left staged, or the object is removed, now or before; the
+-- other tasks only read, and a reply is foreseen
 abbrev pub Does : {S : Type 0} (g : Ghosts S) → Store S → Store S → World → Task → Type 0
 Does g old new world (Issue policy asked) = (text : List ℕ) × Issues g world old new asked text
 Does g old new world (Prune now) = (n : ℕ) × Prunes g world now old new (Ok n)
 Does g old new world Sweep = (n : ℕ) × Sweeps g world old new (Ok n)
+Does g old new world (Retire repo oid) = IsRemoved g old new world (repo_text repo.now) oid.now
 Does g old new world (CheckPush push) = Leads g old new world (λ bound. bound)
 Does g old new world (Foresee asked) = Leads g old new world (λ bound. bound) × HasForetold world asked
 Does g old new world (ListLocks repo) = Leads g old new world (λ bound. bound)

@@ -20,6 +20,9 @@ pub enum TaskFault {
     /// No reply is foreseen: the request presents no valid token of the user for the repository.
     #[error("no caller")]
     NoCaller,
+    /// The repository has no object of the name, and had none that was removed for good.
+    #[error("no such object")]
+    NoObject,
     /// Memory ran out.
     #[error("no memory")]
     Memory,

@@ -14,8 +14,9 @@ use crate::listing_locks::list_locks;
 use crate::listing_objects::list_objects;
 use crate::pruning::prune;
 use crate::pushing::{Push, check_push};
+use crate::retiring::retire;
 use crate::sweeping::sweep;
-use names::{Moment, RepoName};
+use names::{Moment, Oid, RepoName};
 use policy::Policy;
 use std::alloc::Global;
 use std::io::{Stderr, Write};
@@ -41,6 +42,8 @@ pub enum Task<'a> {
     CheckObjects(Option<&'a Stderr>),
     /// Remove the uploads that were not completed.
     Sweep,
+    /// Remove the object of this name from the repository, for good.
+    Retire(&'a RepoName, &'a Oid),
 }
 
 impl Task<'_> {
@@ -48,12 +51,13 @@ impl Task<'_> {
     /// destination is what the output writes to: on a terminal, control characters of paths are escaped.
     ///
     /// The store is led by the steps of a run of the definitions: at most one token is issued, or the expired ones are
-    /// removed. If the task is to foresee a reply and succeeds, the definitions foresee one. After an error the world is the same, but for an `Output` after tokens were removed.
+    /// removed, or one object is. If the task is to foresee a reply and succeeds, the definitions foresee one. After an
+    /// error the world is the same, but for an `Output` after tokens or an object were removed.
     ///
     /// # Errors
     ///
-    /// `Store`, `Token`, `NoCaller` and `Memory`; `Output` if a line could not be written; and `Reported` if a path may
-    /// not be pushed, or an object is damaged.
+    /// `Store`, `Token`, `NoCaller`, `NoObject` and `Memory`; `Output` if a line could not be written; and `Reported` if a
+    /// path may not be pushed, or an object is damaged.
     pub fn run<S: Alter, W: Write>(
         &self,
         alloc: Global,
@@ -74,6 +78,7 @@ impl Task<'_> {
             Task::ListObjects(repo) => list_objects(alloc, store, repo, output),
             Task::CheckObjects(terminal) => check_objects(alloc, store, *terminal, output),
             Task::Sweep => sweep(alloc, store, output),
+            Task::Retire(repo, oid) => retire(alloc, store, repo, oid, output),
         }
     }
 }

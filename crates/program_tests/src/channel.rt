@@ -145,6 +145,8 @@ const REFUSED: &[&str] = &[
     "check --listen 127.0.0.1:0",
     "session --db @/db --policy @/policy",
     "serve --db @/db --policy @/policy --listen 127.0.0.1:0",
+    "migrate --db @/db",
+    "migrate",
     "paint",
     "",
 ];

@@ -216,11 +216,14 @@ status 1
 $ prune --db @/db --now 5
 error custody: store G1
 status 1
+$ migrate --db @/db
+error custody: store G1
+status 1
 "#;
 
-/// The file that `sqlite3` writes, with pages of 512 bytes, if `meta` is created with version 2:
+/// The file that `sqlite3` writes, with pages of 512 bytes, if `meta` is created with version 3:
 /// its pieces, each with the number of zeros after it.
-const VERSION_2: &[(&[u8], usize)] = &[
+const VERSION_3: &[(&[u8], usize)] = &[
     (
         b"SQLite format 3\x00\x02\x00\x01\x01\x00@  \x00\x00\x00\x02\x00\x00\x00\x02",
         11,
@@ -229,16 +232,16 @@ const VERSION_2: &[(&[u8], usize)] = &[
     (b"\x01", 35),
     (b"\x02\x00.c\x01\x0d\x00\x00\x00\x01\x01x\x00\x01x", 266),
     (
-        b"\x81\x05\x01\x07\x17\x15\x15\x01\x81mtablemetameta\x02CREATE TABLE meta (one INTEGER PRIMARY KEY CHECK (one = 1), version INTEGER NOT NULL CHECK (version = 2)) STRICT\x0d\x00\x00\x00\x01\x01\xfa\x00\x01\xfa",
+        b"\x81\x05\x01\x07\x17\x15\x15\x01\x81mtablemetameta\x02CREATE TABLE meta (one INTEGER PRIMARY KEY CHECK (one = 1), version INTEGER NOT NULL CHECK (version = 3)) STRICT\x0d\x00\x00\x00\x01\x01\xfa\x00\x01\xfa",
         496,
     ),
-    (b"\x04\x01\x03\x00\x01\x02", 0),
+    (b"\x04\x01\x03\x00\x01\x03", 0),
 ];
 
 /// The bytes of that file.
-fn version_2(rt: &impl Tester) -> Vec<u8> {
+fn version_3(rt: &impl Tester) -> Vec<u8> {
     let mut file = Vec::new(rt.alloc());
-    for (piece, count) in VERSION_2 {
+    for (piece, count) in VERSION_3 {
         let zeros = unwrap(rt, vec![in rt.alloc(); 0; *count]);
         unwrap(rt, file.extend_from_slice(piece));
         unwrap(rt, file.extend_from_slice(zeros.as_slice()));
@@ -251,7 +254,7 @@ fn another_database_is_left(rt: HostRuntime) {
     prepare(&rt, &rt, "closed", POLICY);
     play(&rt, &rt, "closed", CLOSED);
     assert!(rt; read(&rt, &rt, "closed", "db").as_slice() == [65; 40].as_slice());
-    let file = version_2(&rt);
+    let file = version_3(&rt);
     prepare(&rt, &rt, "closed", POLICY);
     write(&rt, &rt, "closed", "db", file.as_slice());
     play(&rt, &rt, "closed", OTHER);
@@ -275,6 +278,8 @@ const HELPS: &[(&str, &[&str])] = &[
             "objects",
             "check",
             "sweep",
+            "retire",
+            "migrate",
         ],
     ),
     (
@@ -332,6 +337,8 @@ const HELPS: &[(&str, &[&str])] = &[
     ("objects --help", &["--db <FILE>", "--repo <R>"]),
     ("check --help", &["--db <FILE>"]),
     ("sweep --help", &["--db <FILE>"]),
+    ("retire --help", &["--db <FILE>", "--repo <R>", "<OID>"]),
+    ("migrate --help", &["--db <FILE>"]),
 ];
 
 /// Asserts that the text has each of the parts.

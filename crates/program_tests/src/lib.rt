@@ -19,6 +19,8 @@ mod lock_requests;
 #[cfg(test)]
 mod messages;
 #[cfg(test)]
+mod migrating;
+#[cfg(test)]
 mod operator_commands;
 #[cfg(test)]
 mod policies;
@@ -28,6 +30,8 @@ mod policy_command;
 mod program;
 #[cfg(test)]
 mod queues;
+#[cfg(test)]
+mod retiring;
 #[cfg(test)]
 mod serving;
 #[cfg(test)]

@@ -102,6 +102,7 @@ fn phrase(status: &str) -> &'static str {
         "403" => "Forbidden",
         "404" => "Not Found",
         "409" => "Conflict",
+        "410" => "Gone",
         "422" => "Unprocessable Content",
         "507" => "Insufficient Storage",
         _ => "of no phrase",

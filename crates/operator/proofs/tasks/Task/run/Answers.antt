@@ -12,6 +12,9 @@ returns-in-Prune g c = record { world = rw c.in-Prune.is c.prune.ensures }
 pub returns-in-Sweep : goal.returns-in-Sweep
 returns-in-Sweep g c = record { world = rw c.in-Sweep.is c.sweep.ensures }
 
+pub returns-in-Retire : goal.returns-in-Retire
+returns-in-Retire g c = record { world = rw c.in-Retire.is c.retire.ensures.world }
+
 pub returns-in-CheckPush : goal.returns-in-CheckPush
 returns-in-CheckPush g c = record { world = rw c.in-CheckPush.is (from_reading g.S.Store c.args.store.now c.check_push.new.store _ c.check_push.result c.check_push.ensures) }
 
