@@ -3,22 +3,23 @@
 
     version_1_files.py PROGRAM [FOLDER]
 
-PROGRAM is one that still makes files of version 1: commit 34ebb2b is the last, and bin/custody builds it there. FOLDER is
+PROGRAM is one that still makes files of version 1, as bin/custody builds it at commit 34ebb2b. FOLDER is
 crates/program_tests/data if none is given. Four files are written into it:
 
     version_1.db           rows in every table, as below; the log is in the file
     version_1.sql          the same as a text, by the command sqlite3: its statements make these rows anew
-    version_1_log.db, -wal as a server left them that was killed: most of its rows are in the log alone
+    version_1_log.db, -wal fewer rows, which are in the log alone, as a session leaves them
 
-Nothing in them depends on the time or the machine, except how the pages lie in the log. The rows:
+Nothing in them depends on the time or the machine, except how the pages lie in the log. The rows of the first:
 
-| Table | Rows |
-|---|---|
-| `meta` | version 1 |
-| `repos` | `studio/film`: 4 locks were made, 70,003 bytes are used; `studio/game`: 1 lock and 5 bytes |
-| `tokens` | 64 times `a`, ann, and `c`, ann: to upload to the film and the game until the end of the year 9999; `b`, bob, and `d`, bob: to upload to the film and to download the game until 2016-05-18 |
-| `uploads`, `chunks` | the film: an empty object, `abc`, 70,000 times `x` in two chunks; the game: an empty object, `hello`; and in the game an upload of 100,000 times `y` that a stop cut off, with its first chunk |
-| `locks` | the film: three, of two users and on two refs, and a fourth that was released; the game: one |
+    meta             version 1
+    repos            studio/film: 4 locks were made, and 70,003 bytes are used; studio/game: 1 lock and 5 bytes
+    tokens           64 times a and c, ann: to upload to the film and to the game, until the end of the year 9999
+                     64 times b and d, bob: to upload to the film and to download the game, until 2016-05-18
+    uploads, chunks  the film: an empty object, abc, and 70,000 times x in two chunks
+                     the game: an empty object, hello, and an upload of 100,000 times y that a stop cut off, with its
+                     first chunk
+    locks            the film: three, of two users and on two refs, and a fourth that was released; the game: one
 
 It needs python3 and sqlite3, and takes a second.
 """
@@ -176,7 +177,7 @@ def sqlite3(path, statement):
 
 
 def repeated(byte, size):
-    """An expression of SQL for so many times the byte: a text in which each letter is replaced by several of the next."""
+    """An expression of SQL for the byte, repeated: a text in which each letter is replaced by several of the next."""
     factors = []
     while size > 1:
         factors += [next((it for it in range(min(size, 64), 1, -1) if size % it == 0), size)]
