@@ -156,9 +156,11 @@ def begin_upload(room, name, port):
     """A connection to the server at the port, with an upload of which the server has stored the first chunk."""
     client = socket.create_connection(("127.0.0.1", port), timeout=60)
     client.sendall(put("c", "studio/game", CUT_OFF)[: CHUNK + 1000])
-    while not has_begun(room, name):
+    for _ in range(300):
+        if has_begun(room, name):
+            return client
         time.sleep(0.1)
-    return client
+    return stop("the server stored nothing of an upload")
 
 
 def stop_within_upload(program, room, name):
@@ -166,10 +168,12 @@ def stop_within_upload(program, room, name):
     with socket.create_server(("127.0.0.1", 0)) as free:
         port = free.getsockname()[1]
     with subprocess.Popen([program, *serve_words(room, name, port)], stdout=subprocess.PIPE) as child:
-        child.stdout.readline()
-        with begin_upload(room, name, port):
+        try:
+            child.stdout.readline()
+            client = begin_upload(room, name, port)
+        finally:
             child.kill()
-            child.wait()
+        client.close()
 
 
 def sqlite3(path, statement):
