@@ -2,8 +2,8 @@
 """Compares the replies that `custody foresee` prints for random messages with a second reading of docs/PROTOCOL.md.
 
 The reading is in protocol_reading.py, the messages and policies are those of compare_sessions.py. Between the messages,
-connections change what is stored. It prints the first message on which the two differ, and ends with status 1; else how
-many agreed.
+connections change what is stored, and `custody retire` removes objects for good. It prints the first message on which
+the two differ, and ends with status 1; else how many agreed.
 
     compare_foresights.py PROGRAM [MESSAGES [SEED]]
 """
@@ -12,8 +12,8 @@ import sys
 import tempfile
 
 sys.dont_write_bytecode = True
-from compare_sessions import NOW, Maker, new_database, new_server, report, run
-from needs import program_given
+from compare_sessions import NOW, RETIREMENTS, Maker, new_database, new_server, report, retire, run
+from needs import can_retire, program_given
 
 USERS = ["ann", "ann", "bob", "eve"]
 PLACES = ["studio/film", "studio/film", "studio/film", "studio/film", "a/b", "no/where"]
@@ -41,13 +41,18 @@ def foresee(program, database, policy, server, make):
 
 def compare(program, room, make, messages):
     """Foresees the replies to so many messages. Returns how many agreed, how often each was printed, what differed."""
-    seen = {}
+    seen, retires = {}, can_retire(program)
     for number in range(messages):
         if number % 200 == 0:
             rows = make.rows()
             database, server = new_database(program, room, number, rows), new_server(rows)
         if number % 4 == 0:
             serve(program, database, f"{room}/policy", server, make)
+        if retires and make.random.random() < RETIREMENTS:
+            printed, differed = retire(program, database, server, make)
+            if differed:
+                return number, seen, differed
+            seen[printed] = seen.get(printed, 0) + 1
         asked, came, want = foresee(program, database, f"{room}/policy", server, make)
         if came != want:
             return number, seen, f"of {asked!r}\nthe program: {came!r}\nthe document: {want!r}"

@@ -2,8 +2,8 @@
 """Compares what `custody session` replies to random connections with a second reading of docs/PROTOCOL.md.
 
 The reading is in protocol_reading.py. A database is used for several connections, so that later ones
-find what earlier ones left. It prints the first connection on which the two differ, and ends with
-status 1; else how many agreed.
+find what earlier ones left. Between some of them `custody retire` removes an object for good. It prints
+the first connection or command on which the two differ, and ends with status 1; else how many agreed.
 
     compare_sessions.py PROGRAM [SECONDS [SEED]]
 """
@@ -17,7 +17,7 @@ import tempfile
 import time
 
 sys.dont_write_bytecode = True
-from needs import program_given
+from needs import can_retire, program_given
 from protocol_reading import REQUESTS, Refused, Server, denial
 
 POLICY = """base = "https://lfs.example"
@@ -55,6 +55,8 @@ RIGHTS = ["lock", "pull", "push", "list", "force"]
 BASE = "https://lfs.example"
 REPOS = {"studio/film": {"ref": "refs/heads/main", "quota": 1000000}, "a/b": {"ref": "refs/x", "quota": 0}}
 CONTENTS = [b"", b"abc", b"hello", b"x" * 70000, b"y" * 400000]
+# How many objects are retired for each connection: so few that most stay for the next ones.
+RETIREMENTS = 0.03
 # Each token's letter: user, repository, operation, when it was issued.
 NOW = 1463500146
 TOKENS = {
@@ -347,6 +349,13 @@ class Maker:
             ]
         )
 
+    def retirement(self, server):
+        """A repository and the name of an object to retire there: most often one that it has."""
+        repo = self.one("studio/film", "a/b", "no/where")
+        stored = [name for place, name in server.objects if place == repo]
+        names = [hashlib.sha256(bytes_).hexdigest() for bytes_ in CONTENTS]
+        return repo, self.random.choice(stored if stored and self.random.random() < 0.7 else names)
+
     def connection(self):
         stream = b"".join(self.message() for _ in range(self.random.choice([1, 1, 1, 2, 3, 5])))
         for _ in range(self.random.choice([0, 0, 0, 1, 1, 3])):
@@ -403,13 +412,27 @@ def new_server(rows):
     return Server(BASE, REPOS, rows, tokens, NOW)
 
 
+def retire(program, database, server, make):
+    """Retires an object, in both. Returns what was printed without the name, and what differed or None."""
+    repo, name = make.retirement(server)
+    ran = run(program, ["retire", "--db", database, "--repo", repo, name])
+    came, want = (ran.stdout.decode(), ran.stderr.decode(), ran.returncode), server.retire(repo, name)
+    differed = None if came == want else f"of {repo} and {name} to retire\nthe program: {came}\nthe reading: {want}"
+    return (want[0] or want[1]).replace(name, "").strip(), differed
+
+
 def compare(program, room, make, until):
     """Serves connections until then. Returns how many agreed, how often each code was sent, and what differed."""
-    agreed, seen = 0, {}
+    agreed, seen, retires = 0, {}, can_retire(program)
     while time.time() < until:
         if agreed % 100 == 0:
             rows = make.rows()
             database, server = new_database(program, room, agreed, rows), new_server(rows)
+        if retires and make.random.random() < RETIREMENTS:
+            printed, differed = retire(program, database, server, make)
+            if differed:
+                return agreed, seen, differed
+            seen[printed] = seen.get(printed, 0) + 1
         stream = make.connection()
         words = ["session", "--db", database, "--policy", f"{room}/policy", "--now", str(NOW)]
         ran = run(program, words, stream)

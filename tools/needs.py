@@ -1,6 +1,7 @@
 """What a tool needs: if something is missing, the tool names it, and ends with status 2."""
 import os
 import shutil
+import subprocess
 import sys
 from pathlib import Path
 
@@ -25,3 +26,11 @@ def program_given():
     if not os.access(program, os.X_OK):
         stop(f"there is no program {program}: bin/custody builds it")
     return program
+
+
+def can_retire(program):
+    """Whether the program has the command `retire`, which earlier versions lack; the error stream says if not."""
+    ran = subprocess.run([program, "retire", "--help"], stdout=subprocess.PIPE, stderr=subprocess.PIPE, check=False)
+    if ran.returncode:
+        print(f"{Path(sys.argv[0]).name}: the program has no command retire, so no object is retired", file=sys.stderr)
+    return ran.returncode == 0

@@ -32,7 +32,8 @@ documents=$root/usr/share/doc/custody
 mkdir -p "$documents/examples" "$root/usr/share/man/man1"
 install -D -m 755 "$program" "$root/usr/bin/custody"
 strip --strip-unneeded "$root/usr/bin/custody"
-install -D -m 755 -t "$root/usr/lib/custody" "$top/examples/forced-command" "$top/examples/spare"
+install -D -m 755 -t "$root/usr/lib/custody" "$top/examples/forced-command" "$top/examples/spare" \
+    "$top/examples/unreferenced"
 install -D -m 644 "$top/examples/custody.service" "$root/lib/systemd/system/custody.service"
 install -D -m 644 "$top/examples/policy.toml" "$root/etc/custody/policy.toml"
 for example in nginx-site sshd-custody.conf custody-group.conf policy.toml; do
@@ -57,6 +58,24 @@ END
     printf '  * Made from commit %s of the repository, whose history lists the changes.\n\n' "$commit"
     printf ' -- %s  %s\n' "$maintainer" "$(git -C "$top" log -1 --format=%aD)"
 } | gzip -9 -n > "$documents/changelog.gz"
+# What an administrator has to do at an upgrade; apt-listchanges shows it.
+{
+    printf 'custody (%s) unstable; urgency=medium\n\n' "$version"
+    cat << 'END'
+  The database has a new version, 2. A database of an earlier package has to be
+  migrated once. Stop the server, copy the database and its log, and run, as the
+  user custody,
+
+      custody migrate --db /var/lib/custody/db/custody.db
+
+  Until then the server and all other commands say "custody: store G1", and
+  leave the database as it is. There is no way back but the copy: an earlier
+  package cannot read a database of version 2. OPERATING.md, Upgrading, has the
+  commands.
+
+END
+    printf ' -- %s  %s\n' "$maintainer" "$(git -C "$top" log -1 --format=%aD)"
+} | gzip -9 -n > "$documents/NEWS.Debian.gz"
 
 # The manual page has the text of docs/COMMANDS.md.
 {
@@ -74,6 +93,7 @@ Maintainer: $maintainer
 Installed-Size: $(du -sk "$root" | cut -f 1)
 Depends: libc6, passwd
 Recommends: nginx, openssh-server
+Suggests: git, python3, sqlite3
 Section: vcs
 Priority: optional
 Description: Git LFS object and lock server
@@ -112,6 +132,10 @@ if [ "$1" = configure ]; then
         if [ "$running" = yes ]; then
             deb-systemd-invoke start custody.service
         fi
+    fi
+    if [ -n "${2:-}" ] && [ -f "$home/db/custody.db" ]; then
+        echo 'custody: if the server says "custody: store G1" after its start, its database is one of an earlier version:' >&2
+        echo 'custody: copy it, and run "custody migrate" (OPERATING.md, Upgrading)' >&2
     fi
     if [ -f "$home/.ssh/authorized_keys" ]; then
         echo "custody: move the keys from $home/.ssh to /etc/custody/authorized_keys (OPERATING.md, The users)" >&2

@@ -25,6 +25,7 @@ PHRASES = {
     405: "Method Not Allowed",
     406: "Not Acceptable",
     409: "Conflict",
+    410: "Gone",
     411: "Length Required",
     413: "Content Too Large",
     422: "Unprocessable Content",
@@ -55,9 +56,11 @@ RULES = {
     "B3": (409, "the hash algorithm is not served"),
     "B4": (422, "the stored size differs"),
     "B5": (507, "the quota does not hold the object"),
+    "B6": (410, "the object was removed by its owner"),
     "X1": (404, "the object is not stored"),
     "X2": (422, "the bytes do not have this name"),
     "X3": (507, "the quota does not hold the object"),
+    "X4": (410, "the object was removed by its owner"),
     "V1": (404, "the object is not stored"),
     "V2": (422, "the stored size differs"),
     "L1": (409, "the path is already locked"),
@@ -426,12 +429,12 @@ class Server:
     """What the server keeps, and how it answers.
 
     `repos` has each repository's default ref and quota, `tokens` for each token's text its user, repository, operation
-    and expiry.
+    and expiry. `retired` has a pair of a repository and a name for each object that was removed for good.
     """
 
     def __init__(self, base, repos, rows, tokens, now):
         self.base, self.repos, self.rows, self.tokens, self.now = base, repos, rows, tokens, now
-        self.objects, self.locks, self.made = {}, {}, {}
+        self.objects, self.retired, self.locks, self.made = {}, set(), {}, {}
 
     def decide(self, user, repo, right, ref=None, path=None):
         """Whether the first row that matches allows, and its number."""
@@ -527,6 +530,8 @@ class Server:
             return "B2"
         if asked["hash"] not in (None, "sha256"):
             return "B3"
+        if (repo, oid) in self.retired:
+            return "B6"
         if stored is None and asked["operation"] == "download":
             return "B1"
         if stored is not None and len(stored) != size:
@@ -537,6 +542,8 @@ class Server:
 
     def answer_get(self, caller, repo, asked):
         self.ask(404, caller["user"], repo, "pull")
+        if (repo, asked["name"]) in self.retired:
+            raise Refused("X4")
         if (repo, asked["name"]) not in self.objects:
             raise Refused("X1")
         return 200, self.objects[repo, asked["name"]], "application/octet-stream"
@@ -544,6 +551,8 @@ class Server:
     def check_put(self, caller, repo, asked, length):
         """What an upload is judged by before its body."""
         self.ask_push(caller["user"], repo, asked["ref"] or self.repos[repo]["ref"])
+        if (repo, asked["name"]) in self.retired:
+            raise Refused("X4")
         if (repo, asked["name"]) not in self.objects and not self.fits(repo, length):
             raise Refused("X3")
 
@@ -650,12 +659,25 @@ class Server:
             return denial(refused, head.closes), head.closes
         return reply(status, text.encode(), kind, closes=head.closes), head.closes
 
+    # ---- an operator
+
+    def retire(self, repo, name):
+        """What `custody retire` prints, and its status: the object is removed for good."""
+        if (repo, name) in self.retired:
+            return f"already retired {name}\n", "", 0
+        if (repo, name) not in self.objects:
+            return "", "custody: no such object\n", 1
+        del self.objects[repo, name]
+        self.retired.add((repo, name))
+        return f"retired {name}\n", "", 0
+
     # ---- what a user would be replied
 
     def copied(self):
         """A server that keeps the same, and changes alone."""
         other = copy.copy(self)
-        other.objects, other.locks, other.made = dict(self.objects), dict(self.locks), dict(self.made)
+        other.objects, other.retired = dict(self.objects), set(self.retired)
+        other.locks, other.made = dict(self.locks), dict(self.made)
         return other
 
     def foresee(self, stream, user, place):

@@ -90,6 +90,8 @@ def check_same_words(server, _):
         (("objects", "--repo", "studio/film"), b"", False),
         (("check",), b"", False),
         (("sweep",), b"", False),
+        (("retire", "--repo", "studio/film", "0" * 64), b"", False),
+        (("retire", "--repo", "studio/film", "0"), b"", False),
         (("pushcheck", "--user", "bob", "--repo", "studio/film", "--ref", "refs/heads/main"), paths, True),
         (("pushcheck", "--user", "ann", "--repo", "studio/film", "--ref", "refs/heads/main"), paths, True),
         (("pushcheck", "--user", "ann", "--repo", "studio/film", "--ref", "refs/heads/main"), b"a//b\n", True),

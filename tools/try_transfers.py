@@ -4,7 +4,7 @@
 Two users have a repository whose remote is reached over SSH. A script is in the place of sshd: it runs Git's own
 commands on a repository of a temporary folder, and answers git-lfs-authenticate with the line that `custody
 authenticate` printed before the server was started. 200 files of 1 byte to 50 MB are pushed and cloned, with one
-transfer at a time and with eight. It prints what the client printed, and ends with `N passed, M failed`, and with
+transfer at a time and with eight. Then one of two files is removed for good. It prints what the client printed, and ends with `N passed, M failed`, and with
 status 1 if a check failed. It needs git, git-lfs and python3, and a program that bin/custody has built.
 
     try_transfers.py PROGRAM
@@ -18,9 +18,10 @@ import subprocess
 import sys
 import tempfile
 import time
+from contextlib import contextmanager
 
 sys.dont_write_bytecode = True
-from needs import need_commands, program_given
+from needs import can_retire, need_commands, program_given
 
 ROWS = """
 [[row]]
@@ -39,7 +40,7 @@ refs = ["*"]
 paths = ["*"]
 rights = ["pull", "push", "list", "lock"]
 """
-QUOTAS = {"studio/film": 2_000_000_000, "studio/small": 100_000}
+QUOTAS = {"studio/film": 2_000_000_000, "studio/small": 100_000, "studio/gone": 100_000}
 USERS = ["ann", "bob"]
 SSH = """#!/bin/sh
 user=$1
@@ -107,13 +108,24 @@ class Trial:
         with open(f"{self.room}/tokens/{user}-{repo.split('/')[1]}-{operation}", "wb") as file:
             file.write(line)
 
+    @contextmanager
+    def served(self):
+        """Runs the server meanwhile."""
+        server = self.serve()
+        try:
+            yield
+            self.check(server.poll() is None, "the server still runs")
+        finally:
+            server.terminate()
+            server.wait()
+
     def serve(self):
         """Starts the server."""
         words = ["serve", "--db", f"{self.room}/db", "--policy", f"{self.room}/policy.toml"]
         server = subprocess.Popen(
             [self.program, *words, "--listen", self.address, "--requests", "1000000"],
             stdout=subprocess.PIPE,
-            stderr=open(f"{self.room}/server.log", "w", encoding="utf-8"),
+            stderr=open(f"{self.room}/server.log", "a", encoding="utf-8"),
         )
         server.stdout.readline()
         return server
@@ -147,12 +159,13 @@ class Trial:
             self.git(folder, "config", key, value)
         self.git(folder, "lfs", "install", "--local")
 
-    def clone(self, user, repo, transfers):
+    def clone(self, user, repo, transfers, *settings, may_fail=False):
         """A new clone of the repository, with its files, by `git clone`."""
         folder = f"{self.room}/{user}-{repo.split('/')[1]}-{transfers}"
-        words = ["-c", f"core.sshCommand={self.room}/ssh-{user}", "-c", "ssh.variant=simple"]
-        words += ["-c", f"lfs.concurrenttransfers={transfers}"]
-        status, _ = self.git(self.room, *words, "clone", f"ssh://git@studio.example{self.room}/{repo}.git", folder, shown=True)
+        settings = [f"core.sshCommand={self.room}/ssh-{user}", "ssh.variant=simple", *settings]
+        words = [it for setting in [*settings, f"lfs.concurrenttransfers={transfers}"] for it in ("-c", setting)]
+        words += ["clone", f"ssh://git@studio.example{self.room}/{repo}.git", folder]
+        status, _ = self.git(self.room, *words, shown=True, may_fail=may_fail)
         self.configure(folder, user, transfers)
         return status, folder
 
@@ -248,21 +261,73 @@ def refusals(trial):
     trial.check(status == 0, "a push that fills the quota")
 
 
+def push_two(trial):
+    """Pushes two files; returns the folder and the digest of each by its name."""
+    ann = trial.new("ann", "studio/gone", 1)
+    for name in ("hero", "tree"):
+        with open(f"{ann}/{name}.bin", "wb") as file:
+            file.write(random.Random(name).randbytes(1000))
+    trial.git(ann, "add", ".")
+    trial.git(ann, "commit", "-q", "-m", "two files")
+    trial.git(ann, "push", "-q", "origin", "HEAD:refs/heads/main")
+    return ann, digests_in(ann)
+
+
+def retire(trial, name):
+    """Removes the object for good, while no server runs."""
+    words = ["retire", "--db", f"{trial.room}/db", "--repo", "studio/gone", name]
+    ran = subprocess.run([trial.program, *words], stdout=subprocess.PIPE, text=True, check=False)
+    trial.check((ran.stdout, ran.returncode) == (f"retired {name}\n", 0), "an object is removed for good")
+
+
+def removed(trial, ann, digests):
+    """What the client does about an object that is removed for good."""
+    reason = "B6: the object was removed by its owner"
+    status, bob = trial.clone("bob", "studio/gone", 1, may_fail=True)
+    trial.check(status != 0 and not os.path.exists(f"{bob}/hero.bin"), "a clone stops at the file")
+    status, bob = trial.clone("bob", "studio/gone", 2, "lfs.skipdownloaderrors=true", may_fail=True)
+    found = digests_in(bob)
+    trial.check(status == 0 and found["tree.bin"] == digests["tree.bin"], "one that skips errors has the other file")
+    with open(f"{bob}/hero.bin", "rb") as file:
+        trial.check(file.read().startswith(b"version https://git-lfs"), "and the pointer of this one")
+    status, text = trial.git(bob, "lfs", "pull", shown=True, may_fail=True)
+    trial.check(status != 0 and reason in text, "git lfs pull says why")
+    status, text = trial.git(ann, "lfs", "push", "--all", "origin", shown=True, may_fail=True)
+    trial.check(status != 0 and reason in text, "git lfs push --all of the same file is refused")
+    with open(f"{ann}/new.bin", "wb") as file:
+        file.write(b"another file")
+    trial.git(ann, "add", ".")
+    trial.git(ann, "commit", "-q", "-m", "another file")
+    status, _ = trial.git(ann, "push", "origin", "HEAD:refs/heads/main", shown=True, may_fail=True)
+    trial.check(status == 0, "another file is pushed")
+    # Without what it knows of the remote, the client asks for every object of the branch.
+    trial.git(ann, "update-ref", "-d", "refs/remotes/origin/main")
+    trial.git(ann, "commit", "-q", "--amend", "-m", "the same files")
+    status, text = trial.git(ann, "push", "-f", "origin", "HEAD:refs/heads/again", shown=True, may_fail=True)
+    trial.check(status != 0 and reason in text, "git push of the same file is refused")
+    trial.git(ann, "rm", "-q", "hero.bin")
+    trial.git(ann, "commit", "-q", "-m", "without it")
+    trial.git(ann, "push", "-q", "-f", "origin", "HEAD:refs/heads/main")
+    status, _ = trial.clone("bob", "studio/gone", 3, may_fail=True)
+    trial.check(status == 0, "a branch without the file is cloned")
+
+
 def main():
     program = program_given()
     need_commands("git", "git-lfs")
     with tempfile.TemporaryDirectory() as room:
         trial = Trial(program, room)
         trial.prepare()
-        server = trial.serve()
-        try:
+        with trial.served():
             for transfers in [1, 8]:
                 transfer(trial, transfers)
             refusals(trial)
-            trial.check(server.poll() is None, "the server still runs")
-        finally:
-            server.terminate()
-            server.wait()
+            ann, digests = push_two(trial)
+        if can_retire(program):
+            print("\n==== removed for good")
+            retire(trial, digests["hero.bin"])
+            with trial.served():
+                removed(trial, ann, digests)
         with open(f"{room}/server.log", encoding="utf-8") as file:
             log = file.read()
         if log:
