@@ -61,6 +61,6 @@ pub(crate) fn retire<S: Alter, W: Write>(
     ensures none { From S.Store store.old store.new (λ world. result ≡ Err NoObject
         → removal_of world (repo_text repo.now) oid.now ≡ no_object) }
 {
-    let removal = uploads::retire(alloc, store, repo, oid)?;
+    let removal = uploads::retire(alloc, store, repo, *oid)?;
     report(output, oid, removal)
 }
