@@ -6,7 +6,7 @@ use chunks::{Intake, pour};
 use names::{FailAfter, Size, SliceSource, VecSink};
 use sqlite::MemStore;
 use tables::{Store, StoreFault, UploadId};
-use uploads::{Kept, UploadFault};
+use uploads::{Kept, Retired, UploadFault};
 
 /// The SHA-256 of `hello`.
 const HELLO: &str = "2cf24dba5fb0a30e26e83b2ac5b9e29e1b161e5c1fa7425e73043362938b9824";
@@ -339,6 +339,66 @@ fn a_staged_upload_is_no_object(rt: HostRuntime) {
     assert_eq!(rt; uploads::sweep(rt.alloc(), &mut store), Ok(2));
     assert_eq!(rt; uploads::sweep(rt.alloc(), &mut store), Ok(0));
     assert_eq!(rt; used(&rt, &mut store, "studio/film"), 0);
+}
+
+/// The SHA-256 of `x`.
+const X: &str = "2d711642b726b04401627ca9fbac32f5c8530fb1903cc4db02258717921a4881";
+
+/// The SHA-256 of `hello`, and that of `x`.
+const HELLO_AND_X: &str =
+    "2cf24dba5fb0a30e26e83b2ac5b9e29e1b161e5c1fa7425e73043362938b98242d711642b726b04401627ca9fbac32f5c8530fb1903cc4db02258717921a4881";
+
+/// Removes the object of studio/film for good.
+fn retire(
+    rt: &impl Tester,
+    store: &mut Store<MemStore>,
+    text: &str,
+) -> Result<Retired, StoreFault> {
+    let film = repo(rt, "studio/film");
+    uploads::retire(rt.alloc(), store, &film, oid(rt, text))
+}
+
+fn is_retired(rt: &impl Tester, store: &mut Store<MemStore>, name: &str, text: &str) -> bool {
+    unwrap(
+        rt,
+        uploads::is_retired(store, &repo(rt, name), &oid(rt, text)),
+    )
+}
+
+/// The names that the repository has retired, joined.
+fn retired(rt: &impl Tester, store: &mut Store<MemStore>, name: &str) -> String {
+    let mut joined = String::new(rt.alloc());
+    let name = repo(rt, name);
+    for gone in unwrap(rt, uploads::retired_names(rt.alloc(), store, &name)) {
+        unwrap(rt, joined.push_str(gone.text()));
+    }
+    joined
+}
+
+#[test]
+fn an_object_is_removed_for_good(rt: HostRuntime) {
+    let mut store = in_memory(&rt);
+    for name in &["studio/film", "studio/score"] {
+        assert!(rt; upload(&rt, &mut store, name, X, b"x", 1) == Ok(Kept::New));
+        assert!(rt; upload(&rt, &mut store, name, HELLO, b"hello", 5) == Ok(Kept::New));
+    }
+    assert!(rt; retire(&rt, &mut store, A_AND_B) == Ok(Retired::Unknown));
+    // What is staged is removed too.
+    begin(&rt, &mut store, "studio/film", A_AND_B, 3);
+    assert!(rt; retire(&rt, &mut store, X) == Ok(Retired::Now));
+    assert_eq!(rt; uploads::sweep(rt.alloc(), &mut store), Ok(0));
+    assert!(rt; retire(&rt, &mut store, X) == Ok(Retired::Already));
+    assert!(rt; find(&rt, &mut store, "studio/film", X).is_none());
+    assert_eq!(rt; used(&rt, &mut store, "studio/film"), 5);
+    assert!(rt; retire(&rt, &mut store, HELLO) == Ok(Retired::Now));
+    assert_eq!(rt; used(&rt, &mut store, "studio/film"), 0);
+    assert!(rt; is_retired(&rt, &mut store, "studio/film", HELLO));
+    assert!(rt; retired(&rt, &mut store, "studio/film").as_str() == HELLO_AND_X);
+    // The other repository keeps its objects.
+    assert!(rt; !is_retired(&rt, &mut store, "studio/score", HELLO));
+    assert!(rt; retired(&rt, &mut store, "studio/score").is_empty());
+    assert!(rt; find(&rt, &mut store, "studio/score", HELLO) == Some(5));
+    assert_eq!(rt; used(&rt, &mut store, "studio/score"), 6);
 }
 
 #[test]

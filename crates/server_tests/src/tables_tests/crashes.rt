@@ -4,11 +4,13 @@
 //! A fuse forwards the first `calls` calls to a disk in memory, and fails each later one. Then the
 //! machine restarts: what was never synced is lost, and the files are opened again.
 
-use crate::harness::{Tester, lock_path, moment, ref_name, repo, user};
+use super::databases::{ABC, VERSION_1, retire};
+use super::files::run;
+use crate::harness::{Tester, lock_path, moment, ref_name, repo, unwrap, user};
 use names::Operation;
 use sqlite::{Connection, FileStore, Files, Options};
 use sqlite_disk::{Crash, Disk, Fuse, Memory};
-use tables::{Creation, NewLock, OpenFault, Storage, Store};
+use tables::{Creation, Migrated, NewLock, OpenFault, Storage, Store};
 use tokens::{TokenRequest, issue};
 
 const FILM: &str = "studio/film";
@@ -31,21 +33,60 @@ enum Counted {
 enum Work {
     Lock,
     Issue,
+    /// Migrates a database of version 1.
+    Migrate,
+    /// Removes its object, once it is migrated.
+    Retire,
     Look,
+    /// Makes the database of version 1.
+    Make,
 }
 
-/// The number of locks, the number of locks ever made, and the number of tokens.
-type Seen = (usize, u32, usize);
+/// The number of locks, the number of locks ever made, the number of tokens, the bytes of the objects, and the number of
+/// names that are retired.
+type Seen = (usize, u32, usize, u64, usize);
 
-/// New files, one of which fails after `calls` calls.
-fn fused(rt: &impl Tester, counted: Counted, calls: u64) -> Files<Fuse<Memory>> {
+/// A new database.
+const NEW: Seen = (0, 0, 0, 0, 0);
+
+/// The database of version 1, once it is migrated.
+const MIGRATED: Seen = (1, 1, 1, 3, 0);
+
+/// What is found if the work was not done; `None` if the tables are not those of the current version.
+fn seen_before(work: Work) -> Option<Seen> {
+    match work {
+        Work::Migrate => None,
+        Work::Retire => Some(MIGRATED),
+        _ => Some(NEW),
+    }
+}
+
+/// The files before the work.
+fn files_before(rt: &impl Tester, work: Work) -> Files<Memory> {
+    let files = Files {
+        log: Memory::new(rt.alloc()),
+        db: Memory::new(rt.alloc()),
+    };
+    match work {
+        Work::Migrate => with_files(rt, files, Work::Make).1,
+        Work::Retire => {
+            let (_, files) = with_files(rt, files, Work::Make);
+            with_files(rt, files, Work::Migrate).1
+        }
+        _ => files,
+    }
+}
+
+/// The files before the work, one of which fails after `calls` calls.
+fn fused(rt: &impl Tester, counted: Counted, calls: u64, work: Work) -> Files<Fuse<Memory>> {
     let (log, db) = match counted {
         Counted::Log => (calls, u64::MAX),
         Counted::Database => (u64::MAX, calls),
     };
+    let files = files_before(rt, work);
     Files {
-        log: Fuse::new(Memory::new(rt.alloc()), log),
-        db: Fuse::new(Memory::new(rt.alloc()), db),
+        log: Fuse::new(files.log, log),
+        db: Fuse::new(files.db, db),
     }
 }
 
@@ -99,18 +140,31 @@ fn seen<S: Storage>(rt: &impl Tester, store: &mut Store<S>) -> Result<Seen, Open
     let locks = store.locks_in(rt.alloc(), &film)?.len();
     let made = store.made(&film)?;
     let tokens = store.tokens_of(rt.alloc(), &ann, &film)?.len();
-    Ok((locks, made, tokens))
+    let used = store.used(&film)?;
+    let retired = store.retired(rt.alloc(), &film)?.len();
+    Ok((locks, made, tokens, used, retired))
+}
+
+/// Migrates a database of version 1. Returns its contents, if that was reported.
+fn migrate<S: Storage>(rt: &impl Tester, store: &mut Store<S>) -> Option<Seen> {
+    match store.migrate(rt.alloc()).ok()? {
+        Migrated::From1 => seen(rt, store).ok(),
+        Migrated::Already => None,
+    }
 }
 
 /// The result that the work reported or found; `None` if the store failed.
 fn work_on<S: Storage>(rt: &impl Tester, store: &mut Store<S>, work: Work) -> Option<Seen> {
-    if let Work::Look = work {
-        return seen(rt, store).ok();
+    match work {
+        Work::Look => return seen(rt, store).ok(),
+        Work::Migrate => return migrate(rt, store),
+        _ => {}
     }
     store.create_or_check(rt.alloc()).ok()?;
     match work {
-        Work::Lock if lock(rt, store) => Some((1, 1, 0)),
-        Work::Issue if issue_token(rt, store) => Some((0, 0, 1)),
+        Work::Lock if lock(rt, store) => Some((1, 1, 0, 0, 0)),
+        Work::Issue if issue_token(rt, store) => Some((0, 0, 1, 0, 0)),
+        Work::Retire if retire(rt, store, ABC) => Some((1, 1, 1, 0, 1)),
         _ => None,
     }
 }
@@ -118,9 +172,13 @@ fn work_on<S: Storage>(rt: &impl Tester, store: &mut Store<S>, work: Work) -> Op
 /// Does the work with a store over the connection, and returns the connection.
 fn with_connection<S: Storage>(
     rt: &impl Tester,
-    conn: Connection<S>,
+    mut conn: Connection<S>,
     work: Work,
 ) -> (Option<Seen>, Connection<S>) {
+    if let Work::Make = work {
+        unwrap(rt, run(&mut conn, VERSION_1));
+        return (None, conn);
+    }
     let mut store = Store::adopt(conn);
     let outcome = work_on(rt, &mut store, work);
     (outcome, store.into_connection())
@@ -145,14 +203,21 @@ fn with_files<D: Disk + Drop>(
 /// Does the work with files that fail after `calls` calls, and checks what is left. Returns whether the
 /// work was reported as done.
 fn stopped(rt: &impl Tester, counted: Counted, calls: u64, work: Work, after: Seen) -> bool {
-    let (outcome, mut files) = with_files(rt, fused(rt, counted, calls), work);
+    let (outcome, mut files) = with_files(rt, fused(rt, counted, calls, work), work);
     files.log.crash();
     files.db.crash();
-    let (found, _) = with_files(rt, files, Work::Look);
+    let (found, files) = with_files(rt, files, Work::Look);
     assert!(rt;
-        found == Some(after) || (outcome.is_none() && found == Some((0, 0, 0))),
+        found == Some(after) || (outcome.is_none() && found == seen_before(work)),
         "{calls}"
     );
+    // A database of version 1 is whole: it can be migrated again.
+    if found.is_none() {
+        assert!(rt;
+            with_files(rt, files, Work::Migrate).0 == Some(after),
+            "{calls}"
+        );
+    }
     outcome.is_some()
 }
 
@@ -170,13 +235,27 @@ fn stop_everywhere(rt: &impl Tester, counted: Counted, work: Work, after: Seen) 
 #[test]
 fn a_lock_is_made_whole_or_not_at_all(rt: HostRuntime) {
     for counted in [Counted::Log, Counted::Database] {
-        stop_everywhere(&rt, counted, Work::Lock, (1, 1, 0));
+        stop_everywhere(&rt, counted, Work::Lock, (1, 1, 0, 0, 0));
     }
 }
 
 #[test]
 fn a_token_is_issued_whole_or_not_at_all(rt: HostRuntime) {
     for counted in [Counted::Log, Counted::Database] {
-        stop_everywhere(&rt, counted, Work::Issue, (0, 0, 1));
+        stop_everywhere(&rt, counted, Work::Issue, (0, 0, 1, 0, 0));
+    }
+}
+
+#[test]
+fn a_database_is_migrated_whole_or_not_at_all(rt: HostRuntime) {
+    for counted in [Counted::Log, Counted::Database] {
+        stop_everywhere(&rt, counted, Work::Migrate, MIGRATED);
+    }
+}
+
+#[test]
+fn an_object_is_removed_whole_or_not_at_all(rt: HostRuntime) {
+    for counted in [Counted::Log, Counted::Database] {
+        stop_everywhere(&rt, counted, Work::Retire, (1, 1, 1, 0, 1));
     }
 }

@@ -3,10 +3,10 @@
 //! The helpers have no clause, so a test's proof does not include those of each call.
 
 use super::files::{Step, run, take_steps};
-use crate::harness::{Tester, in_memory, lock_path, moment, ref_name, repo, unwrap, user};
+use crate::harness::{Tester, in_memory, lock_path, moment, oid, ref_name, repo, unwrap, user};
 use names::{LockId, Operation};
-use sqlite::Connection;
-use tables::{Alter, Creation, NewLock, NewToken, OpenFault, Store, StoreFault};
+use sqlite::{Connection, MemStore};
+use tables::{Alter, Creation, Migrated, NewLock, NewToken, OpenFault, Store, StoreFault};
 
 const FILM: &str = "studio/film";
 
@@ -202,18 +202,110 @@ pub(crate) fn last_locks<S: Alter>(rt: &impl Tester, store: &mut Store<S>) -> (u
 const SHOTS: &str =
     "CREATE TABLE shots (name TEXT PRIMARY KEY, frames INTEGER); CREATE INDEX by_frames ON shots (frames); INSERT INTO shots VALUES ('sh010', 240)";
 
+/// A database of version 1, in which studio/film has the object `abc`, a lock and a token of ann.
+pub(crate) const VERSION_1: &str = r"
+CREATE TABLE meta (one INTEGER PRIMARY KEY CHECK (one = 1), version INTEGER NOT NULL CHECK (version = 1)) STRICT;
+CREATE TABLE repos (name TEXT NOT NULL PRIMARY KEY, made INTEGER NOT NULL CHECK (made >= 0 AND made <= 4294967295), used INTEGER NOT NULL CHECK (used >= 0)) STRICT;
+CREATE TABLE tokens (digest BLOB NOT NULL PRIMARY KEY, user TEXT NOT NULL, repo TEXT NOT NULL, op INTEGER NOT NULL CHECK (op >= 1 AND op <= 2), expires INTEGER NOT NULL) STRICT;
+CREATE TABLE uploads (id INTEGER PRIMARY KEY AUTOINCREMENT, repo TEXT NOT NULL, oid TEXT NOT NULL, size INTEGER NOT NULL, done INTEGER NOT NULL CHECK (done >= 0 AND done <= 1), UNIQUE (repo, oid, done)) STRICT;
+CREATE TABLE chunks (upload INTEGER NOT NULL, n INTEGER NOT NULL, bytes BLOB NOT NULL, PRIMARY KEY (upload, n)) STRICT;
+CREATE TABLE locks (repo TEXT NOT NULL, id INTEGER NOT NULL, ref TEXT NOT NULL, path TEXT NOT NULL, owner TEXT NOT NULL, moment INTEGER NOT NULL, PRIMARY KEY (repo, id), UNIQUE (repo, ref, path)) STRICT;
+INSERT INTO meta VALUES (1, 1);
+INSERT INTO repos VALUES ('studio/film', 1, 3);
+INSERT INTO uploads VALUES (1, 'studio/film', 'ba7816bf8f01cfea414140de5dae2223b00361a396177a9cb410ff61f20015ad', 3, 1);
+INSERT INTO chunks VALUES (1, 0, x'616263');
+INSERT INTO locks VALUES ('studio/film', 1, 'refs/heads/main', 'a', 'ann', 253402300799);
+INSERT INTO tokens VALUES (x'aaaaaaaaaaaaaaaaaaaaaaaaaaaaaaaaaaaaaaaaaaaaaaaaaaaaaaaaaaaaaaaa', 'ann', 'studio/film', 2, 100);
+";
+
+/// The SHA-256 of `abc`.
+pub(crate) const ABC: &str = "ba7816bf8f01cfea414140de5dae2223b00361a396177a9cb410ff61f20015ad";
+
+/// The SHA-256 of `hello`.
+const HELLO: &str = "2cf24dba5fb0a30e26e83b2ac5b9e29e1b161e5c1fa7425e73043362938b9824";
+
+/// A store over the database of version 1, migrated.
+fn migrated(rt: &impl Tester) -> Store<MemStore> {
+    let mut conn = unwrap(rt, Connection::open_in_memory(rt.alloc()));
+    unwrap(rt, run(&mut conn, VERSION_1));
+    let mut store = Store::adopt(conn);
+    assert!(rt; unwrap(rt, store.migrate(rt.alloc())) == Migrated::From1);
+    store
+}
+
+/// Whether there was an object of this name to remove.
+pub(crate) fn retire<S: Alter>(rt: &impl Tester, store: &mut Store<S>, text: &str) -> bool {
+    store.retire_object(&repo(rt, FILM), &oid(rt, text)) == Ok(true)
+}
+
+fn is_retired<S: Alter>(rt: &impl Tester, store: &mut Store<S>, text: &str) -> bool {
+    unwrap(rt, store.is_retired(&repo(rt, FILM), &oid(rt, text)))
+}
+
+/// The number of objects, of the bytes that they have, and of names that are retired.
+fn kept<S: Alter>(rt: &impl Tester, store: &mut Store<S>) -> (usize, u64, usize) {
+    let film = repo(rt, FILM);
+    let objects = unwrap(rt, store.objects(rt.alloc(), Some(&film))).len();
+    let used = unwrap(rt, store.used(&film));
+    let retired = unwrap(rt, store.retired(rt.alloc(), &film)).len();
+    (objects, used, retired)
+}
+
+#[test]
+fn an_object_is_removed_for_good(rt: HostRuntime) {
+    let mut store = migrated(&rt);
+    assert!(rt; kept(&rt, &mut store) == (1, 3, 0));
+    assert!(rt; !is_retired(&rt, &mut store, ABC));
+    assert!(rt; !retire(&rt, &mut store, HELLO));
+    assert!(rt; kept(&rt, &mut store) == (1, 3, 0));
+    assert!(rt; retire(&rt, &mut store, ABC));
+    assert!(rt; kept(&rt, &mut store) == (0, 0, 1));
+    assert!(rt; is_retired(&rt, &mut store, ABC));
+    assert!(rt; !is_retired(&rt, &mut store, HELLO));
+    assert!(rt; !retire(&rt, &mut store, ABC));
+    assert!(rt; kept(&rt, &mut store) == (0, 0, 1));
+    assert!(rt; found(&rt, &mut store) == (1, 1, 100));
+}
+
 /// Files, and the steps for each.
 const FILES: &[(&str, &[Step])] = &[
     // A file is read again.
     ("again.db", &[Step::Fill, Step::Find(1, 1, 100)]),
     // A file with another schema is left unchanged.
     (
-        "second.db",
+        "third.db",
         &[
             Step::Run(
-                "CREATE TABLE meta (one INTEGER PRIMARY KEY CHECK (one = 1), version INTEGER NOT NULL CHECK (version = 2)) STRICT; INSERT INTO meta VALUES (1, 2)",
+                "CREATE TABLE meta (one INTEGER PRIMARY KEY CHECK (one = 1), version INTEGER NOT NULL CHECK (version = 3)) STRICT; INSERT INTO meta VALUES (1, 3)",
             ),
             Step::Leave,
+        ],
+    ),
+    // One of version 1 is left unchanged too, and migrated once. Tables of another program are kept.
+    (
+        "first.db",
+        &[
+            Step::Run(SHOTS),
+            Step::Run(VERSION_1),
+            Step::Leave,
+            Step::Migrate(Ok(Migrated::From1)),
+            Step::Migrate(Ok(Migrated::Already)),
+            Step::Find(1, 1, 100),
+            Step::Rows("SELECT name FROM shots WHERE frames = 240", 1),
+            Step::Rows(
+                "SELECT n FROM chunks WHERE upload = 1 AND bytes = x'616263'",
+                1,
+            ),
+        ],
+    ),
+    // A new file is given the current version, and one that is neither is refused.
+    (
+        "new.db",
+        &[
+            Step::Migrate(Ok(Migrated::Already)),
+            Step::Check(Ok(())),
+            Step::Run("DROP TABLE retired"),
+            Step::Migrate(Err(OpenFault::UnknownSchema)),
         ],
     ),
     (
@@ -311,7 +403,7 @@ fn is_taken_over(rt: &impl Tester, sql: &str) -> bool {
     store.create_or_check(rt.alloc()).is_ok() && lock(rt, &mut store, "a") == 1
 }
 
-/// Statements of another program, and whether the database is given the six tables after them.
+/// Statements of another program, and whether the database is given our tables after them.
 const OTHERS: &[(&str, bool)] = &[
     ("", true),
     ("CREATE TABLE a (b INTEGER)", true),
@@ -321,6 +413,7 @@ const OTHERS: &[(&str, bool)] = &[
     ),
     ("CREATE VIEW v AS SELECT 1 AS a", true),
     ("CREATE TABLE tokens (a INTEGER)", false),
+    ("CREATE TABLE retired (a INTEGER)", false),
     ("CREATE VIEW locks AS SELECT 1 AS a", false),
     (
         "CREATE TABLE a (b INTEGER); CREATE INDEX chunks ON a (b)",

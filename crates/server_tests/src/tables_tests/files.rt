@@ -9,7 +9,7 @@ use sqlite::{Connection, Error, File, FileFrom, FileStore, Wary};
 use std::alloc::Global;
 use std::fs;
 use std::rt::HostRuntime;
-use tables::{Alter, OpenFault, Storage, Store, StoreFault};
+use tables::{Alter, Migrated, OpenFault, Storage, Store, StoreFault};
 
 /// A step on a file, with the expected result.
 pub(crate) enum Step {
@@ -23,6 +23,8 @@ pub(crate) enum Step {
     Check(Result<(), OpenFault>),
     /// The same for a file of another schema, which is left unchanged.
     Leave,
+    /// A store is opened over it, and migrates it.
+    Migrate(Result<Migrated, OpenFault>),
     /// A lock and a token are added.
     Fill,
     /// They are found, with the number of locks made.
@@ -35,6 +37,10 @@ pub(crate) enum Step {
 fn work<S: Storage>(rt: &impl Tester, store: &mut Store<S>, step: &Step) -> Result<(), OpenFault> {
     if let Step::Lock(first, second, again) = step {
         assert!(rt; last_locks(rt, store) == (*first, *second, *again));
+        return Ok(());
+    }
+    if let Step::Migrate(want) = step {
+        assert!(rt; store.migrate(rt.alloc()) == *want);
         return Ok(());
     }
     store.create_or_check(rt.alloc())?;
