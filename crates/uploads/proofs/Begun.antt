@@ -1,5 +1,7 @@
 -- An upload that is begun is staged.
-use Rattle.uploads.proofs.Prelude.{◌≤◌, ℕ, List, Option, Result, Ok, Err, Ghosts, largest_object, World, IsHonest, Store, StoreFault, UploadId, UploadRow, From, Keeps, Holds, leads_still, keeps_still, keeps_then}
+use Rattle.uploads.proofs.Prelude.{◌≡◌, ◌≤◌, false, ℕ, List, Option, Result, Ok, Err, Ghosts, largest_object, World, IsHonest, Store, StoreFault, UploadId, UploadRow, From, Keeps, Holds, leads_still, keeps_still, keeps_then}
+use Rattle.names.specs.Names.{repo_text}
+use Rattle.model.specs.World.{is_retired}
 use Rattle.names.specs.declared.texts.RepoName.{RepoName}
 use Rattle.tables.specs.Shown as tables
 use Rattle.tables.specs.declared.new_rows.NewUpload.{NewUpload}
@@ -12,12 +14,12 @@ module _ {S : Type 0} (g : Ghosts S) (old new : Store S) (asked : NewUpload) (in
   honest_before (Ok id) e k = e.made.moves.was_honest k
   honest_before (Err fault) e k = e.failed.moves.was_honest k
 
-  begins_by : (r : Result UploadId StoreFault) → tables.Begins g old new r asked → IsHonest g new → (world : World) → Holds g old world
+  begins_by : (r : Result UploadId StoreFault) → tables.Begins g old new r asked → IsHonest g new → (world : World) → Holds g old world → is_retired (repo_text asked.repo.now) asked.oid.now world ≡ false
       → Begins g world asked.repo.now asked.oid.now asked.size old new r
-  begins_by (Ok id) e honest world h = (keeps_begun g old new asked in_range world (Ok id) e honest h, stages_begun g old new asked in_range world id e h)
-  begins_by (Err fault) e honest world h = keeps_begun g old new asked in_range world (Err fault) e honest h
+  begins_by (Ok id) e honest world h unretired = (keeps_begun g old new asked in_range world unretired (Ok id) e honest h, stages_begun g old new asked in_range world unretired id e h)
+  begins_by (Err fault) e honest world h unretired = keeps_begun g old new asked in_range world unretired (Err fault) e honest h
 
-  pub begun_from : (r : Result UploadId StoreFault) → tables.Begins g old new r asked → From g old new (λ world. Begins g world asked.repo.now asked.oid.now asked.size old new r)
+  pub begun_from : (r : Result UploadId StoreFault) → tables.Begins g old new r asked → From g old new (λ world. is_retired (repo_text asked.repo.now) asked.oid.now world ≡ false → Begins g world asked.repo.now asked.oid.now asked.size old new r)
   begun_from r e = record { honest = honest_before r e; each = begins_by r e }
 
 module _ {S : Type 0} (g : Ghosts S) where
@@ -33,10 +35,11 @@ module _ {S : Type 0} (g : Ghosts S) where
   }
 
   -- an upload was begun after a call that kept the world
-  pub begun_then : (a b c : Store S) (repo : RepoName) (oid : List ℕ) (size : ℕ) (r : Result UploadId StoreFault) → From g a b (Keeps g a b) → From g b c (λ world. Begins g world repo oid size b c r) → From g a c (λ world. Begins g world repo oid size a c r)
+  pub begun_then : (a b c : Store S) (repo : RepoName) (oid : List ℕ) (size : ℕ) (r : Result UploadId StoreFault) → From g a b (Keeps g a b) → From g b c (λ world. is_retired (repo_text repo) oid world ≡ false → Begins g world repo oid size b c r)
+      → From g a c (λ world. is_retired (repo_text repo) oid world ≡ false → Begins g world repo oid size a c r)
   begun_then a b c repo oid size r p q = record {
     honest = λ k. p.honest (q.honest k);
-    each = λ k world h. let it = p.each (q.honest k) world h in more r world it (q.each k world it.holds);
+    each = λ k world h unretired. let it = p.each (q.honest k) world h in more r world it (q.each k world it.holds unretired);
   }
     where
       more : (r : Result UploadId StoreFault) (world : World) → Keeps g a b world → Begins g world repo oid size b c r → Begins g world repo oid size a c r

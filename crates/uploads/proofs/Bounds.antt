@@ -6,7 +6,7 @@ use Rattle.std.proofs.lemmas.List.Sums.{sum_by-cons}
 use Rattle.model.specs.World.{total}
 use Rattle.model.specs.Bounds.{Bound}
 use Rattle.model.proofs.Lists.{IsOnly, each_weaker}
-use Rattle.model.proofs.Views.{only_of}
+use Rattle.model.proofs.Once.{only_of}
 use Rattle.refinement.proofs.Lookups.{same_is}
 use Rattle.uploads.specs.Bounds.{stored_in, AreWithin, StoresWithin, LeavesWithin}
 use Rattle.tables.proofs.Marked.{IsMarked, kept_marked, uploads_marked}

@@ -6,3 +6,4 @@ pub mod Listed
 pub mod Received
 pub mod Sizes
 pub mod Swept
+pub mod Gone

@@ -1,7 +1,11 @@
 -- A staged upload whose bytes arrived is completed.
 use Rattle.uploads.proofs.Prelude.{◌≡◌, ◌∙◌, ◌⊎◌, inl, inr, ℕ, ◌+◌, ◌≤◌, true, None, add_comm, pos, List, ◌++◌, length, Some, is_some, Ok, Err, refl, sym, ap, subst, concat, Ghosts, largest_object, World, IsWorld, IsObject, name_of, object_named, with_object, Tables, IsHonest, IsOpen, Moves, Makes, Fails, shown, upload_number, completion_by, completion_of, after_complete, Store, StoreFault, UploadId, Represents, Holds, Keeps, holds_made, ends_made, ends_failed_or, ends_reported, keeps_failed}
 use Rattle.std.proofs.lemmas.Slice.Eq.{bytes_eq-Decides}
-use Rattle.model.specs.World.{total}
+use Rattle.std.specs.Prelude.{not, false}
+use Rattle.model.specs.World.{IsUnretired, is_retired, total}
+use Rattle.model.proofs.Lists.{each_in, in_found}
+use Rattle.tables.specs.Rows.{Upload}
+use Rattle.tables.specs.Statements.{is_staged, is_upload}
 use Rattle.model.specs.Bounds.{changed, unchanged}
 use Rattle.model.proofs.Keeping.{keeps_with_object}
 use Rattle.model.proofs.Quota.{total_with}
@@ -49,6 +53,15 @@ module _ {S : Type 0} (g : Ghosts S) (old new : Store S) (world : World) (upload
       let within = staged_in_range (shown g old) world (upload_number id) upload.repo upload.name upload.size upload.pieces (h.shows k o) (a.stages k o) in
       record { repo = a.repo; name = refl; size = subst (λ n. n ≤ largest_object) (equal ∙ a.length) within }
 
+  -- a staged upload has no retired name
+  is_unretired : IsHonest g old → IsOpen g old → upload.name ≡ oid → IsUnretired world (object_of upload)
+  is_unretired k o same =
+      let there = (a.stages k o).upload in
+      let row = staged_row (upload_number id) upload.repo upload.name upload.size in
+      let free : is_retired upload.repo upload.name world ≡ false =
+      each_in (λ (u : Upload). is_staged u ≡ true → is_retired u.repo u.oid world ≡ false) (shown g old).uploads row (h.shows k o).unretired (in_found (is_upload (upload_number id)) (shown g old).uploads row there) refl in
+      ap not (ap (λ (n : List ℕ). is_retired upload.repo n world) (sym (same ∙ a.name)) ∙ free)
+
   -- what the tables represent after a result
   after : (k : IsHonest g old) (o : IsOpen g old) (c : Completion) → completion_of (upload_number id) oid (pos size) (shown g old) ≡ Some c
       → Completed (shown g old) world (upload_number id) upload.repo upload.name upload.size upload.pieces chunk oid size (h.shows k o) h.laws (a.stages k o) a.next arrived c
@@ -76,7 +89,7 @@ module _ {S : Type 0} (g : Ghosts S) (old new : Store S) (world : World) (upload
         is_begun it.0 it.1,
         none,
         ends_made g old new changed world made step h.ready makes
-            (holds_made g old new made step h.ready makes (keeps_with_object world (object_of upload) (is_object k o it.1) h.laws) (λ _ _. subst (Represents (step (shown g old))) same_object it.3)),
+            (holds_made g old new made step h.ready makes (keeps_with_object world (object_of upload) (is_object k o it.1) (is_unretired k o it.0) h.laws) (λ _ _. subst (Represents (step (shown g old))) same_object it.3)),
         grown (is_begun it.0 it.1) none,
       )
 
@@ -102,7 +115,7 @@ module _ {S : Type 0} (g : Ghosts S) (old new : Store S) (world : World) (upload
   either : (k : IsHonest g old) (o : IsOpen g old) (c : Completion)
       → Completed (shown g old) world (upload_number id) upload.repo upload.name upload.size upload.pieces chunk oid size (h.shows k o) h.laws (a.stages k o) a.next arrived c
       → (IsWorld made × Represents (step (shown g old)) made) ⊎ Represents (step (shown g old)) world
-  either k o completion.New it = inl (keeps_with_object world (object_of upload) (is_object k o it.1) h.laws, subst (Represents (step (shown g old))) same_object it.3)
+  either k o completion.New it = inl (keeps_with_object world (object_of upload) (is_object k o it.1) (is_unretired k o it.0) h.laws, subst (Represents (step (shown g old))) same_object it.3)
   either k o completion.Already it = inr (stays k o it.3)
   either k o completion.Differs it = inr (stays k o it.1)
 

@@ -4,3 +4,4 @@ pub mod Finding
 pub mod Listing
 pub mod Completing
 pub mod Removing
+pub mod Retiring

@@ -1,5 +1,8 @@
 //! Begins uploads.
 
+ghost use Rattle.std.specs.Prelude.{◌≡◌, false};
+ghost use Rattle.names.specs.Names.{repo_text};
+ghost use Rattle.model.specs.World.{is_retired};
 ghost use Rattle.refinement.specs.Left.{From, Keeps};
 ghost use Rattle.uploads.specs.Beginning.{Begins};
 
@@ -27,7 +30,7 @@ fn shorten_staged<S: Alter>(
 }
 
 /// Begins an upload of an object of this name and this size, and returns its id. It is staged, with no bytes yet, and
-/// takes the place of any upload that the repository had staged.
+/// takes the place of any upload that the repository had staged. The name must not be retired.
 ///
 /// # Errors
 ///
@@ -40,8 +43,8 @@ pub fn begin<S: Alter>(
     oid: &Oid,
     size: Size,
 ) -> Result<UploadId, StoreFault>
-    ensures { From S.Store store.old store.new (λ world.
-        Begins S.Store world repo.now oid.now size store.old store.new result) }
+    ensures { From S.Store store.old store.new (λ world. is_retired (repo_text repo.now) oid.now world ≡ false
+        → Begins S.Store world repo.now oid.now size store.old store.new result) }
 {
     shorten_staged(alloc, store, repo)?;
     store.begin_upload(alloc, &NewUpload { repo, oid, size })

@@ -3,10 +3,13 @@
 ghost use Rattle.std.specs.Prelude.{◌≡◌, IfOk, OnOk};
 ghost use Rattle.names.specs.Names.{repo_text};
 ghost use Rattle.model.specs.World.{is_retired};
+ghost use Rattle.model.specs.RepoState.{retired_of};
+ghost use Rattle.model.specs.Operator.{removed_now, removal_of};
 ghost use Rattle.refinement.specs.Left.{From, Keeps, Reads};
 ghost use Rattle.refinement.specs.Staging.{StagesNoneIn};
-ghost use Rattle.uploads.specs.Retiring.{Retires, AreRetired};
+ghost use Rattle.uploads.specs.Retiring.{IsSeen, Retires};
 
+use crate::finding::find;
 use crate::removing::shorten;
 use names::{Oid, RepoName};
 use std::alloc::Global;
@@ -44,13 +47,13 @@ pub fn is_retired<S: Alter>(
 /// # Errors
 ///
 /// `Refused` or `Memory`. The contents of the store are unchanged in any case.
-pub fn retired<S: Alter>(
+pub fn retired_names<S: Alter>(
     alloc: Global,
     store: &mut Store<S>,
     repo: &RepoName,
 ) -> Result<Vec<Oid>, StoreFault>
     ensures { Reads S.Store store.old store.new (λ world.
-        IfOk result (λ names. AreRetired world (repo_text repo.now) names.items)) }
+        IfOk result (λ names. names.items ≡ retired_of (repo_text repo.now) world)) }
 {
     store.retired(alloc, repo)
 }
@@ -72,23 +75,46 @@ fn clear_staged<S: Alter>(
     Ok(())
 }
 
-/// Removes the object of a name that is not retired, and retires the name, in one transaction.
+/// Removes the object, which the repository has, and retires its name, in one transaction. What the repository has staged
+/// is removed before.
 fn remove<S: Alter>(
     alloc: Global,
     store: &mut Store<S>,
     repo: &RepoName,
-    oid: &Oid,
-) -> Result<bool, StoreFault>
-    ensures { From S.Store store.old store.new (λ world. is_retired (repo_text repo.now) oid.now world ≡ false
-        → Removes S.Store world (repo_text repo.now) oid.now store.old store.new result) }
+    oid: Oid,
+) -> Result<Retired, StoreFault>
+    ensures { From S.Store store.old store.new (λ world. removal_of world (repo_text repo.now) oid ≡ removed_now
+        → Retires S.Store world (repo_text repo.now) oid store.old store.new result) }
 {
     clear_staged(alloc, store, repo)?;
-    store.retire_object(repo, oid)
+    if store.retire_object(repo, &oid)? {
+        Ok(Retired::Now)
+    } else {
+        Ok(Retired::Unknown)
+    }
+}
+
+/// Why there is no object to remove; `None` if there is one.
+fn nothing_to_remove<S: Alter>(
+    store: &mut Store<S>,
+    repo: &RepoName,
+    oid: &Oid,
+) -> Result<Option<Retired>, StoreFault>
+    ensures { Reads S.Store store.old store.new (λ world.
+        IfOk result (IsSeen world (repo_text repo.now) oid.now)) }
+{
+    if is_retired(store, repo, oid)? {
+        return Ok(Some(Retired::Already));
+    }
+    match find(store, repo, oid)? {
+        None => Ok(Some(Retired::Unknown)),
+        Some(_) => Ok(None),
+    }
 }
 
 /// Removes the object that the repository has under this name for good: its bytes are deleted, its size is subtracted
 /// from the number of bytes that the repository stores, and the name may not be stored there again. What the repository
-/// has staged is removed before.
+/// has staged is removed before. If there is no such object, nothing is changed.
 ///
 /// # Errors
 ///
@@ -97,20 +123,13 @@ pub fn retire<S: Alter>(
     alloc: Global,
     store: &mut Store<S>,
     repo: &RepoName,
-    oid: &Oid,
+    oid: Oid,
 ) -> Result<Retired, StoreFault>
     ensures { From S.Store store.old store.new (λ world.
-        Retires S.Store world (repo_text repo.now) oid.now store.old store.new result) }
+        Retires S.Store world (repo_text repo.now) oid store.old store.new result) }
 {
-    if store.is_retired(repo, oid)? {
-        return Ok(Retired::Already);
-    }
-    if store.object(repo, oid)?.is_none() {
-        return Ok(Retired::Unknown);
-    }
-    if remove(alloc, store, repo, oid)? {
-        Ok(Retired::Now)
-    } else {
-        Ok(Retired::Unknown)
+    match nothing_to_remove(store, repo, &oid)? {
+        Some(why) => Ok(why),
+        None => remove(alloc, store, repo, oid),
     }
 }

@@ -1,11 +1,11 @@
-use Rattle.uploads.proofs.Prelude.{rules, ◌≤◌, err_from_is_err_and, largest_object}
+use Rattle.uploads.proofs.Prelude.{rules, ◌≤◌, err_from_is_err_and, from_weaker, largest_object}
 use Rattle.uploads.proofs.Begun.{begun_from, begun_then}
 use Rattle.uploads.proofs.beginning.begin.Goals as goal
 
 pub returns-in_err-shorten_staged : goal.returns-in_err-shorten_staged
 returns-in_err-shorten_staged g c =
     let p = err_from_is_err_and c.from_residual.result c.from_residual.ensures.1 in
-    rw p.1 c.in_err-shorten_staged.ensures
+    rw p.1 (from_weaker g.S.Store c.args.store.now c.shorten_staged.new.store _ _ (λ world keeps _. keeps) c.in_err-shorten_staged.ensures)
 
 pub returns : goal.returns
 returns g c =
