@@ -5,4 +5,4 @@
 
 mod opening;
 
-pub use opening::{bound_law, open_from, same_law, start, stop_law};
+pub use opening::{bound_law, migrate, open_from, same_law, start, stop_law};
