@@ -7,14 +7,14 @@ use Rattle.desk.proofs.Reading.{both_read, none_ok, repo_weaker}
 use Rattle.desk.proofs.Showing.{read_alike}
 use Rattle.desk.proofs.batching.judge.Goals as goal
 
-pub returns-then-is_gone-in-Ok : goal.returns-then-is_gone-in-Ok
-returns-then-is_gone-in-Ok g c =
+pub returns-then-branch : goal.returns-then-branch
+returns-then-branch g c =
     let named = c.in-Ok.named in
     let object = object_asked c.args.object.now in
     let sound = subst (λ (h : Option (List ℕ)). IsSound h object (Ok named)) (read_alike string_bytes c.args.asked.now.hash_algo c.as_ref.result c.as_ref.ensures.value) c.in-Ok.ensures in
     record {
       reads = c.in_ok-is_gone-in-Ok.ensures.reads;
-      each = λ honest state shown room. judged_gone state (batch_asked c.args.asked.now) object named sound (sym c.if-is_gone.true ∙ c.in_ok-is_gone-in-Ok.ensures.gone honest state shown);
+      each = λ honest state shown room. judged_gone state (batch_asked c.args.asked.now) object named sound (sym c.if-branch.true ∙ c.in_ok-is_gone-in-Ok.ensures.gone honest state shown);
     }
 
 pub returns-in_err-stored-in-Ok : goal.returns-in_err-stored-in-Ok
@@ -34,5 +34,5 @@ returns-in_ok-stored-in-Ok g c =
     repo_weaker _
     (λ state both room.
     judged_found state (batch_asked c.args.asked.now) object named c.in_ok-stored-in-Ok.stored c.args.room c.fits-fits.result c.actions_for.result room fitting sound
-    (sym c.if-is_gone.false ∙ both.0) both.1 c.actions_for.ensures)
+    (sym c.if-branch.false ∙ both.0) both.1 c.actions_for.ensures)
     (both_read it.reads_on it.was_honest it.shows_still c.in_ok-is_gone-in-Ok.ensures.reads c.in_ok-stored-in-Ok.ensures.reads c.in_ok-is_gone-in-Ok.ensures.gone c.in_ok-stored-in-Ok.ensures.size)

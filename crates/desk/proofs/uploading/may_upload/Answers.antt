@@ -6,8 +6,8 @@ use Rattle.desk.proofs.Reading.{permits_denial, both_read, repo_weaker}
 use Rattle.desk.proofs.Showing.{read_alike}
 use Rattle.desk.proofs.uploading.may_upload.Goals as goal
 
-pub returns-then-is_gone : goal.returns-then-is_gone
-returns-then-is_gone g c =
+pub returns-then-branch : goal.returns-then-branch
+returns-then-branch g c =
     let case = c.args.case.now in
     let asked = put_asked c.args.asked.now in
     let ref = ref_text c.ref_or_default.result.now in
@@ -16,12 +16,12 @@ returns-then-is_gone g c =
     record {
       reads = c.in_ok-is_gone.ensures.reads;
       each = λ honest state shown who user.
-          permits_denial (denied.Rule X4) c.into-then-is_gone.result _ _ c.into-then-is_gone.ensures
-          (put_gone (case_with case who state) ref c.args.size asked named (pushes case who ref (Ok tt) user c.in_ok-may_push.ensures) (sym (c.in_ok-is_gone.ensures.gone honest state shown) ∙ c.if-is_gone.true));
+          permits_denial (denied.Rule X4) c.into-then-branch.result _ _ c.into-then-branch.ensures
+          (put_gone (case_with case who state) ref c.args.size asked named (pushes case who ref (Ok tt) user c.in_ok-may_push.ensures) (sym (c.in_ok-is_gone.ensures.gone honest state shown) ∙ c.if-branch.true));
     }
 
-pub returns-then-has_place : goal.returns-then-has_place
-returns-then-has_place g c =
+pub returns-then-branch-2 : goal.returns-then-branch-2
+returns-then-branch-2 g c =
     let it = g.met.R.RepoReader in
     let case = c.args.case.now in
     let asked = put_asked c.args.asked.now in
@@ -30,11 +30,11 @@ returns-then-has_place g c =
     sym (c.ref_or_default.ensures ∙ ap (λ (o : Option (List ℕ)). ref_or_default o (case_repo case)) (read_alike ref_text c.args.asked.now.ref_name c.as_ref.result c.as_ref.ensures.value)) in
     repo_weaker _
     (λ state both who user.
-    put_placed (case_with case who state) ref c.args.size asked named (pushes case who ref (Ok tt) user c.in_ok-may_push.ensures) (sym both.0 ∙ c.if-is_gone.false) (sym both.1 ∙ c.if-has_place.true))
+    put_placed (case_with case who state) ref c.args.size asked named (pushes case who ref (Ok tt) user c.in_ok-may_push.ensures) (sym both.0 ∙ c.if-branch.false) (sym both.1 ∙ c.if-branch-2.true))
     (both_read it.reads_on it.was_honest it.shows_still c.in_ok-is_gone.ensures.reads c.in_ok-has_place.ensures.reads c.in_ok-is_gone.ensures.gone c.in_ok-has_place.ensures.each)
 
-pub returns-else-has_place : goal.returns-else-has_place
-returns-else-has_place g c =
+pub returns-else-branch-2 : goal.returns-else-branch-2
+returns-else-branch-2 g c =
     let it = g.met.R.RepoReader in
     let case = c.args.case.now in
     let asked = put_asked c.args.asked.now in
@@ -43,6 +43,6 @@ returns-else-has_place g c =
     sym (c.ref_or_default.ensures ∙ ap (λ (o : Option (List ℕ)). ref_or_default o (case_repo case)) (read_alike ref_text c.args.asked.now.ref_name c.as_ref.result c.as_ref.ensures.value)) in
     repo_weaker _
     (λ state both who user.
-    permits_denial (denied.Rule X3) c.into.result _ _ c.into.ensures
-    (put_without (case_with case who state) ref c.args.size asked named (pushes case who ref (Ok tt) user c.in_ok-may_push.ensures) (sym both.0 ∙ c.if-is_gone.false) (sym both.1 ∙ c.if-has_place.false)))
+    permits_denial (denied.Rule X3) c.into-else-branch-2.result _ _ c.into-else-branch-2.ensures
+    (put_without (case_with case who state) ref c.args.size asked named (pushes case who ref (Ok tt) user c.in_ok-may_push.ensures) (sym both.0 ∙ c.if-branch.false) (sym both.1 ∙ c.if-branch-2.false)))
     (both_read it.reads_on it.was_honest it.shows_still c.in_ok-is_gone.ensures.reads c.in_ok-has_place.ensures.reads c.in_ok-is_gone.ensures.gone c.in_ok-has_place.ensures.each)
