@@ -52,5 +52,5 @@ put_kept c left asked plan is = at (may_push c.setting.policy c.caller.user c.re
     at : (may : Result ⊤ Denial) (gone : Bool)
         → (may >>= λ pushes. by_rules (check (not gone) X4) >>= λ there. by_rules (check (has_place left asked.name c.state) X3) >>= λ fits. Ok (receives asked.name)) ≡ Ok plan → gone ≡ false
     at (Err denial) gone e = absurd (true≢false (ap is_err e))
-    at (Ok may) true e = absurd (true≢false (ap is_err e))
-    at (Ok may) false e = refl
+    at (Ok x) true e = absurd (true≢false (ap is_err e))
+    at (Ok x) false e = refl

@@ -87,10 +87,11 @@ module _ {R : Type 0} {g : Ghosts R} (on : (one two three : R) → g.reads one t
     each = λ honest state shown. both state (p.each (was two three q.reads honest) state shown) (q.each honest state (still one two repo state p.reads shown));
   }
 
-  -- two reads, each with what it says
-  pub both_read : {P Q : RepoState → Type 0} → g.reads one two → g.reads two three → (g.honest two → (state : RepoState) → g.shows one repo state → P state) → (g.honest three → (state : RepoState) → g.shows two repo state → Q state)
-      → ReadsRepo g one three repo (λ state. P state × Q state)
-  both_read {P} {Q} first then says more = repo_then {P = P} {Q = Q} (λ state p q. (p, q)) (record { reads = first; each = says }) (record { reads = then; each = more })
+-- two reads, each with what it says
+pub both_read : {R : Type 0} {g : Ghosts R} (on : (one two three : R) → g.reads one two → g.reads two three → g.reads one three) (was : (one two : R) → g.reads one two → g.honest two → g.honest one)
+    (still : (one two : R) (repo : Repo) (state : RepoState) → g.reads one two → g.shows one repo state → g.shows two repo state) {one three : R} {repo : Repo} (two : R) {P Q : RepoState → Type 0} → g.reads one two → g.reads two three
+    → (g.honest two → (state : RepoState) → g.shows one repo state → P state) → (g.honest three → (state : RepoState) → g.shows two repo state → Q state) → ReadsRepo g one three repo (λ state. P state × Q state)
+both_read on was still two {P} {Q} first then says more = repo_then on was still {P = P} {Q = Q} (λ state p q. (p, q)) (record { reads = first; each = says }) (record { reads = then; each = more })
 
 module _ (state : RepoState) (size : ℕ) (name : List ℕ) where
   -- whether there is a place for an upload

@@ -35,4 +35,4 @@ returns-in_ok-stored-in-Ok g c =
     (λ state both room.
     judged_found state (batch_asked c.args.asked.now) object named c.in_ok-stored-in-Ok.stored c.args.room c.fits-fits.result c.actions_for.result room fitting sound
     (sym c.if-branch.false ∙ both.0) both.1 c.actions_for.ensures)
-    (both_read it.reads_on it.was_honest it.shows_still c.in_ok-is_gone-in-Ok.ensures.reads c.in_ok-stored-in-Ok.ensures.reads c.in_ok-is_gone-in-Ok.ensures.gone c.in_ok-stored-in-Ok.ensures.size)
+    (both_read it.reads_on it.was_honest it.shows_still _ c.in_ok-is_gone-in-Ok.ensures.reads c.in_ok-stored-in-Ok.ensures.reads c.in_ok-is_gone-in-Ok.ensures.gone c.in_ok-stored-in-Ok.ensures.size)

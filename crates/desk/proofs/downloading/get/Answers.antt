@@ -14,7 +14,7 @@ returns-then-branch g c =
     let case = c.args.case.now in
     let name = get_asked c.args.asked.now in
     let may = subst (λ q. permit (case_policy case) q 404 ≡ Ok tt) c.pull_question.ensures c.in_ok-permit.ensures in
-    denied_plan _ (denied.Rule X4) (Err c.into-then-branch.result) c.in_ok-is_gone.ensures.reads c.into-then-branch.ensures
+    denied_plan _ (denied.Rule X4) (Err c.into.result) c.in_ok-is_gone.ensures.reads c.into.ensures
     (λ honest state shown who user. get_gone (case_with case who state) name (pulls case who user may) (sym (c.in_ok-is_gone.ensures.gone honest state shown) ∙ c.if-branch.true))
 
 pub returns-in_err-size : goal.returns-in_err-size
@@ -32,7 +32,7 @@ returns-in-Some g c =
     repo_weaker _
     (λ state both who user repo body.
     subst (λ plan. IsReply c.content.result (plan_reply repo body plan)) (sym (get_some (case_with case who state) name (pulls case who user may) (sym both.0 ∙ c.if-branch.false) c.in-Some.size (sym both.1))) c.content.ensures)
-    (both_read it.reads_on it.was_honest it.shows_still c.in_ok-is_gone.ensures.reads c.in_ok-size.ensures.reads c.in_ok-is_gone.ensures.gone found)
+    (both_read it.reads_on it.was_honest it.shows_still _ c.in_ok-is_gone.ensures.reads c.in_ok-size.ensures.reads c.in_ok-is_gone.ensures.gone found)
 
 pub returns-in-None : goal.returns-in-None
 returns-in-None g c =
@@ -41,6 +41,6 @@ returns-in-None g c =
     let it = g.met.R.RepoReader in
     let may = subst (λ q. permit (case_policy case) q 404 ≡ Ok tt) c.pull_question.ensures c.in_ok-permit.ensures in
     let found = (rw c.in-None.is at c.in_ok-size.ensures).size in
-    let both = both_read it.reads_on it.was_honest it.shows_still c.in_ok-is_gone.ensures.reads c.in_ok-size.ensures.reads c.in_ok-is_gone.ensures.gone found in
+    let both = both_read it.reads_on it.was_honest it.shows_still _ c.in_ok-is_gone.ensures.reads c.in_ok-size.ensures.reads c.in_ok-is_gone.ensures.gone found in
     denied_plan _ (denied.Rule X1) (Err c.into-in-None.result) both.reads c.into-in-None.ensures
     (λ honest state shown who user. get_none (case_with case who state) name (pulls case who user may) (sym (both.each honest state shown).0 ∙ c.if-branch.false) (sym (both.each honest state shown).1))

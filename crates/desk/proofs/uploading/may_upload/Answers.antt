@@ -16,7 +16,7 @@ returns-then-branch g c =
     record {
       reads = c.in_ok-is_gone.ensures.reads;
       each = λ honest state shown who user.
-          permits_denial (denied.Rule X4) c.into-then-branch.result _ _ c.into-then-branch.ensures
+          permits_denial (denied.Rule X4) c.into.result _ _ c.into.ensures
           (put_gone (case_with case who state) ref c.args.size asked named (pushes case who ref (Ok tt) user c.in_ok-may_push.ensures) (sym (c.in_ok-is_gone.ensures.gone honest state shown) ∙ c.if-branch.true));
     }
 
@@ -31,7 +31,7 @@ returns-then-branch-2 g c =
     repo_weaker _
     (λ state both who user.
     put_placed (case_with case who state) ref c.args.size asked named (pushes case who ref (Ok tt) user c.in_ok-may_push.ensures) (sym both.0 ∙ c.if-branch.false) (sym both.1 ∙ c.if-branch-2.true))
-    (both_read it.reads_on it.was_honest it.shows_still c.in_ok-is_gone.ensures.reads c.in_ok-has_place.ensures.reads c.in_ok-is_gone.ensures.gone c.in_ok-has_place.ensures.each)
+    (both_read it.reads_on it.was_honest it.shows_still _ c.in_ok-is_gone.ensures.reads c.in_ok-has_place.ensures.reads c.in_ok-is_gone.ensures.gone c.in_ok-has_place.ensures.each)
 
 pub returns-else-branch-2 : goal.returns-else-branch-2
 returns-else-branch-2 g c =
@@ -45,4 +45,4 @@ returns-else-branch-2 g c =
     (λ state both who user.
     permits_denial (denied.Rule X3) c.into-else-branch-2.result _ _ c.into-else-branch-2.ensures
     (put_without (case_with case who state) ref c.args.size asked named (pushes case who ref (Ok tt) user c.in_ok-may_push.ensures) (sym both.0 ∙ c.if-branch.false) (sym both.1 ∙ c.if-branch-2.false)))
-    (both_read it.reads_on it.was_honest it.shows_still c.in_ok-is_gone.ensures.reads c.in_ok-has_place.ensures.reads c.in_ok-is_gone.ensures.gone c.in_ok-has_place.ensures.each)
+    (both_read it.reads_on it.was_honest it.shows_still _ c.in_ok-is_gone.ensures.reads c.in_ok-has_place.ensures.reads c.in_ok-is_gone.ensures.gone c.in_ok-has_place.ensures.each)
