@@ -1,6 +1,6 @@
 use mir.Syntax.{w128}
 use Rattle.std.proofs.lemmas.Int.{to_z-of_z}
-use Rattle.desk.proofs.Prelude.{◌≡◌, ◌∙◌, ℕ, List, Option, Ok, ap₂, subst, sym, string_bytes, batch_asked, object_asked, repo_view, is_gone, size_of, IsSound}
+use Rattle.desk.proofs.Prelude.{◌∙◌, ℕ, List, Option, Ok, ap₂, subst, sym, string_bytes, batch_asked, object_asked, IsSound}
 use Rattle.std.specs.Prelude.{int_le, pos}
 use Rattle.desk.proofs.Offering.{judged_found, judged_gone}
 use Rattle.desk.proofs.Reading.{both_read, none_ok, repo_weaker}

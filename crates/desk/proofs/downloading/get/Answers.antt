@@ -1,4 +1,4 @@
-use Rattle.desk.proofs.Prelude.{◌≡◌, ◌∙◌, ℕ, Bool, false, true, Option, Ok, Err, None, Some, X1, X4, sym, subst, get_asked, is_gone, size_of, permit, case_policy, case_with}
+use Rattle.desk.proofs.Prelude.{◌≡◌, ◌∙◌, Ok, Err, X1, X4, sym, subst, get_asked, permit, case_policy, case_with}
 use Rattle.model.specs.Views.{plan_reply}
 use Rattle.desk.specs.Replies.{IsReply}
 use Rattle.desk.specs.declared.cases.Denial.TheVariants as denied

@@ -1,6 +1,5 @@
-use Rattle.desk.proofs.Prelude.{◌≡◌, ◌∙◌, List, ℕ, Option, Ok, Err, sym, ap, refl, subst, ref_text, ref_or_default, put_asked, case_repo, case_with, receives, denial_view}
+use Rattle.desk.proofs.Prelude.{◌≡◌, ◌∙◌, List, ℕ, Option, Ok, sym, ap, ref_text, ref_or_default, put_asked, case_repo, case_with, X3, X4}
 use Rattle.desk.specs.declared.cases.Denial.TheVariants as denied
-use Rattle.desk.proofs.Prelude.{X3, X4, false, true}
 use Rattle.desk.proofs.Pushing.{put_gone, put_placed, put_without, pushes}
 use Rattle.desk.proofs.Reading.{permits_denial, both_read, repo_weaker}
 use Rattle.desk.proofs.Showing.{read_alike}

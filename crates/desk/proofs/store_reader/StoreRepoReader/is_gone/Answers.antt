@@ -1,4 +1,4 @@
-use Rattle.desk.proofs.Prelude.{◌≡◌, ◌∙◌, Bool, List, ℕ, sym, ap, subst, IfOk, IfOk-weaker, is_gone, is_retired, gone_is, repo_view}
+use Rattle.desk.proofs.Prelude.{◌≡◌, ◌∙◌, List, ℕ, sym, ap, subst, IfOk-weaker, is_gone, is_retired, gone_is, repo_view}
 use Rattle.desk.proofs.store_reader.StoreRepoReader.is_gone.Goals as goal
 
 pub returns-clause-gone : goal.returns-clause-gone
