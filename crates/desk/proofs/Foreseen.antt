@@ -1,5 +1,5 @@
 -- What is read of a view is what the view shows.
-use Rattle.desk.proofs.Prelude.{◌<◌, ◌≤◌, arith, nat_tests, ◌≡◌, ◌∙◌, ◌==◌, ◌&&◌, ℕ, Bool, true, false, nat_lt, List, [], ◌∷◌, cond, map, find, Option, Some, None, option_map, Bor, Result, Ok, Err, IsErrAnd, bytes_eq, refl, sym, ap, ap₂, subst, found_passes, ◌>>=◌, ok_or, L2, RepoState, lock_at, size_of, Lock, Answer, Denial, Plan, receives, stores, by_lock, by_rules, permit, lock_question, new_lock, release_verdict, sees, unlock_verdict, UnlockForm, repo_text, ref_text, path_text, lock_asked, lock_seen, LockRow, NewLock, Object, name_of, Rule, A5, R1, Repo, check, is_upload, length, plan_for, repo_named, admission_result, Reply, IsReply, IsReplyOf, NotGranted, ShowsPlan, ShowsVerdict, IsUserOf, IsWantedBy, case_policy, case_repo, case_user, case_with, denial_view, found_verdict, free_verdict, question_on}
+use Rattle.desk.proofs.Prelude.{◌<◌, ◌≤◌, arith, nat_tests, ◌≡◌, ◌∙◌, ◌==◌, ◌&&◌, ℕ, Bool, true, false, nat_lt, List, [], ◌∷◌, cond, map, find, Option, Some, None, option_map, is_some, Bor, Result, Ok, Err, IsErrAnd, bytes_eq, refl, sym, ap, ap₂, subst, found_passes, ◌>>=◌, ok_or, L2, RepoState, is_gone, lock_at, size_of, Lock, Answer, Denial, Plan, receives, stores, by_lock, by_rules, permit, lock_question, new_lock, release_verdict, sees, unlock_verdict, UnlockForm, repo_text, ref_text, path_text, lock_asked, lock_seen, LockRow, NewLock, Object, name_of, Rule, A5, R1, Repo, check, is_upload, length, plan_for, repo_named, admission_result, Reply, IsReply, IsReplyOf, NotGranted, ShowsPlan, ShowsVerdict, IsUserOf, IsWantedBy, case_policy, case_repo, case_user, case_with, denial_view, found_verdict, free_verdict, question_on}
 use Rattle.names.specs.declared.rules.Rule.TheVariants.{X2}
 use Rattle.std.proofs.lemmas.Bool.{true≢false}
 use Rattle.std.proofs.lemmas.Slice.Eq.{bytes_eq-Decides}
@@ -49,6 +49,14 @@ size_shown v shown name found is named =
     seen : (o : Option ObjectSize) → option_map (λ (p : ObjectSize). p.size) o ≡ option_map (λ (p : state.ObjectSize). p.size) (option_map size_seen o)
     seen None = refl
     seen (Some o) = refl
+
+-- whether the name is found among those that are retired
+pub gone_shown : (v : View) (shown : RepoState) (name : List ℕ) (found : Option (Bor (List ℕ))) → shown ≡ state_seen v → option_map (λ (o : Bor (List ℕ)). o.now) found ≡ find (λ other. bytes_eq other name) v.retired.items → is_some found ≡ is_gone name shown
+gone_shown v shown name found is named = kept found ∙ ap is_some named ∙ ap (is_gone name) (sym is)
+  where
+    kept : (o : Option (Bor (List ℕ))) → is_some o ≡ is_some (option_map (λ (p : Bor (List ℕ)). p.now) o)
+    kept None = refl
+    kept (Some p) = refl
 
 -- ---- the caller
 

@@ -1,6 +1,6 @@
 -- A batch: from what the code judges of each object to the verdict of the definitions.
 use Rattle.std.specs.Prelude.{ℤ, pos, int_le}
-use Rattle.desk.proofs.Prelude.{◌≡◌, ◌∙◌, ℕ, ◌-◌, ◌==◌, Bool, true, false, List, [], ◌∷◌, ◌++◌, map, Option, Some, None, Result, Ok, Err, refl, sym, ap, ap₂, map-append, Rule, B1, B4, B5, ◌>>=◌, check, ok_or, or_default, RepoState, size_of, has_room, BatchForm, Answer, Denial, offers, downloads, may_pull, may_push, ref_or_default, valid_size, check_hash, action_at, download_of, upload_of, upload_actions, unless_stored, offer, offers_for, may_batch, batch_verdict, content_href, object_asked, offer_at, result_at, actions_at, IsSound, Judged, AreLinksOf, actions_for, actions_on, judged_as, judged_on, judged_by, may_transfer, IsCallerOf, case_policy, case_repo, case_user, case_with}
+use Rattle.desk.proofs.Prelude.{◌≡◌, ◌∙◌, ℕ, ◌-◌, ◌==◌, Bool, true, false, not, List, [], ◌∷◌, ◌++◌, map, Option, Some, None, Result, Ok, Err, refl, sym, ap, ap₂, map-append, Rule, B1, B4, B5, B6, ◌>>=◌, check, ok_or, or_default, RepoState, is_gone, size_of, has_room, BatchForm, Answer, Denial, offers, downloads, may_pull, may_push, ref_or_default, valid_size, check_gone, check_hash, action_at, download_of, upload_of, upload_actions, unless_stored, offer, offers_for, may_batch, batch_verdict, content_href, object_asked, offer_at, result_at, actions_at, IsSound, Judged, AreLinksOf, actions_for, actions_on, judged_as, judged_on, judged_by, may_transfer, IsCallerOf, case_policy, case_repo, case_user, case_with}
 use Rattle.std.specs.Bool.{⊤}
 use Rattle.names.specs.declared.operations.Operation.{Operation}
 use Rattle.names.specs.declared.operations.Operation.TheVariants as operation
@@ -14,23 +14,36 @@ use Rattle.forms.specs.declared.offers.Actions.TheVariants.{Download, Upload, St
 use Rattle.forms.specs.declared.offers.Links.{Links}
 use Rattle.forms.specs.declared.offers.Offer as shown
 use Rattle.forms.specs.declared.batch.BatchObject as given
+use Rattle.desk.specs.Batching.{sound_size}
 use Rattle.desk.specs.declared.cases.Case.{Case}
 use Rattle.desk.specs.declared.batching.NamedObject.{NamedObject}
 
 -- ---- one object
 
--- what can be done with an object whose name and size are valid, by the size that is stored under its name
+-- what can be done with an object whose name and size are valid
+judged_sound : (state : RepoState) (asked : BatchForm) (o : BatchObject) (size : ℕ) → sound_size asked.hash_algo o ≡ Ok size
+    → (check_gone state o.oid >>= λ kept. actions_for state asked.operation (size_of o.oid state) size) ≡ actions_on state asked o
+judged_sound state asked o size is = ap (λ (v : Result ℕ Rule). v >>= λ n. check_gone state o.oid >>= λ kept. actions_for state asked.operation (size_of o.oid state) n) (sym is)
+
+-- the same, if its name is not retired, by the size that is stored under its name
 pub judged_found : (state : RepoState) (asked : BatchForm) (o : BatchObject) (named : NamedObject) (stored : Option ℕ) (room : ℤ) (fits : Bool) (actions : Result Actions Rule)
-    → room ≡ state.room → fits ≡ int_le (pos named.size) room → IsSound asked.hash_algo o (Ok named) → stored ≡ size_of named.name state
+    → room ≡ state.room → fits ≡ int_le (pos named.size) room → IsSound asked.hash_algo o (Ok named) → false ≡ is_gone named.name state → stored ≡ size_of named.name state
     → ((s : RepoState) → fits ≡ has_room named.size s → actions ≡ actions_for s asked.operation stored named.size) → actions ≡ actions_on state asked o
-judged_found state asked o named stored room fits actions is fitting sound found by =
+judged_found state asked o named stored room fits actions is fitting sound kept found by =
     by state (fitting ∙ ap (int_le (pos named.size)) is)
     ∙ ap (λ there. actions_for state asked.operation there named.size) (found ∙ ap (λ name. size_of name state) sound.1)
-    ∙ ap (λ (v : Result ℕ Rule). v >>= λ size. actions_for state asked.operation (size_of o.oid state) size) (sym sound.0)
+    ∙ ap (λ (gone : Bool). check (not gone) B6 >>= λ there. actions_for state asked.operation (size_of o.oid state) named.size) (kept ∙ ap (λ name. is_gone name state) sound.1)
+    ∙ judged_sound state asked o named.size sound.0
+
+-- an object whose name is retired
+pub judged_gone : (state : RepoState) (asked : BatchForm) (o : BatchObject) (named : NamedObject) → IsSound asked.hash_algo o (Ok named) → true ≡ is_gone named.name state → Err B6 ≡ actions_on state asked o
+judged_gone state asked o named sound gone =
+    ap (λ (v : Bool). check (not v) B6 >>= λ there. actions_for state asked.operation (size_of o.oid state) named.size) (gone ∙ ap (λ name. is_gone name state) sound.1)
+    ∙ judged_sound state asked o named.size sound.0
 
 -- an object whose name or size is not valid
 pub judged_unsound : (state : RepoState) (asked : BatchForm) (o : BatchObject) (rule : Rule) → IsSound asked.hash_algo o (Err rule) → Err rule ≡ actions_on state asked o
-judged_unsound state asked o rule unsound = ap (λ (v : Result ℕ Rule). v >>= λ size. actions_for state asked.operation (size_of o.oid state) size) (sym unsound)
+judged_unsound state asked o rule unsound = ap (λ (v : Result ℕ Rule). v >>= λ size. check_gone state o.oid >>= λ kept. actions_for state asked.operation (size_of o.oid state) size) (sym unsound)
 
 -- ---- all objects, one after the other
 
@@ -64,21 +77,23 @@ module _ (links : Links) (oid : List ℕ) (state : RepoState) where
   checked true rule actions = refl
   checked false rule actions = refl
 
-  downloads_from : (v : Result ℕ Rule) (h : Result ⊤ Rule) (stored : Option ℕ)
-      → result_at links oid ((v >>= λ size. h >>= λ hash. Ok size) >>= λ size. actions_for state operation.Download stored size)
-      ≡ (v >>= λ size. h >>= λ hash. ok_or stored B1 >>= λ there. check (there == size) B4 >>= λ same. Ok (actions_at links oid Download))
-  downloads_from (Err rule) h stored = refl
-  downloads_from (Ok size) (Err rule) stored = refl
-  downloads_from (Ok size) (Ok hash) None = refl
-  downloads_from (Ok size) (Ok hash) (Some there) = checked (there == size) B4 Download
+  downloads_from : (v : Result ℕ Rule) (h k : Result ⊤ Rule) (stored : Option ℕ)
+      → result_at links oid ((v >>= λ size. h >>= λ hash. Ok size) >>= λ size. k >>= λ kept. actions_for state operation.Download stored size)
+      ≡ (v >>= λ size. h >>= λ hash. k >>= λ kept. ok_or stored B1 >>= λ there. check (there == size) B4 >>= λ same. Ok (actions_at links oid Download))
+  downloads_from (Err rule) h k stored = refl
+  downloads_from (Ok size) (Err rule) k stored = refl
+  downloads_from (Ok size) (Ok hash) (Err rule) stored = refl
+  downloads_from (Ok size) (Ok hash) (Ok kept) None = refl
+  downloads_from (Ok size) (Ok hash) (Ok kept) (Some there) = checked (there == size) B4 Download
 
-  uploads_from : (v : Result ℕ Rule) (h : Result ⊤ Rule) (stored : Option ℕ)
-      → result_at links oid ((v >>= λ size. h >>= λ hash. Ok size) >>= λ size. actions_for state operation.Upload stored size)
-      ≡ (v >>= λ size. h >>= λ hash. unless_stored state (actions_at links oid Upload) stored size)
-  uploads_from (Err rule) h stored = refl
-  uploads_from (Ok size) (Err rule) stored = refl
-  uploads_from (Ok size) (Ok hash) None = checked (has_room size state) B5 Upload
-  uploads_from (Ok size) (Ok hash) (Some there) = checked (there == size) B4 Stored
+  uploads_from : (v : Result ℕ Rule) (h k : Result ⊤ Rule) (stored : Option ℕ)
+      → result_at links oid ((v >>= λ size. h >>= λ hash. Ok size) >>= λ size. k >>= λ kept. actions_for state operation.Upload stored size)
+      ≡ (v >>= λ size. h >>= λ hash. k >>= λ kept. unless_stored state (actions_at links oid Upload) stored size)
+  uploads_from (Err rule) h k stored = refl
+  uploads_from (Ok size) (Err rule) k stored = refl
+  uploads_from (Ok size) (Ok hash) (Err rule) stored = refl
+  uploads_from (Ok size) (Ok hash) (Ok kept) None = checked (has_room size state) B5 Upload
+  uploads_from (Ok size) (Ok hash) (Ok kept) (Some there) = checked (there == size) B4 Stored
 
 module _ (case : Case) (who : Caller) (state : RepoState) (ref : List ℕ) (links : Links) (is_caller : IsCallerOf case who) (are : AreLinksOf case ref links) (asked : BatchForm) where
   abbrev seen : model.Case
@@ -98,9 +113,10 @@ module _ (case : Case) (who : Caller) (state : RepoState) (ref : List ℕ) (link
       let v = valid_size o in
       let h = check_hash asked.hash_algo in
       let stored = size_of o.oid seen.state in
-      let steps = ap (λ p. result_at links o.oid ((v >>= λ size. h >>= λ hash. Ok size) >>= λ size. actions_for seen.state p stored size)) is
-      ∙ downloads_from links o.oid seen.state v h stored
-      ∙ ap (λ (actions : answer.Actions). v >>= λ size. h >>= λ hash. ok_or stored B1 >>= λ there. check (there == size) B4 >>= λ same. Ok actions) (download_at o.oid) in
+      let k = check_gone seen.state o.oid in
+      let steps = ap (λ p. result_at links o.oid ((v >>= λ size. h >>= λ hash. Ok size) >>= λ size. k >>= λ kept. actions_for seen.state p stored size)) is
+      ∙ downloads_from links o.oid seen.state v h k stored
+      ∙ ap (λ (actions : answer.Actions). v >>= λ size. h >>= λ hash. k >>= λ kept. ok_or stored B1 >>= λ there. check (there == size) B4 >>= λ same. Ok actions) (download_at o.oid) in
       ap (λ (r : Result answer.Actions Rule). record { oid = o.oid; size = or_default o.size 0; actions = r }) steps
 
   upload_is : (o : BatchObject) → asked.operation ≡ operation.Upload → shown_at links (judged_on seen.state asked o) ≡ offer (upload_of seen ref asked.hash_algo) o
@@ -108,9 +124,10 @@ module _ (case : Case) (who : Caller) (state : RepoState) (ref : List ℕ) (link
       let v = valid_size o in
       let h = check_hash asked.hash_algo in
       let stored = size_of o.oid seen.state in
-      let steps = ap (λ p. result_at links o.oid ((v >>= λ size. h >>= λ hash. Ok size) >>= λ size. actions_for seen.state p stored size)) is
-      ∙ uploads_from links o.oid seen.state v h stored
-      ∙ ap (λ (actions : answer.Actions). v >>= λ size. h >>= λ hash. unless_stored seen.state actions stored size) (upload_at o.oid) in
+      let k = check_gone seen.state o.oid in
+      let steps = ap (λ p. result_at links o.oid ((v >>= λ size. h >>= λ hash. Ok size) >>= λ size. k >>= λ kept. actions_for seen.state p stored size)) is
+      ∙ uploads_from links o.oid seen.state v h k stored
+      ∙ ap (λ (actions : answer.Actions). v >>= λ size. h >>= λ hash. k >>= λ kept. unless_stored seen.state actions stored size) (upload_at o.oid) in
       ap (λ (r : Result answer.Actions Rule). record { oid = o.oid; size = or_default o.size 0; actions = r }) steps
 
   all_alike : {f g : BatchObject → Offer} → ((o : BatchObject) → f o ≡ g o) → (os : List BatchObject) → map f os ≡ map g os

@@ -27,8 +27,9 @@ pub use Rattle.locks.specs.Creating.{Creates, lock_wanted, placed_verdict, state
 pub use Rattle.locks.specs.Finding.{lock_seen, lock_with}
 pub use Rattle.locks.specs.Removing.{Removes}
 pub use Rattle.model.proofs.Lists.{found_passes}
+pub use Rattle.model.proofs.Once.{gone_is}
 pub use Rattle.model.specs.Answers.{Answer, Denial, Page, Plan, by_lock, by_rule, by_rules, confirms, downloads, is_store_refusal, lists, makes_lock, may_pull, may_push, offers, permit, receives, releases, serves, splits, store_refusal, stores}
-pub use Rattle.model.specs.Batch.{action_at, batch_verdict, check_hash, content_href, download_of, may_batch, offer, offers_for, unless_stored, upload_actions, upload_of, valid_size}
+pub use Rattle.model.specs.Batch.{action_at, batch_verdict, check_gone, check_hash, content_href, download_of, may_batch, offer, offers_for, unless_stored, upload_actions, upload_of, valid_size}
 pub use Rattle.model.specs.Bounds.{Bound, Ending, answer_ending, changed, failed, is_changed, left_by, unchanged}
 pub use Rattle.model.specs.Callers.{caller_by, lock_question, may_list, pull_question, push_question, sees}
 pub use Rattle.model.specs.Forms.{BatchForm, ListForm, PutForm, UnlockForm, VerifyForm, VerifyLocksForm, is_upload, needs_upload, request_of}
@@ -37,13 +38,13 @@ pub use Rattle.model.specs.Objects.{content_verdict, finish, get_verdict, put_ve
 pub use Rattle.model.specs.Pages.{IsBelow, cursor_in, page_limit, page_of}
 pub use Rattle.model.specs.Policy.{Question, Repo, repo_named}
 pub use Rattle.model.specs.Reading.{check, ok_or, or_default, ◌>>=◌}
-pub use Rattle.model.specs.RepoState.{RepoState, has_room, lock_at, locks_of, repo_state, size_of}
+pub use Rattle.model.specs.RepoState.{RepoState, has_room, is_gone, lock_at, locks_of, repo_state, size_of}
 pub use Rattle.model.specs.Verdict.{caller_plan, desk_plan, plan_for, plan_to}
-pub use Rattle.model.specs.World.{IsWorld, Lock, Object, World, name_of, object_named, with_object}
+pub use Rattle.model.specs.World.{IsWorld, Lock, Object, World, is_retired, name_of, object_named, with_object}
 pub use Rattle.names.specs.Names.{path_text, ref_text, repo_text, user_text}
 pub use Rattle.names.specs.declared.bodies.BodyFault.{BodyFault}
 pub use Rattle.names.specs.declared.rules.Rule.{Rule}
-pub use Rattle.names.specs.declared.rules.Rule.TheVariants.{A4, A5, B1, B4, B5, L2, L3, L5, R1, V1, V2, X1, X2, X3}
+pub use Rattle.names.specs.declared.rules.Rule.TheVariants.{A4, A5, B1, B4, B5, B6, L2, L3, L5, R1, V1, V2, X1, X2, X3, X4}
 pub use Rattle.policy.specs.Values.{policy_view, question_view, repo_view}
 pub use Rattle.refinement.proofs.Leading.{denial_changes_none, ends_reported, ends_still, ends_then, from_weaker, keeps_ends, keeps_still, keeps_then, leads_none, leaves_kept, leaves_then, reads_lead, reads_none, still_then}
 pub use Rattle.refinement.specs.Left.{Ends, From, IsBoundedBy, Keeps, KeepsTables, Leads, LeavesTables, Reads}

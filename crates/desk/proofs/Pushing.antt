@@ -1,6 +1,8 @@
 -- Requests that push objects: their ref, and the verdicts on verification and on a place for an upload.
-use Rattle.desk.proofs.Prelude.{◌≡◌, ◌∙◌, ℕ, ◌==◌, true, false, List, Option, Some, None, Result, Ok, Err, refl, ap, subst, X3, V1, V2, ◌>>=◌, check, ok_or, size_of, PutForm, VerifyForm, Denial, by_rule, by_rules, may_push, confirms, receives, ref_or_default, put_verdict, verify_verdict, has_place, size_check, IsUserOf, case_policy, case_repo, case_user}
+use Rattle.desk.proofs.Prelude.{◌≡◌, ◌∙◌, ℕ, ◌==◌, Bool, true, false, not, List, Option, Some, None, Result, Ok, Err, is_err, refl, ap, subst, X3, X4, V1, V2, ◌>>=◌, check, ok_or, is_gone, size_of, PutForm, VerifyForm, Denial, by_rule, by_rules, may_push, confirms, receives, ref_or_default, put_verdict, verify_verdict, has_place, size_check, IsUserOf, case_policy, case_repo, case_user}
 use Rattle.std.specs.Bool.{⊤}
+use Rattle.std.proofs.lemmas.Bool.{true≢false}
+use Rattle.model.specs.Answers.{Plan}
 use Rattle.model.specs.Callers.{Caller}
 use Rattle.model.specs.Cases.{Case}
 use Rattle.desk.specs.declared.cases.Case as code
@@ -27,14 +29,28 @@ module _ (c : Case) (ref : List ℕ) where
   pub verify_denied : (asked : VerifyForm) (denial : Denial) → ref_or_default asked.ref c.repo ≡ ref → may ≡ Err denial → verify_verdict c asked ≡ Err denial
   verify_denied asked denial named denied = rw (named, denied) refl
 
-  -- the verdict on an upload before its bytes, by whether there is a place for it
-  pub put_placed : (left : ℕ) (asked : PutForm) → ref_or_default asked.ref c.repo ≡ ref → may ≡ Ok tt → has_place left asked.name c.state ≡ true
-      → put_verdict c left asked ≡ Ok (receives asked.name)
-  put_placed left asked named allowed place = rw (named, allowed, place) refl
+  -- the verdict on an upload before its bytes, if its name is retired
+  pub put_gone : (left : ℕ) (asked : PutForm) → ref_or_default asked.ref c.repo ≡ ref → may ≡ Ok tt → is_gone asked.name c.state ≡ true → put_verdict c left asked ≡ Err (by_rule X4)
+  put_gone left asked named allowed gone = rw (named, allowed, gone) refl
 
-  pub put_without : (left : ℕ) (asked : PutForm) → ref_or_default asked.ref c.repo ≡ ref → may ≡ Ok tt → has_place left asked.name c.state ≡ false
+  -- if it is not, by whether there is a place for it
+  pub put_placed : (left : ℕ) (asked : PutForm) → ref_or_default asked.ref c.repo ≡ ref → may ≡ Ok tt → is_gone asked.name c.state ≡ false → has_place left asked.name c.state ≡ true
+      → put_verdict c left asked ≡ Ok (receives asked.name)
+  put_placed left asked named allowed kept place = rw (named, allowed, kept, place) refl
+
+  pub put_without : (left : ℕ) (asked : PutForm) → ref_or_default asked.ref c.repo ≡ ref → may ≡ Ok tt → is_gone asked.name c.state ≡ false → has_place left asked.name c.state ≡ false
       → put_verdict c left asked ≡ Err (by_rule X3)
-  put_without left asked named allowed none = rw (named, allowed, none) refl
+  put_without left asked named allowed kept none = rw (named, allowed, kept, none) refl
 
   pub put_denied : (left : ℕ) (asked : PutForm) (denial : Denial) → ref_or_default asked.ref c.repo ≡ ref → may ≡ Err denial → put_verdict c left asked ≡ Err denial
   put_denied left asked denial named denied = rw (named, denied) refl
+
+-- the name of an upload that is granted is not retired
+pub put_kept : (c : Case) (left : ℕ) (asked : PutForm) (plan : Plan) → put_verdict c left asked ≡ Ok plan → is_gone asked.name c.state ≡ false
+put_kept c left asked plan is = at (may_push c.setting.policy c.caller.user c.repo.name (ref_or_default asked.ref c.repo)) (is_gone asked.name c.state) is
+  where
+    at : (may : Result ⊤ Denial) (gone : Bool)
+        → (may >>= λ pushes. by_rules (check (not gone) X4) >>= λ there. by_rules (check (has_place left asked.name c.state) X3) >>= λ fits. Ok (receives asked.name)) ≡ Ok plan → gone ≡ false
+    at (Err denial) gone e = absurd (true≢false (ap is_err e))
+    at (Ok x) true e = absurd (true≢false (ap is_err e))
+    at (Ok x) false e = refl

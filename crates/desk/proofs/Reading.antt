@@ -1,5 +1,5 @@
 -- Requests that only read their repository: what the function of each shows.
-use Rattle.desk.proofs.Prelude.{◌&&◌, bytes_eq, found_passes, case_repo, case_seen, case_with, IsCallerOf, AnswersEach, leaves_kept, answer_ending, ◌≡◌, ◌∙◌, ◌==◌, ℕ, Bool, true, false, List, [], length, Option, Some, None, option_map, Result, Ok, Err, IfOk, IsErrAnd, refl, sym, ap, subst, X1, V1, V2, ◌>>=◌, check, ok_or, World, IsWorld, Object, object_named, Holds, IsHonest, Reads, Answer, Denial, Plan, receives, serves, by_rules, may_pull, may_push, permit, push_question, ref_or_default, cursor_in, plan_for, plan_to, batch_verdict, may_batch, list_verdict, verify_locks_verdict, verify_verdict, Repo, RepoState, repo_state, Reply, IsReply, IsReplyOf, NotGranted, ReadsRepo, ShowsPlan, ShowsVerdict, Store, StoreFault, denial_view, has_room, size_of, has_place, is_some, verdict_by}
+use Rattle.desk.proofs.Prelude.{◌&&◌, bytes_eq, found_passes, case_repo, case_seen, case_with, IsCallerOf, AnswersEach, leaves_kept, answer_ending, ◌≡◌, ◌∙◌, ◌==◌, ℕ, Bool, true, false, not, List, [], length, Option, Some, None, option_map, Result, Ok, Err, IfOk, IsErrAnd, refl, sym, ap, subst, X1, X4, V1, V2, ◌>>=◌, check, ok_or, World, IsWorld, Object, object_named, Holds, IsHonest, Reads, Answer, Denial, Plan, receives, serves, by_rules, may_pull, may_push, permit, push_question, ref_or_default, cursor_in, plan_for, plan_to, batch_verdict, may_batch, list_verdict, verify_locks_verdict, verify_verdict, Repo, RepoState, repo_state, Reply, IsReply, IsReplyOf, NotGranted, ReadsRepo, ShowsPlan, ShowsVerdict, Store, StoreFault, denial_view, has_room, is_gone, size_of, has_place, is_some, verdict_by}
 use Rattle.std.specs.Prelude.{⊤}
 use Rattle.std.proofs.lemmas.Bool.{true≢false}
 use Rattle.std.proofs.lemmas.Option.{none-some, same_Some}
@@ -21,6 +21,7 @@ use Rattle.forms.specs.declared.objects.PutRequest.{PutRequest}
 use Rattle.forms.specs.declared.request.Request as asked
 use Rattle.forms.specs.declared.request.Request.TheVariants as given
 use Rattle.uploads.proofs.Sizes.{size_named}
+use Rattle.desk.specs.Objects.{Permits}
 use Rattle.desk.specs.declared.cases.Case.{Case}
 use Rattle.desk.specs.declared.cases.Denial as code
 use Rattle.desk.specs.declared.outcomes.NotGranted.TheVariants as not_granted
@@ -86,6 +87,12 @@ module _ {R : Type 0} {g : Ghosts R} (on : (one two three : R) → g.reads one t
     each = λ honest state shown. both state (p.each (was two three q.reads honest) state shown) (q.each honest state (still one two repo state p.reads shown));
   }
 
+-- two reads, each with what it says
+pub both_read : {R : Type 0} {g : Ghosts R} (on : (one two three : R) → g.reads one two → g.reads two three → g.reads one three) (was : (one two : R) → g.reads one two → g.honest two → g.honest one)
+    (still : (one two : R) (repo : Repo) (state : RepoState) → g.reads one two → g.shows one repo state → g.shows two repo state) {one three : R} {repo : Repo} (two : R) {P Q : RepoState → Type 0} → g.reads one two → g.reads two three
+    → (g.honest two → (state : RepoState) → g.shows one repo state → P state) → (g.honest three → (state : RepoState) → g.shows two repo state → Q state) → ReadsRepo g one three repo (λ state. P state × Q state)
+both_read on was still two {P} {Q} first then says more = repo_then on was still {P = P} {Q = Q} (λ state p q. (p, q)) (record { reads = first; each = says }) (record { reads = then; each = more })
+
 module _ (state : RepoState) (size : ℕ) (name : List ℕ) where
   -- whether there is a place for an upload
   pub place_fits : has_room size state ≡ true → has_place size name state ≡ true
@@ -93,6 +100,10 @@ module _ (state : RepoState) (size : ℕ) (name : List ℕ) where
 
   pub place_found : has_room size state ≡ false → has_place size name state ≡ is_some (size_of name state)
   place_found none = rw none refl
+
+-- a denial is not permitted
+pub permits_denial : (denial : code.Denial) (e : NotGranted) (plan : Plan) (planned : Result Plan Denial) → e ≡ not_granted.Denied denial → planned ≡ Err (denial_view denial) → Permits (Err e) plan planned
+permits_denial denial e plan planned is given = subst (λ x. Permits (Err x) plan planned) (sym is) given
 
 -- ---- plans
 
@@ -141,7 +152,8 @@ module _ (c : model.Case) where
   still size (asks_lock asked) is = absurd (true≢false (sym is))
   still size (asks_unlock asked) is = absurd (true≢false (sym is))
   still size (asks_batch asked) is = quiet_grant (batch_verdict c asked) (then_any _ (may_batch c asked asked.operation) _ (λ may. record { ending = λ w. refl; after = λ w. refl }))
-  still size (asks_get name) is = then_any (IsStill c.state) (may_pull c.setting.policy c.caller.user c.repo.name 404) _ (λ may. found (size_of name c.state) refl)
+  still size (asks_get name) is = then_any (IsStill c.state) (may_pull c.setting.policy c.caller.user c.repo.name 404) _ (λ may.
+      then_any (IsStill c.state) (by_rules (check (not (is_gone name c.state)) X4)) _ (λ there. found (size_of name c.state) refl))
     where
       found : (there : Option ℕ) → size_of name c.state ≡ there → IfOk (by_rules (ok_or there X1) >>= λ n. Ok (sends name n)) (IsStill c.state)
       found None e = tt

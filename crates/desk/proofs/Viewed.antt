@@ -94,16 +94,16 @@ module _ {S : Type 0} (g : Ghosts S) (s : Store S) where
 -- ---- the whole view
 
 -- a view with these parts
-abbrev seen_as : List ℕ → List ℕ → Policy → List model.OwnToken → List ObjectSize → List Lock → ℕ → ℤ → model.View
-seen_as user repo policy tokens objects locks made room = record {
+abbrev seen_as : List ℕ → List ℕ → Policy → List model.OwnToken → List ObjectSize → List (List ℕ) → List Lock → ℕ → ℤ → model.View
+seen_as user repo policy tokens objects retired locks made room = record {
   user = user;
   repo = repo;
   policy = policy;
   tokens = tokens;
-  state = record { objects = objects; locks = locks; made = made; room = room };
+  state = record { objects = objects; retired = retired; locks = locks; made = made; room = room };
 }
 
--- a view with the same tokens, objects, locks, count and room is the same
-pub same_view : (user repo : List ℕ) (policy : Policy) (t u : List model.OwnToken) (o p : List ObjectSize) (l k : List Lock) (m n : ℕ) (r q : ℤ) → t ≡ u → o ≡ p → l ≡ k → m ≡ n → r ≡ q
-    → seen_as user repo policy t o l m r ≡ seen_as user repo policy u p k n q
-same_view user repo policy t u o p l k m n r q a b c d e = rw (a, b, c, d, e) refl
+-- a view with the same tokens, objects, retired names, locks, count and room is the same
+pub same_view : (user repo : List ℕ) (policy : Policy) (t u : List model.OwnToken) (o p : List ObjectSize) (g h : List (List ℕ)) (l k : List Lock) (m n : ℕ) (r q : ℤ) → t ≡ u → o ≡ p → g ≡ h → l ≡ k → m ≡ n → r ≡ q
+    → seen_as user repo policy t o g l m r ≡ seen_as user repo policy u p h k n q
+same_view user repo policy t u o p g h l k m n r q a b c d e f = rw (a, b, c, d, e, f) refl

@@ -9,7 +9,7 @@ use Rattle.model.specs.Reading.{◌>>=◌, check, ok_or, or_default}
 use Rattle.model.specs.RepoState.{RepoState, size_of, has_room}
 use Rattle.model.specs.Forms.{BatchObject, BatchForm}
 use Rattle.model.specs.Answers.{Denial, may_pull, may_push}
-use Rattle.model.specs.Batch.{valid_size, check_hash}
+use Rattle.model.specs.Batch.{valid_size, check_hash, check_gone}
 use Rattle.forms.specs.declared.offers.Actions.{Actions}
 use Rattle.forms.specs.declared.offers.Actions.TheVariants.{Download, Upload, Stored}
 use Rattle.forms.specs.declared.offers.Links.{Links}
@@ -34,10 +34,11 @@ actions_for state operation.Download stored size =
 actions_for state operation.Upload None size = check (has_room size state) B5 >>= λ fits. Ok Upload
 actions_for state operation.Upload (Some there) size = check (there == size) B4 >>= λ same. Ok Stored
 
--- what can be done with an object of a batch
+-- what can be done with an object of a batch, whose name may be retired
 abbrev pub actions_on : RepoState → BatchForm → BatchObject → Result Actions Rule
 actions_on state asked o =
-    sound_size asked.hash_algo o >>= λ size. actions_for state asked.operation (size_of o.oid state) size
+    sound_size asked.hash_algo o >>= λ size. check_gone state o.oid >>= λ kept.
+    actions_for state asked.operation (size_of o.oid state) size
 
 -- an object as it was given, and what can be done with it
 pub record Judged : Type 0 where

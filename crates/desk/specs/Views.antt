@@ -38,6 +38,7 @@ size_of_row row = record { name = row.oid; size = row.size }
 abbrev pub state_seen : View → state.RepoState
 state_seen v = record {
   objects = map size_seen v.objects.items;
+  retired = v.retired.items;
   locks = map (lock_seen (repo_text v.repo.now)) v.locks.items;
   made = v.made;
   room = v.room;

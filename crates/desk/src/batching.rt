@@ -92,6 +92,9 @@ fn judge<R: RepoReader>(
 {
     match named_object(object, asked.hash_algo.as_ref()) {
         Ok(named) => {
+            if reader.is_gone(repo, &named.name)? {
+                return Ok(Err(Rule::B6));
+            }
             let stored = reader.size_of(repo, &named.name)?;
             let fits = fits(named.size.get(), room);
             Ok(actions_for(asked.operation, stored, named.size, fits))

@@ -18,7 +18,7 @@ use names::Rule;
 ///
 /// # Errors
 ///
-/// `Denied` by the policy or X1, and `Store`.
+/// `Denied` by the policy, X4 or X1, and `Store`.
 pub(crate) fn get<R: RepoReader>(
     reader: &mut R,
     case: &Case<'_>,
@@ -29,6 +29,9 @@ pub(crate) fn get<R: RepoReader>(
         → ShowsPlan result (get_verdict (case_with case.entry.now who state) (get_asked asked.entry.now))) }
 {
     permit(case.policy, &pull_question(case), DenialStatus::NotFound)?;
+    if reader.is_gone(case.repo, &asked.name)? {
+        return Err(Denial::Rule(Rule::X4).into());
+    }
     match reader.size_of(case.repo, &asked.name)? {
         Some(size) => Ok(Reply::content(asked.name, size)),
         None => Err(Denial::Rule(Rule::X1).into()),

@@ -3,7 +3,7 @@
 ghost use Rattle.std.specs.Prelude.{◌≡◌, IfOk, filter};
 ghost use Rattle.model.specs.Policy as model;
 ghost use Rattle.model.specs.Pages.{page_of};
-ghost use Rattle.model.specs.RepoState.{RepoState, size_of};
+ghost use Rattle.model.specs.RepoState.{RepoState, is_gone, size_of};
 ghost use Rattle.policy.specs.Values.{repo_view};
 ghost use Rattle.cursor.specs.Paging.{cursor_or_first, page_seen};
 ghost use Rattle.cursor.specs.Wanted.{Test, is_wanted};
@@ -47,6 +47,17 @@ pub(crate) trait RepoReader {
         ensures size { honest self.new → (state : RepoState)
             → shows self.old (repo_view repo.now) state
             → IfOk result (λ size. size ≡ size_of name.now state) };
+
+    /// Returns whether the name is retired: the repository removed the object of the name for good.
+    ///
+    /// # Errors
+    ///
+    /// A [`StoreFault`].
+    fn is_gone(&mut self, repo: &Repo, name: &Oid) -> Result<bool, StoreFault>
+        ensures reads { reads self.old self.new }
+        ensures gone { honest self.new → (state : RepoState)
+            → shows self.old (repo_view repo.now) state
+            → IfOk result (λ gone. gone ≡ is_gone name.now state) };
 
     /// Returns a page of the locks that meet the filters and that the rows allow, if rows are given; as
     /// [`cursor::page`] does.

@@ -1,7 +1,8 @@
 //! Receives the bytes of an upload (Git LFS API, Basic Transfers, "Uploads").
 
-ghost use Rattle.std.specs.Prelude.{◌≡◌, ◌<◌, ◌≤◌, ℕ, List, length, take, Err, OnOk, IfErr};
+ghost use Rattle.std.specs.Prelude.{◌≡◌, ◌<◌, ◌≤◌, ℕ, false, List, length, take, Err, OnOk, IfErr};
 ghost use Rattle.names.specs.Names.{repo_text};
+ghost use Rattle.model.specs.World.{is_retired};
 ghost use Rattle.refinement.specs.Left.{From, Keeps};
 ghost use Rattle.desk.specs.declared.receiving.ReceiveFault.TheVariants as fault;
 ghost use Rattle.tables.specs.declared.fault.StoreFault.TheVariants as store;
@@ -195,7 +196,8 @@ fn clear<S: Alter>(
 }
 
 /// Reads the content to its end, and stores it as the object of this name if its bytes have the name. If they do not, or
-/// if it fails, the bytes that arrived are removed, as far as the store allows it.
+/// if it fails, the bytes that arrived are removed, as far as the store allows it. The caller has asked whether the name
+/// is retired.
 ///
 /// # Errors
 ///
@@ -212,8 +214,8 @@ pub(crate) fn receive<S: Alter, B: Body>(
     content: &mut B,
 ) -> Result<Receipt, ReceiveFault>
     ensures bytes { (bytes : List ℕ) × HasRead B.Body content.old content.new bytes
-        × From S.Store store.old store.new (λ world. Receives S.Store store.old store.new world
-        (repo_text repo.now) name.now bytes (B.size content.new) result) }
+        × From S.Store store.old store.new (λ world. is_retired (repo_text repo.now) name.now world ≡ false
+        → Receives S.Store store.old store.new world (repo_text repo.now) name.now bytes (B.size content.new) result) }
     ensures whole { OnOk result (IsReadOut B.Body content.old content.new) }
     ensures fault { IfErr result (IsLeftAfter B.Body content.old content.new) }
 {

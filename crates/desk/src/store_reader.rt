@@ -48,6 +48,10 @@ impl<S: Alter> RepoReader for Store<S> {
         }
     }
 
+    fn is_gone(&mut self, repo: &Repo, name: &Oid) -> Result<bool, StoreFault> {
+        uploads::is_retired(self, repo.name(), name)
+    }
+
     fn page(
         &mut self,
         alloc: Global,

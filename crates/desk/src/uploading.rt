@@ -53,7 +53,7 @@ pub(crate) fn fits(size: u64, room: i128) -> bool
 ///
 /// # Errors
 ///
-/// `Denied` by the policy or X3, and `Store`. Both leave the contents of the store unchanged.
+/// `Denied` by the policy, X4 or X3, and `Store`. Both leave the contents of the store unchanged.
 pub(crate) fn may_upload<R: RepoReader>(
     reader: &mut R,
     case: &Case<'_>,
@@ -66,6 +66,9 @@ pub(crate) fn may_upload<R: RepoReader>(
         (put_verdict (case_with case.entry.now who state) size (put_asked asked.entry.now))) }
 {
     may_push(case, ref_or_default(case, asked.ref_name.as_ref()))?;
+    if reader.is_gone(case.repo, &asked.name)? {
+        return Err(Denial::Rule(Rule::X4).into());
+    }
     if has_place(reader, case.repo, &asked.name, size)? {
         Ok(())
     } else {
@@ -94,7 +97,7 @@ fn received_reply(
     }
 }
 
-/// Answers a request to upload an object: before its bytes are read the policy's denial or X3; then 200, or X2.
+/// Answers a request to upload an object: before its bytes are read the policy's denial, X4 or X3; then 200, or X2.
 ///
 /// # Errors
 ///

@@ -27,6 +27,13 @@ fn named<'a>(objects: &'a [ObjectSize], name: &Oid) -> Option<&'a ObjectSize>
     objects.iter().find(|object| object.name == *name)
 }
 
+/// The name, if it is among these.
+fn among<'a>(names: &'a [Oid], name: &Oid) -> Option<&'a Oid>
+    ensures { option_map (λ other. other.now) result ≡ find (λ other. bytes_eq other name.now) names.now }
+{
+    names.iter().find(|other| **other == *name)
+}
+
 impl RepoReader for ViewReader<'_> {
     ghost honest = { λ v. ⊤ };
 
@@ -44,6 +51,10 @@ impl RepoReader for ViewReader<'_> {
             Some(object) => Ok(Some(object.size)),
             None => Ok(None),
         }
+    }
+
+    fn is_gone(&mut self, _repo: &Repo, name: &Oid) -> Result<bool, StoreFault> {
+        Ok(among(self.view.retired.as_slice(), name).is_some())
     }
 
     fn page(

@@ -4,7 +4,7 @@ ghost use Rattle.std.specs.Prelude.{◌≡◌, IfOk, OnOk, IsPermutation, IsSort
 ghost use Rattle.names.specs.Names.{repo_text, user_text};
 ghost use Rattle.model.specs.Callers.{sees};
 ghost use Rattle.model.specs.Policy.{repo_named};
-ghost use Rattle.model.specs.RepoState.{locks_of, objects_of};
+ghost use Rattle.model.specs.RepoState.{locks_of, objects_of, retired_of};
 ghost use Rattle.model.specs.Views.{room_in, sees_objects, tokens_of, view_of};
 ghost use Rattle.policy.specs.Values.{policy_view};
 ghost use Rattle.refinement.specs.Left.{Reads};
@@ -15,7 +15,7 @@ ghost use Rattle.desk.specs.Views.{digest_cmp, own_of, own_seen, size_of_row, si
 use crate::rights::{Asker, sees, sees_objects};
 use crate::views::{ObjectSize, OwnToken, View};
 use locks::Lock;
-use names::{RepoName, UserName};
+use names::{Oid, RepoName, UserName};
 use policy::Policy;
 use std::alloc::{AllocError, Global};
 use tables::{Alter, Store, StoreFault, TokenRow, UploadRow};
@@ -108,6 +108,23 @@ fn seen_objects<S: Alter>(
     }
 }
 
+/// The names that the repository retired, in rising order, if the user sees the objects.
+fn seen_retired<S: Alter>(
+    alloc: Global,
+    store: &mut Store<S>,
+    asker: &Asker<'_>,
+) -> Result<Vec<Oid>, StoreFault>
+    ensures { Reads S.Store store.old store.new (λ world. IfOk result (λ names.
+        names.items ≡ (if sees_objects (asker_policy asker.now) (asker_user asker.now)
+        (asker_repo asker.now) then retired_of (asker_repo asker.now) world else []))) }
+{
+    if sees_objects(asker) {
+        uploads::retired_names(alloc, store, asker.repo)
+    } else {
+        Ok(Vec::new(alloc))
+    }
+}
+
 /// Keeps the locks that the user sees.
 fn keep_seen(rows: &mut Vec<Lock>, asker: &Asker<'_>)
     ensures { map (lock_seen (asker_repo asker.now)) rows.new.items
@@ -170,6 +187,7 @@ pub fn view<'a, S: Alter>(
     let asker = Asker { policy, user, repo };
     let tokens = own_tokens(alloc, store, user, repo)?;
     let objects = seen_objects(alloc, store, &asker)?;
+    let retired = seen_retired(alloc, store, &asker)?;
     let locks = seen_locks(alloc, store, &asker)?;
     let made = locks::made(store, repo)?;
     let room = room_in(store, policy, repo)?;
@@ -179,6 +197,7 @@ pub fn view<'a, S: Alter>(
         policy,
         tokens,
         objects,
+        retired,
         locks,
         made,
         room,

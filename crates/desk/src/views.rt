@@ -37,6 +37,9 @@ pub struct View<'a> {
     pub tokens: Vec<OwnToken>,
     /// The objects of the repository, in the order of their names, if the user may pull or may push to some ref; else none.
     pub objects: Vec<ObjectSize>,
+    /// The names of the objects that the repository removed for good, in rising order, for whoever sees the objects; else
+    /// none.
+    pub retired: Vec<Oid>,
     /// The locks that the user sees, in rising ids.
     pub locks: Vec<Lock>,
     /// The number of locks that the repository ever made.
