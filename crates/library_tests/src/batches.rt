@@ -446,6 +446,12 @@ const OFFERS: &[(&str, u64, Result<Actions, Rule>, &str)] = &[
         r#"{"error":{"code":507,"message":"B5: the quota does not hold the object"},"oid":"2cf24dba5fb0a30e26e83b2ac5b9e29e1b161e5c1fa7425e73043362938b9824","size":5}"#,
     ),
     (
+        "2cf24dba5fb0a30e26e83b2ac5b9e29e1b161e5c1fa7425e73043362938b9824",
+        5,
+        Err(Rule::B6),
+        r#"{"error":{"code":410,"message":"B6: the object was removed by its owner"},"oid":"2cf24dba5fb0a30e26e83b2ac5b9e29e1b161e5c1fa7425e73043362938b9824","size":5}"#,
+    ),
+    (
         "\"\u{e9}\\\n",
         1,
         Err(Rule::B2),

@@ -164,6 +164,7 @@ const PHRASES: &[(u16, &str)] = &[
     (405, "Method Not Allowed"),
     (406, "Not Acceptable"),
     (409, "Conflict"),
+    (410, "Gone"),
     (411, "Length Required"),
     (413, "Content Too Large"),
     (422, "Unprocessable Content"),
