@@ -4,7 +4,7 @@ use Rattle.model.specs.World.{World, Object, IsWorld, object_named, total, with_
 use Rattle.model.specs.Answers.{stores, makes_lock, offers, serves, confirms, lists, splits, releases, Answer}
 use Rattle.model.specs.Operator.{token_verdict, Outcome, issue_outcome, prune_outcome, Removal, removed_now, removed_before, no_object, removal_of, after_removal, retire_outcome, Reports, by_success, by_fault}
 use Rattle.model.specs.Steps.{after, Event, IsStep, Exchange, Carries, by_verdict, by_refusal, exchanged, issues, prunes, retires}
-use Rattle.model.specs.Laws.{stored_by, object_stored, objects_with, objects_after, size_added, size_removed, OnlyTheseChangeObjects, TotalsFollowObjects}
+use Rattle.model.specs.Laws.{stored_by, object_stored, objects_with, objects_after, size_added, size_removed, Removes, OnlyTheseChangeObjects, TotalsFollowObjects, TotalsGrowByUploads}
 use Rattle.model.proofs.Quota.{total_with}
 use Rattle.model.proofs.Serving.{token_same}
 use Rattle.model.proofs.Totals.{total_without}
@@ -64,6 +64,20 @@ object_grows old o repo = at (object_named o.repo o.name old) (bytes_eq o.repo r
 stored_grows : (old new : World) (stored : Option Object) (repo : List ℕ) → new.objects ≡ objects_with stored old → total repo new ≡ total repo old + size_added repo old stored
 stored_grows old new (Some o) repo is = total_of repo new (with_object o old) is ∙ object_grows old o repo
 stored_grows old new None repo is = total_of repo new old is ∙ sym (add-zero (total repo old))
+
+-- a step that removes nothing adds what it stored, and no more
+stays_but_stored : (old : World) (event : Event) → ((r name : List ℕ) → Removes r name event → ⊥) → objects_after old event ≡ objects_with (object_stored event) old
+stays_but_stored old (exchanged e) none = refl
+stays_but_stored old (issues asked given) none = refl
+stays_but_stored old (prunes now given) none = refl
+stays_but_stored old (retires r n (Some removed_now)) none = absurd (none r n (refl, refl))
+stays_but_stored old (retires r n (Some removed_before)) none = refl
+stays_but_stored old (retires r n (Some no_object)) none = refl
+stays_but_stored old (retires r n None) none = refl
+
+pub totals_grow_by_uploads : TotalsGrowByUploads
+totals_grow_by_uploads old event new repo step none =
+    stored_grows old new (object_stored event) repo (only_these_change_objects old event new step ∙ stays_but_stored old event none)
 
 -- a step that removes nothing
 grows : (old : World) (event : Event) (new : World) (repo : List ℕ) → new.objects ≡ objects_with (object_stored event) old → size_removed repo old event ≡ 0

@@ -272,6 +272,13 @@ TotalsFollowObjects =
     (old : World) (event : Event) (new : World) (repo : List ℕ) → IsWorld old → IsStep old event new
     → total repo new + size_removed repo old event ≡ total repo old + size_added repo old (object_stored event)
 
+-- in any world, also one that does not keep the laws, a step that removes nothing changes a repository's total only so
+abbrev pub TotalsGrowByUploads : Type 0
+TotalsGrowByUploads =
+    (old : World) (event : Event) (new : World) (repo : List ℕ) → IsStep old event new
+    → ((r name : List ℕ) → ¬ (Removes r name event))
+    → total repo new ≡ total repo old + size_added repo old (object_stored event)
+
 -- an object fits exactly if the stored total and its size are within the quota
 abbrev pub RoomIsQuota : Type 0
 RoomIsQuota =

@@ -3,7 +3,7 @@
 ghost use Rattle.model.specs.Laws.{HasOneFirst, BeginsWithMessage, CutIsLast, ChoosesOnlyThere, MessageIsFinished, HeadDecides, TargetDecides};
 ghost use Rattle.model.specs.Laws.{StepsKeepWorlds, RunsKeepWorlds, RunsMakeWorlds, ServesWhatIsAsked, ServesWhatIsKept, ServedHasItsName, ServedWasPut};
 ghost use Rattle.model.specs.Laws.{DenialsChangeNothing, SilenceChangesNothing, OnlyReportedChanges, OnlyCutIsSilent, NeverLocksTwice, CountsOn, NewIdIsNext, NoIdComesAgain};
-ghost use Rattle.model.specs.Laws.{OnlyTheseChangeObjects, RetiredForGood, RemovedIsRetired, TotalsFollowObjects};
+ghost use Rattle.model.specs.Laws.{OnlyTheseChangeObjects, RetiredForGood, RemovedIsRetired, TotalsFollowObjects, TotalsGrowByUploads};
 ghost use Rattle.model.specs.Laws.{RoomIsQuota, StaysInQuota, PageIsLeast, LocksRise, LocksAreThose, LocksIgnoreOrder, WalksAreWhole, ViewsForetell, OnlyCallersAreForeseen, ViewsServeOneDigest, ViewsShowWhatIsSeen, OthersLeaveViews, SessionsLeaveViews};
 ghost use Rattle.model.specs.Laws.{ReportsAreTrue, LeavesOneChange, MomentIsText, MomentHasText};
 
@@ -63,6 +63,7 @@ pub fn denial_law()
 pub fn upload_law()
     ensures objects { OnlyTheseChangeObjects }
     ensures totals { TotalsFollowObjects }
+    ensures uploads { TotalsGrowByUploads }
 {}
 
 /// A removal that is reported retires the name. A name that was retired stays so, and no object ever has it.
