@@ -11,11 +11,11 @@ use Rattle.tables.proofs.Recalled.{KeepsKnown, upload_keeps}
 abbrev pub without_sized : List ℕ → List ℕ → Sized → Tables → Tables
 without_sized repo oid o t = with_retired repo oid (with_used repo (used_of repo t -ℤ o.size) (without_upload o.id t))
 
-no_object : (o : Option Upload) → IsObjectOf None o → o ≡ None
+pub no_object : (o : Option Upload) → IsObjectOf None o → o ≡ None
 no_object None h = refl
 no_object (Some u) h = absurd (let e : None ≡ Some (upload_sized u) = h in cc)
 
-one_object : (row : ObjectRow) (o : Option Upload) → IsObjectOf (Some row) o → (u : Upload) × (o ≡ Some u) × (upload_sized u ≡ read_object row)
+pub one_object : (row : ObjectRow) (o : Option Upload) → IsObjectOf (Some row) o → (u : Upload) × (o ≡ Some u) × (upload_sized u ≡ read_object row)
 one_object row None h = absurd (let e : Some (read_object row) ≡ None = h in cc)
 one_object row (Some u) h = (u, refl, let e : read_object row ≡ upload_sized u = (let e : Some (read_object row) ≡ Some (upload_sized u) = h in cc) in sym e)
 

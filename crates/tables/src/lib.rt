@@ -12,6 +12,7 @@ use staged::Remembered;
 
 mod beginning;
 mod chunks;
+mod discarding;
 mod fault;
 mod locks;
 mod making;

@@ -49,7 +49,7 @@ fn all_names(alloc: Global, rows: &[Row]) -> Result<Vec<Oid>, StoreFault>
 }
 
 /// The object that the repository has under this name.
-fn object_in<S: Alter>(
+pub(crate) fn object_in<S: Alter>(
     tx: &mut Transaction<'_, S>,
     repo: &RepoName,
     oid: &Oid,
