@@ -8,6 +8,8 @@ use Rattle.std.specs.Io.KnownBytes.{Appends}
 use Rattle.std.proofs.KnownBytes.{Appends-nil, Appends-trans}
 use Rattle.std.proofs.Math.Seq.{take-append-add}
 use Rattle.std.proofs.lemmas.List.{take-append-le}
+use Rattle.sha2.specs.Hashers.{Holds256}
+use Rattle.sha2.specs.declared.Sha256.{Sha256}
 use Rattle.sqlite_trees.specs.declared.store.Store.{Ghosts}
 use Rattle.tables.specs.Rows.{Chunk, Tables}
 use Rattle.tables.specs.declared.Store.{Store}
@@ -21,6 +23,7 @@ use Rattle.refinement.specs.Staging.{Stores}
 use Rattle.refinement.proofs.Pieces.{chunk_found}
 use Rattle.chunks.specs.declared.pouring.PourCause.{PourCause}
 use Rattle.chunks.specs.declared.pouring.PourCause.TheVariants.{Store as ByStore, Device as ByDevice}
+use Rattle.chunks.specs.Intakes.{HasCounted}
 use Rattle.chunks.specs.Pouring.{IsWithin, TookFront, TookAll}
 
 -- ---- which piece a chunk is
@@ -101,6 +104,29 @@ poured_more old mid new written total n pieces bytes h at is goes =
 pub poured_all : (old new : Option (List ℕ)) (written n : ℕ) (pieces : List (List ℕ)) → HasPoured old new written n pieces → slice_get pieces n ≡ None → TookAll old new written (concat pieces)
 poured_all old new written n pieces h none =
     let all = ap concat (no_piece pieces n none h.within) in record { is = h.count ∙ ap length all; taken = subst (Appends old new) all h.taken }
+
+-- the first n pieces were hashed, and `count` is the number of their bytes
+pub record HasHashed (hasher : Sha256) (count n : ℕ) (pieces : List (List ℕ)) : Type 0 where
+  pub within : n ≤ length pieces
+  pub counted : HasCounted hasher count (concat (take n pieces))
+
+-- one more piece
+pub hashed_more : (old new : Sha256) (count total n : ℕ) (pieces : List (List ℕ)) (bytes : List ℕ) → HasHashed old count n pieces → slice_get pieces n ≡ Some bytes → total ≡ count + length bytes
+    → Holds256 new (concat (take n pieces) ++ bytes) → HasHashed new total (n + 1) pieces
+hashed_more old new count total n pieces bytes h at is holds =
+    let next : suc n ≡ n + 1 = omega arith in
+    let all = more pieces n bytes at in
+    subst (λ k. HasHashed new total k pieces) next record {
+      within = (next_piece pieces n bytes at).0;
+      counted = record {
+        hashed = subst (Holds256 new) (sym all) holds;
+        count = is ∙ ap (λ k. k + length bytes) h.counted.count ∙ sym (length-append (concat (take n pieces)) bytes) ∙ ap length (sym all);
+      };
+    }
+
+-- no piece is left
+pub hashed_all : (hasher : Sha256) (count n : ℕ) (pieces : List (List ℕ)) → HasHashed hasher count n pieces → slice_get pieces n ≡ None → HasCounted hasher count (concat pieces)
+hashed_all hasher count n pieces h none = subst (HasCounted hasher count) (ap concat (no_piece pieces n none h.within)) h.counted
 
 -- ---- where it ended
 

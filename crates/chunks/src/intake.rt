@@ -198,7 +198,7 @@ fn rest_of(bytes: &[u8], at: usize) -> &[u8]
 }
 
 /// The name of the bytes that the hasher has.
-fn name_of(hasher: Sha256) -> Result<Oid, StoreFault>
+pub(crate) fn name_of(hasher: Sha256) -> Result<Oid, StoreFault>
     ensures { (bytes : List ℕ) → Holds256 hasher bytes → IfOk result
         (λ name. name ≡ name_of bytes) }
 {

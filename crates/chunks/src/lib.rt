@@ -6,6 +6,8 @@
 
 mod intake;
 mod pouring;
+mod verifying;
 
 pub use intake::{Arrival, Intake};
 pub use pouring::{PourCause, PourFault, pour};
+pub use verifying::is_whole;
