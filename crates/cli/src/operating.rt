@@ -142,17 +142,22 @@ fn foresee<S: Start, R: Read, W: Write>(
     run_task(rt, files.db, &task, destination, output, start)
 }
 
-/// Hashes the objects again. Shows how far it is on the error stream, if that is a terminal.
-fn check<S: Start, W: Write>(
+/// Hashes the objects again, and removes those that are damaged, if the command is to repair. Shows how far it is on the
+/// error stream, if that is a terminal.
+fn hash_objects<S: Start, W: Write>(
     rt: &HostRuntime,
     db: &str,
+    command: &OperatorCommand<'_>,
     destination: Destination,
     output: &mut W,
     start: S,
 ) -> Result<(), Fault> {
     let errors = rt.stderr();
     let terminal = errors.is_terminal().then_some(&errors);
-    let task = Task::CheckObjects(terminal);
+    let task = match command {
+        OperatorCommand::Repair => Task::Repair(terminal),
+        _ => Task::CheckObjects(terminal),
+    };
     run_task(rt, db, &task, destination, output, start)
 }
 
@@ -185,7 +190,9 @@ pub(crate) fn operate<S: Start, R: Read, W: Write>(
         OperatorCommand::Foresee(asked) => {
             return foresee(rt, files, asked, input, destination, output, start);
         }
-        OperatorCommand::Check => return check(rt, db, destination, output, start),
+        OperatorCommand::Check | OperatorCommand::Repair => {
+            return hash_objects(rt, db, command, destination, output, start);
+        }
         OperatorCommand::Prune(now) => Task::Prune(moment(rt, *now)?),
         OperatorCommand::Locks(repo) => Task::ListLocks(repo),
         OperatorCommand::Objects(repo) => Task::ListObjects(repo),

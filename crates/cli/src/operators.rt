@@ -136,6 +136,7 @@ impl<C: Clock> OperatorContext<'_, C> {
             OperatorCommand::Locks(repo) => Task::ListLocks(repo),
             OperatorCommand::Objects(repo) => Task::ListObjects(repo),
             OperatorCommand::Check => Task::CheckObjects(None),
+            OperatorCommand::Repair => Task::Repair(None),
             OperatorCommand::Sweep => Task::Sweep,
             OperatorCommand::Retire(asked) => Task::Retire(&asked.repo, &asked.oid),
         };

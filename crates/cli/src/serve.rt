@@ -17,7 +17,8 @@ use names::{Counted, Moment};
 use policy::Policy;
 use service::{End, Routes};
 use sockets::{
-    Announced, Caller, ControlSocket, Course, PatientReader, PatientWriter, Queue, linger, prepare,
+    Announced, Caller, ControlSocket, Course, PatientReader, PatientWriter, Queue, linger, listen,
+    prepare,
 };
 use std::cell::Cell;
 use std::io::{self, Write};
@@ -362,7 +363,7 @@ pub(crate) fn serve<S: Start, W: Write, E: Write>(
     start: S,
 ) -> Result<(), Fault> {
     let policy = read_policy(rt, args.policy)?;
-    let Ok(listener) = TcpListener::bind(rt, args.listen) else {
+    let Ok(listener) = listen(rt, args.listen) else {
         return Err(Fault::Network);
     };
     let doors = Doors {

@@ -60,6 +60,8 @@ pub enum OperatorCommand<'a> {
     Objects(RepoName),
     /// The command `check`.
     Check,
+    /// The command `repair`.
+    Repair,
     /// The command `sweep`.
     Sweep,
     /// The command `retire`.
@@ -317,6 +319,7 @@ fn operator_command_of<'a>(
         "locks" => Some(OperatorCommand::Locks(repo_of(alloc, matches)?)),
         "objects" => Some(OperatorCommand::Objects(repo_of(alloc, matches)?)),
         "check" => Some(OperatorCommand::Check),
+        "repair" => Some(OperatorCommand::Repair),
         "sweep" => Some(OperatorCommand::Sweep),
         "retire" => Some(OperatorCommand::Retire(retire_args(alloc, matches)?)),
         _ => None,

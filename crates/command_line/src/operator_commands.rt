@@ -81,6 +81,21 @@ shows how many objects were read so far.
 The status is 0 if no object is damaged, 1 if one is or something was refused, and 2 if the arguments \
 are wrong.";
 
+const REPAIR_ABOUT: &str = "Removes the damaged objects, so that they can be pushed again";
+
+const REPAIR_LONG_ABOUT: &str = "\
+Removes the damaged objects, so that they can be pushed again.
+
+Every stored object is hashed again, as \"check\" does it. Each one that is damaged is removed with its bytes, which no \
+longer count against the quota, and a line with its repository and its name is printed. The last line has their \
+number. The next push of such a file stores it anew; without this command the server takes the file for stored, and \
+the object stays damaged. If no object is damaged, nothing is changed.
+
+With --via it runs beside a server; with --db no other program may have the database open.
+
+The status is 0 if all objects were read, also if some were removed, 1 if something was refused, and 2 if the \
+arguments are wrong.";
+
 const SWEEP_ABOUT: &str = "Removes the uploads that were not completed, and prints their number";
 
 const SWEEP_LONG_ABOUT: &str = "\
@@ -240,6 +255,13 @@ const CHECK: CommandText = CommandText {
     parameters: &[DB, VIA],
 };
 
+const REPAIR: CommandText = CommandText {
+    name: "repair",
+    about: REPAIR_ABOUT,
+    long_about: REPAIR_LONG_ABOUT,
+    parameters: &[DB, VIA],
+};
+
 const SWEEP: CommandText = CommandText {
     name: "sweep",
     about: SWEEP_ABOUT,
@@ -255,7 +277,7 @@ const RETIRE: CommandText = CommandText {
 };
 
 /// The commands of an operator.
-pub(crate) const OPERATOR_COMMANDS: [CommandText; 9] = [
+pub(crate) const OPERATOR_COMMANDS: [CommandText; 10] = [
     AUTHENTICATE,
     PRUNE,
     PUSHCHECK,
@@ -263,6 +285,7 @@ pub(crate) const OPERATOR_COMMANDS: [CommandText; 9] = [
     LOCKS,
     OBJECTS,
     CHECK,
+    REPAIR,
     SWEEP,
     RETIRE,
 ];

@@ -4,3 +4,4 @@ pub mod Working
 pub mod Reached
 mod Foretold
 mod Removed
+mod Damaged

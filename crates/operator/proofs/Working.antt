@@ -10,7 +10,7 @@ use Rattle.tokens.specs.Issuing.{Issues, Refuses}
 use Rattle.uploads.specs.declared.retiring.Retired.{Retired}
 use Rattle.uploads.specs.Retiring.{Retires}
 use Rattle.operator.specs.declared.tasks.Task.{Task}
-use Rattle.operator.specs.declared.tasks.Task.TheVariants.{Issue, Prune, CheckPush, Foresee, ListLocks, ListObjects, CheckObjects, Sweep, Retire}
+use Rattle.operator.specs.declared.tasks.Task.TheVariants.{Issue, Prune, CheckPush, Foresee, ListLocks, ListObjects, CheckObjects, Repair, Sweep, Retire}
 use Rattle.operator.specs.Tasks.{Does}
 
 -- the steps of the calls, and of more calls
@@ -121,6 +121,7 @@ module _ {S : Type 0} (g : Ghosts S) where
   does_work a b (ListLocks repo) world d = works_still a b world d
   does_work a b (ListObjects repo) world d = works_still a b world d
   does_work a b (CheckObjects terminal) world d = works_still a b world d
+  does_work a b (Repair terminal) world d = works_still a b world d.0
 
   -- a task, whether it was done or not
   pub from_task : {E : Type 0} (a b : Store S) (task : Task) (r : Result ⊤ E) → From g a b (λ world. MatchResult r (λ _. Does g a b world task) (λ _. Works g a b world)) → From g a b (Works g a b)

@@ -6,3 +6,4 @@ pub mod Removals
 pub mod Works
 pub mod Reached
 pub mod Tasks
+pub mod Damage

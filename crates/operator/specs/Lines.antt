@@ -32,6 +32,10 @@ object_line name size = name ++ codes " " ++ decimal size
 abbrev pub damage_line : List ℕ → List ℕ → List ℕ
 damage_line repo name = codes "damaged " ++ repo ++ codes " " ++ name
 
+-- the line of an object that was removed because it is damaged
+abbrev pub removal_line : List ℕ → List ℕ → List ℕ
+removal_line repo name = codes "removed " ++ repo ++ codes " " ++ name
+
 -- the first line of a reply: its status, and the code of the rule that refuses the request, if one does
 abbrev pub reply_line : ℕ → Option Rule → List ℕ
 reply_line status (Some rule) = decimal status ++ codes " " ++ (row_of rule).code

@@ -1,75 +1,38 @@
 //! Hashes every stored object again.
 
-ghost use Rattle.std.specs.Prelude.{⊤};
+ghost use Rattle.std.specs.Prelude.{◌≡◌, ⊤, not, IfOk};
+ghost use Rattle.tables.specs.Staging.{upload_number};
 ghost use Rattle.refinement.specs.Left.{Reads};
+ghost use Rattle.chunks.specs.Pouring.{OfBytes};
+ghost use Rattle.operator.specs.Damage.{has_bytes};
 
 use crate::faults::TaskFault;
 use crate::lines::damage_line;
-use chunks::{PourCause, PourFault, pour};
-use names::{DeviceFault, Oid, Sink};
-use sha2::{Digest, Sha256};
+use chunks::is_whole;
 use std::alloc::Global;
 use std::io::{self, Stderr, Write};
 use tables::{Alter, Store, StoreFault};
 use uploads::Stored;
 
-/// Hashes the bytes that it takes. It never fails.
-#[derive(Drop)]
-struct Hashing {
-    hasher: Sha256,
-}
-
-impl Sink for Hashing {
-    ghost use Rattle.std.specs.Prelude.{None};
-
-    ghost taken = { λ _. None };
-
-    ghost failed = { λ _. 0 };
-
-    fn write(&mut self, piece: &[u8]) -> Result<usize, DeviceFault> {
-        self.hasher.update(piece);
-        Ok(piece.len())
-    }
-
-    fn failures(&self) -> u64 {
-        0
-    }
-}
-
-/// Whether the name is that of the bytes that were hashed.
-fn has_name(hasher: Sha256, oid: &Oid) -> bool {
-    let mut digits = [0u8; 64];
-    let digest = hasher.finalize();
-    hex::encode_to_slice(digest.as_slice(), &mut digits).is_ok()
-        && digits.as_slice() == oid.text().as_bytes()
-}
-
 /// Whether the stored bytes of the object are not as many as its size says, or do not have its name.
-fn is_damaged<S: Alter>(store: &mut Store<S>, row: &Stored) -> Result<bool, StoreFault>
-    ensures { Reads S.Store store.old store.new (λ _. ⊤) }
+pub(crate) fn is_damaged<S: Alter>(store: &mut Store<S>, row: &Stored) -> Result<bool, StoreFault>
+    ensures exact { OfBytes S.Store store.old store.new (upload_number row.now.id) (λ bytes. IfOk result
+        (λ damaged. damaged ≡ not (has_bytes row.now bytes))) }
+    ensures reads { Reads S.Store store.old store.new (λ _. ⊤) }
 {
-    let mut sink = Hashing {
-        hasher: Sha256::new(),
-    };
-    match pour(store, row.id, &mut sink) {
-        Ok(count) => Ok(count != row.size.get() || !has_name(sink.hasher, &row.oid)),
-        Err(PourFault { cause, .. }) => match cause {
-            PourCause::Store(fault) => Err(fault),
-            PourCause::Device => Err(StoreFault::Refused),
-        },
-    }
+    Ok(!is_whole(store, row.id, &row.oid, row.size)?)
 }
 
 /// How far a check is, on the error stream if that is a terminal.
 #[derive(Drop)]
-struct Progress<'a> {
-    terminal: Option<&'a Stderr>,
-    all: usize,
+pub(crate) struct Progress<'a> {
+    pub(crate) terminal: Option<&'a Stderr>,
+    pub(crate) all: usize,
 }
 
 impl Progress<'_> {
     /// Shows that this number of objects was read.
-    fn show(&self, count: usize) {
+    pub(crate) fn show(&self, count: usize) {
         let all = self.all;
         if let Some(mut terminal) = self.terminal {
             // Nothing depends on what is shown.
@@ -78,7 +41,7 @@ impl Progress<'_> {
     }
 
     /// Removes what is shown.
-    fn clear(&self) {
+    pub(crate) fn clear(&self) {
         if let Some(mut terminal) = self.terminal {
             let _ = write!(terminal, "\r\x1b[K");
         }
@@ -86,7 +49,7 @@ impl Progress<'_> {
 }
 
 /// Writes a line at once.
-fn write_line<W: Write>(output: &mut W, line: &str) -> io::Result<()> {
+pub(crate) fn write_line<W: Write>(output: &mut W, line: &str) -> io::Result<()> {
     writeln!(output, "{line}")?;
     output.flush()
 }

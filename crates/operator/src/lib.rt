@@ -1,6 +1,6 @@
 //! The commands of an operator, over an open database: tokens are issued and removed, locks and objects are listed, the
-//! paths of a push are checked, replies are foreseen, objects are hashed again, and uploads that were not completed, and
-//! objects that may not be kept, are removed.
+//! paths of a push are checked, replies are foreseen, objects are hashed again, and uploads that were not completed,
+//! objects that may not be kept, and objects that are damaged, are removed.
 //!
 //! A [`Task`] is a command whose words, files and input were read. [`Task::run`] writes what the command prints. It is
 //! the same over a database that was opened for the command, and over one that a running server has open.
@@ -19,6 +19,7 @@ mod paths;
 mod pruning;
 mod pushing;
 mod reopening;
+mod repairing;
 mod retiring;
 mod sweeping;
 mod tasks;

@@ -5,7 +5,7 @@ ghost use Rattle.names.specs.Names.{path_text, repo_text};
 ghost use Rattle.names.specs.Moments.{IsMomentText};
 ghost use Rattle.pushcheck.specs.Verdicts.{verdict_view};
 ghost use Rattle.locks.specs.Finding.{lock_seen};
-ghost use Rattle.operator.specs.Lines.{content_line, damage_line, lock_line, object_line, reply_line, verdict_line};
+ghost use Rattle.operator.specs.Lines.{content_line, damage_line, lock_line, object_line, removal_line, reply_line, verdict_line};
 ghost use Rattle.operator.specs.Escapes.{shown};
 
 use crate::escapes::{Destination, shown};
@@ -86,6 +86,15 @@ pub(crate) fn damage_line(alloc: Global, row: &Stored) -> Result<String, AllocEr
 {
     let (repo, name) = (row.repo.as_str(), row.oid.text());
     format!(in alloc; "damaged {repo} {name}")
+}
+
+/// The line of an object that was removed because it is damaged.
+pub(crate) fn removal_line(alloc: Global, row: &Stored) -> Result<String, AllocError>
+    ensures { IfOk result (λ text. string_bytes text
+        ≡ removal_line (repo_text row.now.repo) row.now.oid) }
+{
+    let (repo, name) = (row.repo.as_str(), row.oid.text());
+    format!(in alloc; "removed {repo} {name}")
 }
 
 /// The first line of a reply: its status, and the code of the rule that refuses the request, or `ok`.

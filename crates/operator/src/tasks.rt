@@ -14,6 +14,7 @@ use crate::listing_locks::list_locks;
 use crate::listing_objects::list_objects;
 use crate::pruning::prune;
 use crate::pushing::{Push, check_push};
+use crate::repairing::repair;
 use crate::retiring::retire;
 use crate::sweeping::sweep;
 use names::{Moment, Oid, RepoName};
@@ -40,6 +41,8 @@ pub enum Task<'a> {
     ListObjects(&'a RepoName),
     /// Hash the objects of all repositories again. Shows how far it is on the terminal, if there is one.
     CheckObjects(Option<&'a Stderr>),
+    /// Remove the objects of all repositories that are damaged. Shows how far it is on the terminal, if there is one.
+    Repair(Option<&'a Stderr>),
     /// Remove the uploads that were not completed.
     Sweep,
     /// Remove the object of this name from the repository, for good.
@@ -51,8 +54,9 @@ impl Task<'_> {
     /// destination is what the output writes to: on a terminal, control characters of paths are escaped.
     ///
     /// The store is led by the steps of a run of the definitions: at most one token is issued, or the expired ones are
-    /// removed, or one object is. If the task is to foresee a reply and succeeds, the definitions foresee one. After an
-    /// error the world is the same, but for an `Output` after tokens or an object were removed.
+    /// removed, or one object is. If the task is to foresee a reply and succeeds, the definitions foresee one. A repair
+    /// leaves the tables as they are: each object of a world has the bytes of its name. After an error the world is the
+    /// same, but for an `Output` after tokens or an object were removed.
     ///
     /// # Errors
     ///
@@ -77,6 +81,7 @@ impl Task<'_> {
             Task::ListLocks(repo) => list_locks(alloc, store, repo, destination, output),
             Task::ListObjects(repo) => list_objects(alloc, store, repo, output),
             Task::CheckObjects(terminal) => check_objects(alloc, store, *terminal, output),
+            Task::Repair(terminal) => repair(alloc, store, *terminal, output),
             Task::Sweep => sweep(alloc, store, output),
             Task::Retire(repo, oid) => retire(alloc, store, repo, oid, output),
         }

@@ -1,7 +1,7 @@
 //! The order in which the callers of a server are accepted: operators and clients in turn.
 
 use crate::harness::{Tester, unwrap};
-use sockets::{Caller, Queue};
+use sockets::{Caller, Queue, listen};
 use std::fs;
 use std::io::{self, Read, Write};
 use std::net::{TcpListener, TcpStream};
@@ -85,7 +85,7 @@ fn play(rt: &impl Tester, host: &HostRuntime, listeners: Listeners<'_>, case: (&
 fn operators_and_clients_are_taken_in_turn(rt: HostRuntime) {
     let socket = "in_turn";
     let _ = fs::remove_file(&rt, socket);
-    let clients = unwrap(&rt, TcpListener::bind(&rt, "127.0.0.1:0"));
+    let clients = unwrap(&rt, listen(&rt, "127.0.0.1:0"));
     let operators = unwrap(&rt, UnixListener::bind(&rt, socket));
     let listeners = Listeners {
         clients: &clients,
@@ -96,4 +96,19 @@ fn operators_and_clients_are_taken_in_turn(rt: HostRuntime) {
         play(&rt, &rt, listeners, *case);
     }
     unwrap(&rt, fs::remove_file(&rt, socket));
+}
+
+/// More clients than the 128 for which a listener usually has room.
+const CLIENTS: usize = 200;
+
+#[test]
+fn two_hundred_clients_connect_before_one_is_accepted(rt: HostRuntime) {
+    let listener = unwrap(&rt, listen(&rt, "127.0.0.1:0"));
+    let address = unwrap(&rt, listener.local_addr());
+    let mut waiting = Vec::new(rt.alloc());
+    for _ in 0..CLIENTS {
+        let client = unwrap(&rt, TcpStream::connect(&rt, address));
+        unwrap(&rt, waiting.push(client));
+    }
+    assert!(rt; waiting.len() == CLIENTS);
 }

@@ -1,4 +1,5 @@
 use Rattle.operator.proofs.Working.{from_finding, from_granting, from_reading}
+use Rattle.operator.proofs.Damaged.{from_still}
 use Rattle.operator.proofs.tasks.Task.run.Goals as goal
 
 pub returns-in-Issue : goal.returns-in-Issue
@@ -29,3 +30,6 @@ returns-in-ListObjects g c = record { world = rw c.in-ListObjects.is (from_readi
 
 pub returns-in-CheckObjects : goal.returns-in-CheckObjects
 returns-in-CheckObjects g c = record { world = rw c.in-CheckObjects.is (from_reading g.S.Store c.args.store.now c.check_objects.new.store _ c.check_objects.result c.check_objects.ensures) }
+
+pub returns-in-Repair : goal.returns-in-Repair
+returns-in-Repair g c = record { world = rw c.in-Repair.is (from_still g.S.Store c.args.store.now c.repair.new.store c.repair.result c.repair.ensures) }
