@@ -5,6 +5,7 @@ mod batches;
 mod bodies;
 mod callers;
 mod connections;
+mod devices;
 mod failing;
 mod foreseen;
 mod framing;
