@@ -1,5 +1,6 @@
 //! Tests of `service`: connections, from their bytes to the replies.
 
+mod ample;
 mod arrivals;
 mod batches;
 mod bodies;
