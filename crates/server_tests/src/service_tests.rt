@@ -12,6 +12,7 @@ mod foreseen;
 mod framing;
 mod heads;
 mod judging;
+mod lists;
 mod memory;
 mod objects;
 mod policies;
