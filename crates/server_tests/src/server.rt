@@ -109,8 +109,14 @@ const RULES: &[(&str, &str, &str)] = &[
         "507 Insufficient Storage",
         "the quota does not hold the object",
     ),
+    ("X4", "410 Gone", "the object was removed by its owner"),
     ("V1", "404 Not Found", "the object is not stored"),
     ("V2", "422 Unprocessable Content", "the stored size differs"),
+    (
+        "L4",
+        "422 Unprocessable Content",
+        "the cursor is no lock id",
+    ),
 ];
 
 /// The text that a connection was sent, and how it ended.

@@ -62,6 +62,7 @@ const UNKNOWN: &[(&str, &str)] = &[
 /// Repositories that ann's token is not for.
 const OTHERS: &[(&str, &str)] = &[
     ("/studio/game", "A4"),
+    ("/studio/other", "A4"),
     ("/ann/film", "A4"),
     ("/STUDIO/film", "A4"),
     ("/studio/Film", "A4"),

@@ -240,7 +240,7 @@ const FAILING_SOURCES: &[FailingSource] = &[
 ];
 
 /// Serves the bytes if only this many reads succeed.
-fn tell_from_failing(
+pub(crate) fn tell_from_failing(
     rt: &impl Tester,
     server: &mut Server,
     bytes: &[u8],
@@ -381,7 +381,12 @@ const FAILING_SINKS: &[FailingSink] = &[
 ];
 
 /// Serves the bytes if each write takes a byte, and only this many succeed.
-fn tell_to_failing(rt: &impl Tester, server: &mut Server, bytes: &[u8], writes: u64) -> Sent {
+pub(crate) fn tell_to_failing(
+    rt: &impl Tester,
+    server: &mut Server,
+    bytes: &[u8],
+    writes: u64,
+) -> Sent {
     let mut source = SliceSource::new(bytes, usize::MAX);
     let mut sink = FailAfter::new(VecSink::new(rt.alloc(), 1), writes);
     let served = server.serve(rt, &mut source, &mut sink);

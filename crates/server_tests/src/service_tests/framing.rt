@@ -131,6 +131,7 @@ const TARGETS: &[(&str, &str)] = &[
     ("/studio/film.git/info/lfs", "H6"),
     ("/studio/film/info/lfs/locks", "H6"),
     ("/studio/film.GIT/info/lfs/locks", "H6"),
+    ("/studio/film%2Egit/info/lfs/locks", "H6"),
     ("/film.git/info/lfs/locks", "H6"),
     ("/studio/cut/film.git/info/lfs/locks", "H6"),
     ("/studio/film.git/info/lfs?/locks", "H6"),

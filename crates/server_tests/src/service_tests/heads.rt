@@ -55,31 +55,53 @@ fn bytes_that_no_others_make_a_head_are_h1(rt: HostRuntime) {
     }
 }
 
-/// The head of the worked lock, which has 157 bytes, with further fields, each repeated; its size, and
-/// the answer.
-const MANY_FIELDS: &[(&[(&str, usize)], usize, &str)] = &[
+/// The head of the worked lock, which has 157 bytes, with further fields, each repeated; its size, the limits of a read,
+/// and the answer.
+const FIELDS: &[(&[(&str, usize)], usize, &[usize], &str)] = &[
     // A head has at most 64 fields; two of them are the worked lock's.
-    (&[("A: b\r\n", 62)], 529, "201"),
-    (&[("A: b\r\n", 63)], 535, "H1"),
-];
-
-/// The same for long heads. (A head of 16,384 bytes and one of 16,385 are also read byte by byte: see
-/// `what_follows_a_message_is_the_next`.)
-const LONG_FIELDS: &[(&[(&str, usize)], usize, &str)] = &[
-    (&[("A: b\r\n", 1_000)], 6_157, "H1"),
+    (&[("A: b\r\n", 62)], 529, MOSTS, "201"),
+    (&[("A: b\r\n", 63)], 535, MOSTS, "H1"),
+    (&[("A: b\r\n", 1_000)], 6_157, LARGE_MOSTS, "H1"),
     // More fields than any head has room for.
-    (&[("A:\n", 5_500)], 16_657, "H1"),
+    (&[("A:\n", 5_500)], 16_657, LARGE_MOSTS, "H1"),
     // A head has at most 16,384 bytes.
-    (&[("A: ", 1), ("b", 16_222), ("\r\n", 1)], 16_384, "201"),
-    (&[("A: ", 1), ("b", 16_223), ("\r\n", 1)], 16_385, "H1"),
-    (&[("A: ", 1), ("b", 19_838), ("\r\n", 1)], 20_000, "H1"),
+    (
+        &[("A: ", 1), ("b", 16_222), ("\r\n", 1)],
+        16_384,
+        LARGE_MOSTS,
+        "201",
+    ),
+    (
+        &[("A: ", 1), ("b", 16_223), ("\r\n", 1)],
+        16_385,
+        LARGE_MOSTS,
+        "H1",
+    ),
+    (
+        &[("A: ", 1), ("b", 19_838), ("\r\n", 1)],
+        20_000,
+        LARGE_MOSTS,
+        "H1",
+    ),
+    // The same byte by byte, which takes seconds.
+    (
+        &[("X: ", 1), ("x", 16_222), ("\r\n", 1)],
+        16_384,
+        &[1],
+        "201",
+    ),
+    (
+        &[("X: ", 1), ("x", 16_223), ("\r\n", 1)],
+        16_385,
+        &[1],
+        "H1",
+    ),
 ];
 
 /// Asserts that the worked lock with further fields is answered this way.
 fn expect_fields(
     rt: &impl Tester,
-    mosts: &[usize],
-    (fields, size, want): &(&[(&str, usize)], usize, &str),
+    (fields, size, mosts, want): &(&[(&str, usize)], usize, &[usize], &str),
 ) {
     let fields = repeated(rt, fields);
     let front = texts(rt, &[LOCKS, "\r\n", ANN, "\r\n"]);
@@ -93,11 +115,8 @@ fn expect_fields(
 
 #[test]
 fn a_head_has_at_most_64_fields_and_16384_bytes(rt: HostRuntime) {
-    for case in MANY_FIELDS {
-        expect_fields(&rt, MOSTS, case);
-    }
-    for case in LONG_FIELDS {
-        expect_fields(&rt, LARGE_MOSTS, case);
+    for case in FIELDS {
+        expect_fields(&rt, case);
     }
 }
 

@@ -43,11 +43,11 @@ const OBJECTS: &[(usize, &str)] = &[
 ];
 
 /// The reply to an upload that is stored, and to an object that is verified.
-const DONE: &str = "HTTP/1.1 200 OK\r\nContent-Length: 0\r\n\r\n";
+pub(crate) const DONE: &str = "HTTP/1.1 200 OK\r\nContent-Length: 0\r\n\r\n";
 
 /// A request for an object.
 #[derive(Clone, Copy)]
-enum Ask<'a> {
+pub(crate) enum Ask<'a> {
     /// An upload: what follows `/content/` in the target, and the content.
     Put(&'a str, &'a str),
     /// A download: what follows `/content/` in the target.
@@ -76,7 +76,7 @@ use Want::{Content, Denied, Done, Rule};
 type Step = (&'static str, Ask<'static>, Want<'static>);
 
 /// The message that asks the repository for this.
-fn asked_in(rt: &impl Tester, repo: &str, bearer: &str, ask: Ask<'_>) -> String {
+pub(crate) fn asked_in(rt: &impl Tester, repo: &str, bearer: &str, ask: Ask<'_>) -> String {
     let text = match ask {
         Put(target, content) => {
             let size = content.len();
@@ -100,7 +100,7 @@ fn asked_in(rt: &impl Tester, repo: &str, bearer: &str, ask: Ask<'_>) -> String 
 }
 
 /// The reply with this content.
-fn content_reply(rt: &impl Tester, content: &str) -> String {
+pub(crate) fn content_reply(rt: &impl Tester, content: &str) -> String {
     let size = content.len();
     let text = format!(in rt.alloc();
         "HTTP/1.1 200 OK\r\nContent-Type: application/octet-stream\r\nContent-Length: {size}\r\n\r\n{content}"

@@ -32,11 +32,17 @@ fn expect_unread(rt: &impl Tester, server: &mut Server, line: &str, fields: &[&s
     );
 }
 
+/// The reply to an upload without a token.
+const NO_TOKEN: &str =
+    "HTTP/1.1 401 Unauthorized\r\nContent-Type: application/vnd.git-lfs+json\r\nContent-Length: 42\r\nLFS-Authenticate: Bearer realm=\"Git LFS\"\r\nConnection: close\r\n\r\n{\"message\":\"A1: a bearer token is needed\"}";
+
 #[test]
 fn an_upload_without_a_token_is_refused_before_its_content(rt: HostRuntime) {
-    let want =
-        "HTTP/1.1 401 Unauthorized\r\nContent-Type: application/vnd.git-lfs+json\r\nContent-Length: 42\r\nLFS-Authenticate: Bearer realm=\"Git LFS\"\r\nConnection: close\r\n\r\n{\"message\":\"A1: a bearer token is needed\"}";
-    expect_unread(&rt, &mut Server::new(&rt), AT_HELLO, &[WHOLE], want);
+    expect_unread(&rt, &mut Server::new(&rt), AT_HELLO, &[WHOLE], NO_TOKEN);
+    // Nor is a message after the content answered.
+    let put = message(&rt, AT_HELLO, &["Content-Length: 5"], "hello");
+    let both = joined(&rt, put.as_bytes(), MESSAGE.as_bytes());
+    expect_text(&rt, &both, NO_TOKEN, served(1, true), 0);
 }
 
 /// Targets of an upload, after `/content/`, that are out of range.
