@@ -302,7 +302,7 @@ fn an_upload_is_stored_whole_or_not_at_all(rt: HostRuntime) {
     let back = content_reply(&rt, content.as_str());
     let back = back.as_str();
     let upload = Case {
-        first: Work::Serve(""),
+        first: Work::Settle,
         work: Work::Serve(put),
         reply: DONE,
         before: (PREPARED, missing),
@@ -316,7 +316,7 @@ fn a_lock_is_made_or_released_whole_or_not_at_all(rt: HostRuntime) {
     let missing = refusal(&rt, "X1", false);
     let missing = missing.as_str();
     let lock = Case {
-        first: Work::Serve(""),
+        first: Work::Settle,
         work: Work::Serve(MESSAGE),
         reply: CREATED,
         before: (PREPARED, missing),
@@ -340,7 +340,7 @@ fn a_lock_is_made_or_released_whole_or_not_at_all(rt: HostRuntime) {
 fn expired_tokens_are_removed_or_kept(rt: HostRuntime) {
     let missing = refusal(&rt, "X1", false);
     let case = Case {
-        first: Work::Serve(""),
+        first: Work::Settle,
         work: Work::Prune,
         reply: "",
         before: (PREPARED, missing.as_str()),

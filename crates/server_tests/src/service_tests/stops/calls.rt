@@ -18,8 +18,10 @@ use std::process::Abort;
 use tables::{Alter, NewLock, Store, UploadId};
 use tokens::{TokenRequest, issue};
 
-/// The names of `abc`, and of 65,537 bytes `x`.
+/// The names of `abc`, of `x`, and of 65,537 bytes `x`.
 const ABC: &str = "ba7816bf8f01cfea414140de5dae2223b00361a396177a9cb410ff61f20015ad";
+
+const X: &str = "2d711642b726b04401627ca9fbac32f5c8530fb1903cc4db02258717921a4881";
 
 const LONG: &str = "1abe08ebecf1c18cab71f6fe28aaddf20268f85bad78bb9a72f88ca47c874662";
 
@@ -81,47 +83,50 @@ const SCRIPT: &[Step] = &[
     (Call::Complete, (0, 0, 3, 65_537, 0), 0, ""),
     (Call::Pour, (0, 0, 3, 65_537, 0), 0, ""),
     (Call::FindObject(LONG), (0, 0, 3, 65_537, 0), 0, ""),
-    // The same bytes again.
-    (Call::Begin(LONG, 65_537), (0, 0, 3, 65_537, 0), 1, ""),
-    (Call::Open(65_537), (0, 0, 3, 65_537, 0), 1, ""),
-    (Call::Push(65_537), (0, 0, 3, 65_537, 0), 1, ""),
+    (Call::Begin(X, 1), (0, 0, 3, 65_537, 0), 1, ""),
+    (Call::Open(1), (0, 0, 3, 65_537, 0), 1, ""),
+    (Call::Push(1), (0, 0, 3, 65_537, 0), 1, ""),
     (Call::End, (0, 0, 3, 65_537, 0), 1, ""),
-    (Call::Complete, (0, 0, 3, 65_537, 0), 0, ""),
-    (Call::Begin(ABC, 3), (0, 0, 3, 65_537, 0), 1, ""),
-    (Call::Abandon(3), (0, 0, 3, 65_537, 0), 0, ""),
-    (Call::Begin(ABC, 65_536), (0, 0, 3, 65_537, 0), 1, ""),
-    (Call::Open(65_536), (0, 0, 3, 65_537, 0), 1, ""),
-    (Call::Push(65_536), (0, 0, 3, 65_537, 0), 1, ""),
-    (Call::Sweep, (0, 0, 3, 65_537, 0), 0, ""),
-    (Call::Issue, (0, 0, 4, 65_537, 0), 0, ""),
-    (Call::FindCaller, (0, 0, 4, 65_537, 0), 0, ""),
-    (Call::Prune, (0, 0, 3, 65_537, 0), 0, ""),
-    (Call::Lock("art/a"), (1, 1, 3, 65_537, 0), 0, ""),
-    (Call::Lock("art/b"), (2, 2, 3, 65_537, 0), 0, ""),
-    (Call::FindLock(2, "art/b"), (2, 2, 3, 65_537, 0), 0, ""),
-    (Call::Page, (2, 2, 3, 65_537, 0), 0, ""),
-    (Call::Unlock(1), (1, 2, 3, 65_537, 0), 0, ""),
+    (Call::Complete, (0, 0, 3, 65_538, 0), 0, ""),
+    // The same byte again.
+    (Call::Begin(X, 1), (0, 0, 3, 65_538, 0), 1, ""),
+    (Call::Open(1), (0, 0, 3, 65_538, 0), 1, ""),
+    (Call::Push(1), (0, 0, 3, 65_538, 0), 1, ""),
+    (Call::End, (0, 0, 3, 65_538, 0), 1, ""),
+    (Call::Complete, (0, 0, 3, 65_538, 0), 0, ""),
+    (Call::Begin(ABC, 3), (0, 0, 3, 65_538, 0), 1, ""),
+    (Call::Abandon(3), (0, 0, 3, 65_538, 0), 0, ""),
+    (Call::Begin(ABC, 3), (0, 0, 3, 65_538, 0), 1, ""),
+    (Call::Sweep, (0, 0, 3, 65_538, 0), 0, ""),
+    (Call::Issue, (0, 0, 4, 65_538, 0), 0, ""),
+    (Call::FindCaller, (0, 0, 4, 65_538, 0), 0, ""),
+    (Call::Prune, (0, 0, 3, 65_538, 0), 0, ""),
+    (Call::Lock("art/a"), (1, 1, 3, 65_538, 0), 0, ""),
+    (Call::Lock("art/b"), (2, 2, 3, 65_538, 0), 0, ""),
+    (Call::FindLock(2, "art/b"), (2, 2, 3, 65_538, 0), 0, ""),
+    (Call::Page, (2, 2, 3, 65_538, 0), 0, ""),
+    (Call::Unlock(1), (1, 2, 3, 65_538, 0), 0, ""),
     (
         Call::Answer(Form::Lock, "", "{\"path\":\"art/hero.psd\"}"),
-        (2, 3, 3, 65_537, 0),
+        (2, 3, 3, 65_538, 0),
         0,
         "",
     ),
     (
         Call::Answer(Form::List, "", ""),
-        (2, 3, 3, 65_537, 0),
+        (2, 3, 3, 65_538, 0),
         0,
         "",
     ),
     (
         Call::Answer(Form::VerifyLocks, "", "{}"),
-        (2, 3, 3, 65_537, 0),
+        (2, 3, 3, 65_538, 0),
         0,
         "",
     ),
     (
         Call::Answer(Form::Unlock, "3", "{}"),
-        (1, 3, 3, 65_537, 0),
+        (1, 3, 3, 65_538, 0),
         0,
         "",
     ),
@@ -131,26 +136,26 @@ const SCRIPT: &[Step] = &[
             "",
             "{\"operation\":\"upload\",\"objects\":[{\"oid\":\"ba7816bf8f01cfea414140de5dae2223b00361a396177a9cb410ff61f20015ad\",\"size\":3}]}",
         ),
-        (1, 3, 3, 65_537, 0),
+        (1, 3, 3, 65_538, 0),
         0,
         "",
     ),
     // Other bytes than those of the name.
     (
         Call::Answer(Form::Put, ABC, "abd"),
-        (1, 3, 3, 65_537, 0),
+        (1, 3, 3, 65_538, 0),
         0,
         "",
     ),
     (
         Call::Answer(Form::Put, ABC, "abc"),
-        (1, 3, 3, 65_540, 0),
+        (1, 3, 3, 65_541, 0),
         0,
         "",
     ),
     (
         Call::Answer(Form::Get, ABC, ""),
-        (1, 3, 3, 65_540, 0),
+        (1, 3, 3, 65_541, 0),
         0,
         "",
     ),
@@ -160,16 +165,16 @@ const SCRIPT: &[Step] = &[
             "",
             "{\"oid\":\"ba7816bf8f01cfea414140de5dae2223b00361a396177a9cb410ff61f20015ad\",\"size\":3}",
         ),
-        (1, 3, 3, 65_540, 0),
+        (1, 3, 3, 65_541, 0),
         0,
         "",
     ),
-    (Call::View, (1, 3, 3, 65_540, 0), 0, ""),
-    (Call::Retire(LONG), (1, 3, 3, 3, 1), 0, "X4"),
-    (Call::Retire(LONG), (1, 3, 3, 3, 1), 0, "X4"),
-    (Call::FindObject(ABC), (1, 3, 3, 3, 1), 0, "X4"),
-    (Call::Answer(Form::Get, LONG, ""), (1, 3, 3, 3, 1), 0, "X4"),
-    (Call::Retire(ABC), (1, 3, 3, 0, 2), 0, "X4"),
+    (Call::View, (1, 3, 3, 65_541, 0), 0, ""),
+    (Call::Retire(LONG), (1, 3, 3, 4, 1), 0, "X4"),
+    (Call::Retire(LONG), (1, 3, 3, 4, 1), 0, "X4"),
+    (Call::FindObject(ABC), (1, 3, 3, 4, 1), 0, "X4"),
+    (Call::Answer(Form::Get, LONG, ""), (1, 3, 3, 4, 1), 0, "X4"),
+    (Call::Retire(ABC), (1, 3, 3, 1, 2), 0, "X4"),
 ];
 
 /// What the calls so far returned.
@@ -535,17 +540,12 @@ fn expect_left(rt: &impl Tester, files: &Files<Memory>, stop: Stop, index: usize
     assert!(rt; sent.text.as_str() == want.as_str(), "{stop:?} {count}");
 }
 
-/// The same after each call.
-fn expect_each_left(rt: &impl Tester, stop: Stop) {
-    let files = files_after(rt, Work::Serve(""));
-    for index in 0..SCRIPT.len() {
-        expect_left(rt, &files, stop, index);
-    }
-}
-
 #[test]
 fn a_stop_after_a_call_leaves_what_was_reported(rt: HostRuntime) {
-    for stop in [Stop::Machine, Stop::Process] {
-        expect_each_left(&rt, stop);
+    let files = files_after(&rt, Work::Serve(""));
+    for index in 0..SCRIPT.len() {
+        expect_left(&rt, &files, Stop::Machine, index);
     }
+    let last = SCRIPT.len().saturating_sub(1);
+    expect_left(&rt, &files, Stop::Process, last);
 }
