@@ -55,11 +55,20 @@ def over_files(server, *words, given=b"", with_policy=False):
     return ran.returncode, ran.stdout.decode(), ran.stderr.decode()
 
 
-def issue(server, user="ann", operation="upload"):
+def issue_words(user="ann", operation="upload"):
+    return ["authenticate", "--user", user, "studio/film", operation]
+
+
+def token_of(line):
+    """The token in the line that `authenticate` printed."""
+    return json.loads(line)["header"]["Authorization"].split()[1]
+
+
+def issue(server):
     """A token that the server issues."""
-    status, output, errors = via(server, "authenticate", "--user", user, "studio/film", operation)
+    status, output, errors = via(server, *issue_words())
     require(status == 0, f"no token was issued: {errors}")
-    return json.loads(output)["header"]["Authorization"].split()[1]
+    return token_of(output)
 
 
 def with_token(token, method, target, body=None, data=None):
