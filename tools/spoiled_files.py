@@ -122,8 +122,10 @@ def rows_of(folder):
         base = sqlite3.connect(f"{copy}/db")
         base.text_factory = bytes
         try:
+            if not base.execute("SELECT * FROM sqlite_schema").fetchall():
+                return {table: frozenset() for table in TABLES}
             return {table: frozenset(base.execute(f"SELECT * FROM {table}").fetchall()) for table in TABLES}
-        except sqlite3.Error:
+        except (sqlite3.Error, UnicodeError):
             return None
         finally:
             base.close()

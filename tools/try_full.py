@@ -206,7 +206,9 @@ class Work:
         self.unknown = None
 
 
-WRITES = ["upload", "lock", "unlock", "token", "retire", "sweep", "prune"]
+WRITES = ["upload", "lock", "unlock", "token", "retire"]
+# These write only if there is something to remove.
+ACTS = [*WRITES, "sweep", "prune"]
 
 
 def listed(work):
@@ -252,7 +254,7 @@ def kill_within(work):
     timer.start()
     with contextlib.suppress(Killed):
         while True:
-            work.act(WRITES)
+            work.act(ACTS)
     timer.join()
     work.is_killed = False
     work.server.start()
@@ -285,19 +287,19 @@ def play(work, names, left, is_killed):
     """One round, with at most this many bytes left for the acts of these names."""
     disk = f"{work.server.room}/disk"
     for _ in range(30):
-        require(work.act(WRITES), "a request was refused before the disk was full")
+        require(work.act(ACTS), "a request was refused before the disk was full")
     fill(f"{disk}/other", work.random.randrange(left))
     work.act_until_full(names)
     fill(f"{disk}/rest")
     for _ in range(30):
-        work.act(WRITES)
+        work.act(ACTS)
     compare(work, "on the full disk")
     if is_killed:
         kill_within(work)
         compare(work, "after a start on the full disk")
     for name in ("other", "rest"):
         os.unlink(f"{disk}/{name}")
-    for name in WRITES:
+    for name in ACTS:
         require(work.act([name]), f"{name} was refused with room again")
     compare(work, "with room again")
     check_rows(work)
