@@ -209,9 +209,10 @@ class Maker:
 
 
 def frames_of(log):
-    """The number of the page of each frame of a log."""
+    """The number of the page of each frame of a log. After the last frame come zeros."""
     size = FRAME_HEAD + PAGE
-    return [int.from_bytes(log[at : at + 4], "big") for at in range(LOG_HEAD, len(log) - size + 1, size)]
+    numbers = [int.from_bytes(log[at : at + 4], "big") for at in range(LOG_HEAD, len(log), size)]
+    return [it for it in numbers if it]
 
 
 @dataclass
@@ -259,7 +260,10 @@ class Spoiler:
         if at < LOG_HEAD:
             return "the head of the log"
         frame, within = divmod(at - LOG_HEAD, FRAME_HEAD + PAGE)
-        return "the head of a frame" if within < FRAME_HEAD else self.whose(frames_of(self.last.log)[frame])
+        frames = frames_of(self.last.log)
+        if frame >= len(frames):
+            return "what follows the last frame"
+        return "the head of a frame" if within < FRAME_HEAD else self.whose(frames[frame])
 
     def page(self):
         """A database with its last changes in the log or in the file, and where a page of its file begins; in half of

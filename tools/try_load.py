@@ -35,8 +35,8 @@ import time
 from pathlib import Path
 
 sys.dont_write_bytecode = True
+from control import issue_words, token_of
 from needs import need_commands
-from try_control import issue_words, token_of
 from try_server import TOP, Failed, judge, require, summary
 from try_site import Site
 

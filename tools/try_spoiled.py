@@ -42,9 +42,9 @@ from dataclasses import dataclass, field
 from pathlib import Path
 
 sys.dont_write_bytecode = True
+from control import token_of, with_token
 from spoiled_files import (CONTENTS, FILM, LETTERS, MEMORY, POLICY, REPOS, RETIRED, TABLES, TOKENS, WAYS, Maker, Spoiler,
                            bytes_of, name_of, rows_of)
-from try_control import token_of, with_token
 from try_server import TOP, Client, Failed, judge, require, summary
 
 LONGEST = 20
