@@ -1,6 +1,6 @@
 """A good database, and spoiled copies of it, for tools/try_spoiled.py.
 
-The good one has three repositories with objects of no byte to four chunks, locks of two users on two refs, tokens, an
+The good one has three repositories with objects of no byte to three chunks, locks of two users on two refs, tokens, an
 expired one, and two names that were removed for good. Its first half is in the file, and the rest in the log, as a
 program that was killed leaves them. What was stored after each request is kept too, and the files of some moments.
 """
@@ -58,8 +58,8 @@ def put_size(repo, size):
 
 
 # What is stored, by its name.
-CONTENTS = {name_of(it): bytes_of(it) for it in (0, 1, 5, 100, 1_000, 5_000, 30_000, 40_000, CHUNK - 1, CHUNK,
-                                                 CHUNK + 1, 70_000, 2 * CHUNK, 200_000)}
+CONTENTS = {name_of(it): bytes_of(it) for it in (0, 1, 5, 100, 1_000, 5_000, 10_000, 20_000, CHUNK, CHUNK + 1,
+                                                 2 * CHUNK, 150_000)}
 
 
 def locks_of(letter, numbers, ref="refs/heads/main"):
@@ -69,21 +69,21 @@ def locks_of(letter, numbers, ref="refs/heads/main"):
 
 # What is in the file at the end: requests, and names that are removed for good.
 FIRST = [
-    *(put_size(FILM, size) for size in (0, 1, 5, CHUNK - 1, CHUNK, 40_000, 200_000)),
-    *(put_size(GAME, size) for size in (0, 100, 1_000, 5_000, 70_000)),
+    *(put_size(FILM, size) for size in (0, 1, 5, CHUNK, 20_000, 150_000)),
+    *(put_size(GAME, size) for size in (0, 100, 1_000, 5_000)),
     put_size(ART, 5),
     *locks_of("a", range(1, 12)),
     *locks_of("b", range(12, 20), "refs/heads/release/1"),
     lock("b", FILM, "art/" + "\u00e9" * 510),
     message("b", "POST", FILM, "locks/13/unlock", b"{}"),
     *locks_of("c", range(3)),
-    ("retire", FILM, name_of(40_000)),
+    ("retire", FILM, name_of(20_000)),
 ]
 # What is in the log alone.
 SECOND = [
     put_size(FILM, CHUNK + 1),
     put_size(GAME, 2 * CHUNK),
-    put_size(ART, 30_000),
+    put_size(ART, 10_000),
     *locks_of("b", range(30, 36)),
     message("a", "POST", FILM, "locks/2/unlock", b"{}"),
     message("a", "POST", FILM, "locks/3/unlock", b"{}"),
@@ -91,7 +91,7 @@ SECOND = [
     ("retire", GAME, name_of(5_000)),
     lock("a", FILM, "art/last.psd"),
 ]
-RETIRED = [(FILM, name_of(40_000)), (GAME, name_of(5_000))]
+RETIRED = [(FILM, name_of(20_000)), (GAME, name_of(5_000))]
 
 
 @dataclass

@@ -31,10 +31,10 @@ import datetime
 import hashlib
 import json
 import os
-import random
 import re
 import select
 import signal
+import socket
 import subprocess
 import sys
 import tempfile
@@ -43,8 +43,8 @@ from pathlib import Path
 
 sys.dont_write_bytecode = True
 from control import token_of, with_token
-from spoiled_files import (CONTENTS, FILM, LETTERS, MEMORY, POLICY, REPOS, RETIRED, TABLES, TOKENS, WAYS, Maker, Spoiler,
-                           bytes_of, name_of, rows_of)
+from spoiled_files import (CONTENTS, FILM, LETTERS, MEMORY, POLICY, REPOS, RETIRED, TABLES, TOKENS, WAYS, Maker,
+                           Spoiler, bytes_of, name_of, rows_of)
 from try_server import TOP, Client, Failed, judge, require, summary
 
 LONGEST = 20
@@ -111,17 +111,22 @@ def has_repair(program):
     return subprocess.run([program, "repair", "--help"], capture_output=True, check=False).returncode == 0
 
 
+def over(folder):
+    return ["--db", f"{folder}/db"]
+
+
 class Running:
     """A server over the database of a folder."""
 
     def __init__(self, program, folder):
         self.program, self.folder = program, folder
         Path(folder, "policy").write_text(POLICY, encoding="utf-8")
-        words = [program, "serve", "--db", f"{folder}/db", "--policy", f"{folder}/policy", "--listen", "127.0.0.1:0"]
-        self.port = random.randrange(20_000, 30_000)
-        words[-1] = f"127.0.0.1:{self.port}"
+        with socket.create_server(("127.0.0.1", 0)) as free:
+            self.port = free.getsockname()[1]
+        words = [program, "serve", *over(folder), "--policy", f"{folder}/policy", "--control", f"{folder}/control"]
         with open(f"{folder}/errors", "wb") as errors:
-            self.child = subprocess.Popen([*words, "--control", f"{folder}/control"], stdout=subprocess.PIPE, stderr=errors)
+            words += ["--listen", f"127.0.0.1:{self.port}"]
+            self.child = subprocess.Popen(words, stdout=subprocess.PIPE, stderr=errors)
         require(select.select([self.child.stdout], [], [], LONGEST)[0], "serve prints nothing")
         self.has_started = self.child.stdout.readline().startswith(b"listening on ")
 
@@ -139,9 +144,12 @@ class Running:
         require(status != 500 or b'"S1: ' in body, f"a reply with 500 is {body!r}")
         return status, body
 
+    def socket(self):
+        return ["--via", f"{self.folder}/control"]
+
     def issue(self, repo):
         """A new token, by the control socket, or None."""
-        words = [self.program, "authenticate", "--via", f"{self.folder}/control", "--user", "ann", repo, "upload"]
+        words = [self.program, "authenticate", *self.socket(), "--user", "ann", repo, "upload"]
         ran = subprocess.run(words, capture_output=True, text=True, timeout=LONGEST, check=False)
         require(ran.returncode == 0 or (ran.returncode, ran.stderr) == (1, REFUSALS[1]), f"authenticate gave {ran}")
         return token_of(ran.stdout) if ran.returncode == 0 else None
@@ -167,6 +175,8 @@ class Trial:
     def __init__(self, program, spoiled, room):
         self.program, self.spoiled, self.room = program, spoiled, room
         self.count, self.refused, self.view = 0, set(), View()
+        # What the lists print, by the socket and over files.
+        self.printed, self.over_files = {}, {}
         # Whether each listed object is served whole; None if the server refused to serve it.
         self.served = {}
 
@@ -177,10 +187,9 @@ class Trial:
         self.spoiled.put(folder)
         return str(folder)
 
-    def run(self, folder, name, *more):
+    def run(self, place, name, *more):
         """What a command prints, or None if it refuses the database."""
-        words = [self.program, name, "--db", f"{folder}/db", *more]
-        ran = subprocess.run(words, capture_output=True, timeout=LONGEST, check=False)
+        ran = subprocess.run([self.program, name, *place, *more], capture_output=True, timeout=LONGEST, check=False)
         output, errors = ran.stdout.decode(errors="replace"), ran.stderr.decode(errors="replace")
         if ran.returncode == 1 and errors in REFUSALS:
             self.refused.add(name)
@@ -190,30 +199,36 @@ class Trial:
         require(is_stated, f"{name} ended with {ran.returncode} and printed {output[-300:]!r}, {errors!r}")
         return output
 
-    def objects(self, folder):
-        found = {repo: self.run(folder or self.copy(), "objects", "--repo", repo) for repo in REPOS}
+    def listed(self, place, name):
+        """The words of the lines for each repository, or None if the command refuses the database."""
+        found = {repo: self.run(place, name, "--repo", repo) for repo in REPOS}
         if None in found.values():
             return None
-        lines = [(repo, *line.split()) for repo, text in found.items() for line in text.splitlines()]
-        return {(repo, oid, int(size)) for repo, oid, size in lines}
+        self.printed.update({(name, repo): text for repo, text in found.items()})
+        return [(repo, *line.split(" ", 4)) for repo, text in found.items() for line in text.split("\n")[:-1]]
 
-    def locks(self, folder):
-        found = {repo: self.run(folder or self.copy(), "locks", "--repo", repo) for repo in REPOS}
-        if None in found.values():
+    def objects(self, place):
+        lines = self.listed(place, "objects")
+        return None if lines is None else {(repo, oid, int(size)) for repo, oid, size in lines}
+
+    def locks(self, place):
+        lines = self.listed(place, "locks")
+        if lines is None:
             return None
-        lines = [(repo, *line.split(" ", 4)) for repo, text in found.items() for line in text.split("\n")[:-1]]
         return {(repo, int(it[0]), it[1], it[4], it[2], seconds_of(it[3])) for repo, *it in lines}
 
-    def check(self, folder):
+    def check(self, place):
         """The names of the damaged objects."""
-        output = self.run(folder or self.copy(), "check")
+        output = self.run(place, "check")
         if output is None:
             return None
         return {tuple(line.split()[1:]) for line in output.splitlines() if line.startswith("damaged ")}
 
-    def look(self):
-        """Runs the commands."""
-        self.view.objects, self.view.locks, self.view.damaged = self.objects(None), self.locks(None), self.check(None)
+    def look(self, repo):
+        """Runs the commands over files, each over a copy: the lists of one of the repositories."""
+        for name in ("objects", "locks"):
+            self.over_files[name, repo] = self.run(over(self.copy()), name, "--repo", repo)
+        self.view.damaged = self.check(over(self.copy()))
 
     @contextlib.contextmanager
     def serving(self, folder):
@@ -230,6 +245,7 @@ class Trial:
         """Tries requests on a server."""
         with self.serving(self.copy()) as server:
             if server.has_started:
+                self.view.objects, self.view.locks = self.objects(server.socket()), self.locks(server.socket())
                 self.ask_all(server)
 
     def ask_all(self, server):
@@ -282,10 +298,15 @@ class Trial:
         ask("POST", "locks/verify", {})
         ask("POST", "objects/batch", {"operation": "download", "objects": [{"oid": name_of(5), "size": 5}]})
         if ask("PUT", f"content/{name_of(NEW)}", data=bytes_of(NEW))[0] == 200:
-            require(ask("GET", f"content/{name_of(NEW)}")[1] == bytes_of(NEW), "a new object is not served as it was sent")
+            require(ask("GET", f"content/{name_of(NEW)}")[1] == bytes_of(NEW), "a new object is served otherwise")
             require(ask("POST", "verify", {"oid": name_of(NEW), "size": NEW})[0] == 200, "a new object is not verified")
         if any(status == 500 for status, _ in replies):
             self.refused.add("serve")
+
+    def require_same(self):
+        """The lists over files are those by the socket."""
+        for key, text in self.over_files.items():
+            require(text == self.printed.get(key, text), f"{' '.join(key)} prints another list by the socket")
 
     def require_named(self):
         """Each object that is not served whole is named by `check`, and no other."""
@@ -294,31 +315,38 @@ class Trial:
         listed = {it[:2] for it in self.view.objects}
         for name, is_whole in self.served.items():
             if is_whole is not None:
-                require(is_whole or name in self.view.damaged, f"{name} is not served whole, and check does not name it")
-                require(not is_whole or name not in self.view.damaged, f"{name} is served whole, and check names it")
+                is_named = name in self.view.damaged
+                require(is_whole or is_named, f"{name} is not served whole, and check does not name it")
+                require(not is_whole or not is_named, f"{name} is served whole, and check names it")
         for name in self.view.damaged - listed:
             require(name[0] not in REPOS, f"check names {name}, which is not listed")
 
     def repair(self):
         """Repairs a copy, and stores the removed objects again."""
         folder = self.copy()
-        output = self.run(folder, "repair")
+        output = self.run(over(folder), "repair")
         if output is None:
             require(self.refused - {"repair"}, "only repair refuses the database")
             return
-        removed = {tuple(line.split()[1:]) for line in output.splitlines() if re.match(r"removed \S+ [0-9a-f]{64}$", line)}
+        *lines, last = output.splitlines()
+        removed = {tuple(line.split()[1:]) for line in lines}
         if self.view.damaged is not None:
             require(removed == self.view.damaged, f"repair removed {removed}, and check named {self.view.damaged}")
-        require(output.endswith(f"removed {len(removed)} objects\n"), f"repair printed {output!r}")
-        require(self.check(folder) == set(), "after repair, check finds damaged objects")
-        if self.view.objects is not None:
-            rest = {it for it in self.view.objects if it[:2] not in removed}
-            require(self.objects(folder) == rest, "repair changed other objects")
-        require(self.view.locks is None or self.locks(folder) == self.view.locks, "repair changed locks")
+        require(last == f"removed {len(removed)} objects", f"repair printed {output!r}")
+        require(self.check(over(folder)) == set(), "after repair, check finds damaged objects")
         self.require_sums(folder, {repo for repo, _ in removed})
         with self.serving(folder) as server:
+            require(server.has_started or self.refused, "after repair, the server does not start")
             if server.has_started:
+                self.require_rest(server, removed)
                 self.store_again(server, removed)
+
+    def require_rest(self, server, removed):
+        """The objects that were not removed, and the locks, are as before."""
+        if self.view.objects is not None:
+            rest = {it for it in self.view.objects if it[:2] not in removed}
+            require(self.objects(server.socket()) == rest, "repair changed other objects")
+        require(self.view.locks is None or self.locks(server.socket()) == self.view.locks, "repair changed locks")
 
     def require_sums(self, folder, repos):
         """The number of bytes of each of the repositories is the sum of the sizes of its objects."""
@@ -328,7 +356,7 @@ class Trial:
         used = {it[0].decode(errors="replace"): it[2] for it in rows["repos"]}
         for repo in repos:
             sizes = sum(it[3] for it in rows["uploads"] if it[1].decode(errors="replace") == repo and it[4] == 1)
-            require(used.get(repo) == sizes, f"{repo} uses {used.get(repo)} bytes after repair, and its objects {sizes}")
+            require(used.get(repo) == sizes, f"after repair, {repo} has {used.get(repo)} bytes, and its objects {sizes}")
 
     def store_again(self, server, removed):
         """The removed objects are stored again, and all that are known are served whole."""
@@ -377,13 +405,14 @@ def differs(view, base):
     return "; ".join(found)
 
 
-def try_one(options, good, spoiled):
+def try_one(options, good, spoiled, repo):
     """What the program does with a spoiled database."""
     with tempfile.TemporaryDirectory(dir=MEMORY) as room:
         trial = Trial(options.program, spoiled, room)
         try:
-            trial.look()
+            trial.look(repo)
             trial.serve()
+            trial.require_same()
             trial.require_named()
             before = set(trial.refused)
             if options.can_repair:
@@ -400,10 +429,10 @@ def check(options, good, name):
     way, share = WAYS[name]
     spoiler = Spoiler(good, f"{options.seed} {name}")
     kinds, tables, otherwise, faults, lines = collections.Counter(), collections.Counter(), 0, [], []
-    for _ in range(-(-options.count * share // 100)):
+    for number in range(-(-options.count * share // 100)):
         spoiled = way(spoiler)
         try:
-            trial, (kind, changed), is_otherwise = try_one(options, good, spoiled)
+            trial, (kind, changed), is_otherwise = try_one(options, good, spoiled, REPOS[number % len(REPOS)])
         except Failed as fault:
             faults.append(str(fault))
             continue
