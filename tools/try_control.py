@@ -4,8 +4,11 @@
     tools/try_control.py [--program FILE] [--only NAME]... [--tokens N] [--rounds N]
 
 Each check starts a server on a new database and a free port of this machine, prints one line with what was measured and
-its bound, and fails if the bound is not kept. The last line counts the checks; the status is 1 if one failed. It needs
-Linux and python3, and takes some minutes. Without --program it is bin/custody.
+its bound, and fails if the bound is not kept. The check `killed` kills servers while three users send all eight kinds of
+requests and run nine commands. After each start exactly what was acknowledged is listed; after each 100, and at the end,
+every object is also served as it was sent, and what was removed or released is not there. The last line counts the
+checks; the status is 1 if one failed. It needs Linux and python3, and takes some minutes. Without --program it is
+bin/custody.
 """
 import argparse
 import collections
@@ -257,8 +260,8 @@ def kill_often(program, rounds):
             kill_in_mid_work(server, works)
         for work in works:
             compare_all(work, "at the end")
-        kept = [len(it) for work in works for it in (work.objects, work.locks, work.tokens, work.retired, work.released)]
-        return sum((work.done for work in works), collections.Counter()), kept
+        kept = [map(len, (it.objects, it.locks, it.tokens, it.retired, it.released)) for it in works]
+        return sum((it.done for it in works), collections.Counter()), [sum(counts) for counts in zip(*kept)]
 
 
 def check_killed(_, options):
@@ -266,8 +269,7 @@ def check_killed(_, options):
     done, kept = collections.Counter(), [0] * 5
     for left in range(options.rounds, 0, -ROUNDS):
         more, counts = kill_often(options.program, min(left, ROUNDS))
-        done += more
-        kept = [it + sum(counts[number::5]) for number, it in enumerate(kept)]
+        done, kept = done + more, [sum(pair) for pair in zip(kept, counts)]
     names = ("objects", "locks", "tokens", "removed objects", "released locks")
     return (f"killed {options.rounds} times, {-(-options.rounds // ROUNDS)} databases; at their end "
             f"{', '.join(f'{count} {name}' for count, name in zip(kept, names))}; done: "

@@ -226,7 +226,8 @@ def load(site, connect, keeps, count, seconds):
     users = [User(number, site.token(f"user-{number}"), connect, keeps) for number in range(count)]
     results, watch = multiprocessing.Queue(), Watch(site)
     end = time.monotonic() + seconds
-    workers = [multiprocessing.Process(target=work, args=(users[it::PROCESSES], end, results)) for it in range(PROCESSES)]
+    parts = [users[it::PROCESSES] for it in range(PROCESSES)]
+    workers = [multiprocessing.Process(target=work, args=(part, end, results)) for part in parts]
     for worker in workers:
         worker.start()
     watch.start()

@@ -356,7 +356,7 @@ class Trial:
         used = {it[0].decode(errors="replace"): it[2] for it in rows["repos"]}
         for repo in repos:
             sizes = sum(it[3] for it in rows["uploads"] if it[1].decode(errors="replace") == repo and it[4] == 1)
-            require(used.get(repo) == sizes, f"after repair, {repo} has {used.get(repo)} bytes, and its objects {sizes}")
+            require(used.get(repo) == sizes, f"after repair, {repo} uses {used.get(repo)} bytes, and not {sizes}")
 
     def store_again(self, server, removed):
         """The removed objects are stored again, and all that are known are served whole."""

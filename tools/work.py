@@ -1,8 +1,8 @@
 """Requests and commands of one user in a repository of its own, and what of them was acknowledged.
 
-tools/try_full.py and the check `killed` of tools/try_control.py use it. Each act is a request or a command by the control
-socket, whose reply has to be the right one, or a refusal of the store where one is allowed. After a kill the one request
-that got no reply may have been carried out or not; whatever else is stored has to be what was acknowledged.
+tools/try_full.py and the check `killed` of tools/try_control.py use it. Each act is a request or a command by the
+control socket, whose reply has to be the right one, or a refusal of the store where one is allowed. After a kill the
+one request that got no reply may have been carried out or not; whatever else is stored has to be what was acknowledged.
 """
 import collections
 import hashlib
@@ -40,11 +40,14 @@ class Work:
     """The acts of ann in a repository, one after the other."""
 
     def __init__(self, server, seed, repo="studio/film", token="a" * 64, sizes=SIZES):
-        self.server, self.random, self.repo, self.token_text, self.sizes = server, random.Random(seed), repo, token, sizes
+        self.server, self.random, self.sizes = server, random.Random(seed), sizes
+        self.repo, self.token_text = repo, token
         self.objects, self.locks, self.retired, self.released = {}, {}, {}, set()
-        # How many locks were made; the tokens that are valid, expired, removed, and refused after their line was printed.
+        # How many locks were made.
         self.made = 0
-        self.tokens, self.expired, self.pruned, self.refused_tokens = set(), set(), set(), set()
+        self.tokens, self.expired, self.pruned = set(), set(), set()
+        # Tokens that the store refused after their line was printed.
+        self.refused_tokens = set()
         self.is_killed, self.may_refuse = False, False
         # What the request does that was killed, if it was carried out.
         self.unknown = None
@@ -193,7 +196,8 @@ class Work:
             status, body = self.ask("POST", "locks/verify", {"cursor": str(number), "limit": 1})
             found = json.loads(body)
             ours = [(it["path"], it["id"]) for it in found["ours"]]
-            require((status, ours, found["theirs"]) == (200, [(path, str(number))], []), f"verify locks got {status} {body}")
+            is_right = (status, ours, found["theirs"]) == (200, [(path, str(number))], [])
+            require(is_right, f"a verification of locks got {status} {body}")
         return True
 
     def print_locks(self):
@@ -272,7 +276,7 @@ def compare(work, when):
 
 
 def compare_all(work, when):
-    """The same, and all objects are served as they were sent, what was removed or released is not, and tokens are valid."""
+    """The same; each object is served as it was sent, what was removed or released is not there, and tokens are valid."""
     compare(work, when)
 
     def expect(want, *request, **more):
