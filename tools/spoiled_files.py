@@ -275,8 +275,10 @@ class Spoiler:
         return moment, (self.random.choice(numbers) - 1) * PAGE
 
     def file_bit(self):
+        """In half of the cases a bit of a byte that is not zero: most bytes of a page are room that is free."""
         moment, at = self.page()
-        at, bit = at + self.random.randrange(PAGE), self.random.randrange(8)
+        used = [it for it in range(PAGE) if moment.file[at + it]] if self.random.random() < 0.5 else []
+        at, bit = at + self.random.choice(used or range(PAGE)), self.random.randrange(8)
         what, whose = f"bit {bit} of byte {at} of the file", self.whose_of_file(moment, at)
         return Spoiled(what, whose, flip(moment.file, at, bit), moment.log, moment)
 

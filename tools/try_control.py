@@ -39,7 +39,7 @@ REPOS = ["studio/film", "studio/game", "studio/art"]
 SMALL = [0, 5_000, 65_537, 200_000]
 ROUNDS = 100
 # A server is killed after fewer acts than these.
-ACTS = 60
+ACTS = 40
 
 
 def check_same_words(server, _):
@@ -237,7 +237,7 @@ def kill_in_mid_work(server, works):
     for thread in threads:
         thread.start()
     while sum(work.done.total() for work in works) < goal and not faults:
-        time.sleep(0.001)
+        time.sleep(0.005)
     time.sleep(random.uniform(0, 0.01))
     for work in works:
         work.is_killed = True
