@@ -252,7 +252,7 @@ def kill_in_mid_work(server, works):
 
 
 def kill_often(program, rounds):
-    """Kills a new server in so many rounds. Returns what was done in them, and how much is stored."""
+    """Kills a new server this many times. Returns what was done, and how much is stored at the end."""
     with tempfile.TemporaryDirectory() as room, Server(program, room, policy_of(REPOS)) as server:
         restart(server)
         works = [Work(server, random.random(), repo, issue(server, repo), SMALL) for repo in REPOS]

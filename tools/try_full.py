@@ -36,7 +36,7 @@ from work import REMOVALS, WRITES, Killed, Work, compare_all, policy_of
 
 MIB = 1 << 20
 SIZE = 48 * MIB
-# So many refusals one after the other mean that the disk is full.
+# This many refusals one after the other mean that the disk is full.
 ROW = 12
 STATED = {"ReadFailed", "WriteFailed", "StoreRefused", "StoreFailed"}
 
