@@ -48,7 +48,7 @@ from pathlib import Path
 
 sys.dont_write_bytecode = True
 from control import token_of, with_token
-from needs import need_commands
+from needs import has_command, need_commands
 from spoiled_files import (CONTENTS, FILM, LETTERS, MEMORY, PAGE, POLICY, REPOS, RETIRED, TABLES, TOKENS, WAYS, Maker,
                            Spoiled, Spoiler, bytes_of, is_sound, name_of, rows_of, zero)
 from try_server import TOP, Client, Failed, judge, require, summary
@@ -112,11 +112,6 @@ def view_of(rows):
         {letter: 200 if digest in valid else 401 for letter, digest in known.items()},
         {name: 410 if name in names else 200 if name in stored else 404 for name in RETIRED},
     )
-
-
-def has_repair(program):
-    """Whether the program has the command `repair`."""
-    return subprocess.run([program, "repair", "--help"], capture_output=True, check=False).returncode == 0
 
 
 def over(folder):
@@ -529,7 +524,7 @@ def main():
     parser.add_argument("--list", action="store_true", help="a line for each that has changed")
     options = parser.parse_args()
     options.program = os.path.abspath(options.program)
-    options.can_repair = has_repair(options.program)
+    options.can_repair = has_command(options.program, "repair")
     need_commands("sqlite3", "sed")
     with tempfile.TemporaryDirectory(dir=MEMORY) as room:
         good = Maker(options.program, room).make()
