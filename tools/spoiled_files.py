@@ -131,6 +131,20 @@ def rows_of(folder):
             base.close()
 
 
+def is_sound(folder):
+    """Whether `PRAGMA integrity_check` finds nothing in a copy of the database."""
+    with tempfile.TemporaryDirectory(dir=MEMORY) as copy:
+        for file in Path(folder).glob("db*"):
+            shutil.copy(file, copy)
+        base = sqlite3.connect(f"{copy}/db")
+        try:
+            return base.execute("PRAGMA integrity_check").fetchall() == [("ok",)]
+        except (sqlite3.Error, UnicodeError):
+            return False
+        finally:
+            base.close()
+
+
 def pages_of(folder):
     """The table or index of each page of a copy of the database; pages of none are not in it."""
     with tempfile.TemporaryDirectory(dir=MEMORY) as copy:

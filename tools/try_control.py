@@ -5,7 +5,7 @@
 
 Each check starts a server on a new database and a free port of this machine, prints one line with what was measured and
 its bound, and fails if the bound is not kept. The check `killed` kills servers while three users send all eight kinds of
-requests and run nine commands. After each start exactly what was acknowledged is listed; after each 100, and at the end,
+requests and run ten commands. After each start exactly what was acknowledged is listed; after each 100, and at the end,
 every object is also served as it was sent, and what was removed or released is not there. The last line counts the
 checks; the status is 1 if one failed. It needs Linux and python3, and takes some minutes. Without --program it is
 bin/custody.
@@ -30,6 +30,7 @@ from pathlib import Path
 
 sys.dont_write_bytecode = True
 from control import content, issue, over_files, restart, socket_of, via, with_token
+from needs import has_command
 from try_server import POLICY, TARGET, TOP, Failed, Server, message, require, run_all
 from work import COMMANDS, REQUESTS, Killed, Work, compare, compare_all, policy_of
 
@@ -218,11 +219,11 @@ def check_under_load(server, options):
             f"median {times[len(times) // 2]:.3f} s, slowest {times[-1]:.3f} s (at most 2 s)")
 
 
-def worked(work, faults):
+def worked(work, commands, faults):
     """Acts until the server is killed, or a reply is wrong."""
     try:
         while True:
-            work.act(REQUESTS if work.random.random() < 0.8 else COMMANDS)
+            work.act(REQUESTS if work.random.random() < 0.8 else commands)
     except Killed:
         pass
     except Exception as fault:  # Whatever is wrong with a reply is a failure of the check.
@@ -231,8 +232,8 @@ def worked(work, faults):
 
 def kill_in_mid_work(server, works):
     """Kills the server while the works go on, starts it again, and requires that what was acknowledged is listed."""
-    faults = []
-    threads = [threading.Thread(target=worked, args=(work, faults)) for work in works]
+    faults, commands = [], [it for it in COMMANDS if it != "repair" or has_command(server.program, it)]
+    threads = [threading.Thread(target=worked, args=(work, commands, faults)) for work in works]
     goal = sum(work.done.total() for work in works) + random.randrange(ACTS)
     for thread in threads:
         thread.start()

@@ -17,12 +17,16 @@ prints one line, with how many databases were
     named       `check` names a damaged object
     the same    nothing that is stored has changed
     older       some of the last changes are missing, and nothing says so
-    changed     something else has changed, and nothing says so; the tables follow
+    changed     something else has changed, and nothing says so; the tables follow, and how many of these the command
+                `PRAGMA integrity_check` of sqlite3 finds
 
 and how many of those that are not refused sqlite3 refuses or reads otherwise.
 
-With --list a line comes before it for each that has changed. The last line counts the checks; the status is 1 if one
-failed. It needs Linux and python3 with sqlite3 and dbstat, and takes two minutes. Without --program it is bin/custody.
+With --list a line comes before it for each that has changed, or is older for another reason than its log. The check `dump` copies the rows of databases without one
+page into a new file, as docs/OPERATING.md says (A spoiled database): only rows of that page's table may be missing, and
+`check` names the objects that are not whole. The last line counts the checks; the status is 1 if one failed. It needs
+Linux, the command sqlite3, and python3 with sqlite3 and dbstat, and takes two minutes. Without --program it is
+bin/custody.
 """
 import argparse
 import collections
@@ -31,6 +35,7 @@ import datetime
 import hashlib
 import json
 import os
+import random
 import re
 import select
 import signal
@@ -43,8 +48,9 @@ from pathlib import Path
 
 sys.dont_write_bytecode = True
 from control import token_of, with_token
-from spoiled_files import (CONTENTS, FILM, LETTERS, MEMORY, POLICY, REPOS, RETIRED, TABLES, TOKENS, WAYS, Maker,
-                           Spoiler, bytes_of, name_of, rows_of)
+from needs import has_command, need_commands
+from spoiled_files import (CONTENTS, FILM, LETTERS, MEMORY, PAGE, POLICY, REPOS, RETIRED, TABLES, TOKENS, WAYS, Maker,
+                           Spoiled, Spoiler, bytes_of, is_sound, name_of, rows_of, zero)
 from try_server import TOP, Client, Failed, judge, require, summary
 
 LONGEST = 20
@@ -57,6 +63,8 @@ LINES = {
 }
 ERRORS = r"(custody: connection \d+ (ReadFailed|WriteFailed|StoreRefused|StoreFailed)\n)*"
 STATUSES = {200, 201, 401, 403, 404, 409, 410, 422, 500, 507}
+# What --list prints, and prints of a file whose log was not spoiled.
+UNNOTICED = [["changed"], ["changed", "older"]]
 # An object that is in no database, for trying an upload.
 NEW = 77
 
@@ -104,11 +112,6 @@ def view_of(rows):
         {letter: 200 if digest in valid else 401 for letter, digest in known.items()},
         {name: 410 if name in names else 200 if name in stored else 404 for name in RETIRED},
     )
-
-
-def has_repair(program):
-    """Whether the program has the command `repair`."""
-    return subprocess.run([program, "repair", "--help"], capture_output=True, check=False).returncode == 0
 
 
 def over(folder):
@@ -405,6 +408,18 @@ def differs(view, base):
     return "; ".join(found)
 
 
+@dataclass
+class Result:
+    """What was found of a spoiled database."""
+
+    view: View
+    kind: str
+    tables: list
+    # Whether sqlite3 reads it otherwise, and whether its integrity_check finds what has changed.
+    is_otherwise: bool
+    is_found: bool
+
+
 def try_one(options, good, spoiled, repo):
     """What the program does with a spoiled database."""
     with tempfile.TemporaryDirectory(dir=MEMORY) as room:
@@ -419,52 +434,103 @@ def try_one(options, good, spoiled, repo):
                 trial.repair()
             trial.refused = before
             rows = rows_of(trial.copy())
-            return trial, verdict(trial, good, rows), is_read_otherwise(trial, rows)
+            kind, tables = verdict(trial, good, rows)
+            return Result(trial.view, kind, tables, is_read_otherwise(trial, rows),
+                          kind in ("changed", "older") and not is_sound(trial.copy()))
         except (Failed, OSError, subprocess.SubprocessError, ValueError) as fault:
             raise Failed(f"{spoiled.what} ({spoiled.whose}): {fault}") from fault
+
+
+def line_of(spoiled, result):
+    """A line about a database that has changed in silence."""
+    found = "found by integrity_check" if result.is_found else "not found by integrity_check"
+    return (f"     {result.kind}: {spoiled.what}; {spoiled.whose}; {', '.join(result.tables)}; {found}; "
+            f"{differs(result.view, view_of(spoiled.moment.rows))}")
 
 
 def check(options, good, name):
     """The databases that are spoiled in one way."""
     way, share = WAYS[name]
     spoiler = Spoiler(good, f"{options.seed} {name}")
-    kinds, tables, otherwise, faults, lines = collections.Counter(), collections.Counter(), 0, [], []
+    results, faults = [], []
     for number in range(-(-options.count * share // 100)):
         spoiled = way(spoiler)
         try:
-            trial, (kind, changed), is_otherwise = try_one(options, good, spoiled, REPOS[number % len(REPOS)])
+            results.append(try_one(options, good, spoiled, REPOS[number % len(REPOS)]))
         except Failed as fault:
             faults.append(str(fault))
             continue
-        kinds[kind] += 1
-        otherwise += is_otherwise
-        tables.update(changed)
-        if kind == "changed":
-            lines.append(f"     changed: {spoiled.what}; {spoiled.whose}; {', '.join(changed)}; "
-                         f"{differs(trial.view, view_of(spoiled.moment.rows))}")
-    if options.list and lines:
-        print("\n".join(lines), flush=True)
-    counted = ", ".join(f"{kinds[kind]} {kind}" for kind in ("refused", "named", "the same", "older", "changed"))
-    more = f" ({', '.join(f'{count} {table}' for table, count in tables.most_common())})" if tables else ""
-    require(not faults, f"{len(faults)} of {sum(kinds.values()) + len(faults)}: " + "\n     ".join(faults[:5]))
-    return f"{sum(kinds.values())} databases: {counted}{more}; sqlite3 reads {otherwise} otherwise"
+        if options.list and results[-1].kind in UNNOTICED[name.startswith("file-")]:
+            print(line_of(spoiled, results[-1]), flush=True)
+    require(not faults, f"{len(faults)} of {len(results) + len(faults)}: " + "\n     ".join(faults[:5]))
+    return counted(results)
+
+
+def counted(results):
+    """How many databases there were of each kind."""
+    kinds = collections.Counter(it.kind for it in results)
+    tables = collections.Counter(table for it in results for table in it.tables)
+    text = ", ".join(f"{kinds[kind]} {kind}" for kind in ("refused", "named", "the same", "older", "changed"))
+    if tables:
+        text += (f" ({', '.join(f'{count} {table}' for table, count in tables.most_common())}; "
+                 f"integrity_check finds {sum(it.is_found for it in results)})")
+    return f"{len(results)} databases: {text}; sqlite3 reads {sum(it.is_otherwise for it in results)} otherwise"
+
+
+DUMP = "sqlite3 db .dump | sed 's/^ROLLBACK;.*/COMMIT;/' | sqlite3 new/db"
+
+
+def dumped(program, good, number):
+    """What is left of the database without its page of this number, after its rows were copied into a new file."""
+    whole, whose = good.whole, good.pages[number]
+    file = zero(whole.file, (number - 1) * PAGE)
+    with tempfile.TemporaryDirectory(dir=MEMORY) as room:
+        trial = Trial(program, Spoiled(f"page {number}", whose, file, whole.log, whole), room)
+        folder = trial.copy()
+        os.mkdir(f"{folder}/new")
+        subprocess.run(DUMP, shell=True, cwd=folder, capture_output=True, timeout=LONGEST, check=False)
+        damaged, rows = trial.check(over(f"{folder}/new")), rows_of(f"{folder}/new")
+    if damaged is None:
+        return "refused"
+    if whose.startswith("sqlite_schema"):
+        return "empty"
+    changed = [table for table in TABLES if rows[table] != whole.rows[table]]
+    require(set(changed) <= {whose.split(",")[0]}, f"{whose}: the rows of {changed} have changed")
+    lost = {it[0] for it in whole.rows["chunks"] - rows["chunks"]}
+    names = {(it[1].decode(), it[2].decode()) for it in whole.rows["uploads"] if it[0] in lost}
+    require(damaged == names, f"{whose}: check names {damaged}, and the chunks of {names} are lost")
+    return f"without rows of {changed[0]}" if changed else "whole"
+
+
+def check_dump(options, good):
+    """Databases without one page, whose rows the command sqlite3 copies into a new file."""
+    few = [number for number, whose in good.pages.items() if not whose.endswith("overflow")]
+    many = [number for number, whose in good.pages.items() if whose.endswith("overflow")]
+    chosen = few + random.Random(options.seed).sample(many, min(options.count // 10, len(many)))
+    found = collections.Counter(dumped(options.program, good, number) for number in sorted(chosen))
+    return f"{len(chosen)} databases without a page: " + ", ".join(f"{count} {kind}" for kind, count in found.most_common())
+
+
+def judged(options, good, name):
+    return check_dump(options, good) if name == "dump" else check(options, good, name)
 
 
 def main():
     parser = argparse.ArgumentParser(description=__doc__.splitlines()[0])
     parser.add_argument("--program", default=str(TOP / "bin/custody"), help="the program [default: bin/custody]")
-    parser.add_argument("--only", action="append", choices=WAYS, help="only this way to spoil a database")
+    parser.add_argument("--only", action="append", choices=[*WAYS, "dump"], help="only this check")
     parser.add_argument("--count", type=int, default=200, help="how many databases, in all ways together")
     parser.add_argument("--seed", type=int, default=1, help="for the same databases again")
     parser.add_argument("--list", action="store_true", help="a line for each that has changed")
     options = parser.parse_args()
     options.program = os.path.abspath(options.program)
-    options.can_repair = has_repair(options.program)
+    options.can_repair = has_command(options.program, "repair")
+    need_commands("sqlite3", "sed")
     with tempfile.TemporaryDirectory(dir=MEMORY) as room:
         good = Maker(options.program, room).make()
     print(f"{len(good.moments[-1].log)} bytes of log, {len(good.whole.file)} bytes of file with it; "
           f"repair is {'tried too' if options.can_repair else 'not a command of this program'}")
-    return summary([judge(name, lambda: check(options, good, name)) for name in options.only or list(WAYS)])
+    return summary([judge(name, lambda: judged(options, good, name)) for name in options.only or [*WAYS, "dump"]])
 
 
 if __name__ == "__main__":

@@ -214,6 +214,10 @@ class Work:
         require(re.fullmatch(r"checked \d+ objects\n", printed), f"check printed {printed!r}")
         return True
 
+    def repair(self):
+        require(self.command("repair") == "removed 0 objects\n", "repair removed an object")
+        return True
+
     def pushcheck(self):
         for path, number in self.some(self.locks):
             words = ["--user", "bob", "--repo", self.repo, "--ref", "refs/heads/main"]
@@ -248,7 +252,8 @@ WRITES = ["upload", "lock", "unlock", "authenticate", "retire"]
 # These write only if there is something to remove.
 REMOVALS = ["sweep", "prune"]
 REQUESTS = ["upload", "lock", "unlock", "get", "verify_object", "batch", "list_locks", "verify_locks"]
-COMMANDS = ["authenticate", "retire", "sweep", "prune", "print_locks", "print_objects", "check", "pushcheck", "foresee"]
+COMMANDS = ["authenticate", "retire", "sweep", "prune", "print_locks", "print_objects", "check", "repair", "pushcheck",
+            "foresee"]
 
 
 def objects_of(work):

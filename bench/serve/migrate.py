@@ -44,7 +44,7 @@ def to_version_1(path):
 
 
 def measured(words, wanted):
-    """How long a command takes that prints this, and its highest memory in KiB."""
+    """How long a command takes that prints this, on the clock and on the processor, and its highest memory."""
     begun = time.monotonic()
     with subprocess.Popen(words, stdout=subprocess.PIPE, text=True) as child:
         printed = child.stdout.read()
@@ -52,7 +52,8 @@ def measured(words, wanted):
         child.returncode = os.waitstatus_to_exitcode(status)
     if (printed, child.returncode) != (wanted, 0):
         sys.exit(f"{words[1]} ended with {child.returncode} and printed {printed!r}")
-    return time.monotonic() - begun, used.ru_maxrss
+    took = time.monotonic() - begun
+    return f"{took:.1f} s ({used.ru_utime + used.ru_stime:.1f} s of the processor), {used.ru_maxrss} KiB at most"
 
 
 def try_size(program, size):
@@ -63,13 +64,14 @@ def try_size(program, size):
         server.stop()
         to_version_1(f"{server.room}/custody.db")
         words = ["--db", f"{server.room}/custody.db"]
-        took, memory = measured([program, "migrate", *words], "migrated from version 1\n")
-        print(f"{size >> 20} MiB: migrated in {took:.1f} s, {memory} KiB at most; log {log_size(server)} bytes", flush=True)
-        listed = f"{content.name} {size}\n"
-        took, memory = measured([program, "objects", *words, "--repo", "studio/film"], listed)
-        print(f"{size >> 20} MiB: objects, which opens it too, took {took:.1f} s, {memory} KiB at most", flush=True)
-        took, memory = measured([program, "check", *words], "checked 1 objects\n")
-        print(f"{size >> 20} MiB: check took {took:.1f} s, {memory} KiB at most", flush=True)
+        commands = [
+            (["migrate"], "migrated from version 1\n"),
+            (["objects", "--repo", "studio/film"], f"{content.name} {size}\n"),
+            (["check"], "checked 1 objects\n"),
+        ]
+        for (name, *more), wanted in commands:
+            print(f"{size >> 20} MiB: {name} took {measured([program, name, *words, *more], wanted)}; "
+                  f"log {log_size(server)} bytes", flush=True)
 
 
 def main():
