@@ -383,8 +383,8 @@ def verdict(trial, good, rows):
         return "named", []
     base = trial.spoiled.moment.rows
     changed = [table for table in TABLES if rows is not None and rows[table] != base[table]]
-    if trial.view.key() == view_of(base).key() and not changed:
-        return "the same", []
+    if trial.view.key() == view_of(base).key():
+        return ("changed", changed) if changed else ("the same", [])
     if any(trial.view.key() == view_of(it).key() for it in good.states):
         return "older", []
     return "changed", changed or ["as the program reads it"]
