@@ -28,9 +28,14 @@ def program_given():
     return program
 
 
+def has_command(program, name):
+    """Whether the program has the command, which earlier versions may lack."""
+    return subprocess.run([program, name, "--help"], capture_output=True, check=False).returncode == 0
+
+
 def can_retire(program):
-    """Whether the program has the command `retire`, which earlier versions lack; the error stream says if not."""
-    ran = subprocess.run([program, "retire", "--help"], stdout=subprocess.PIPE, stderr=subprocess.PIPE, check=False)
-    if ran.returncode:
-        print(f"{Path(sys.argv[0]).name}: the program has no command retire, so no object is retired", file=sys.stderr)
-    return ran.returncode == 0
+    """Whether the program has the command `retire`; the error stream says if not."""
+    if has_command(program, "retire"):
+        return True
+    print(f"{Path(sys.argv[0]).name}: the program has no command retire, so no object is retired", file=sys.stderr)
+    return False

@@ -1,15 +1,19 @@
 #!/bin/sh
-# usage: tools/refuse_memory.sh    refuses each allocation of a connection in turn, and counts what came of it
+# usage: tools/refuse_memory.sh [CONVERSATION..]
+# Refuses each allocation of a connection in turn, and counts what came of it: of each connection that
+# tools/refuse_memory.rt.txt lists, or of these.
 #
 # One run of `rt try` refuses one allocation of each test, the one with a given number. So the tests
-# take memory that they do not need, each once less than the one before it, in a copy of the crates.
+# take memory that they do not need before their connection, each once less than the one before it, in a copy of the
+# crates. The first run measures how many allocations there are before the end of each connection.
 set -eu
 if ! command -v rt > /dev/null; then
     echo 'refuse_memory.sh: rt, the command of the Rattle toolchain, is missing' >&2
     exit 2
 fi
-NUMBER=20000
-TESTS=500
+# More allocations than the longest test makes, and the number of tests in one run.
+NUMBER=30000
+TESTS=5000
 root=$(cd "$(dirname "$0")/.." && pwd)
 room=$(mktemp -d)
 trap 'rm -rf "$room"' EXIT
@@ -22,54 +26,91 @@ for crate in "$root"/crates/*; do
         fi
     done
 done
-tests=src/memory.rt
 cd "$room/crates/server_tests"
-mv src/service_tests/memory.rt "$room/memory.rt"
 # No other test is wanted.
-find src -name '*.rt' ! -name memory.rt -delete
-printf '#![tactic(auto)]\n\n#[cfg(test)]\nmod memory;\n' >src/lib.rt
+mv src "$room/tests"
+mkdir src
+cp "$room/tests/harness.rt" "$room/tests/server.rt" src
+cp "$root/tools/refuse_memory.rt.txt" "$room/memory.rt"
+{
+    printf '#![tactic(auto)]\n\n'
+    printf '#[cfg(test)]\nmod %s;\n' harness memory server
+} >src/lib.rt
+if [ $# -eq 0 ]; then
+    # shellcheck disable=SC2046
+    set -- $(sed -n 's/^    Conversation::\([A-Za-z]*\),$/\1/p' "$room/memory.rt")
+fi
 
-# The outcome of each test from number $1 to $2, one a line.
+# The outcomes of the tests in the file $1, whose allocation number $2 is refused. A line of the file has the name of a
+# test, a conversation, and the numbers of further allocations before and after it; a line of the outcomes has the name
+# and the outcome.
 outcomes() {
-    cp "$room/memory.rt" "$tests"
-    n=$1
-    while [ "$n" -le "$2" ]; do
-        printf '\n#[test]\nfn refused_%05d(rt: HostRuntime) {\n    let outcome = asked_after(rt.alloc(), %d);\n    assert!(rt; false, "{outcome:?}");\n}\n' "$n" $((NUMBER - n - 1))
-        n=$((n + 1))
-    done >>"$tests"
-    rt try --test --fail-alloc "$NUMBER" >"$room/log" 2>&1 || true
-    awk '/^test memory::refused_/ { waits = 1; next }
-        waits && /NotAsked|Answered|(First|Second|Last)Refused|Neither|NotSeen/ {
-            match($0, /NotAsked|Answered|(First|Second|Last)Refused|Neither|NotSeen/)
-            print substr($0, RSTART, RLENGTH); waits = 0 }' "$room/log"
-}
-
-first=1
-: >"$room/all"
-while :; do
-    outcomes "$first" $((first + TESTS - 1)) >"$room/some"
-    if [ "$(wc -l <"$room/some")" -ne "$TESTS" ]; then
-        tail -n 20 "$room/log"
-        echo "the tests did not run" >&2
+    {
+        cat "$room/memory.rt"
+        printf '\nfn report(rt: &impl Tester, conversation: Conversation, before: usize, after: usize) {\n'
+        printf '    let outcome = tried(rt, conversation, before, after);\n'
+        printf '    assert!(rt; false, "{outcome:?}");\n}\n'
+        awk '{ printf "\n#[test]\nfn %s(rt: HostRuntime) {\n    report(&rt, Conversation::%s, %d, %d);\n}\n", $1, $2, $3, $4 }' "$1"
+    } >src/memory.rt
+    rt try --test --fail-alloc "$2" >"$room/log" 2>&1 || true
+    awk '/^test memory::/ { name = $2; sub("memory::", "", name); waits = 1; next }
+        waits && /^test result/ { exit }
+        waits { print name, /Before|Answered|Refused|BrokenOff|After/ ? $1 : "Neither"; waits = 0 }' "$room/log" >"$room/some"
+    if [ "$(wc -l <"$room/some")" -ne "$(wc -l <"$1")" ]; then
+        tail -n 20 "$room/log" >&2
+        echo 'refuse_memory.sh: the tests did not run' >&2
         exit 1
     fi
-    cat "$room/some" >>"$room/all"
-    first=$((first + TESTS))
-    # If all of them were answered, no allocation is refused any more.
-    if ! grep -qv Answered "$room/some"; then
-        break
-    fi
-done
-awk '{ outcome[NR] = $1; if ($1 != "Answered") last = NR; count[$1]++ }
+    cat "$room/some"
+}
+
+number=0
+for conversation; do
+    number=$((number + 1))
+    echo "before_$number $conversation $NUMBER 0"
+    echo "after_$number $conversation 0 $NUMBER"
+done >"$room/measures"
+outcomes "$room/measures" "$NUMBER" >"$room/measured"
+# The number of allocations that no connection needs.
+unused=$(awk -F '[ ()]' '/^after/ && (least == "" || $3 + 0 < least) { least = $3 + 0 } END { print least }' "$room/measured")
+# A line for each test, with the number of the allocation of the connection that is refused: 0 is the last one before
+# it, and the last number is the first one after it.
+awk -F '[ ()]' -v names="$*" -v unused="$unused" '
+    { left[$1] = $3 }
     END {
-        for (n = 1; n <= last; n++) if (outcome[n] == "Answered") answered++
-        print "refused: " last
-        print "before the first message was asked: " count["NotAsked"] + 0
-        print "both messages answered in full: " answered + 0
-        print "S1 to the first, and nothing made: " count["FirstRefused"] + 0
-        print "the lock made, and S1 to the second: " count["SecondRefused"] + 0
-        print "both answered, and S1 to the third, which is cut short: " count["LastRefused"] + 0
-        print "after the connection: " count["NotSeen"] + 0
-        print "none of these: " count["Neither"] + 0
-        exit count["Neither"] > 0
-    }' "$room/all"
+        count = split(names, name, " ")
+        for (i = 1; i <= count; i++) {
+            last = left["before_" i] - left["after_" i]
+            for (n = 0; n <= last; n++)
+                printf "refused_%05d %s %d 1 %d\n", ++tests, name[i], left["before_" i] - unused + 1 - n, n
+        }
+    }' "$room/measured" >"$room/asked"
+split -l "$TESTS" -a 3 "$room/asked" "$room/part."
+for part in "$room"/part.*; do
+    outcomes "$part" $((NUMBER - unused)) >>"$room/all"
+done
+awk '
+    FNR == NR { outcome[$1] = $2; next }
+    !($2 in last) { names[++count] = $2; last[$2] = 0 }
+    {
+        split(outcome[$1], part, /[()]/)
+        number[$2, part[1], part[2] + 0]++
+        total[$2, part[1]]++
+        if (part[1] == "Neither") print "none of these: " $2 ", allocation " $5
+        if ($5 > last[$2]) last[$2] = $5
+        if (part[1] ~ /Refused|BrokenOff/ && part[2] + 0 > messages[$2]) messages[$2] = part[2] + 0
+    }
+    END {
+        for (i = 1; i <= count; i++) {
+            name = names[i]
+            refused = last[name] - 1
+            line = name ": " refused " allocations refused: answered in full " total[name, "Answered"] + 0
+            for (k = 1; k <= messages[name]; k++) {
+                line = line "; S1 to message " k ": " number[name, "Refused", k] + 0
+                if (number[name, "BrokenOff", k]) line = line ", its content broken off: " number[name, "BrokenOff", k]
+            }
+            print line "; before the first message " total[name, "Before"] + 0 ", after the connection " total[name, "After"] + 0 "; none of these " total[name, "Neither"] + 0
+            if (total[name, "Neither"] || total[name, "Before"] != 1 || total[name, "After"] != 1) failed = 1
+        }
+        exit failed
+    }' "$room/all" "$room/asked"

@@ -4,13 +4,16 @@
     tools/try_control.py [--program FILE] [--only NAME]... [--tokens N] [--rounds N]
 
 Each check starts a server on a new database and a free port of this machine, prints one line with what was measured and
-its bound, and fails if the bound is not kept. The last line counts the checks; the status is 1 if one failed. It needs
-Linux and python3, and takes some minutes. Without --program it is bin/custody.
+its bound, and fails if the bound is not kept. The check `killed` kills servers while three users send all eight kinds of
+requests and run ten commands. After each start exactly what was acknowledged is listed; after each 100, and at the end,
+every object is also served as it was sent, and what was removed or released is not there. The last line counts the
+checks; the status is 1 if one failed. It needs Linux and python3, and takes some minutes. Without --program it is
+bin/custody.
 """
 import argparse
+import collections
 import contextlib
 import hashlib
-import json
 import os
 import pty
 import random
@@ -19,60 +22,25 @@ import socket
 import stat
 import subprocess
 import sys
+import tempfile
 import threading
 import time
 import tty
 from pathlib import Path
 
-from try_server import POLICY, TARGET, TOP, Client, Failed, message, require, run_all
+sys.dont_write_bytecode = True
+from control import content, issue, over_files, restart, socket_of, via, with_token
+from needs import has_command
+from try_server import POLICY, TARGET, TOP, Failed, Server, message, require, run_all
+from work import COMMANDS, REQUESTS, Killed, Work, compare, compare_all, policy_of
 
 LARGE_QUOTA = POLICY.replace("quota = 1000000", "quota = 4000000000")
-
-
-def socket_of(server):
-    return f"{server.room}/control"
-
-
-def restart(server):
-    """Starts the server again, with a control socket."""
-    server.end(signal.SIGKILL)
-    server.more = ["--control", socket_of(server)]
-    server.start()
-
-
-def via(server, *words, given=b""):
-    """Runs a command by the socket. Returns its status, its output and its error stream."""
-    name, *rest = words
-    ran = subprocess.run([server.program, name, "--via", socket_of(server), *rest], input=given, capture_output=True)
-    return ran.returncode, ran.stdout.decode(), ran.stderr.decode()
-
-
-def over_files(server, *words, given=b"", with_policy=False):
-    """Runs a command over the files of a server that has ended."""
-    name, *rest = words
-    files = server.files() if with_policy else server.files()[:2]
-    ran = subprocess.run([server.program, name, *files, *rest], input=given, capture_output=True)
-    return ran.returncode, ran.stdout.decode(), ran.stderr.decode()
-
-
-def issue(server, user="ann", operation="upload"):
-    """A token that the server issues."""
-    status, output, errors = via(server, "authenticate", "--user", user, "studio/film", operation)
-    require(status == 0, f"no token was issued: {errors}")
-    return json.loads(output)["header"]["Authorization"].split()[1]
-
-
-def with_token(token, method, target, body=None, data=None):
-    """A request with this token."""
-    if data is None:
-        data = b"" if body is None else json.dumps(body).encode()
-    head = f"{method} {target} HTTP/1.1\r\nHost: studio.example\r\nAuthorization: Bearer {token}\r\n"
-    length = f"Content-Length: {len(data)}\r\n" if method != "GET" else ""
-    return (head + length + "\r\n").encode() + data
-
-
-def content(oid):
-    return f"/studio/film.git/info/lfs/content/{oid}"
+# The repositories of the check `killed`, how large its objects are, and after how many kills it takes a new database.
+REPOS = ["studio/film", "studio/game", "studio/art"]
+SMALL = [0, 5_000, 65_537, 200_000]
+ROUNDS = 100
+# A server is killed after fewer acts than these.
+ACTS = 40
 
 
 def check_same_words(server, _):
@@ -251,69 +219,62 @@ def check_under_load(server, options):
             f"median {times[len(times) // 2]:.3f} s, slowest {times[-1]:.3f} s (at most 2 s)")
 
 
-def kill_in_mid_work(server, number, kept):
-    """Locks, uploads and issues for a random time, and kills the server. Adds what was acknowledged to `kept`."""
-    tokens, locks, objects = kept
-    ends = threading.Event()
+def worked(work, commands, faults):
+    """Acts until the server is killed, or a reply is wrong."""
+    try:
+        while True:
+            work.act(REQUESTS if work.random.random() < 0.8 else commands)
+    except Killed:
+        pass
+    except Exception as fault:  # Whatever is wrong with a reply is a failure of the check.
+        faults.append(f"{work.repo}: {type(fault).__name__} {fault}")
 
-    def operate():
-        while not ends.is_set():
-            status, output, _ = via(server, "authenticate", "--user", "ann", "studio/film", "upload")
-            if status == 0:
-                tokens.append(json.loads(output)["header"]["Authorization"].split()[1])
 
-    def lock_and_upload():
-        count = 0
-        while not ends.is_set():
-            count += 1
-            path, data = f"r{number}/{count}", f"{number} {count}".encode() * 9000
-            oid = hashlib.sha256(data).hexdigest()
-            put = message("PUT", content(oid), more=f"Content-Length: {len(data)}\r\n") + data
-            try:
-                with Client(server.port, 5) as client:
-                    if client.ask(message("POST", TARGET, {"path": path}))[0] == 201:
-                        locks.append(path)
-                    if client.ask(put)[0] == 200:
-                        objects.append(oid)
-            except (Failed, OSError):
-                pass
-
-    threads = [threading.Thread(target=act) for act in (operate, lock_and_upload)]
+def kill_in_mid_work(server, works):
+    """Kills the server while the works go on, starts it again, and requires that what was acknowledged is listed."""
+    faults, commands = [], [it for it in COMMANDS if it != "repair" or has_command(server.program, it)]
+    threads = [threading.Thread(target=worked, args=(work, commands, faults)) for work in works]
+    goal = sum(work.done.total() for work in works) + random.randrange(ACTS)
     for thread in threads:
         thread.start()
-    time.sleep(random.uniform(0.02, 0.4))
+    while sum(work.done.total() for work in works) < goal and not faults:
+        time.sleep(0.005)
+    time.sleep(random.uniform(0, 0.01))
+    for work in works:
+        work.is_killed = True
     server.end(signal.SIGKILL)
-    ends.set()
     for thread in threads:
         thread.join()
+    require(not faults, f"{faults}")
     server.start()
+    for work in works:
+        work.settle()
+        compare(work, "after a kill")
 
 
-def locked_paths(server):
-    """The paths that are locked."""
-    status, output, _ = via(server, "locks", "--repo", "studio/film")
-    require(status == 0, "no list of locks")
-    return {line.split(" ", 4)[4] for line in output.splitlines()}
+def kill_often(program, rounds):
+    """Kills a new server this many times. Returns what was done, and how much is stored at the end."""
+    with tempfile.TemporaryDirectory() as room, Server(program, room, policy_of(REPOS)) as server:
+        restart(server)
+        works = [Work(server, random.random(), repo, issue(server, repo), SMALL) for repo in REPOS]
+        for _ in range(rounds):
+            kill_in_mid_work(server, works)
+        for work in works:
+            compare_all(work, "at the end")
+        kept = [map(len, (it.objects, it.locks, it.tokens, it.retired, it.released)) for it in works]
+        return sum((it.done for it in works), collections.Counter()), [sum(counts) for counts in zip(*kept)]
 
 
-def check_killed(server, options):
-    """The server is killed at random moments: no token, lock or object that was acknowledged is missing."""
-    kept = tokens, locks, objects = [], [], []
-    for number in range(options.rounds):
-        kill_in_mid_work(server, number, kept)
-    with server.client() as client:
-        for token in tokens:
-            require(client.ask(with_token(token, "GET", TARGET))[0] == 200, "a token that was issued is missing")
-    missing = set(locks) - locked_paths(server)
-    require(not missing, f"locks are missing: {missing}")
-    status, output, _ = via(server, "objects", "--repo", "studio/film")
-    require(status == 0, "no list of objects")
-    missing = set(objects) - {line.split()[0] for line in output.splitlines()}
-    require(not missing, f"objects are missing: {missing}")
-    status, output, _ = via(server, "check")
-    require(status == 0, f"check: {output}")
-    return (f"killed {options.rounds} times; {len(tokens)} tokens, {len(locks)} locks and {len(objects)} objects are "
-            f"there; {output.strip()}")
+def check_killed(_, options):
+    """Servers are killed at random moments: what was acknowledged is there, and what was removed is not."""
+    done, kept = collections.Counter(), [0] * 5
+    for left in range(options.rounds, 0, -ROUNDS):
+        more, counts = kill_often(options.program, min(left, ROUNDS))
+        done, kept = done + more, [sum(pair) for pair in zip(kept, counts)]
+    names = ("objects", "locks", "tokens", "removed objects", "released locks")
+    return (f"killed {options.rounds} times, {-(-options.rounds // ROUNDS)} databases; at their end "
+            f"{', '.join(f'{count} {name}' for count, name in zip(kept, names))}; done: "
+            f"{', '.join(f'{done[name]} {name}' for name in sorted(done))}")
 
 
 def controlled(check):

@@ -20,7 +20,7 @@ from pathlib import Path
 
 sys.dont_write_bytecode = True
 from needs import need_commands
-from try_server import TOP, Failed, require
+from try_server import TOP, judge, require, summary
 from version_1_files import NOW, POLICY, message, put
 
 ABC = "ba7816bf8f01cfea414140de5dae2223b00361a396177a9cb410ff61f20015ad"
@@ -220,14 +220,9 @@ CHECKS = {
 
 
 def run(name, options):
-    """Runs a check, and prints its line. Returns whether it passed."""
+    """Runs a check in a folder of its own, and prints its line. Returns whether it passed."""
     with tempfile.TemporaryDirectory() as room:
-        try:
-            print(f"ok   {name}: {CHECKS[name](options, room)}", flush=True)
-            return True
-        except (Failed, OSError, subprocess.SubprocessError) as fault:
-            print(f"FAIL {name}: {fault}", flush=True)
-            return False
+        return judge(name, lambda: CHECKS[name](options, room))
 
 
 def main():
@@ -239,10 +234,7 @@ def main():
     options = parser.parse_args()
     options.program = os.path.abspath(options.program)
     need_commands("sqlite3")
-    names = options.only or list(CHECKS)
-    passed = sum([run(name, options) for name in names])
-    print(f"{passed} passed, {len(names) - passed} failed")
-    return 0 if passed == len(names) else 1
+    return summary([run(name, options) for name in options.only or list(CHECKS)])
 
 
 if __name__ == "__main__":

@@ -13,11 +13,13 @@ import shutil
 import signal
 import subprocess
 import sys
+import time
 from pathlib import Path
 
 sys.dont_write_bytecode = True
 from needs import need_commands
 from try_server import TOP, message, require, run_all
+from version_1_files import has_begun
 
 POLICY = """base = "https://lfs.example"
 token_seconds = 86400
@@ -181,6 +183,43 @@ def check_cut(server, _):
     return f"{len(cuts)} uploads that were cut left no object, and nothing of their bytes"
 
 
+def stop_after_first_chunk(server):
+    """Kills the server once it has stored the first of two chunks of an upload. Returns the name of the object."""
+    path, oid = file_of(server, 2 * CHUNK)
+    with server.client() as client:
+        client.send(head("PUT", content("studio/film", oid), 2 * CHUNK) + Path(path).read_bytes()[:CHUNK])
+        begun = time.monotonic()
+        while not has_begun(server.room, "custody.db"):
+            require(time.monotonic() - begun < 10, "the first chunk was not stored within 10 s")
+            time.sleep(0.01)
+        server.end(signal.SIGKILL)
+    return oid
+
+
+def over_files(server, *words, given=b""):
+    """What a command prints over the files of a server that has ended."""
+    return subprocess.run([server.program, *words], input=given, check=True, capture_output=True).stdout.decode()
+
+
+def check_stopped(server, _):
+    """A server that is killed after the first of two chunks: the upload is not served, and is removed."""
+    oid = stop_after_first_chunk(server)
+    replied = over_files(server, "session", *server.files(), given=message("GET", content("studio/film", oid)))
+    require(replied.startswith("HTTP/1.1 404 ") and '"X1: ' in replied, f"a session replied {replied!r}")
+    printed = [over_files(server, "sweep", *server.files()[:2]) for _ in range(2)]
+    require(printed == ["swept 1 uploads\n", "swept 0 uploads\n"], f"sweep printed {printed}")
+    server.start()
+    expect_stored(server, "SELECT (SELECT count(*) FROM uploads), (SELECT count(*) FROM chunks);", ["0|0"])
+    require(stop_after_first_chunk(server) == oid, "another upload")
+    server.start()
+    status, body = get(server, oid)
+    require(status == 404 and b'"X1: ' in body, f"a server that was started again replied {status} {body!r}")
+    expect_stored(server, "SELECT (SELECT count(*) FROM uploads), (SELECT count(*) FROM chunks);", ["0|0"])
+    data = Path(f"{server.room}/content").read_bytes()
+    require(put(server, oid, data) == 200 and get(server, oid) == (200, data), "the object is not stored by a later upload")
+    return "X1 after each stop; sweep printed 1 and then 0 uploads, and a server removes it before its first connection"
+
+
 def check_repositories(server, _):
     """Two repositories with the same object."""
     words = ["authenticate", *server.files(), "--user", "ann", "--random", f"{server.room}/second", "studio/game", "upload"]
@@ -223,6 +262,7 @@ CHECKS = {
     "sizes": check_sizes,
     "bytes": check_bytes,
     "cut": check_cut,
+    "stopped": check_stopped,
     "repositories": check_repositories,
     "refused": check_refused,
 }

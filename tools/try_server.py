@@ -409,27 +409,35 @@ CHECKS = {
 }
 
 
-def run(name, check, options, policy):
-    """Runs a check on a new database, and prints its line. Returns whether it passed."""
-    with tempfile.TemporaryDirectory() as room:
-        try:
-            with Server(options.program, room, policy) as server:
-                result = check(server, options)
-                require(server.child.poll() is None, "the server has ended")
-            print(f"ok   {name}: {result}", flush=True)
-            return True
-        except (Failed, OSError, subprocess.SubprocessError) as fault:
-            print(f"FAIL {name}: {fault}", flush=True)
-            return False
+def judge(name, act):
+    """Calls the check, and prints its line. Returns whether it passed."""
+    try:
+        print(f"ok   {name}: {act()}", flush=True)
+        return True
+    except (Failed, OSError, subprocess.SubprocessError) as fault:
+        print(f"FAIL {name}: {fault}", flush=True)
+        return False
+
+
+def summary(results):
+    """Prints how many checks passed, and returns the status."""
+    print(f"{sum(results)} passed, {len(results) - sum(results)} failed")
+    return 0 if all(results) else 1
+
+
+def run(check, options, policy):
+    """Runs a check on a new database, and returns what it measured."""
+    with tempfile.TemporaryDirectory() as room, Server(options.program, room, policy) as server:
+        result = check(server, options)
+        require(server.child.poll() is None, "the server has ended")
+        return result
 
 
 def run_all(checks, options, policy=POLICY):
     """Runs the checks that the options name, or all, and prints how many passed. Returns the status."""
     options.program = os.path.abspath(options.program)
     names = options.only or list(checks)
-    passed = sum([run(name, checks[name], options, policy) for name in names])
-    print(f"{passed} passed, {len(names) - passed} failed")
-    return 0 if passed == len(names) else 1
+    return summary([judge(name, lambda: run(checks[name], options, policy)) for name in names])
 
 
 def main():

@@ -4,8 +4,9 @@
 Two users have a repository whose remote is reached over SSH. A script is in the place of sshd: it runs Git's own
 commands on a repository of a temporary folder, and answers git-lfs-authenticate with the line that `custody
 authenticate` printed before the server was started. 200 files of 1 byte to 50 MB are pushed and cloned, with one
-transfer at a time and with eight. Then one of two files is removed for good. It prints what the client printed, and ends with `N passed, M failed`, and with
-status 1 if a check failed. It needs git, git-lfs and python3, and a program that bin/custody has built.
+transfer at a time and with eight. Then one of two files is removed for good. It prints what the client printed, and
+ends with `N passed, M failed`, and with status 1 if a check failed. It needs git, git-lfs and python3, and a program
+that bin/custody has built.
 
     try_transfers.py PROGRAM
 """
@@ -280,36 +281,77 @@ def retire(trial, name):
     trial.check((ran.stdout, ran.returncode) == (f"retired {name}\n", 0), "an object is removed for good")
 
 
-def removed(trial, ann, digests):
-    """What the client does about an object that is removed for good."""
-    reason = "B6: the object was removed by its owner"
+REASON = "B6: the object was removed by its owner"
+
+
+def has_object(folder, name):
+    """Whether the client has the object."""
+    return os.path.exists(f"{folder}/.git/lfs/objects/{name[:2]}/{name[2:4]}/{name}")
+
+
+def fetch_removed(trial, digests):
+    """What the client does about an object that is removed for good, as it downloads."""
     status, bob = trial.clone("bob", "studio/gone", 1, may_fail=True)
-    trial.check(status != 0 and not os.path.exists(f"{bob}/hero.bin"), "a clone stops at the file")
+    trial.check(status == 128 and not os.path.exists(f"{bob}/hero.bin"), "a clone stops at the file")
     status, bob = trial.clone("bob", "studio/gone", 2, "lfs.skipdownloaderrors=true", may_fail=True)
     found = digests_in(bob)
     trial.check(status == 0 and found["tree.bin"] == digests["tree.bin"], "one that skips errors has the other file")
     with open(f"{bob}/hero.bin", "rb") as file:
         trial.check(file.read().startswith(b"version https://git-lfs"), "and the pointer of this one")
+    shutil.rmtree(f"{bob}/.git/lfs/objects")
     status, text = trial.git(bob, "lfs", "pull", shown=True, may_fail=True)
-    trial.check(status != 0 and reason in text, "git lfs pull says why")
-    status, text = trial.git(ann, "lfs", "push", "--all", "origin", shown=True, may_fail=True)
-    trial.check(status != 0 and reason in text, "git lfs push --all of the same file is refused")
-    with open(f"{ann}/new.bin", "wb") as file:
-        file.write(b"another file")
+    trial.check(status == 2 and REASON in text, "git lfs pull says why")
+    trial.check(has_object(bob, digests["tree.bin"]), "and fetches the other file")
+
+
+def commit_file(trial, ann, name):
+    """Commits a new file."""
+    with open(f"{ann}/{name}.bin", "wb") as file:
+        file.write(name.encode())
     trial.git(ann, "add", ".")
-    trial.git(ann, "commit", "-q", "-m", "another file")
+    trial.git(ann, "commit", "-q", "-m", name)
+
+
+def push_removed(trial, ann):
+    """What it does as it uploads: `ann` has two files, of which one is removed for good."""
+    commit_file(trial, ann, "all")
+    status, text = trial.git(ann, "lfs", "push", "--all", "origin", shown=True, may_fail=True)
+    trial.check(status == 2 and REASON in text, "git lfs push --all of the same file is refused")
+    trial.git(ann, "push", "-q", "--no-verify", "origin", "HEAD:refs/heads/main")
+    _, bob = trial.clone("bob", "studio/gone", 3, "lfs.skipdownloaderrors=true", may_fail=True)
+    trial.check(os.path.exists(f"{bob}/all.bin") and digests_in(bob)["all.bin"] == digests_in(ann)["all.bin"],
+                "and uploads the other files")
+    commit_file(trial, ann, "another")
     status, _ = trial.git(ann, "push", "origin", "HEAD:refs/heads/main", shown=True, may_fail=True)
     trial.check(status == 0, "another file is pushed")
     # Without what it knows of the remote, the client asks for every object of the branch.
     trial.git(ann, "update-ref", "-d", "refs/remotes/origin/main")
     trial.git(ann, "commit", "-q", "--amend", "-m", "the same files")
     status, text = trial.git(ann, "push", "-f", "origin", "HEAD:refs/heads/again", shown=True, may_fail=True)
-    trial.check(status != 0 and reason in text, "git push of the same file is refused")
+    trial.check(status == 1 and REASON in text, "git push of the same file is refused")
+    _, text = trial.git(ann, "ls-remote", "origin")
+    trial.check("again" not in text, "and moves no ref")
+
+
+def remove_from_branch(trial, ann):
+    """A branch without the file, and a commit before it."""
+    trial.git(ann, "push", "-q", "--no-verify", "origin", "HEAD:refs/heads/before")
     trial.git(ann, "rm", "-q", "hero.bin")
     trial.git(ann, "commit", "-q", "-m", "without it")
     trial.git(ann, "push", "-q", "-f", "origin", "HEAD:refs/heads/main")
-    status, _ = trial.clone("bob", "studio/gone", 3, may_fail=True)
+    status, bob = trial.clone("bob", "studio/gone", 4, may_fail=True)
     trial.check(status == 0, "a branch without the file is cloned")
+    status, text = trial.git(bob, "checkout", "origin/before", shown=True, may_fail=True)
+    trial.check(status == 128 and REASON in text, "a checkout of a commit with the file stops")
+    status, _ = trial.git(bob, "-c", "lfs.skipdownloaderrors=true", "checkout", "-f", "origin/before", may_fail=True)
+    trial.check(status == 0, "one that skips errors does not")
+
+
+def removed(trial, ann, digests):
+    """What the client does about an object that is removed for good."""
+    fetch_removed(trial, digests)
+    push_removed(trial, ann)
+    remove_from_branch(trial, ann)
 
 
 def main():

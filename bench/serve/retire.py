@@ -33,6 +33,11 @@ def timed(words):
     return ran.stdout, time.monotonic() - begun
 
 
+def processor_time(server):
+    """The seconds that the server has used of a processor."""
+    return time.clock_gettime(~server.child.pid << 3 | 2)
+
+
 def file_size(server):
     return Path(f"{server.room}/custody.db").stat().st_size
 
@@ -49,10 +54,12 @@ def main():
         first = Content(args.mb << 20)
         print(f"stored {args.mb} MiB in {put(server, first):.2f} s", flush=True)
         memory, log, before = server.memory(), log_size(server), file_size(server)
+        used = processor_time(server)
         printed, took = timed([program, "retire", "--via", control, "--repo", "studio/film", first.name])
+        used = processor_time(server) - used
         if printed != f"retired {first.name}\n":
             sys.exit(f"retire printed {printed!r}")
-        print(f"retired in {took:.2f} s; memory {memory} KiB before, {server.memory()} KiB after, {highest(server)} KiB at most; "
+        print(f"retired in {took:.2f} s ({used:.2f} s of the processor); memory {memory} KiB before, {server.memory()} KiB after, {highest(server)} KiB at most; "
               f"log {log} bytes before and {log_size(server)} after; file {before} before and {file_size(server)} after", flush=True)
         server.stop()
         restart(server, words_of(program, server))

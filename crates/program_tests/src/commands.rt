@@ -12,8 +12,8 @@ $ --version
 | rattle-kit-13f logic dac8208d650f15bf
 $ -V
 | custody 0.1.0
-$ paint
-error error: unrecognized subcommand 'paint'
+$ juggle
+error error: unrecognized subcommand 'juggle'
 error
 error Usage: custody <COMMAND>
 error

@@ -1,0 +1,346 @@
+"""A good database, and spoiled copies of it, for tools/try_spoiled.py.
+
+The good one has three repositories with objects of no byte to three chunks, locks of two users on two refs, tokens, an
+expired one, and two names that were removed for good. Its first half is in the file, and the rest in the log, as a
+program that was killed leaves them. What was stored after each request is kept too, and the files of some moments.
+"""
+import hashlib
+import random
+import shutil
+import sqlite3
+import subprocess
+import tempfile
+from dataclasses import dataclass, field
+from pathlib import Path
+
+from needs import stop
+from version_1_files import CHUNK, LAST, NOW, are_granted, lock, message, put
+
+FILM, GAME, ART = REPOS = ["studio/film", "studio/game", "studio/art"]
+POLICY = 'base = "https://lfs.example"\ntoken_seconds = 86400\n' + "".join(
+    f'\n[[repo]]\nname = "{repo}"\ndefault_ref = "refs/heads/main"\nquota = 100000000\n' for repo in REPOS
+) + """
+[[row]]
+effect = "allow"
+users = ["ann", "bob"]
+repos = ["*"]
+refs = ["*"]
+paths = ["*"]
+rights = ["pull", "push", "list", "lock"]
+"""
+# Each token's letter: user, repository, operation, when it is issued.
+TOKENS = {
+    "a": ("ann", FILM, "upload", LAST - 86400),
+    "b": ("bob", FILM, "upload", LAST - 86400),
+    "c": ("ann", GAME, "upload", LAST - 86400),
+    "d": ("bob", GAME, "download", LAST - 86400),
+    "e": ("ann", ART, "upload", LAST - 86400),
+    "f": ("bob", FILM, "upload", NOW),
+}
+# The token that uploads to each repository.
+LETTERS = {FILM: "a", GAME: "c", ART: "e"}
+# Copies are made in memory if there is such a file system.
+MEMORY = "/dev/shm" if Path("/dev/shm").is_dir() else None
+PAGE, LOG_HEAD, FRAME_HEAD = 4096, 32, 24
+TABLES = ["meta", "repos", "tokens", "uploads", "chunks", "locks", "retired", "sqlite_sequence"]
+
+
+def bytes_of(size):
+    return random.Random(size).randbytes(size)
+
+
+def name_of(size):
+    return hashlib.sha256(bytes_of(size)).hexdigest()
+
+
+def put_size(repo, size):
+    return put(LETTERS[repo], repo, bytes_of(size))
+
+
+# What is stored, by its name.
+CONTENTS = {name_of(it): bytes_of(it) for it in (0, 1, 5, 100, 1_000, 5_000, 10_000, 20_000, CHUNK, CHUNK + 1,
+                                                 2 * CHUNK, 150_000)}
+
+
+def locks_of(letter, numbers, ref="refs/heads/main"):
+    repo = TOKENS[letter][1]
+    return [lock(letter, repo, f"art/{number:02}.psd", ref) for number in numbers]
+
+
+# What is in the file at the end: requests, and names that are removed for good.
+FIRST = [
+    *(put_size(FILM, size) for size in (0, 1, 5, CHUNK, 20_000, 150_000)),
+    *(put_size(GAME, size) for size in (0, 100, 1_000, 5_000)),
+    put_size(ART, 5),
+    *locks_of("a", range(1, 12)),
+    *locks_of("b", range(12, 20), "refs/heads/release/1"),
+    lock("b", FILM, "art/" + "\u00e9" * 510),
+    message("b", "POST", FILM, "locks/13/unlock", b"{}"),
+    *locks_of("c", range(3)),
+    ("retire", FILM, name_of(20_000)),
+]
+# What is in the log alone.
+SECOND = [
+    put_size(FILM, CHUNK + 1),
+    put_size(GAME, 2 * CHUNK),
+    put_size(ART, 10_000),
+    *locks_of("b", range(30, 36)),
+    message("a", "POST", FILM, "locks/2/unlock", b"{}"),
+    message("a", "POST", FILM, "locks/3/unlock", b"{}"),
+    *locks_of("e", range(2)),
+    ("retire", GAME, name_of(5_000)),
+    lock("a", FILM, "art/last.psd"),
+]
+RETIRED = [(FILM, name_of(20_000)), (GAME, name_of(5_000))]
+
+
+@dataclass
+class Moment:
+    """The two files as they were at one moment, and the rows of all tables."""
+
+    file: bytes
+    log: bytes
+    rows: dict
+
+
+@dataclass
+class Good:
+    """The moments, of which the last is the good database, and the same with the log in the file; the rows after each
+    step; whose each page is."""
+
+    moments: list = field(default_factory=list)
+    whole: Moment = None
+    states: list = field(default_factory=lambda: [{table: frozenset() for table in TABLES}])
+    pages: dict = field(default_factory=dict)
+
+
+def rows_of(folder):
+    """The rows of each table, by Python's sqlite3 on a copy, or None if it cannot read one of them."""
+    with tempfile.TemporaryDirectory(dir=MEMORY) as copy:
+        for file in Path(folder).glob("db*"):
+            shutil.copy(file, copy)
+        base = sqlite3.connect(f"{copy}/db")
+        base.text_factory = bytes
+        try:
+            if not base.execute("SELECT * FROM sqlite_schema").fetchall():
+                return {table: frozenset() for table in TABLES}
+            return {table: frozenset(base.execute(f"SELECT * FROM {table}").fetchall()) for table in TABLES}
+        except (sqlite3.Error, UnicodeError):
+            return None
+        finally:
+            base.close()
+
+
+def is_sound(folder):
+    """Whether `PRAGMA integrity_check` finds nothing in a copy of the database."""
+    with tempfile.TemporaryDirectory(dir=MEMORY) as copy:
+        for file in Path(folder).glob("db*"):
+            shutil.copy(file, copy)
+        base = sqlite3.connect(f"{copy}/db")
+        try:
+            return base.execute("PRAGMA integrity_check").fetchall() == [("ok",)]
+        except (sqlite3.Error, UnicodeError):
+            return False
+        finally:
+            base.close()
+
+
+def pages_of(folder):
+    """The table or index of each page of a copy of the database; pages of none are not in it."""
+    with tempfile.TemporaryDirectory(dir=MEMORY) as copy:
+        for file in Path(folder).glob("db*"):
+            shutil.copy(file, copy)
+        base = sqlite3.connect(f"{copy}/db")
+        try:
+            return dict(base.execute("SELECT pageno, name || ', ' || pagetype FROM dbstat").fetchall())
+        except sqlite3.Error as fault:
+            return stop(f"Python's sqlite3 has no dbstat: {fault}")
+        finally:
+            base.close()
+
+
+class Maker:
+    """Makes the good database with the program."""
+
+    def __init__(self, program, room):
+        self.program, self.room, self.good = program, room, Good()
+        Path(room, "policy").write_text(POLICY, encoding="utf-8")
+
+    def run(self, name, *more, given=b"", with_policy=True):
+        policy = ["--policy", f"{self.room}/policy"] if with_policy else []
+        words = [self.program, name, "--db", f"{self.room}/db", *policy, *more]
+        ran = subprocess.run(words, input=given, capture_output=True, check=False)
+        if ran.returncode:
+            stop(f"{name} ended with status {ran.returncode}: {ran.stderr.decode()}")
+        return ran.stdout
+
+    def issue(self, letter):
+        user, repo, operation, now = TOKENS[letter]
+        Path(self.room, letter).write_bytes(bytes([int(letter * 2, 16)]) * 32)
+        more = ["--user", user, "--now", str(now), "--random", f"{self.room}/{letter}"]
+        self.run("authenticate", *more, repo, operation)
+
+    def step(self, request):
+        """Answers a request, or removes an object for good."""
+        if isinstance(request, tuple):
+            self.run("retire", "--repo", *request[1:], with_policy=False)
+        else:
+            replies = self.run("session", "--now", str(NOW), given=request)
+            if not are_granted(replies, [request]):
+                stop(f"a request was refused: {replies!r}")
+        self.good.states.append(rows_of(self.room))
+
+    def moment(self):
+        """The files as they are."""
+        log = Path(self.room, "db-wal")
+        data = log.read_bytes() if log.exists() else b""
+        return Moment(Path(self.room, "db").read_bytes(), data, rows_of(self.room))
+
+    def move_log(self):
+        """Moves the log into the file. No row is changed."""
+        base = sqlite3.connect(f"{self.room}/db")
+        base.execute("PRAGMA wal_checkpoint(TRUNCATE)").fetchall()
+        base.close()
+
+    def make(self):
+        for letter in TOKENS:
+            self.issue(letter)
+            self.good.states.append(rows_of(self.room))
+        for number, request in enumerate(FIRST):
+            self.step(request)
+            if number % 8 == 0:
+                self.good.moments.append(self.moment())
+        self.move_log()
+        self.good.moments.append(self.moment())
+        for number, request in enumerate(SECOND):
+            self.step(request)
+            if number % 4 == 0 or number == len(SECOND) - 1:
+                self.good.moments.append(self.moment())
+        self.good.pages = pages_of(self.room)
+        self.move_log()
+        self.good.whole = self.moment()
+        return self.good
+
+
+def frames_of(log):
+    """The number of the page of each frame of a log. After the last frame come zeros."""
+    size = FRAME_HEAD + PAGE
+    numbers = [int.from_bytes(log[at : at + 4], "big") for at in range(LOG_HEAD, len(log), size)]
+    return [it for it in numbers if it]
+
+
+@dataclass
+class Spoiled:
+    """A spoiled database: what was done, whose bytes they are, the files, and the moment that it was made from."""
+
+    what: str
+    whose: str
+    file: bytes
+    log: bytes
+    moment: Moment
+
+    def put(self, folder):
+        """Writes the files into the folder."""
+        Path(folder, "db").write_bytes(self.file)
+        if self.log is not None:
+            Path(folder, "db-wal").write_bytes(self.log)
+
+
+def flip(data, at, bit):
+    return data[:at] + bytes([data[at] ^ 1 << bit]) + data[at + 1 :]
+
+
+def zero(data, at):
+    return data[:at] + bytes(len(data[at : at + PAGE])) + data[at + PAGE :]
+
+
+class Spoiler:
+    """Makes spoiled databases, at random."""
+
+    def __init__(self, good, seed):
+        self.good, self.random = good, random.Random(seed)
+        self.last = good.moments[-1]
+
+    def whose(self, number):
+        return self.good.pages.get(number, "a free page")
+
+    def whose_of_file(self, moment, at):
+        number = at // PAGE + 1
+        if number in frames_of(moment.log):
+            return "a page that is in the log too"
+        return "the head of the file" if at < 100 else self.whose(number)
+
+    def whose_of_log(self, at):
+        if at < LOG_HEAD:
+            return "the head of the log"
+        frame, within = divmod(at - LOG_HEAD, FRAME_HEAD + PAGE)
+        frames = frames_of(self.last.log)
+        if frame >= len(frames):
+            return "what follows the last frame"
+        return "the head of a frame" if within < FRAME_HEAD else self.whose(frames[frame])
+
+    def page(self):
+        """A database with its last changes in the log or in the file, and where a page of its file begins; in half of
+        the cases one with more than bytes of an object."""
+        moment = self.random.choice([self.last, self.good.whole])
+        numbers, logged = range(1, len(moment.file) // PAGE + 1), frames_of(moment.log)
+        if self.random.random() < 0.5:
+            numbers = [it for it in numbers if not self.whose(it).endswith("overflow") and it not in logged]
+        return moment, (self.random.choice(numbers) - 1) * PAGE
+
+    def file_bit(self):
+        """In half of the cases a bit of a byte that is not zero: most bytes of a page are room that is free."""
+        moment, at = self.page()
+        used = [it for it in range(PAGE) if moment.file[at + it]] if self.random.random() < 0.5 else []
+        at, bit = at + self.random.choice(used or range(PAGE)), self.random.randrange(8)
+        what, whose = f"bit {bit} of byte {at} of the file", self.whose_of_file(moment, at)
+        return Spoiled(what, whose, flip(moment.file, at, bit), moment.log, moment)
+
+    def file_page(self):
+        moment, at = self.page()
+        what, whose = f"zeros from byte {at} of the file", self.whose_of_file(moment, at + 100)
+        return Spoiled(what, whose, zero(moment.file, at), moment.log, moment)
+
+    def file_cut(self):
+        moment, at = self.page()
+        size = self.random.choice([0, at, at + self.random.randrange(PAGE)])
+        return Spoiled(f"a file of {size} bytes", "the end of the file", moment.file[:size], moment.log, moment)
+
+    def log_bit(self):
+        at, bit = self.random.randrange(len(self.last.log)), self.random.randrange(8)
+        return self.of_log(f"bit {bit} of byte {at} of the log", self.whose_of_log(at), flip(self.last.log, at, bit))
+
+    def log_page(self):
+        at = self.random.randrange(len(self.last.log)) // PAGE * PAGE
+        return self.of_log(f"zeros from byte {at} of the log", self.whose_of_log(at), zero(self.last.log, at))
+
+    def log_cut(self):
+        size = self.random.randrange(len(self.last.log))
+        return self.of_log(f"a log of {size} bytes", "the end of the log", self.last.log[:size])
+
+    def of_log(self, what, whose, log):
+        return Spoiled(what, whose, self.last.file, log, self.last)
+
+    def other_log(self):
+        one, other = self.random.sample(range(len(self.good.moments)), 2)
+        moment = self.good.moments[one]
+        what = f"the file of moment {one} and the log of moment {other}"
+        return Spoiled(what, "the log", moment.file, self.good.moments[other].log, moment)
+
+    def no_log(self):
+        number = self.random.randrange(len(self.good.moments))
+        moment = self.good.moments[number]
+        return Spoiled(f"the file of moment {number} without its log", "the log", moment.file, None, moment)
+
+
+# The ways to spoil a database, and how many of 100 databases each gets.
+WAYS = {
+    "file-bit": (Spoiler.file_bit, 30),
+    "log-bit": (Spoiler.log_bit, 15),
+    "file-page": (Spoiler.file_page, 20),
+    "log-page": (Spoiler.log_page, 10),
+    "file-cut": (Spoiler.file_cut, 8),
+    "log-cut": (Spoiler.log_cut, 8),
+    "other-log": (Spoiler.other_log, 7),
+    "no-log": (Spoiler.no_log, 2),
+}

@@ -1,0 +1,342 @@
+#!/usr/bin/env python3
+"""Tries `custody serve` under the load of many clients, through nginx and without it.
+
+    tools/try_load.py [--program FILE] [--only NAME]... [--seconds N]
+
+Each client has a user, a token and an address of its own (127.0.1.1 and so on), and pushes, pulls and locks in turn
+without a pause: a batch with an upload and its verification, a batch with a download, and a lock that is made, listed,
+verified and released. 200 of them use nginx with examples/nginx-site in a temporary folder, over TLS and one connection
+each; 50 use the server itself, with a connection for each push, pull or lock. Every reply has to be the right one, and
+the memory of the server may not grow: its highest in the last fifth of the time is at most 8 MiB more than in the second
+fifth. No connection to nginx may break off. The server itself closes a connection that idles for 200 milliseconds while
+others wait, as those of a client do that gets no processor for so long: the client then sends its request again, and the
+reply has to be that to a request that was not carried out.
+
+Each check prints one line: the requests, those that were refused with the status, the waits, the memory, how far the
+queue of the server's port was filled, and the kernel's counters of connections that found it full, which count those
+of other programs on this machine too. The last line counts the checks; the status is 1 if one failed. It needs Linux,
+python3, nginx, openssl and ss, 4 GB of disk and 1 GB of memory, and takes twice the seconds. Without --program it is
+bin/custody.
+"""
+import argparse
+import collections
+import contextlib
+import hashlib
+import http.client
+import json
+import multiprocessing
+import os
+import random
+import re
+import ssl
+import subprocess
+import sys
+import tempfile
+import threading
+import time
+from pathlib import Path
+
+sys.dont_write_bytecode = True
+from control import issue_words, token_of
+from needs import need_commands
+from try_server import TOP, Failed, judge, require, summary
+from try_site import Site
+
+API = "/studio/film.git/info/lfs"
+POLICY = """base = "@base"
+token_seconds = 86400
+
+[[repo]]
+name = "studio/film"
+default_ref = "refs/heads/main"
+quota = 100000000000
+
+[[row]]
+effect = "allow"
+users = ["*"]
+repos = ["studio/film"]
+refs = ["*"]
+paths = ["*"]
+rights = ["pull", "push", "list", "lock"]
+"""
+SIZES = [0, 100, 1_000, 5_000, 5_000, 20_000, 20_000, 70_000, 150_000]
+PROCESSES = 4
+GROWTH = 8192
+# How a connection fails that the server has closed before it read anything of a request.
+CLOSED = (http.client.RemoteDisconnected, BrokenPipeError, ConnectionResetError)
+COUNTERS = ["ListenOverflows", "ListenDrops", "TCPReqQFullDrop", "TCPSynRetrans"]
+
+
+class LoadSite(Site):
+    """nginx and the server, for many users."""
+
+    def write_policy(self, _):
+        self.write("policy.toml", POLICY.replace("@base", self.base))
+
+    def token(self, user):
+        status, text = self.via(*issue_words(user))
+        require(status == 0, f"no token was issued: {text}")
+        return token_of(text)
+
+
+class Refused(Exception):
+    """A reply with a status that the server does not give here; its text is the status."""
+
+
+class User:
+    """A client, which knows what it stored."""
+
+    def __init__(self, number, token, connect, keeps):
+        self.name, self.token, self.connect, self.keeps = f"user-{number}", token, connect, keeps
+        self.address = f"127.0.1.{number + 1}"
+        self.random = random.Random(number)
+        self.connection, self.stored, self.count, self.again = None, [], 0, 0
+        self.times, self.refused, self.faults = collections.defaultdict(list), collections.Counter(), []
+
+    def ask(self, name, method, rest, body=None, data=None, want=200):
+        """The body of the reply, which has to have the status that is wanted."""
+        if body is not None:
+            data = json.dumps(body).encode()
+        begun = time.monotonic()
+        reply = self.reply(method, API + rest, data)
+        text = reply.read()
+        self.times[name].append(time.monotonic() - begun)
+        if reply.status in (429, 500, 502, 503, 504):
+            raise Refused(str(reply.status))
+        require(reply.status == want, f"{name} got {reply.status}: {text[:200]!r}")
+        return json.loads(text) if name != "get" and text else text
+
+    def reply(self, method, target, data):
+        """The reply. Without nginx, a request that found its connection closed is sent again."""
+        while True:
+            if self.connection is None:
+                self.connection = self.connect(self.address)
+            try:
+                self.connection.request(method, target, data, {"Authorization": f"Bearer {self.token}"})
+                return self.connection.getresponse()
+            except CLOSED:
+                if self.keeps:
+                    raise
+                self.again += 1
+                self.close()
+
+    def batch(self, operation, oid, size):
+        body = {"operation": operation, "objects": [{"oid": oid, "size": size}]}
+        found = self.ask("batch", "POST", "/objects/batch", body)["objects"]
+        require(len(found) == 1 and (found[0]["oid"], found[0]["size"]) == (oid, size), f"a batch got {found}")
+        return found[0]["actions"]
+
+    def push(self):
+        self.count += 1
+        data = self.random.randbytes(self.random.choice(SIZES)) + f"{self.name} {self.count}".encode()
+        oid = hashlib.sha256(data).hexdigest()
+        require(set(self.batch("upload", oid, len(data))) == {"upload", "verify"}, "a batch lacks an action")
+        require(self.ask("put", "PUT", f"/content/{oid}", data=data) == b"", "an upload got a body")
+        self.ask("verify", "POST", "/verify", {"oid": oid, "size": len(data)})
+        self.stored = [*self.stored[-20:], (oid, data)]
+
+    def pull(self):
+        if not self.stored:
+            return
+        oid, data = self.random.choice(self.stored)
+        require(set(self.batch("download", oid, len(data))) == {"download"}, "a batch lacks the action")
+        require(self.ask("get", "GET", f"/content/{oid}") == data, "a download has other bytes")
+
+    def lock(self):
+        self.count += 1
+        path = f"{self.name}/{self.count}.psd"
+        made = self.ask("lock", "POST", "/locks", {"path": path}, want=201)["lock"]
+        require((made["path"], made["owner"]["name"]) == (path, self.name), f"a lock is {made}")
+        listed = self.ask("list", "GET", f"/locks?path={path.replace('/', '%2F')}")
+        require(listed == {"locks": [made]}, f"a list is {listed}, and not of {made}")
+        found = self.ask("verify locks", "POST", "/locks/verify", {})
+        owners = [{it["owner"]["name"] for it in found[side]} for side in ("ours", "theirs")]
+        require(owners[0] <= {self.name} and self.name not in owners[1], f"locks are split as {owners}")
+        gone = self.ask("unlock", "POST", f"/locks/{made['id']}/unlock", {})
+        require(gone == {"lock": made}, f"an unlock got {gone}, and not {made}")
+
+    def close(self):
+        if self.connection:
+            self.connection.close()
+        self.connection = None
+
+    def act(self):
+        try:
+            self.random.choice([self.push, self.push, self.pull, self.pull, self.lock])()
+        except Refused as refused:
+            self.refused[str(refused)] += 1
+        except Exception as fault:  # Whatever is wrong with a reply is a failure of the check.
+            self.faults.append(f"{type(fault).__name__} {fault}")
+            self.close()
+        if not self.keeps:
+            self.close()
+
+    def run(self, end):
+        while time.monotonic() < end:
+            self.act()
+        self.close()
+
+
+def work(users, end, results):
+    """Runs users, each in a thread, and adds what they measured."""
+    threads = [threading.Thread(target=user.run, args=(end,)) for user in users]
+    for thread in threads:
+        thread.start()
+    for thread in threads:
+        thread.join()
+    results.put([(dict(user.times), user.refused, user.faults, user.again) for user in users])
+
+
+def memory_of(process):
+    """The resident memory of a process and of its children, in KiB."""
+    children = Path(f"/proc/{process}/task/{process}/children").read_text().split()
+    lines = Path(f"/proc/{process}/status").read_text().splitlines()
+    return next(int(it.split()[1]) for it in lines if it.startswith("VmRSS:")) + sum(map(memory_of, children))
+
+
+def queue_of(port):
+    """How many connections wait at the port, and for how many it has room."""
+    ran = subprocess.run(["ss", "-ltnH", f"sport = :{port}"], capture_output=True, text=True, check=True)
+    return tuple(map(int, ran.stdout.split()[1:3]))
+
+
+def counters():
+    """The counters of the kernel."""
+    lines = [line.split() for line in Path("/proc/net/netstat").read_text().splitlines()]
+    found = dict(zip(lines[0][1:], map(int, lines[1][1:])))
+    return {name: found[name] for name in COUNTERS}
+
+
+class Watch(threading.Thread):
+    """Reads the memory and the queue each second."""
+
+    def __init__(self, site):
+        super().__init__()
+        self.site, self.ends = site, threading.Event()
+        self.memory, self.proxy, self.queue, self.room = [], [], [], 0
+        self.before = counters()
+
+    def run(self):
+        while not self.ends.wait(1):
+            self.memory.append(memory_of(self.site.server.pid))
+            self.proxy += [memory_of(child.pid) for child in self.site.children]
+            waiting, self.room = queue_of(self.site.http)
+            self.queue.append(waiting)
+
+    def end(self):
+        self.ends.set()
+        self.join()
+        after = counters()
+        counted = ", ".join(f"{name} {after[name] - self.before[name]}" for name in COUNTERS)
+        return f"at most {max(self.queue)} waited at the port with room for {self.room}; {counted}"
+
+    def growth(self):
+        """The memory in the second fifth and in the last one."""
+        fifth = max(len(self.memory) // 5, 1)
+        return max(self.memory[fifth : 2 * fifth]), max(self.memory[-fifth:])
+
+
+def load(site, connect, keeps, count, seconds):
+    """What each of the users measured, and the watch."""
+    users = [User(number, site.token(f"user-{number}"), connect, keeps) for number in range(count)]
+    results, watch = multiprocessing.Queue(), Watch(site)
+    end = time.monotonic() + seconds
+    parts = [users[it::PROCESSES] for it in range(PROCESSES)]
+    workers = [multiprocessing.Process(target=work, args=(part, end, results)) for part in parts]
+    for worker in workers:
+        worker.start()
+    watch.start()
+    found = [it for _ in workers for it in results.get()]
+    for worker in workers:
+        worker.join()
+    return found, watch
+
+
+def proxy_says(site):
+    """What nginx logged: the statuses that are not the server's, and its errors, without numbers and addresses."""
+    log = Path(site.room, "custody.access.log")
+    statuses = collections.Counter(re.findall(r'" (\d{3}) \d+ \d+ [\d.]+ "', log.read_text()))
+    errors = re.findall(r"\*\d+ (.*?)(?: while|,)", Path(site.room, "custody.error.log").read_text())
+    return statuses, collections.Counter(errors)
+
+
+def names_of(counter):
+    return ", ".join(f"{count} of {name}" for name, count in counter.most_common()) or "none"
+
+
+def report(site, found, watch):
+    """The line of a check. Requires what the check promises."""
+    times = collections.defaultdict(list)
+    refused, faults, again = collections.Counter(), [], 0
+    for theirs, theirs_refused, theirs_faults, theirs_again in found:
+        for name, some in theirs.items():
+            times[name] += some
+        refused, faults, again = refused + theirs_refused, faults + theirs_faults, again + theirs_again
+    queue, waits = watch.end(), sorted(wait for some in times.values() for wait in some)
+    (early, late), total = watch.growth(), len(waits)
+    counted = ", ".join(f"{len(times[name])} {name}" for name in sorted(times))
+    parts = [
+        f"{len(found)} clients, {total} requests ({counted}): {len(faults)} failed, refused: {names_of(refused)}",
+        f"{again} were sent again",
+        f"waits: median {waits[total // 2] * 1e3:.0f} ms, one of 100 longer than {waits[total * 99 // 100]:.2f} s, "
+        f"longest {waits[-1]:.2f} s",
+        f"memory {early} KiB, later {late} KiB (at most {GROWTH} more)",
+        queue,
+    ]
+    if site.children:
+        statuses, errors = proxy_says(site)
+        parts.append(f"nginx: at most {max(watch.proxy)} KiB, errors: {names_of(errors)}")
+        if sum(statuses.values()) != total:
+            faults.append(f"nginx logged {sum(statuses.values())} requests: {names_of(statuses)}")
+    errors = re.findall(r"[A-Z]\w+Failed|StoreRefused|custody: [a-z].*", Path(site.room, "custody.log").read_text())
+    parts.append(f"the server reported: {names_of(collections.Counter(errors))}")
+    text = "; ".join(parts)
+    require(not faults, f"{text}; failures: {faults[:5]}")
+    require(not refused, f"{text}; requests were refused")
+    require(late <= early + GROWTH, f"{text}; the memory grew")
+    return text
+
+
+def check(options, count, with_proxy):
+    """Many clients for the time that is asked for."""
+    with tempfile.TemporaryDirectory() as room, contextlib.ExitStack() as held:
+        site = LoadSite(options.program, room)
+        site.write_policy(0)
+        site.start_server()
+        held.callback(site.end)
+        if with_proxy:
+            site.start_nginx()
+            context = ssl.create_default_context(cafile=f"{room}/tls.pem")
+
+            def connect(address):
+                return http.client.HTTPSConnection("localhost", site.https, timeout=120, context=context,
+                                                   source_address=(address, 0))
+        else:
+
+            def connect(address):
+                return http.client.HTTPConnection("127.0.0.1", site.http, timeout=120, source_address=(address, 0))
+
+        return report(site, *load(site, connect, with_proxy, count, options.seconds))
+
+
+CHECKS = {
+    "through-nginx": (200, True),
+    "without-nginx": (50, False),
+}
+
+
+def main():
+    parser = argparse.ArgumentParser(description=__doc__.splitlines()[0])
+    parser.add_argument("--program", default=str(TOP / "bin/custody"), help="the program [default: bin/custody]")
+    parser.add_argument("--only", action="append", choices=CHECKS, help="only this check")
+    parser.add_argument("--seconds", type=int, default=60, help="for how long, each check")
+    options = parser.parse_args()
+    options.program = os.path.abspath(options.program)
+    os.environ["PATH"] += ":/usr/sbin"
+    need_commands("nginx", "openssl", "ss")
+    multiprocessing.set_start_method("fork")
+    return summary([judge(name, lambda: check(options, *CHECKS[name])) for name in options.only or list(CHECKS)])
+
+
+if __name__ == "__main__":
+    sys.exit(main())
