@@ -39,7 +39,7 @@ from pathlib import Path
 sys.dont_write_bytecode = True
 from control import issue_words, token_of
 from needs import need_commands
-from try_server import TOP, Failed, judge, require, summary
+from try_server import TOP, judge, require, summary
 from try_site import Site
 
 API = "/studio/film.git/info/lfs"

@@ -17,7 +17,6 @@ import subprocess
 import sys
 import tempfile
 import time
-from pathlib import Path
 
 from large import Content, log_size, put
 from run import TOP, start_custody
