@@ -17,6 +17,5 @@ mod memory;
 mod objects;
 mod policies;
 mod reading;
-mod stops;
 mod stores;
 mod worked;

@@ -1,20 +1,116 @@
 //! Stores that fail within a request for an object.
 //!
-//! The files are those of `stops`: a fuse forwards the first calls to one of them, and fails each later one.
+//! A fuse forwards the first calls to a file in memory, and fails each later one. Then the machine restarts:
+//! what was never synced is lost, and the files are opened again.
 
-use super::objects::DONE;
-use super::stops::{Counted, Work, files_after, fused, with_files};
 use crate::harness::*;
 use crate::server::*;
+use names::Operation;
 use service::{End, Served};
-use sqlite::{Files, MemStore};
-use sqlite_disk::{Crash, Memory};
+use sha2::{Digest, Sha256};
+use sqlite::{Connection, FileStore, Files, MemStore, Options};
+use sqlite_disk::{Crash, Disk, Fuse, Memory};
 use std::process::Abort;
-use tables::{Storage, Store};
+use tables::{NewToken, OpenFault, Storage, Store};
+
+/// The reply to the upload.
+const DONE: &str = "HTTP/1.1 200 OK\r\nContent-Length: 0\r\n\r\n";
 
 /// The head of the reply to the download.
 const FRONT: &str =
     "HTTP/1.1 200 OK\r\nContent-Type: application/octet-stream\r\nContent-Length: 200000\r\n\r\n";
+
+/// The file whose calls are counted.
+#[derive(Clone, Copy, Debug)]
+enum Counted {
+    Log,
+    Database,
+}
+
+/// The outcome of a connection.
+#[derive(Drop)]
+struct Outcome {
+    /// What was sent, if the store has its tables and the token.
+    sent: Option<Sent>,
+    /// The number of bytes of the objects, if the store can be read.
+    used: Option<u64>,
+}
+
+/// New files, one of which fails after `calls` calls.
+fn fused(rt: &impl Tester, counted: Counted, calls: u64) -> Files<Fuse<Memory>> {
+    let (log, db) = match counted {
+        Counted::Log => (calls, u64::MAX),
+        Counted::Database => (u64::MAX, calls),
+    };
+    Files {
+        log: Fuse::new(Memory::new(rt.alloc()), log),
+        db: Fuse::new(Memory::new(rt.alloc()), db),
+    }
+}
+
+/// Makes the tables, and stores ann's upload token.
+fn prepare<S: Storage>(rt: &impl Tester, store: &mut Store<S>) -> Result<(), OpenFault> {
+    store.create_or_check(rt.alloc())?;
+    let ann = user(rt, "ann");
+    let film = repo(rt, "studio/film");
+    store.add_token(&NewToken {
+        digest: &Sha256::digest(&[b'a'; 64]),
+        user: &ann,
+        repo: &film,
+        operation: Operation::Upload,
+        expires: moment(rt, EXPIRY),
+    })?;
+    Ok(())
+}
+
+/// Serves a connection with this text.
+fn serve_over<S: Storage>(rt: &impl Tester, store: &mut Store<S>, text: &str) -> Outcome {
+    if prepare(rt, store).is_err() {
+        return Outcome {
+            sent: None,
+            used: None,
+        };
+    }
+    let policy = policy_of(rt, ROW);
+    let sent = sent_by(rt, store, &policy, NOW, text.as_bytes(), 5_000);
+    Outcome {
+        sent: Some(sent),
+        used: store.used(&repo(rt, "studio/film")).ok(),
+    }
+}
+
+/// Serves a connection over a store of the connection to the database, and returns the latter.
+fn with_connection<S: Storage>(
+    rt: &impl Tester,
+    conn: Connection<S>,
+    text: &str,
+) -> (Outcome, Connection<S>) {
+    let mut store = Store::adopt(conn);
+    let outcome = serve_over(rt, &mut store, text);
+    (outcome, store.into_connection())
+}
+
+/// Opens a store over the files, serves a connection, and returns the files.
+fn with_files<D: Disk + Drop>(
+    rt: &impl Tester,
+    files: Files<D>,
+    text: &str,
+) -> (Outcome, Files<D>) {
+    assert!(rt; files.may_be_used());
+    match Connection::open_files(rt.alloc(), files, Options::new(7)) {
+        Ok(conn) => {
+            let (outcome, conn) = with_connection(rt, conn, text);
+            (outcome, conn.into_store().close())
+        }
+        Err((_, left)) => {
+            let outcome = Outcome {
+                sent: None,
+                used: None,
+            };
+            (outcome, left.into_files())
+        }
+    }
+}
 
 /// What became of an upload and the download after it.
 #[derive(Clone, Copy, Debug, PartialEq, Eq)]
@@ -68,34 +164,27 @@ fn get_text(rt: &impl Tester) -> String {
 /// Serves an upload of the content and its download, over files one of which fails after `calls` calls. Asserts
 /// that the object is there after a restart if the upload was reported as stored, whole, and else whole or not at
 /// all.
-fn stopped(
-    rt: &impl Tester,
-    files: &Files<Memory>,
-    (counted, calls): &(Counted, u64),
-    content: &str,
-) -> Became {
+fn stopped(rt: &impl Tester, counted: Counted, calls: u64, content: &str) -> Became {
     let put = put_text(rt, content);
     let get = get_text(rt);
     let both = texts(rt, &[put.as_str(), get.as_str()]);
-    let files = fused(rt, files, *counted, *calls);
-    let (outcome, mut files) = with_files(rt, files, Work::Serve(both.as_str()));
+    let (outcome, mut files) = with_files(rt, fused(rt, counted, calls), both.as_str());
     let Some(sent) = outcome.sent else {
         return Became::NotAsked;
     };
     files.log.crash();
     files.db.crash();
-    let (after, _) = with_files(rt, files, Work::Serve(get.as_str()));
-    let used = after.seen.map(|seen| seen.3);
+    let (after, _) = with_files(rt, files, get.as_str());
     let seen = outcome_of(&sent, content);
     let found = unwrap(rt, after.sent.ok_or(()));
-    if used == Some(0) {
+    if after.used == Some(0) {
         assert!(rt; seen == Became::UploadRefused, "{calls}");
         assert!(rt;
             found.text.as_str() == refusal(rt, "X1", false).as_str(),
             "{calls}"
         );
     } else {
-        assert!(rt; used == Some(200_000), "{calls}");
+        assert!(rt; after.used == Some(200_000), "{calls}");
         let back = found.text.as_str().strip_prefix(FRONT);
         assert!(rt; back == Some(content), "{calls}");
     }
@@ -203,10 +292,9 @@ const STOPS: &[(Counted, u64)] = &[
 fn an_object_is_stored_whole_or_not_at_all(rt: HostRuntime) {
     let content = repeated(&rt, &[("x", 200_000)]);
     let mut seen = String::new(rt.alloc());
-    let files = files_after(&rt, Work::Serve(""));
-    for stop in STOPS {
-        let one = stopped(&rt, &files, stop, content.as_str());
-        assert!(rt; one != Became::Other, "{seen}");
+    for (counted, calls) in STOPS {
+        let one = stopped(&rt, *counted, *calls, content.as_str());
+        assert!(rt; one != Became::Other, "{calls}");
         let line = unwrap(&rt, format!(in rt.alloc(); "{one:?} "));
         unwrap(&rt, seen.push_str(line.as_str()));
     }

@@ -83,7 +83,7 @@ impl Server {
 }
 
 /// Allocates memory `times` times, and once more.
-pub(crate) fn spare_memory(alloc: Global, times: usize) -> Result<Vec<Vec<u8>>, AllocError> {
+fn spare_memory(alloc: Global, times: usize) -> Result<Vec<Vec<u8>>, AllocError> {
     let mut spare = Vec::with_capacity(alloc, times)?;
     for _ in 0..times {
         spare.push(Vec::with_capacity(alloc, 1)?)?;
