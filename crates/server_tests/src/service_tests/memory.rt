@@ -353,20 +353,20 @@ fn add_objects<S: Alter>(rt: &impl Tester, text: &mut String, store: &mut Store<
 }
 
 /// What the store holds, as a text: tokens, locks, objects with their bytes, and the totals. Uploads that are not
-/// complete are left out.
-fn held<S: Alter>(rt: &impl Tester, store: &mut Store<S>) -> String {
+/// complete are left out. `None` if the store refuses to be read.
+fn held<S: Alter>(rt: &impl Tester, store: &mut Store<S>) -> Option<String> {
     let film = repo(rt, "studio/film");
+    let made = store.made(&film).ok()?;
     let of_ann = unwrap(rt, store.tokens_of(rt.alloc(), &user(rt, "ann"), &film));
     let of_bob = unwrap(rt, store.tokens_of(rt.alloc(), &user(rt, "bob"), &film));
     let tokens = of_ann.len().saturating_add(of_bob.len());
-    let made = unwrap(rt, store.made(&film));
     let used = unwrap(rt, store.used(&film));
     let text = format!(in rt.alloc(); "{tokens} tokens, {made} locks made, {used} bytes");
     let mut text = unwrap(rt, text);
     let locks = unwrap(rt, store.locks_in(rt.alloc(), &film));
     add_locks(rt, &mut text, &locks);
     add_objects(rt, &mut text, store);
-    text
+    Some(text)
 }
 
 /// The number of bytes of the longest replies, and more.
@@ -445,7 +445,7 @@ fn with_connection<S: Storage>(
     rt: &impl Tester,
     conn: Connection<S>,
     asked: Option<Asked>,
-) -> (Option<Answer>, String, Connection<S>) {
+) -> (Option<Answer>, Option<String>, Connection<S>) {
     let mut store = Store::adopt(conn);
     unwrap(rt, store.create_or_check(rt.alloc()));
     let answer = match asked {
@@ -461,7 +461,7 @@ fn with_files<D: Disk + Drop>(
     rt: &impl Tester,
     files: Files<D>,
     asked: Option<Asked>,
-) -> (Option<Answer>, String, Files<D>) {
+) -> (Option<Answer>, Option<String>, Files<D>) {
     assert!(rt; files.may_be_used());
     // An open allocates and clears each page of the cache.
     let mut options = Options::new(7);
@@ -480,6 +480,9 @@ enum Outcome {
     Answered,
     /// The message of this number was answered by the store refusal, and changed nothing.
     Refused(usize),
+    /// The same, but a sync of the disk failed, since the disk in memory allocates too. The store refuses to be read
+    /// until it is opened again.
+    SyncFailed(usize),
     /// The content in the reply to the message of this number breaks off.
     BrokenOff(usize),
     /// Memory was refused after the connection, after this number of allocations. All messages were answered in full.
@@ -493,10 +496,20 @@ enum Outcome {
 struct Seen {
     text: String,
     served: Served,
-    /// What the store held at the end of the connection.
-    open: String,
+    /// What the store held at the end of the connection; `None` if it refused to be read.
+    open: Option<String>,
+    /// Whether each sync of the disk succeeded.
+    is_synced: bool,
     /// What it held when it was opened again.
     again: String,
+}
+
+/// Whether this is the text.
+fn is_text(found: &Option<String>, text: &str) -> bool {
+    match found {
+        Some(found) => found.as_str() == text,
+        None => false,
+    }
 }
 
 /// The outcome if the messages before this step were answered, and the rest of the text is not its reply; `before` is
@@ -510,8 +523,10 @@ fn outcome_at(
     before: &str,
 ) -> Outcome {
     let &(_, _, _, reply, after) = step;
-    let (open, again) = (seen.open.as_str(), seen.again.as_str());
-    if open != before || (again != before && again != after) {
+    let again = seen.again.as_str();
+    let is_open = is_text(&seen.open, before);
+    let is_closed = seen.open.is_none() && !seen.is_synced;
+    if !(is_open || is_closed) || (again != before && again != after) {
         return Outcome::Neither;
     }
     let count = answered.saturating_add(1);
@@ -522,8 +537,14 @@ fn outcome_at(
         end,
     } = seen.served;
     match (end, reply) {
-        (End::StoreRefused, _) if rest == STORE_REFUSED && sent == count => Outcome::Refused(count),
-        (End::StoreFailed, Content(_, _)) if breaks_off && sent == answered => {
+        (End::StoreRefused, _) if rest == STORE_REFUSED && sent == count => {
+            if is_open {
+                Outcome::Refused(count)
+            } else {
+                Outcome::SyncFailed(count)
+            }
+        }
+        (End::StoreFailed, Content(_, _)) if is_open && breaks_off && sent == answered => {
             Outcome::BrokenOff(count)
         }
         _ => Outcome::Neither,
@@ -546,7 +567,7 @@ fn outcome_of(rt: &impl Tester, steps: &[Step], seen: &Seen) -> Outcome {
         before = after;
         answered = answered.saturating_add(if is_cut { 0 } else { 1 });
     }
-    let holds = seen.open.as_str() == before && seen.again.as_str() == before;
+    let holds = is_text(&seen.open, before) && seen.again.as_str() == before;
     if holds && rest.is_empty() && seen.served == served(answered, false) {
         Outcome::Answered
     } else {
@@ -567,9 +588,11 @@ fn tried(rt: &impl Tester, conversation: Conversation, before: usize, after: usi
     };
     let (answer, open, mut files) = with_files(rt, files, Some(asked));
     let answer = unwrap(rt, answer.ok_or(()));
+    let is_synced = files.may_be_used();
     files.log.crash();
     files.db.crash();
     let (_, again, _) = with_files(rt, files, None);
+    let again = unwrap(rt, again.ok_or(()));
     let outside = if answer.before < before {
         Some(Outcome::Before(answer.before))
     } else if answer.after < after {
@@ -581,6 +604,7 @@ fn tried(rt: &impl Tester, conversation: Conversation, before: usize, after: usi
         text: answer.text,
         served: answer.served,
         open,
+        is_synced,
         again,
     };
     match (outcome_of(rt, conversation.steps(), &seen), outside) {
