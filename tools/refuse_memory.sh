@@ -55,7 +55,7 @@ outcomes() {
     rt try --test --fail-alloc "$2" >"$room/log" 2>&1 || true
     awk '/^test memory::/ { name = $2; sub("memory::", "", name); waits = 1; next }
         waits && /^test result/ { exit }
-        waits { print name, /Before|Answered|Refused|BrokenOff|After/ ? $1 : "Neither"; waits = 0 }' "$room/log" >"$room/some"
+        waits { print name, /Before|Answered|Refused|SyncFailed|BrokenOff|After/ ? $1 : "Neither"; waits = 0 }' "$room/log" >"$room/some"
     if [ "$(wc -l <"$room/some")" -ne "$(wc -l <"$1")" ]; then
         tail -n 20 "$room/log" >&2
         echo 'refuse_memory.sh: the tests did not run' >&2
@@ -98,7 +98,7 @@ awk '
         total[$2, part[1]]++
         if (part[1] == "Neither") print "none of these: " $2 ", allocation " $5
         if ($5 > last[$2]) last[$2] = $5
-        if (part[1] ~ /Refused|BrokenOff/ && part[2] + 0 > messages[$2]) messages[$2] = part[2] + 0
+        if (part[1] ~ /Refused|SyncFailed|BrokenOff/ && part[2] + 0 > messages[$2]) messages[$2] = part[2] + 0
     }
     END {
         for (i = 1; i <= count; i++) {
@@ -107,6 +107,7 @@ awk '
             line = name ": " refused " allocations refused: answered in full " total[name, "Answered"] + 0
             for (k = 1; k <= messages[name]; k++) {
                 line = line "; S1 to message " k ": " number[name, "Refused", k] + 0
+                if (number[name, "SyncFailed", k]) line = line ", and after a failed sync: " number[name, "SyncFailed", k]
                 if (number[name, "BrokenOff", k]) line = line ", its content broken off: " number[name, "BrokenOff", k]
             }
             print line "; before the first message " total[name, "Before"] + 0 ", after the connection " total[name, "After"] + 0 "; none of these " total[name, "Neither"] + 0
