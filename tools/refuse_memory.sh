@@ -1,7 +1,7 @@
 #!/bin/sh
 # usage: tools/refuse_memory.sh [CONVERSATION..]
 # Refuses each allocation of a connection in turn, and counts what came of it: of each connection that
-# tools/refuse_memory.rt.txt lists, or of these.
+# tools/refuse_memory.rt.txt lists, or of these. `Calls` is no connection, but the calls of tools/refuse_calls.rt.txt.
 #
 # One run of `rt try` refuses one allocation of each test, the one with a given number. So the tests
 # take memory that they do not need before their connection, each once less than the one before it, in a copy of the
@@ -29,12 +29,18 @@ done
 cd "$room/crates/server_tests"
 # No other test is wanted.
 mv src "$room/tests"
-mkdir src
+mkdir -p src/service_tests/stops
 cp "$room/tests/harness.rt" "$room/tests/server.rt" src
+for file in objects stops stops/calls; do
+    awk '/^#\[test\]/ { skips = 1 } !skips { print } skips && /^}/ { skips = 0 }' "$room/tests/service_tests/$file.rt" |
+        sed '/^mod [^c]/d; s/^mod calls/pub(crate) mod calls/' >"src/service_tests/$file.rt"
+done
+cat "$root/tools/refuse_calls.rt.txt" >>src/service_tests/stops/calls.rt
+printf 'mod objects;\npub(crate) mod stops;\n' >src/service_tests.rt
 cp "$root/tools/refuse_memory.rt.txt" "$room/memory.rt"
 {
     printf '#![tactic(auto)]\n\n'
-    printf '#[cfg(test)]\nmod %s;\n' harness memory server
+    printf '#[cfg(test)]\nmod %s;\n' harness memory server service_tests
 } >src/lib.rt
 if [ $# -eq 0 ]; then
     # shellcheck disable=SC2046

@@ -157,7 +157,7 @@ impl<C: Clock> ServeContext<'_, C> {
         *unswept = self.sweep_if(store, *unswept);
         let now = moment(self.clock, None)?;
         let end = self.converse(store, now, queue, &stream);
-        if end == End::Closed {
+        if matches!(end, End::Closed | End::StoreRefused) {
             // A client that reset the connection has lost nothing but its own reply.
             let _ = linger(self.clock, &stream);
         }

@@ -301,6 +301,18 @@ fn a_store_refusal_is_reported(rt: HostRuntime) {
     assert!(rt; ran.is(0, "listening on here\nserved 2 connections\n", errors));
 }
 
+/// More than a server reads at a time.
+const PIPELINED: &[&str] = &[MESSAGE; 1_000];
+
+#[test]
+fn a_client_that_still_sends_gets_the_last_reply(rt: HostRuntime) {
+    let clients = [client_of(PIPELINED, After::Ends, &[STORE_REFUSED])];
+    let clock = clock_of(&rt, 0);
+    let ran = serve_between(&rt, &clock, "sending", 10, clients.as_slice(), BAD_ROW, "");
+    let errors = "custody: connection 1 StoreRefused\n";
+    assert!(rt; ran.is(0, "listening on here\nserved 1 connections\n", errors));
+}
+
 /// Uploads that a stop left.
 const LEFT: &str = r#"
 token a ann studio/film

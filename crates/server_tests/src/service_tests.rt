@@ -17,5 +17,6 @@ mod memory;
 mod objects;
 mod policies;
 mod reading;
+mod stops;
 mod stores;
 mod worked;

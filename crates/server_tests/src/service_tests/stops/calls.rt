@@ -1,10 +1,9 @@
 //! Calls of the crates over a store, one after another. After each of them, a stop leaves exactly what the calls reported.
 
-use super::{Counted, Outcome, PREPARED, Seen, Work, files_after, fused, with_files};
+use super::{Asked, Counted, PREPARED, Seen, Work, files_after, fused, with_files};
 use crate::harness::*;
 use crate::server::*;
-use crate::service_tests::memory::spare_memory;
-use crate::service_tests::objects::{Ask, asked_in, content_reply};
+use crate::service_tests::objects::content_reply;
 use chunks::{Arrival, Intake, pour};
 use cursor::Filter;
 use desk::{RepoRequest, answer, view};
@@ -27,7 +26,7 @@ const LONG: &str = "1abe08ebecf1c18cab71f6fe28aaddf20268f85bad78bb9a72f88ca47c87
 
 /// A call.
 #[derive(Clone, Copy)]
-enum Call {
+pub(crate) enum Call {
     /// `uploads::begin` with this name and size.
     Begin(&'static str, u64),
     /// `Intake::begin` with this size.
@@ -70,7 +69,7 @@ enum Call {
 
 /// A call; what a stop after it leaves, the number of uploads that are then staged, and the answer to the download of
 /// [`LONG`]: the code of a rule, or an empty text if it is stored.
-type Step = (Call, Seen, usize, &'static str);
+pub(crate) type Step = (Call, Seen, usize, &'static str);
 
 const SCRIPT: &[Step] = &[
     // Nothing is staged yet.
@@ -410,14 +409,17 @@ fn answer_to<S: Alter>(
     }
 }
 
-/// Makes the first calls of the script, up to one that reports a fault. Returns how many reported none.
-pub(super) fn make_calls<S: Alter>(rt: &impl Tester, store: &mut Store<S>, count: usize) -> usize {
+/// Makes the calls, up to one that reports a fault. Returns how many reported none.
+pub(super) fn make_calls<S: Alter>(
+    rt: &impl Tester,
+    store: &mut Store<S>,
+    steps: &[Step],
+) -> usize {
     let mut hands = Hands {
         upload: None,
         intake: None,
         arrival: None,
     };
-    let steps = unwrap(rt, SCRIPT.get(..count).ok_or(()));
     let mut made = 0usize;
     for step in steps {
         if !hands.call(rt, store, step.0) {
@@ -426,81 +428,6 @@ pub(super) fn make_calls<S: Alter>(rt: &impl Tester, store: &mut Store<S>, count
         made = made.saturating_add(1);
     }
     made
-}
-
-/// What a stop after the script leaves, if memory was refused once.
-#[derive(Clone, Copy, Debug, PartialEq, Eq)]
-enum Left {
-    /// Each call reported no fault, and the last left what it reported.
-    All,
-    /// A call reported a fault, and left what there was before it.
-    Before,
-    /// A call reported a fault, and left what it was to leave.
-    After,
-    /// None of these.
-    Neither,
-    /// There was not enough memory to read the store.
-    NotSeen,
-}
-
-/// Whether this is what the call of this index leaves.
-fn is_left(rt: &impl Tester, index: usize, found: &Outcome) -> bool {
-    let Some(step) = SCRIPT.get(index) else {
-        return false;
-    };
-    let want = reply_of(rt, step.3);
-    match &found.sent {
-        Some(sent) => {
-            found.seen == Some(step.1)
-                && found.staged == Some(step.2)
-                && sent.text.as_str() == want.as_str()
-        }
-        None => false,
-    }
-}
-
-/// What is left after this many calls reported no fault.
-fn left_by(rt: &impl Tester, calls: usize, found: &Outcome) -> Left {
-    let is_seen = match &found.sent {
-        Some(sent) => found.staged.is_some() && sent.text.as_str() != STORE_REFUSED,
-        None => false,
-    };
-    if !is_seen {
-        return Left::NotSeen;
-    }
-    if is_left(rt, calls.wrapping_sub(1), found) {
-        return if calls == SCRIPT.len() {
-            Left::All
-        } else {
-            Left::Before
-        };
-    }
-    if is_left(rt, calls, found) {
-        Left::After
-    } else {
-        Left::Neither
-    }
-}
-
-/// Makes the calls of the script up to one that reports a fault, and stops. Memory is allocated `times` times before.
-fn left_after(rt: &impl Tester, times: usize) -> Left {
-    let Ok(_spare) = spare_memory(rt.alloc(), times) else {
-        return Left::NotSeen;
-    };
-    let files = files_after(rt, Work::Serve(""));
-    let files = fused(rt, &files, Counted::Log, u64::MAX);
-    let (outcome, mut files) = with_files(rt, files, Work::Calls(SCRIPT.len()));
-    files.log.crash();
-    files.db.crash();
-    let get = asked_in(rt, "studio/film", READER, Ask::Get(LONG));
-    let (found, _) = with_files(rt, files, Work::Serve(get.as_str()));
-    left_by(rt, outcome.calls, &found)
-}
-
-/// As in `memory`, a test for each allocation can be added, in which `rt try --test --fail-alloc` refuses that one.
-#[test]
-fn each_call_is_made_if_there_is_memory(rt: HostRuntime) {
-    assert_eq!(rt; left_after(&rt, 0), Left::All);
 }
 
 /// What a stop does.
@@ -524,14 +451,14 @@ fn reply_of(rt: &impl Tester, code: &str) -> String {
 fn expect_left(rt: &impl Tester, files: &Files<Memory>, stop: Stop, index: usize) {
     let count = index.saturating_add(1);
     let files = fused(rt, files, Counted::Log, u64::MAX);
-    let (outcome, mut files) = with_files(rt, files, Work::Calls(count));
+    let steps = unwrap(rt, SCRIPT.get(..count).ok_or(()));
+    let (outcome, mut files) = with_files(rt, files, Work::Calls(steps));
     assert!(rt; outcome.calls == count, "{stop:?} {count}");
     if let Stop::Machine = stop {
         files.log.crash();
         files.db.crash();
     }
-    let get = asked_in(rt, "studio/film", READER, Ask::Get(LONG));
-    let (found, _) = with_files(rt, files, Work::Serve(get.as_str()));
+    let (found, _) = with_files(rt, files, Work::Serve(Asked::Get(LONG)));
     let step = unwrap(rt, SCRIPT.get(index).ok_or(()));
     assert!(rt; found.seen == Some(step.1), "{stop:?} {count}");
     assert!(rt; found.staged == Some(step.2), "{stop:?} {count}");
@@ -542,7 +469,7 @@ fn expect_left(rt: &impl Tester, files: &Files<Memory>, stop: Stop, index: usize
 
 #[test]
 fn a_stop_after_a_call_leaves_what_was_reported(rt: HostRuntime) {
-    let files = files_after(&rt, Work::Serve(""));
+    let files = files_after(&rt, Work::Settle);
     for index in 0..SCRIPT.len() {
         expect_left(&rt, &files, Stop::Machine, index);
     }

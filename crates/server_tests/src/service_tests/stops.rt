@@ -9,6 +9,7 @@ mod calls;
 use super::objects::{Ask, DONE, asked_in, content_reply};
 use crate::harness::*;
 use crate::server::*;
+use calls::Step;
 use names::Operation;
 use sha2::{Digest, Sha256};
 use sqlite::{Connection, FileStore, Files, Options};
@@ -26,17 +27,30 @@ pub(crate) enum Counted {
     Database,
 }
 
+/// A message on a connection of its own.
+#[derive(Clone, Copy)]
+pub(crate) enum Asked {
+    /// The upload of [`DOUBLE`].
+    Put,
+    /// The download of this object.
+    Get(&'static str),
+    /// The worked lock.
+    Lock,
+    /// The release of that lock.
+    Unlock,
+}
+
 /// The work done with a store that has its tables.
 #[derive(Clone, Copy)]
-pub(crate) enum Work<'w> {
+pub(crate) enum Work {
     /// Stores the tokens of the other tests, and one of ann's that has expired.
     Prepare,
-    /// Serves a connection with this text.
-    Serve(&'w str),
+    /// Serves a connection.
+    Serve(Asked),
     /// Removes the tokens that have expired.
     Prune,
-    /// Makes this many calls of the script of `calls`.
-    Calls(usize),
+    /// Makes these calls.
+    Calls(&'static [Step]),
     /// Copies the log into the database file.
     Settle,
 }
@@ -55,7 +69,7 @@ pub(crate) struct Outcome {
     pub sent: Option<Sent>,
     /// The number of tokens that were removed, if that was reported.
     pub removed: Option<u64>,
-    /// The number of calls of the script that reported no fault.
+    /// The number of calls that reported no fault, up to the first that did.
     pub calls: usize,
     /// What the store then has, if it can be read.
     pub seen: Option<Seen>,
@@ -85,7 +99,7 @@ impl Outcome {
 }
 
 /// Files that hold what a work leaves in a prepared store, with nothing in the log.
-pub(crate) fn files_after(rt: &impl Tester, work: Work<'_>) -> Files<Memory> {
+pub(crate) fn files_after(rt: &impl Tester, work: Work) -> Files<Memory> {
     let files = Files {
         log: Memory::new(rt.alloc()),
         db: Memory::new(rt.alloc()),
@@ -136,9 +150,26 @@ fn prepare<S: Storage>(rt: &impl Tester, store: &mut Store<S>) {
     unwrap(rt, kept);
 }
 
-/// Serves a connection with this text.
-fn serve_over<S: Storage>(rt: &impl Tester, store: &mut Store<S>, text: &str) -> Sent {
+/// The message.
+fn text_of(rt: &impl Tester, asked: Asked) -> String {
+    match asked {
+        Asked::Put => {
+            let content = repeated(rt, &[("x", 131_072)]);
+            asked_in(rt, "studio/film", ANN, Ask::Put(DOUBLE, content.as_str()))
+        }
+        Asked::Get(name) => asked_in(rt, "studio/film", READER, Ask::Get(name)),
+        Asked::Lock => owned(rt, MESSAGE),
+        Asked::Unlock => {
+            let line = "POST /studio/film.git/info/lfs/locks/1/unlock HTTP/1.1";
+            message(rt, line, &[ANN, "Content-Length: 2"], "{}")
+        }
+    }
+}
+
+/// Serves a connection with the message.
+fn serve_over<S: Storage>(rt: &impl Tester, store: &mut Store<S>, asked: Asked) -> Sent {
     let policy = policy_of(rt, ROW);
+    let text = text_of(rt, asked);
     sent_by(rt, store, &policy, NOW, text.as_bytes(), 5_000)
 }
 
@@ -155,16 +186,16 @@ fn seen<S: Storage>(rt: &impl Tester, store: &mut Store<S>) -> Result<Seen, Stor
 }
 
 /// Does the work.
-fn work_on<S: Storage>(rt: &impl Tester, store: &mut Store<S>, work: Work<'_>) -> Outcome {
+fn work_on<S: Storage>(rt: &impl Tester, store: &mut Store<S>, work: Work) -> Outcome {
     let mut outcome = Outcome::none();
     if store.create_or_check(rt.alloc()).is_err() {
         return outcome;
     }
     match work {
         Work::Prepare => prepare(rt, store),
-        Work::Serve(text) => outcome.sent = Some(serve_over(rt, store, text)),
+        Work::Serve(asked) => outcome.sent = Some(serve_over(rt, store, asked)),
         Work::Prune => outcome.removed = tokens::prune(store, moment(rt, NOW)).ok(),
-        Work::Calls(count) => outcome.calls = calls::make_calls(rt, store, count),
+        Work::Calls(steps) => outcome.calls = calls::make_calls(rt, store, steps),
         Work::Settle => {}
     }
     outcome.seen = seen(rt, store).ok();
@@ -176,7 +207,7 @@ fn work_on<S: Storage>(rt: &impl Tester, store: &mut Store<S>, work: Work<'_>) -
 fn with_connection<S: Storage>(
     rt: &impl Tester,
     conn: Connection<S>,
-    work: Work<'_>,
+    work: Work,
 ) -> (Outcome, Connection<S>) {
     let mut store = Store::adopt(conn);
     let outcome = work_on(rt, &mut store, work);
@@ -194,7 +225,7 @@ fn small() -> Options {
 pub(crate) fn with_files<D: Disk + Drop>(
     rt: &impl Tester,
     files: Files<D>,
-    work: Work<'_>,
+    work: Work,
 ) -> (Outcome, Files<D>) {
     assert!(rt; files.may_be_used());
     match Connection::open_files(rt.alloc(), files, small()) {
@@ -213,19 +244,28 @@ pub(crate) fn with_files<D: Disk + Drop>(
 /// The name of 131,072 bytes `x`.
 const DOUBLE: &str = "15601535eca4a38b7e31ad6494861121cb9f84ccf55d4beb6a707d4f7a87813d";
 
-/// What is found: the contents of the store, and the reply to the download of [`DOUBLE`].
-type Found<'w> = (Seen, &'w str);
+/// The reply to the release of the worked lock.
+const RELEASED: &str =
+    "HTTP/1.1 200 OK\r\nContent-Type: application/vnd.git-lfs+json\r\nContent-Length: 99\r\n\r\n{\"lock\":{\"id\":\"1\",\"locked_at\":\"2016-05-17T15:49:06Z\",\"owner\":{\"name\":\"ann\"},\"path\":\"art/hero.psd\"}}";
 
 /// A work that is stopped.
 #[derive(Clone, Copy)]
-struct Case<'w> {
+struct Case {
     /// What is done before.
-    first: Work<'w>,
-    work: Work<'w>,
+    first: Work,
+    work: Work,
     /// The reply by which it is reported as done.
-    reply: &'w str,
-    before: Found<'w>,
-    after: Found<'w>,
+    reply: &'static str,
+    before: Seen,
+    after: Seen,
+}
+
+/// The reply to the download of [`DOUBLE`] from a store with these contents.
+fn download_from(rt: &impl Tester, seen: Seen) -> String {
+    match seen.3 {
+        0 => refusal(rt, "X1", false),
+        _ => content_reply(rt, repeated(rt, &[("x", 131_072)]).as_str()),
+    }
 }
 
 /// Does the work over copies of the files, one of which fails after `calls` calls. Asserts what is found after a restart.
@@ -235,22 +275,20 @@ fn stopped(
     files: &Files<Memory>,
     counted: Counted,
     calls: u64,
-    case: &Case<'_>,
+    case: &Case,
 ) -> bool {
     let (outcome, mut files) = with_files(rt, fused(rt, files, counted, calls), case.work);
     files.log.crash();
     files.db.crash();
-    let get = asked_in(rt, "studio/film", READER, Ask::Get(DOUBLE));
-    let (found, _) = with_files(rt, files, Work::Serve(get.as_str()));
+    let (found, _) = with_files(rt, files, Work::Serve(Asked::Get(DOUBLE)));
     let is_reported = outcome.is_reported(case.reply);
-    let want = if is_reported {
-        &case.after
-    } else {
-        &case.before
-    };
-    assert!(rt; found.seen == Some(want.0), "{counted:?} {calls}");
+    let want = if is_reported { case.after } else { case.before };
+    assert!(rt; found.seen == Some(want), "{counted:?} {calls}");
     let sent = unwrap(rt, found.sent.ok_or(()));
-    assert!(rt; sent.text.as_str() == want.1, "{counted:?} {calls}");
+    assert!(rt;
+        sent.text.as_str() == download_from(rt, want).as_str(),
+        "{counted:?} {calls}"
+    );
     is_reported
 }
 
@@ -263,7 +301,7 @@ fn too_few(rt: &impl Tester, files: &Files<Memory>, counted: Counted) -> u64 {
     for part in PARTS {
         let more = calls.saturating_add(*part);
         let files = fused(rt, files, counted, more);
-        let (outcome, _) = with_files(rt, files, Work::Serve(""));
+        let (outcome, _) = with_files(rt, files, Work::Serve(Asked::Get(DOUBLE)));
         if outcome.sent.is_none() {
             calls = more;
         }
@@ -273,7 +311,7 @@ fn too_few(rt: &impl Tester, files: &Files<Memory>, counted: Counted) -> u64 {
 
 /// Stops the work at each call of the file in turn, from the last one by which the store opens, until the work is done
 /// before the stop.
-fn stop_at_each(rt: &impl Tester, files: &Files<Memory>, counted: Counted, case: &Case<'_>) {
+fn stop_at_each(rt: &impl Tester, files: &Files<Memory>, counted: Counted, case: &Case) {
     let first = too_few(rt, files, counted);
     for calls in first..MANY {
         if stopped(rt, files, counted, calls, case) {
@@ -285,7 +323,7 @@ fn stop_at_each(rt: &impl Tester, files: &Files<Memory>, counted: Counted, case:
 }
 
 /// The same with each of the files.
-fn stop_everywhere(rt: &impl Tester, case: &Case<'_>) {
+fn stop_everywhere(rt: &impl Tester, case: &Case) {
     let files = files_after(rt, case.first);
     for counted in [Counted::Log, Counted::Database] {
         stop_at_each(rt, &files, counted, case);
@@ -294,57 +332,44 @@ fn stop_everywhere(rt: &impl Tester, case: &Case<'_>) {
 
 #[test]
 fn an_upload_is_stored_whole_or_not_at_all(rt: HostRuntime) {
-    let content = repeated(&rt, &[("x", 131_072)]);
-    let put = asked_in(&rt, "studio/film", ANN, Ask::Put(DOUBLE, content.as_str()));
-    let put = put.as_str();
-    let missing = refusal(&rt, "X1", false);
-    let missing = missing.as_str();
-    let back = content_reply(&rt, content.as_str());
-    let back = back.as_str();
     let upload = Case {
         first: Work::Settle,
-        work: Work::Serve(put),
+        work: Work::Serve(Asked::Put),
         reply: DONE,
-        before: (PREPARED, missing),
-        after: ((0, 0, 3, 131_072, 0), back),
+        before: PREPARED,
+        after: (0, 0, 3, 131_072, 0),
     };
     stop_everywhere(&rt, &upload);
 }
 
 #[test]
 fn a_lock_is_made_or_released_whole_or_not_at_all(rt: HostRuntime) {
-    let missing = refusal(&rt, "X1", false);
-    let missing = missing.as_str();
     let lock = Case {
         first: Work::Settle,
-        work: Work::Serve(MESSAGE),
+        work: Work::Serve(Asked::Lock),
         reply: CREATED,
-        before: (PREPARED, missing),
-        after: ((1, 1, 3, 0, 0), missing),
+        before: PREPARED,
+        after: (1, 1, 3, 0, 0),
     };
     stop_everywhere(&rt, &lock);
-    let line = "POST /studio/film.git/info/lfs/locks/1/unlock HTTP/1.1";
-    let unlock = message(&rt, line, &[ANN, "Content-Length: 2"], "{}");
-    let released = unwrap(&rt, CREATED.replace(rt.alloc(), "201 Created", "200 OK"));
     let unlock = Case {
-        first: Work::Serve(MESSAGE),
-        work: Work::Serve(unlock.as_str()),
-        reply: released.as_str(),
-        before: ((1, 1, 3, 0, 0), missing),
-        after: ((0, 1, 3, 0, 0), missing),
+        first: Work::Serve(Asked::Lock),
+        work: Work::Serve(Asked::Unlock),
+        reply: RELEASED,
+        before: (1, 1, 3, 0, 0),
+        after: (0, 1, 3, 0, 0),
     };
     stop_everywhere(&rt, &unlock);
 }
 
 #[test]
 fn expired_tokens_are_removed_or_kept(rt: HostRuntime) {
-    let missing = refusal(&rt, "X1", false);
-    let case = Case {
+    let prune = Case {
         first: Work::Settle,
         work: Work::Prune,
         reply: "",
-        before: (PREPARED, missing.as_str()),
-        after: ((0, 0, 2, 0, 0), missing.as_str()),
+        before: PREPARED,
+        after: (0, 0, 2, 0, 0),
     };
-    stop_everywhere(&rt, &case);
+    stop_everywhere(&rt, &prune);
 }
