@@ -1,4 +1,5 @@
 pub mod Clocks
+pub mod Framing
 pub mod Given
 pub mod Answers
 pub mod Statuses

@@ -7,6 +7,7 @@
 mod faults;
 mod files;
 mod foreseeing;
+mod framing;
 mod migrating;
 mod moments;
 mod opening;

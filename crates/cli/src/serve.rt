@@ -1,4 +1,4 @@
-//! The command `serve`: connections of a TCP socket, one after the other.
+//! The command `serve`: connections of a TCP socket, whose messages are served one after the other.
 
 ghost use Rattle.std.specs.Prelude.{◌≡◌, ◌≤◌, IfOk};
 ghost use Rattle.refinement.specs.Left.{From};
@@ -7,6 +7,7 @@ ghost use Rattle.cli.specs.Statuses.{is_reported};
 
 use crate::faults::Fault;
 use crate::files::read_policy;
+use crate::framing::Messages;
 use crate::moments::moment;
 use crate::opening::{Job, open_for};
 use crate::operators::OperatorContext;
@@ -17,16 +18,20 @@ use names::{Counted, Moment};
 use policy::Policy;
 use service::{End, Routes};
 use sockets::{
-    Announced, Caller, ControlSocket, Course, PatientReader, PatientWriter, Queue, linger, listen,
-    prepare,
+    Caller, Client, ControlSocket, Ended, Front, Limits, PatientReader, PatientWriter, Queue,
+    listen,
 };
 use std::cell::Cell;
 use std::io::{self, Write};
-use std::net::{TcpListener, TcpStream};
+use std::net::TcpListener;
 use std::os::unix::net::{UnixListener, UnixStream};
 use std::rt::HostRuntime;
 use std::time::{Clock, Duration};
 use tables::{Start, Storage, Store};
+
+/// The most connections of clients at a time. With those of operators and the files they fit the 1,024 files that a
+/// system usually allows a process.
+const CONNECTIONS: usize = 960;
 
 /// What the connections are served with.
 #[derive(Drop)]
@@ -39,32 +44,66 @@ struct ServeContext<'a, C> {
     idle: Duration,
 }
 
+/// What a server keeps in mind between two callers.
+#[derive(Drop)]
+struct State {
+    /// How many connections had a turn.
+    begun: u64,
+    /// How many of these ended.
+    ended: u64,
+    /// Whether failed uploads may have left something in the store.
+    unswept: bool,
+}
+
+impl State {
+    /// The state of a server that starts.
+    fn new() -> State {
+        State {
+            begun: 0,
+            ended: 0,
+            unswept: true,
+        }
+    }
+
+    /// The number of a connection, which it gets for its first turn.
+    fn number_of(&mut self, client: &mut Client) -> u64 {
+        if let Some(number) = client.number {
+            return number;
+        }
+        self.begun = self.begun.saturating_add(1);
+        client.number = Some(self.begun);
+        self.begun
+    }
+
+    /// Counts a connection that ended, and reports it if it failed.
+    fn note<E: Write>(&mut self, errors: &mut E, number: u64, end: End) {
+        self.ended = self.ended.saturating_add(1);
+        if is_reported(end) {
+            let _ = write_end(errors, number, end);
+        }
+    }
+}
+
 impl<C: Clock> ServeContext<'_, C> {
-    /// Serves a connection at a moment, and returns how it ended.
+    /// Serves the message of a turn at a moment, and returns how the turn ended.
     fn converse<S: Storage>(
         &self,
         store: &mut Store<S>,
         now: Moment,
-        queue: &mut Queue<'_>,
-        stream: &TcpStream,
+        client: &Client,
+        front: &mut Front,
     ) -> End
         ensures { From S.Store store.old store.new (λ world.
             Works S.Store store.old store.new world) }
     {
-        if prepare(stream).is_err() {
-            return End::ReadFailed;
-        }
-        let course = Cell::new(Course::new());
-        let mut source = Announced {
-            source: Counted::new(PatientReader {
-                clock: self.clock,
-                stream,
-                course: &course,
-                queue,
-                idle: self.idle,
-            }),
+        let course = Cell::new(client.course());
+        let stream = client.stream();
+        let mut source = Counted::new(PatientReader {
+            clock: self.clock,
+            stream,
             course: &course,
-        };
+            front,
+        });
         let mut sink = Counted::new(PatientWriter {
             clock: self.clock,
             stream,
@@ -103,30 +142,6 @@ impl<C: Clock> ServeContext<'_, C> {
         }
     }
 
-    /// Waits for a client, and answers the operators who come before it.
-    ///
-    /// # Errors
-    ///
-    /// `Network` if no connection could be accepted.
-    fn next_client<S: Storage, E: Write>(
-        &self,
-        store: &mut Store<S>,
-        queue: &mut Queue<'_>,
-        errors: &mut E,
-    ) -> Result<TcpStream, Fault>
-        ensures { From S.Store store.old store.new (λ world.
-            Works S.Store store.old store.new world) }
-    {
-        'callers: for _ in 0..u64::MAX {
-            match queue.take() {
-                Ok(Caller::Client(stream)) => return Ok(stream),
-                Ok(Caller::Operator(stream)) => self.answer_operator(store, &stream, errors),
-                Err(_) => break,
-            }
-        }
-        Err(Fault::Network)
-    }
-
     /// Removes what failed uploads left in the store, if there may be any. Returns whether there still may be: the store
     /// refused.
     fn sweep_if<S: Storage>(&self, store: &mut Store<S>, unswept: bool) -> bool
@@ -136,9 +151,66 @@ impl<C: Clock> ServeContext<'_, C> {
         unswept && uploads::sweep(self.rt.alloc(), store).is_err()
     }
 
-    /// Waits for a client, serves its connection at the clock's moment, and closes it. Operators who come before are
-    /// answered. `unswept` says whether failed uploads may have left something in the store; if so, it is removed before
-    /// the connection is served.
+    /// Serves a turn of a connection at the clock's moment. `unswept` says whether failed uploads may have left something
+    /// in the store; if so, it is removed before. Returns how the connection ended; `None` if it goes on.
+    ///
+    /// # Errors
+    ///
+    /// `Clock`.
+    fn serve_turn<S: Storage>(
+        &self,
+        store: &mut Store<S>,
+        queue: &mut Queue<'_>,
+        mut client: Client,
+        unswept: &mut bool,
+    ) -> Result<Option<End>, Fault>
+        ensures { From S.Store store.old store.new (λ world.
+            Works S.Store store.old store.new world) }
+    {
+        *unswept = self.sweep_if(store, *unswept);
+        let now = moment(self.clock, None)?;
+        let Ok(mut front) = client.begin(self.rt.alloc()) else {
+            queue.close(client);
+            return Ok(Some(End::ReadFailed));
+        };
+        let end = self.converse(store, now, &client, &mut front);
+        *unswept = *unswept || end == End::StoreRefused;
+        self.end_turn(queue, client, &front, end)
+    }
+
+    /// Ends a turn. Returns how the connection ended; `None` if it goes on, since the whole message of the turn was read.
+    ///
+    /// # Errors
+    ///
+    /// `Clock`.
+    fn end_turn(
+        &self,
+        queue: &mut Queue<'_>,
+        client: Client,
+        front: &Front,
+        end: End,
+    ) -> Result<Option<End>, Fault> {
+        let ended = match end {
+            End::InputEnded if front.is_over() => {
+                queue
+                    .put_back(client, front, self.clock, &Messages)
+                    .map(|()| None)
+            }
+            End::Closed | End::StoreRefused => {
+                queue
+                    .dismiss(client, self.clock, &Messages)
+                    .map(|()| Some(end))
+            }
+            _ => {
+                queue.close(client);
+                Ok(Some(end))
+            }
+        };
+        ended.map_err(|_| Fault::Clock)
+    }
+
+    /// Waits for the next caller and answers it: a turn of a client, or an operator; or takes note of a connection that
+    /// ended between two turns. After the first turn of as many connections as `most`, no others are served.
     ///
     /// # Errors
     ///
@@ -147,30 +219,41 @@ impl<C: Clock> ServeContext<'_, C> {
         &self,
         store: &mut Store<S>,
         queue: &mut Queue<'_>,
-        unswept: &mut bool,
+        most: u64,
+        state: &mut State,
         errors: &mut E,
-    ) -> Result<End, Fault>
+    ) -> Result<(), Fault>
         ensures { From S.Store store.old store.new (λ world.
             Works S.Store store.old store.new world) }
     {
-        let stream = self.next_client(store, queue, errors)?;
-        *unswept = self.sweep_if(store, *unswept);
-        let now = moment(self.clock, None)?;
-        let end = self.converse(store, now, queue, &stream);
-        if matches!(end, End::Closed | End::StoreRefused) {
-            // A client that reset the connection has lost nothing but its own reply.
-            let _ = linger(self.clock, &stream);
+        match queue.take(self.clock, &Messages) {
+            Ok(Some(Caller::Client(mut client))) => {
+                let number = state.number_of(&mut client);
+                if state.begun >= most {
+                    queue.shut();
+                }
+                if let Some(end) = self.serve_turn(store, queue, client, &mut state.unswept)? {
+                    state.note(errors, number, end);
+                }
+            }
+            Ok(Some(Caller::Operator(stream))) => self.answer_operator(store, &stream, errors),
+            Ok(None) => {
+                if let Some(ended) = queue.ended() {
+                    state.note(errors, ended.number, end_of(ended));
+                }
+            }
+            Err(_) => return Err(Fault::Network),
         }
-        Ok(end)
+        Ok(())
     }
 
-    /// Serves this many connections, and reports those that failed. Operators are answered between them. What failed
-    /// uploads left, also those of a server that was killed, is removed before the next connection, as soon as the store
+    /// Serves this many connections, and reports those that failed. Operators are answered between their turns. What failed
+    /// uploads left, also those of a server that was killed, is removed before the next turn, as soon as the store
     /// allows it. Returns how many connections were served.
     ///
     /// # Errors
     ///
-    /// `Network` and `Clock`, as for one connection.
+    /// `Network` and `Clock`, as for one caller.
     fn serve_all<S: Storage, E: Write>(
         &self,
         store: &mut Store<S>,
@@ -182,17 +265,23 @@ impl<C: Clock> ServeContext<'_, C> {
         ensures world { From S.Store store.old store.new (λ world.
             Works S.Store store.old store.new world) }
     {
-        let mut served = 0;
-        let mut unswept = true;
-        'connections: while served < most {
-            let end = self.serve_next(store, queue, &mut unswept, errors)?;
-            served += 1;
-            unswept = unswept || end == End::StoreRefused;
-            if is_reported(end) {
-                let _ = write_end(errors, served, end);
+        let mut state = State::new();
+        'callers: for _ in 0..u64::MAX {
+            if state.ended == most {
+                return Ok(most);
             }
+            self.serve_next(store, queue, most, &mut state, errors)?;
         }
-        Ok(served)
+        Err(Fault::Network)
+    }
+}
+
+/// How a connection ended that waited for its next message.
+fn end_of(ended: Ended) -> End {
+    if ended.is_failed {
+        End::ReadFailed
+    } else {
+        End::InputEnded
     }
 }
 
@@ -241,7 +330,11 @@ fn serve_store<S: Storage, C: Clock, W: Write, E: Write>(
 ) -> Result<(), Fault>
     ensures { From S.Store store.old store.new (λ world. Works S.Store store.old store.new world) }
 {
-    let Ok(mut queue) = Queue::new(context.rt, doors.clients, doors.operators) else {
+    let limits = Limits {
+        idle: context.idle,
+        connections: CONNECTIONS,
+    };
+    let Ok(mut queue) = Queue::new(context.rt, doors.clients, doors.operators, limits) else {
         return Err(Fault::Network);
     };
     write_start(output, args.listen).map_err(|_| Fault::Output)?;
@@ -348,7 +441,7 @@ fn serve_bound<C: Clock, S: Start, W: Write, E: Write>(
     open_for(rt, args.db, start, server)
 }
 
-/// Serves connections to the address, one after the other.
+/// Serves connections to the address, one message after the other.
 ///
 /// # Errors
 ///

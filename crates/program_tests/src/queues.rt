@@ -1,101 +1,249 @@
-//! The order in which the callers of a server are accepted: operators and clients in turn.
+//! The order in which the callers of a server are answered: operators and clients in turn, clients as their messages arrive.
 
 use crate::harness::{Tester, unwrap};
-use sockets::{Caller, Queue, listen};
+use sockets::{Caller, Client, Extent, Framing, Limits, PatientReader, Queue, listen};
+use std::cell::Cell;
 use std::fs;
 use std::io::{self, Read, Write};
-use std::net::{TcpListener, TcpStream};
+use std::net::{Shutdown, TcpListener, TcpStream};
 use std::os::unix::net::{UnixListener, UnixStream};
 use std::rt::HostRuntime;
-use std::time::Instant;
+use std::time::Duration;
 
-/// What happens at the doors, and what is recorded. A capital letter is an operator who connects, a small one a client;
-/// `!` takes the next caller, whose letter is recorded; `?` asks whether somebody waits: `+` or `-`.
-const CASES: &[(&str, &str)] = &[
-    ("?", "-"),
-    ("ABCabc!!!!!!?", "AaBbCc-"),
-    ("abcABC!!!!!!?", "AaBbCc-"),
-    // Those of one kind alone, and those who are more.
-    ("ABC!!!?", "ABC-"),
-    ("abc!!!?", "abc-"),
-    ("ABCDa!!!!!?", "AaBCD-"),
-    ("Aabcd!!!!!?", "Aabcd-"),
-    // After a client who was alone an operator comes first, and after an operator a client.
-    ("a!bcB!!!?", "aBbc-"),
-    ("A!BCb!!!?", "AbBC-"),
-    // One was kept while another was served.
-    ("a?AB!!!?", "+aAB-"),
-    ("A?abBC!!!!!?", "+AaBbC-"),
-    ("a!b?cAB!!!!?", "a+bAcB-"),
-    ("?Aa??!?!?", "-++A+a-"),
-];
+/// Messages of a letter, the number of bytes of the body, the end of the line, and the body.
+#[derive(Clone, Copy)]
+struct Letters;
+
+/// The size of the body after this line.
+fn body_of(line: &[u8]) -> u64 {
+    let digits = line.get(1..).unwrap_or(&[]);
+    match str::from_utf8(digits) {
+        Ok(text) => text.parse().unwrap_or(0),
+        Err(_) => 0,
+    }
+}
+
+impl Framing for Letters {
+    fn extent(&self, bytes: &[u8]) -> Extent {
+        match bytes.iter().position(|byte| *byte == b'\n') {
+            Some(end) => Extent::Message {
+                head: end.saturating_add(1),
+                body: body_of(bytes.get(..end).unwrap_or(&[])),
+            },
+            None if bytes.len() >= 16_384 => Extent::Refused,
+            None => Extent::Head,
+        }
+    }
+}
 
 /// Where the callers connect.
 #[derive(Clone, Copy)]
 struct Listeners<'a> {
     clients: &'a TcpListener,
-    operators: &'a UnixListener,
-    socket: &'a str,
+    operators: Option<&'a UnixListener>,
 }
 
-/// Connects, sends the letter, and closes the connection.
-fn connect(host: &HostRuntime, listeners: Listeners<'_>, letter: u8) -> io::Result<()> {
-    if letter.is_ascii_uppercase() {
-        UnixStream::connect(host, listeners.socket)?.write_all(&[letter])
-    } else {
-        TcpStream::connect(host, listeners.clients.local_addr()?)?.write_all(&[letter])
+/// A queue of so many connections.
+fn queue_of<'a>(
+    rt: &impl Tester,
+    host: &HostRuntime,
+    listeners: Listeners<'a>,
+    connections: usize,
+) -> Queue<'a> {
+    let limits = Limits {
+        idle: Duration::from_secs(60),
+        connections,
+    };
+    unwrap(
+        rt,
+        Queue::new(host, listeners.clients, listeners.operators, limits),
+    )
+}
+
+/// Reads the message of a client's turn, and ends the turn. Returns the message's letter and its size.
+fn serve(host: &HostRuntime, queue: &mut Queue<'_>, mut client: Client) -> io::Result<(u8, u64)> {
+    client.number = Some(1);
+    let mut front = client.begin(host.alloc())?;
+    let course = Cell::new(client.course());
+    let mut reader = PatientReader {
+        clock: host,
+        stream: client.stream(),
+        course: &course,
+        front: &mut front,
+    };
+    let mut message = Vec::new(host.alloc());
+    let size = reader.read_to_end(&mut message)?;
+    queue.put_back(client, &front, host, &Letters)?;
+    Ok((message.first().copied().unwrap_or(b'?'), size as u64))
+}
+
+/// Answers the next caller. Returns the letter of its message and its size; a minus sign for a connection that ended.
+fn take(host: &HostRuntime, queue: &mut Queue<'_>) -> io::Result<(u8, u64)> {
+    match queue.take(host, &Letters)? {
+        Some(Caller::Client(client)) => serve(host, queue, client),
+        Some(Caller::Operator(mut stream)) => {
+            let mut letter = [0];
+            stream.read_exact(&mut letter)?;
+            Ok((letter[0], 1))
+        }
+        None => {
+            let ended = queue.ended();
+            Ok((if ended.is_some() { b'-' } else { b'?' }, 0))
+        }
     }
 }
 
-/// Takes the next caller, and reads its letter.
-fn take(queue: &mut Queue<'_>) -> io::Result<u8> {
-    let mut letter = [0];
-    match queue.take()? {
-        Caller::Client(mut stream) => stream.read_exact(&mut letter)?,
-        Caller::Operator(mut stream) => stream.read_exact(&mut letter)?,
-    }
-    Ok(letter[0])
+/// What happens at the doors, and what is recorded. A capital letter is an operator who connects, a small one a client
+/// that sends a message; `!` answers the next caller, whose letter is recorded.
+const CASES: &[(&str, &str)] = &[
+    ("ABCabc!!!!!!", "AaBbCc"),
+    ("abcABC!!!!!!", "AaBbCc"),
+    // Those of one kind alone, and those who are more.
+    ("ABC!!!", "ABC"),
+    ("abc!!!", "abc"),
+    ("ABCDa!!!!!", "AaBCD"),
+    ("Aabcd!!!!!", "Aabcd"),
+    // After a client who was alone an operator comes first, and after an operator a client.
+    ("a!bcB!!!", "aBbc"),
+    ("A!BCb!!!", "AbBC"),
+];
+
+/// Connects a client.
+fn connect(rt: &impl Tester, host: &HostRuntime, listener: &TcpListener) -> TcpStream {
+    let address = unwrap(rt, listener.local_addr());
+    let stream = unwrap(rt, TcpStream::connect(host, address));
+    unwrap(rt, stream.set_nodelay(true));
+    stream
 }
 
-/// Whether somebody waits.
-fn wait(host: &HostRuntime, queue: &mut Queue<'_>) -> io::Result<u8> {
-    let waited = queue.waited(Instant::now(host)?);
-    Ok(if waited.is_some() { b'+' } else { b'-' })
-}
+/// The place of the operators' socket.
+const SOCKET: &str = "in_turn";
 
 /// Plays what happens, and compares the record.
 fn play(rt: &impl Tester, host: &HostRuntime, listeners: Listeners<'_>, case: (&str, &str)) {
     let (happens, wanted) = case;
-    let mut queue = unwrap(
-        rt,
-        Queue::new(host, listeners.clients, Some(listeners.operators)),
-    );
+    let mut queue = queue_of(rt, host, listeners, 10);
+    let mut clients = Vec::new(rt.alloc());
     let mut record = Vec::new(rt.alloc());
     for letter in happens.bytes() {
-        match letter {
-            b'!' => unwrap(rt, record.push(unwrap(rt, take(&mut queue)))),
-            b'?' => unwrap(rt, record.push(unwrap(rt, wait(host, &mut queue)))),
-            _ => unwrap(rt, connect(host, listeners, letter)),
+        if letter == b'!' {
+            unwrap(rt, record.push(unwrap(rt, take(host, &mut queue)).0));
+        } else if letter.is_ascii_uppercase() {
+            let mut operator = unwrap(rt, UnixStream::connect(host, SOCKET));
+            unwrap(rt, operator.write_all(&[letter]));
+        } else {
+            let mut client = connect(rt, host, listeners.clients);
+            unwrap(rt, client.write_all(&[letter, b'\n']));
+            unwrap(rt, clients.push(client));
         }
     }
     assert!(rt; record.as_slice() == wanted.as_bytes(), "{happens}");
 }
 
 #[test]
-fn operators_and_clients_are_taken_in_turn(rt: HostRuntime) {
-    let socket = "in_turn";
-    let _ = fs::remove_file(&rt, socket);
+fn operators_and_clients_are_answered_in_turn(rt: HostRuntime) {
+    let _ = fs::remove_file(&rt, SOCKET);
     let clients = unwrap(&rt, listen(&rt, "127.0.0.1:0"));
-    let operators = unwrap(&rt, UnixListener::bind(&rt, socket));
+    let operators = unwrap(&rt, UnixListener::bind(&rt, SOCKET));
     let listeners = Listeners {
         clients: &clients,
-        operators: &operators,
-        socket,
+        operators: Some(&operators),
     };
     for case in CASES {
         play(&rt, &rt, listeners, *case);
     }
-    unwrap(&rt, fs::remove_file(&rt, socket));
+    unwrap(&rt, fs::remove_file(&rt, SOCKET));
+}
+
+/// What clients do, one letter each, in a queue of three connections; and which messages are served, or that a connection
+/// ended.
+///
+/// `+x` connects the client `x`, `x=TEXT;` sends the text, with `/` for the end of a line, `x.` ends its side, and `!`
+/// answers the next caller.
+const STEPS: &[(&str, &str)] = &[
+    // A second message in halves, beside another client.
+    ("+a+ba=a0/a;!b=b0/;!a=0/;!", "aba"),
+    // Many messages at once, and a client that comes later.
+    ("+aa=a0/a0/a0/;+bb=b0/;!!!!", "abaa"),
+    // Half a head beside others, and its end after a turn.
+    ("+aa=a0/a;!+bb=b0/;!a.b=b0/;!!", "ab-b"),
+    // A body in halves. That of a long message is awaited in its turn alone.
+    ("+aa=a3/xy;+bb=b0/;!a=z;!", "ba"),
+    // A fourth connection: the client that was silent for longest gives way.
+    ("+a+b+c+db=b0/;!d=d0/;!c=c0/;!", "bdc"),
+];
+
+/// The client of this letter, among those in alphabetical order.
+fn place_of(letter: u8) -> usize {
+    usize::from(letter.wrapping_sub(b'a'))
+}
+
+/// Does what follows a client's letter: sends a text, or ends the client's side. Returns the rest.
+fn act<'t>(rt: &impl Tester, clients: &mut [TcpStream], letter: u8, rest: &'t str) -> &'t str {
+    let client = unwrap(rt, clients.get_mut(place_of(letter)).ok_or(()));
+    if let Some(rest) = rest.strip_prefix(".") {
+        unwrap(rt, client.shutdown(Shutdown::Write));
+        return rest;
+    }
+    let rest = unwrap(rt, rest.strip_prefix("=").ok_or(()));
+    let (text, rest) = unwrap(rt, rest.split_once(";").ok_or(()));
+    let text = unwrap(rt, text.replace(rt.alloc(), "/", "\n"));
+    unwrap(rt, client.write_all(text.as_bytes()));
+    rest
+}
+
+/// Does the steps, and compares the record.
+fn follow(rt: &impl Tester, host: &HostRuntime, listeners: Listeners<'_>, steps: (&str, &str)) {
+    let mut queue = queue_of(rt, host, listeners, 3);
+    let mut clients = Vec::new(rt.alloc());
+    let mut record = Vec::new(rt.alloc());
+    let mut rest = steps.0;
+    while let Some(letter) = rest.bytes().next() {
+        rest = rest.get(1..).unwrap_or("");
+        match letter {
+            b'!' => unwrap(rt, record.push(unwrap(rt, take(host, &mut queue)).0)),
+            b'+' => {
+                unwrap(rt, clients.push(connect(rt, host, listeners.clients)));
+                rest = rest.get(1..).unwrap_or("");
+            }
+            _ => rest = act(rt, clients.as_mut_slice(), letter, rest),
+        }
+    }
+    assert!(rt; record.as_slice() == steps.1.as_bytes(), "{}", steps.0);
+}
+
+#[test]
+fn clients_are_answered_as_their_messages_arrive(rt: HostRuntime) {
+    let clients = unwrap(&rt, listen(&rt, "127.0.0.1:0"));
+    let listeners = Listeners {
+        clients: &clients,
+        operators: None,
+    };
+    for steps in STEPS {
+        follow(&rt, &rt, listeners, *steps);
+    }
+}
+
+/// The number of bytes of the longest head.
+const LONGEST: u64 = 16_384;
+
+#[test]
+fn a_head_that_arrives_byte_by_byte_holds_nobody_up(rt: HostRuntime) {
+    let listener = unwrap(&rt, listen(&rt, "127.0.0.1:0"));
+    let listeners = Listeners {
+        clients: &listener,
+        operators: None,
+    };
+    let mut queue = queue_of(&rt, &rt, listeners, 3);
+    let mut slow = connect(&rt, &rt, &listener);
+    let mut other = connect(&rt, &rt, &listener);
+    for _ in 1..LONGEST {
+        unwrap(&rt, slow.write_all(b"a"));
+        unwrap(&rt, other.write_all(b"b0\n"));
+        assert!(&rt; unwrap(&rt, take(&rt, &mut queue)) == (b'b', 3));
+    }
+    unwrap(&rt, slow.write_all(b"\n"));
+    assert!(&rt; unwrap(&rt, take(&rt, &mut queue)) == (b'a', LONGEST));
 }
 
 /// More clients than the 128 for which a listener usually has room.

@@ -2,7 +2,7 @@
 //! begins, and read after it has ended.
 
 use crate::harness::{Tester, unwrap};
-use crate::messages::{BAD_HEAD, CREATED, HELD, MESSAGE, STORE_REFUSED};
+use crate::messages::{BAD_HEAD, CREATED, HELD, MESSAGE, MESSAGE_BUT_ONE, STORE_REFUSED};
 use crate::program::{Ran, path_of, prepare, remove, run, serve_args};
 use crate::transcript::{POLICY, perform, play};
 use cli::{Doors, serve_doors};
@@ -135,6 +135,8 @@ struct Client {
     sent: &'static [&'static str],
     after: After,
     replies: &'static [&'static str],
+    /// Whether a message of it arrives, so that its connection counts.
+    counts: bool,
 }
 
 /// A client that sends these messages.
@@ -147,6 +149,17 @@ fn client_of(
         sent,
         after,
         replies,
+        counts: true,
+    }
+}
+
+/// A client of whom no message arrives.
+fn silent_client(sent: &'static [&'static str], after: After) -> Client {
+    Client {
+        sent,
+        after,
+        replies: &[],
+        counts: false,
     }
 }
 
@@ -182,7 +195,7 @@ fn expect_replies(rt: &impl Tester, stream: &mut TcpStream, client: &Client) {
     assert!(rt; rest.is_empty());
 }
 
-/// Serves as many connections as there are clients, and returns what the program printed.
+/// Serves this many connections, and returns what the program printed.
 fn serve(
     rt: &impl Tester,
     clock: &TestClock<'_>,
@@ -239,7 +252,8 @@ fn serve_between(
         let stream = connect(rt, clock.host, &listener, client);
         unwrap(rt, streams.push(stream));
     }
-    let ran = serve(rt, clock, folder, &listener, idle, clients.len());
+    let count = clients.iter().filter(|client| client.counts).count();
+    let ran = serve(rt, clock, folder, &listener, idle, count);
     for (stream, client) in streams.iter_mut().zip(clients) {
         if let Some(stream) = stream {
             expect_replies(rt, stream, client);
@@ -266,10 +280,10 @@ fn connections_are_served_in_turn(rt: HostRuntime) {
         client_of(&[MESSAGE], After::Ends, &[CREATED]),
         client_of(&[MESSAGE, MESSAGE], After::Ends, &[HELD, HELD]),
         client_of(&["no head\r\n\r\n", MESSAGE], After::Ends, &[BAD_HEAD]),
-        client_of(&[], After::Leaves, &[]),
+        silent_client(&[], After::Leaves),
     ];
     let ran = serve_clients(&rt, &clock_of(&rt, 0), "served", 10, clients.as_slice());
-    assert!(rt; ran.is(0, "listening on here\nserved 4 connections\n", ""));
+    assert!(rt; ran.is(0, "listening on here\nserved 3 connections\n", ""));
 }
 
 #[test]
@@ -336,22 +350,16 @@ fn what_a_stop_left_is_removed_before_the_first_connection(rt: HostRuntime) {
 }
 
 #[test]
-fn a_client_that_waits_gives_way(rt: HostRuntime) {
-    // An idle client gives way to the next one long before the idle time is over.
+fn a_client_without_a_whole_message_costs_the_others_nothing(rt: HostRuntime) {
     let clients = [
-        client_of(&[], After::Waits, &[]),
+        silent_client(&[], After::Waits),
+        silent_client(&["POST /studio/film.git"], After::Waits),
+        silent_client(&["POST /studio/film.git"], After::Ends),
+        silent_client(&[MESSAGE_BUT_ONE], After::Waits),
         client_of(&[MESSAGE], After::Ends, &[CREATED]),
     ];
     let ran = serve_clients(&rt, &clock_of(&rt, 0), "idle", 86_400, clients.as_slice());
-    assert!(rt; ran.is(0, "listening on here\nserved 2 connections\n", ""));
-    // Half a message may pause for 30 seconds, which this clock shows soon.
-    let clients = [
-        client_of(&[], After::Waits, &[]),
-        client_of(&["POST /studio/film.git"], After::Waits, &[]),
-        client_of(&[MESSAGE], After::Ends, &[CREATED]),
-    ];
-    let ran = serve_clients(&rt, &clock_of(&rt, 20), "slow", 10, clients.as_slice());
-    assert!(rt; ran.is(0, "listening on here\nserved 3 connections\n", ""));
+    assert!(rt; ran.is(0, "listening on here\nserved 1 connections\n", ""));
 }
 
 #[test]

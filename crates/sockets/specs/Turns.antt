@@ -1,5 +1,7 @@
--- Whose turn it is: which kind of caller is accepted first.
-use Rattle.std.specs.Prelude.{Option, Some, None}
+-- Whose turn it is: which kind of caller is answered first, and when a client is ready for its turn.
+use Rattle.std.specs.Prelude.{ℕ, ◌+◌, min, Bool, true, false, ◌||◌, nat_lt, nat_le, Option, Some, None}
+use Rattle.sockets.specs.declared.client.Extent.{Extent}
+use Rattle.sockets.specs.declared.client.Extent.TheVariants as extents
 use Rattle.sockets.specs.declared.queue.Kind.{Kind}
 use Rattle.sockets.specs.declared.queue.Kind.TheVariants as kinds
 use Rattle.sockets.specs.declared.queue.Caller.{Caller}
@@ -19,3 +21,18 @@ other_than kinds.Operator = kinds.Client
 abbrev pub turn_after : Kind → Option Caller → Kind
 turn_after turn None = turn
 turn_after turn (Some caller) = other_than (kind_of caller)
+
+-- how many bytes a turn hands out: those of the message, or all if they are refused
+abbrev pub turn_size : Extent → ℕ
+turn_size extents.Head = 0
+turn_size (extents.Message head body) = min (body + head) 18446744073709551615
+turn_size extents.Refused = 18446744073709551615
+
+-- whether a turn may begin with so many bytes that arrived: those of a message of at most 80 KiB have all arrived or no more
+-- will, the head of a longer message has, or the bytes are refused
+abbrev pub is_ready : Extent → Bool → ℕ → Bool
+is_ready extents.Head ended arrived = false
+is_ready (extents.Message head body) ended arrived =
+    let size = turn_size (extents.Message head body) in
+    ended || nat_lt 81920 size || nat_le size arrived
+is_ready extents.Refused ended arrived = true

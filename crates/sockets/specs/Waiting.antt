@@ -1,5 +1,5 @@
 -- How long a connection waits for its client, in nanoseconds.
-use Rattle.std.specs.Prelude.{ℕ, ◌+◌, ◌-◌, ◌*◌, ◌/◌, min, Bool, ◌&&◌, ◌||◌, nat_lt, Option, Some, None}
+use Rattle.std.specs.Prelude.{ℕ, ◌+◌, ◌-◌, ◌*◌, ◌/◌, min}
 
 -- a second, in nanoseconds
 abbrev pub second : ℕ
@@ -16,9 +16,3 @@ whole_time moved = (30 + moved / 16384) * second
 -- how long the next read or write may wait, after this time and this number of bytes
 abbrev pub allowance : ℕ → ℕ → ℕ
 allowance elapsed moved = min (whole_time moved - elapsed) grace
-
--- whether a connection may stay idle: for less than `most`; and if another client has waited for a fifth of a second,
--- for less than 50 milliseconds
-abbrev pub may_idle : ℕ → Option ℕ → ℕ → Bool
-may_idle idled None most = nat_lt idled most
-may_idle idled (Some waited) most = nat_lt idled most && (nat_lt idled 50000000 || nat_lt waited 200000000)

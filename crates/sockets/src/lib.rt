@@ -1,16 +1,19 @@
-//! The sockets of a server: where it listens, who waits to be answered, how long a connection waits for its client, and how it is closed.
+//! The sockets of a server: where it listens, whose connections it keeps, who is answered next, and how long a connection
+//! waits for its client.
 //!
 //! Nothing here knows what is said over a socket.
 #![tactic(auto)]
 
+mod client;
 mod control_socket;
-mod lingering;
 mod listening;
 mod patience;
 mod queue;
+mod room;
 
+pub use client::{Client, Extent, Framing, Front};
 pub use control_socket::ControlSocket;
-pub use lingering::linger;
 pub use listening::listen;
-pub use patience::{Announced, Course, PatientReader, PatientWriter, prepare};
+pub use patience::{Course, PatientReader, PatientWriter};
 pub use queue::{Caller, Queue};
+pub use room::{Ended, Limits};

@@ -3,22 +3,34 @@
 ghost use Rattle.std.specs.Prelude.{◌≡◌, IfOk, OnErr, IfSome};
 ghost use Rattle.sockets.specs.Turns.{kind_of, other_than, turn_after};
 
+use crate::client::{Client, Framing, Front};
+use crate::room::{Ended, Limits, ROUND, Room};
 use mio::event::Events;
 use mio::unix::SourceFd;
 use mio::{Interest, Poll, Token};
-use std::alloc::Global;
 use std::io::{self, ErrorKind};
-use std::net::{TcpListener, TcpStream};
+use std::net::TcpListener;
 use std::os::fd::AsRawFd;
 use std::os::unix::net::{UnixListener, UnixStream};
 use std::rt::HostRuntime;
-use std::time::{Duration, Instant};
+use std::time::{Clock, Duration, Instant};
+
+/// The tokens of the listeners.
+const CLIENTS: Token = Token(0);
+
+const OPERATORS: Token = Token(1);
+
+/// How many events the system reports at a time.
+const NEWS: usize = 1_024;
+
+/// The most clients that are accepted at a time.
+const ACCEPTED: u32 = 1_024;
 
 /// Who is answered next.
 #[derive(Drop)]
 pub enum Caller {
-    /// A client, who sends the messages of a connection.
-    Client(TcpStream),
+    /// A client, whose next message has arrived.
+    Client(Client),
     /// An operator, who sends a command.
     Operator(UnixStream),
 }
@@ -55,41 +67,31 @@ impl Caller {
     }
 }
 
-/// A connection that was accepted while another one was served.
-#[derive(Drop)]
-struct Waiting {
-    caller: Caller,
-    /// Since when somebody waits, without a break.
-    since: Instant,
-}
-
-/// Those who wait to be answered: at most one accepted connection, and those of the listeners.
+/// Those who wait to be answered: the connections of clients, and the operators of the listener.
 #[derive(Drop)]
 pub struct Queue<'a> {
     listener: &'a TcpListener,
     control: Option<&'a UnixListener>,
-    /// The kind that is accepted first.
+    /// The kind that is answered first.
     turn: Kind,
-    next: Option<Waiting>,
+    room: Room,
+    /// Whether further clients are accepted.
+    is_open: bool,
+    /// Whether a connection may wait at the listener of the clients, and at that of the operators.
+    clients_wait: bool,
+    operators_wait: bool,
     poll: Poll,
     events: Events,
 }
 
 /// Whether an accept that failed is tried again.
 fn is_passing(kind: ErrorKind) -> bool {
-    matches!(
-        kind,
-        ErrorKind::Interrupted | ErrorKind::WouldBlock | ErrorKind::ConnectionAborted
-    )
+    matches!(kind, ErrorKind::Interrupted | ErrorKind::ConnectionAborted)
 }
 
-/// What was accepted; `None` if nobody waits.
-fn if_waiting<T: Drop>(accepted: io::Result<T>) -> io::Result<Option<T>> {
-    match accepted {
-        Ok(accepted) => Ok(Some(accepted)),
-        Err(error) if is_passing(error.kind()) => Ok(None),
-        Err(error) => Err(error),
-    }
+/// Whether an accept failed for want of what the system has of files and memory: ENOMEM, ENFILE, EMFILE, ENOBUFS.
+fn is_shortage(error: &io::Error) -> bool {
+    matches!(error.raw_os_error(), Some(12 | 23 | 24 | 105))
 }
 
 impl<'a> Queue<'a> {
@@ -97,60 +99,100 @@ impl<'a> Queue<'a> {
     ///
     /// # Errors
     ///
-    /// Fails if the system refuses to watch the listeners.
+    /// Fails if the system refuses to watch the listeners, or if there is no memory.
     pub fn new(
         rt: &HostRuntime,
         listener: &'a TcpListener,
         control: Option<&'a UnixListener>,
+        limits: Limits,
     ) -> io::Result<Queue<'a>> {
         let poll = Poll::new(rt)?;
         listener.set_nonblocking(true)?;
         let clients = listener.as_raw_fd();
         poll.registry()
-            .register(&mut SourceFd(&clients), Token(0), Interest::READABLE)?;
+            .register(&mut SourceFd(&clients), CLIENTS, Interest::READABLE)?;
         if let Some(control) = control {
             control.set_nonblocking(true)?;
             let operators = control.as_raw_fd();
             poll.registry()
-                .register(&mut SourceFd(&operators), Token(1), Interest::READABLE)?;
+                .register(&mut SourceFd(&operators), OPERATORS, Interest::READABLE)?;
         }
-        let events = Events::with_capacity(rt.alloc(), 2)?;
         Ok(Queue {
             listener,
             control,
             turn: Kind::Operator,
-            next: None,
+            room: Room::new(rt.alloc(), limits)?,
+            is_open: true,
+            clients_wait: false,
+            operators_wait: false,
             poll,
-            events,
+            events: Events::with_capacity(rt.alloc(), NEWS)?,
         })
     }
 
-    /// Accepts a connection of this kind, if one waits.
-    fn accept_kind(&self, kind: Kind) -> io::Result<Option<Caller>>
-        ensures { IfOk result (λ found. IfSome found (λ caller. kind_of caller ≡ kind)) }
+    /// Accepts the clients that wait at the listener. If there are as many connections as there may be, or if the system
+    /// has no room for one more, that one is closed whose client has sent nothing for the longest time.
+    fn admit(&mut self, now: Instant, framing: &impl Framing) -> io::Result<()> {
+        'clients: for _ in 0..ACCEPTED {
+            if !self.is_open || !self.clients_wait || (self.room.is_full() && !self.room.evict()) {
+                return Ok(());
+            }
+            match self.listener.accept() {
+                Ok((stream, _)) => self.room.enter(&self.poll, stream, now, framing),
+                Err(error) if error.kind() == ErrorKind::WouldBlock => self.clients_wait = false,
+                Err(error) if is_passing(error.kind()) => {}
+                Err(error) if is_shortage(&error) => {
+                    if !self.room.evict() {
+                        return Ok(());
+                    }
+                }
+                Err(error) => return Err(error),
+            }
+        }
+        Ok(())
+    }
+
+    /// Accepts an operator, if one waits.
+    fn next_operator(&mut self) -> io::Result<Option<Caller>>
+        ensures kind { IfOk result (λ found. IfSome found (λ caller. kind_of caller ≡ Kind.Operator)) }
+        ensures turn { self.new.turn ≡ self.old.turn }
     {
-        match (kind, self.control) {
-            (Kind::Client, _) => {
-                let accepted = if_waiting(self.listener.accept())?;
-                Ok(accepted.map(|(stream, _)| Caller::Client(stream)))
+        let Some(control) = self.control else {
+            return Ok(None);
+        };
+        match control.accept() {
+            Ok((stream, _)) => Ok(Some(Caller::Operator(stream))),
+            Err(error) if error.kind() == ErrorKind::WouldBlock => {
+                self.operators_wait = false;
+                Ok(None)
             }
-            (Kind::Operator, Some(control)) => {
-                let accepted = if_waiting(control.accept())?;
-                Ok(accepted.map(|(stream, _)| Caller::Operator(stream)))
-            }
-            (Kind::Operator, None) => Ok(None),
+            Err(error) if is_passing(error.kind()) => Ok(None),
+            Err(error) if is_shortage(&error) && self.room.evict() => Ok(None),
+            Err(error) => Err(error),
         }
     }
 
-    /// Accepts a connection, if one waits: of the kind whose turn it is, or else of the other. Then it is the turn of the
-    /// kind that was not accepted, so neither clients nor operators wait for more than one of the others.
-    fn accept(&mut self) -> io::Result<Option<Caller>>
+    /// The next of this kind, if one is ready.
+    fn next_of(&mut self, kind: Kind) -> io::Result<Option<Caller>>
+        ensures kind { IfOk result (λ found. IfSome found (λ caller. kind_of caller ≡ kind)) }
+        ensures turn { self.new.turn ≡ self.old.turn }
+    {
+        match kind {
+            Kind::Client => Ok(self.room.take().map(Caller::Client)),
+            Kind::Operator if self.operators_wait => self.next_operator(),
+            Kind::Operator => Ok(None),
+        }
+    }
+
+    /// The next of those who are ready: of the kind whose turn it is, or else of the other. Then it is the turn of the
+    /// kind that was not answered, so neither clients nor operators wait for more than one of the others.
+    fn next(&mut self) -> io::Result<Option<Caller>>
         ensures turn { IfOk result (λ found. self.new.turn ≡ turn_after self.old.turn found) }
         ensures err { OnErr result (self.new.turn ≡ self.old.turn) }
     {
-        let found = match self.accept_kind(self.turn)? {
+        let found = match self.next_of(self.turn)? {
             Some(caller) => Some(caller),
-            None => self.accept_kind(self.turn.other())?,
+            None => self.next_of(self.turn.other())?,
         };
         if let Some(caller) = &found {
             self.turn = caller.kind().other();
@@ -158,48 +200,98 @@ impl<'a> Queue<'a> {
         Ok(found)
     }
 
-    /// Keeps a connection if one waits: `since` is since when somebody waits, if so.
-    fn keep(&mut self, since: Instant) {
-        self.next = match self.accept() {
-            Ok(Some(caller)) => Some(Waiting { caller, since }),
-            // An error is met again by the next accept that waits.
-            Ok(None) | Err(_) => None,
+    /// Looks at those of whom the system has news, and waits for some if nobody is ready.
+    fn look(&mut self, clock: &impl Clock, framing: &impl Framing) -> io::Result<()> {
+        let longest = if self.room.has_ready() || self.operators_wait {
+            Some(Duration::ZERO)
+        } else if self.room.is_empty() && !self.clients_wait {
+            None
+        } else {
+            Some(Duration::from_millis(ROUND))
         };
-    }
-
-    /// How long somebody has waited, as far as this queue knows; `None` if nobody waits.
-    pub fn waited(&mut self, now: Instant) -> Option<Duration> {
-        if self.next.is_none() {
-            self.keep(now);
-        }
-        let next = self.next.as_ref()?;
-        Some(now.duration_since(next.since))
-    }
-
-    /// Waits for a connection.
-    fn wait(&mut self) -> io::Result<Caller> {
-        'waits: for _ in 0..u64::MAX {
-            // The system reports a connection once, so it waits only after nobody was there.
-            if let Some(caller) = self.accept()? {
-                return Ok(caller);
+        self.poll.poll(&mut self.events, longest)?;
+        let now = Instant::now(clock)?;
+        for event in self.events.iter() {
+            match event.token() {
+                CLIENTS => self.clients_wait = true,
+                OPERATORS => self.operators_wait = true,
+                token => self.room.look(token, now, framing),
             }
-            self.poll.poll(&mut self.events, None)?;
+        }
+        self.admit(now, framing)?;
+        self.room.expire(now);
+        Ok(())
+    }
+
+    /// The next one to answer. Waits if nobody is ready; `None` if a connection ended that had a turn.
+    ///
+    /// # Errors
+    ///
+    /// Fails if a listener failed, and if the clock did.
+    pub fn take(
+        &mut self,
+        clock: &impl Clock,
+        framing: &impl Framing,
+    ) -> io::Result<Option<Caller>> {
+        'looks: for _ in 0..u64::MAX {
+            self.look(clock, framing)?;
+            if self.room.has_ended() {
+                return Ok(None);
+            }
+            if let Some(caller) = self.next()? {
+                return Ok(Some(caller));
+            }
         }
         Err(ErrorKind::TimedOut.into())
     }
 
-    /// The next connection. Waits if there is none.
+    /// A connection that had a turn, and ended while it waited for the next.
+    pub fn ended(&mut self) -> Option<Ended> {
+        self.room.ended()
+    }
+
+    /// Accepts no further client, and closes the connections that had no turn.
+    pub fn shut(&mut self) {
+        self.is_open = false;
+        self.room.send_away();
+    }
+
+    /// Takes a client back after a turn whose message was handed out.
     ///
     /// # Errors
     ///
-    /// Fails if a listener failed.
-    pub fn take(&mut self) -> io::Result<Caller> {
-        match self.next.take() {
-            Some(Waiting { caller, since }) => {
-                self.keep(since);
-                Ok(caller)
-            }
-            None => self.wait(),
-        }
+    /// Fails if the clock did.
+    pub fn put_back(
+        &mut self,
+        client: Client,
+        front: &Front,
+        clock: &impl Clock,
+        framing: &impl Framing,
+    ) -> io::Result<()> {
+        self.room
+            .put_back(client, front, Instant::now(clock)?, framing);
+        Ok(())
+    }
+
+    /// Closes a connection whose last reply was written. What the client still sends is read and dropped, until it has
+    /// closed its side, for at most two seconds: a close with unread bytes would reset the connection, and the client
+    /// could lose the reply.
+    ///
+    /// # Errors
+    ///
+    /// Fails if the clock did.
+    pub fn dismiss(
+        &mut self,
+        client: Client,
+        clock: &impl Clock,
+        framing: &impl Framing,
+    ) -> io::Result<()> {
+        self.room.dismiss(client, Instant::now(clock)?, framing);
+        Ok(())
+    }
+
+    /// Closes a connection at once.
+    pub fn close(&mut self, client: Client) {
+        self.room.close(client);
     }
 }

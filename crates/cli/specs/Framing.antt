@@ -1,0 +1,25 @@
+-- How long the first message of some bytes is.
+use Rattle.std.specs.Prelude.{◌≡◌, ℕ, List, ◌⊎◌, drop, Ok, Err, tt}
+use Rattle.names.specs.declared.rules.Rule.{Rule}
+use Rattle.httparse.specs.Grammar.{RequestHead}
+use Rattle.model.specs.Heads.{check_framing, content_length}
+use Rattle.model.specs.Stream.{BeginsBadly, BeginsWithHead, IsUnfinished}
+use Rattle.sockets.specs.declared.client.Extent.{Extent}
+use Rattle.sockets.specs.declared.client.Extent.TheVariants.{Head, Message, Refused}
+
+-- a rule refuses the framing of the head at the front of the bytes
+pub record HasRefusedHead (bytes : List ℕ) : Type 0 where
+  pub head : RequestHead
+  pub rest : List ℕ
+  pub rule : Rule
+  pub begins : BeginsWithHead bytes head rest
+  pub refused : check_framing head ≡ Err rule
+
+-- a part of a head; a head of so many bytes that no rule refuses, with the size of its body; or no head, or one that a rule
+-- refuses
+abbrev pub IsExtent : List ℕ → Extent → Type 0
+IsExtent bytes Head = IsUnfinished bytes
+IsExtent bytes (Message size body) =
+    (head : RequestHead) × BeginsWithHead bytes head (drop size bytes) × (check_framing head ≡ Ok tt)
+    × (body ≡ content_length head)
+IsExtent bytes Refused = BeginsBadly bytes ⊎ HasRefusedHead bytes
