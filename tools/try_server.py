@@ -1,17 +1,20 @@
 #!/usr/bin/env python3
-"""Tries `custody serve` with clients that are slow, silent or gone, with a server that is killed, and with load.
+"""Tries `custody serve` with clients that are slow, silent, busy or gone, with a server that is killed, and with load.
 
     tools/try_server.py [--program FILE] [--only NAME]... [--rounds N] [--connections N] [--requests N]
 
 Each check starts a server on a new database and a free port of this machine, prints one line with what was measured
 and its bound, and fails if the bound is not kept. The last line counts the checks; the status is 1 if one failed. It
-needs Linux and python3, and takes about three minutes: two checks wait for 30 seconds, the time that a message may
+needs Linux and python3, and takes about three minutes: one check waits for 30 seconds, the time that a reply may
 pause. Without --program it is bin/custody.
 """
 import argparse
+import collections
+import contextlib
 import json
 import os
 import random
+import resource
 import signal
 import socket
 import struct
@@ -217,7 +220,7 @@ def check_keep_alive(server, _):
 
 
 def check_one_connection(server, _):
-    """A client that pauses between its requests keeps its connection while nobody else waits."""
+    """A client that pauses between its requests keeps its connection."""
     with server.client() as client:
         for number in range(4):
             status, _ = client.ask(lock(f"art/{number}"))
@@ -243,35 +246,122 @@ def check_idle_end(server, _):
     return f"{within(waited, 1.2, 'an idle time of 1 s')}, and {used * 1e3:.1f} ms of the processor"
 
 
-def check_idle(server, _):
-    """A client beside one that is connected and sends nothing."""
-    with server.client():
-        time.sleep(0.2)
-        return within(server.time_of_lock("art/hero"), 1, "a lock beside an idle client")
+def drip(server, number, is_over):
+    """Sends a message, a byte a second."""
+    with contextlib.suppress(OSError), server.client() as client:
+        for byte in lock(f"art/slow/{number}"):
+            client.send(bytes([byte]))
+            if is_over.wait(1):
+                return
 
 
-def check_slow_sender(server, _):
-    """A client beside one that sends a byte a second."""
-    is_over = threading.Event()
+def ask_always(server, is_over, counts):
+    """Sends request after request, 20 at a time, without a pause."""
+    with server.client() as client:
+        while not is_over.is_set():
+            client.send(lock("art/busy") * 20)
+            for _ in range(20):
+                require(client.reply()[0] in (201, 409), "a busy client got something else")
+                counts["busy"] += 1
 
-    def drip():
-        with server.client() as client:
-            try:
-                for byte in lock("art/slow"):
-                    client.send(bytes([byte]))
-                    if is_over.wait(1):
-                        return
-            except OSError:
-                pass
 
-    thread = threading.Thread(target=drip)
-    thread.start()
-    time.sleep(0.5)
+def check_crowd(server, _):
+    """Locks beside clients that send nothing, half a head, a byte a second, and request after request."""
+    resource.setrlimit(resource.RLIMIT_NOFILE, (resource.getrlimit(resource.RLIMIT_NOFILE)[1],) * 2)
+    is_over, counts, times = threading.Event(), collections.Counter(), []
+    silent = [server.client() for _ in range(200)]
+    halves = [server.client() for _ in range(200)]
+    for client in halves:
+        client.send(lock("art/half")[:60])
+    threads = [threading.Thread(target=drip, args=(server, number, is_over)) for number in range(50)]
+    threads.append(threading.Thread(target=ask_always, args=(server, is_over, counts)))
+    for thread in threads:
+        thread.start()
     try:
-        return within(server.time_of_lock("art/hero"), 33, "a lock beside a slow sender")
+        time.sleep(1)
+        for number in range(50):
+            times.append(server.time_of_lock(f"art/{number}"))
+        with server.client() as client:
+            for number in range(50):
+                begun = time.monotonic()
+                require(client.ask(lock(f"art/kept/{number}"))[0] == 201, "a lock was not made")
+                times.append(time.monotonic() - begun)
     finally:
         is_over.set()
+        for thread in threads:
+            thread.join()
+    for client in silent + halves:
+        client.close()
+    median = sorted(times)[len(times) // 2]
+    require(counts["busy"] >= 20, "the busy client was not served")
+    return (f"{within(max(times), 0.1, 'the slowest of 100 locks beside 451 clients')}, the median {median * 1e3:.1f} ms; "
+            f"the busy client had {counts['busy']} replies")
+
+
+def check_late(server, _):
+    """Clients whose first byte comes some time after they connect, as those of a busy proxy may, beside busy ones."""
+    is_over, counts, faults = threading.Event(), collections.Counter(), []
+    busy = [threading.Thread(target=ask_always, args=(server, is_over, counts)) for _ in range(4)]
+
+    def ask(delay, number):
+        try:
+            for round in range(10):
+                with server.client() as client:
+                    time.sleep(delay)
+                    require(client.ask(lock(f"art/{delay}/{number}/{round}"))[0] == 201, "a lock was not made")
+                    counts["asked"] += 1
+        except (Failed, OSError) as fault:
+            faults.append(f"after {delay} s: {fault}")
+
+    delays = [0, 0.1, 0.2, 0.3, 0.4, 0.5]
+    threads = [threading.Thread(target=ask, args=(delay, number)) for delay in delays for number in range(6)]
+    for thread in busy + threads:
+        thread.start()
+    for thread in threads:
         thread.join()
+    is_over.set()
+    for thread in busy:
+        thread.join()
+    require(not faults, f"{len(faults)} failed: {faults[:3]}")
+    return f"{counts['asked']} of 360 requests, {len(threads) // len(delays) * 10} each with a first byte after {delays} s"
+
+
+def check_many(server, _):
+    """More clients than there may be connections; and more than the system allows the server."""
+    resource.setrlimit(resource.RLIMIT_NOFILE, (resource.getrlimit(resource.RLIMIT_NOFILE)[1],) * 2)
+    with contextlib.ExitStack() as open_clients:
+        first = open_clients.enter_context(server.client())
+        for _ in range(1_200):
+            open_clients.enter_context(server.client())
+        result = within(server.time_of_lock("art/hero"), 0.5, "a lock after 1,201 silent clients")
+        require(first.socket.recv(1) == b"", "the client that was silent for longest got bytes")
+    files = len(os.listdir(f"/proc/{server.child.pid}/fd"))
+    time.sleep(0.5)
+    resource.prlimit(server.child.pid, resource.RLIMIT_NOFILE, (40, 40))
+    with contextlib.ExitStack() as open_clients:
+        for _ in range(200):
+            open_clients.enter_context(server.client())
+        time.sleep(0.5)
+        return f"{result}, with {files} files; {within(server.time_of_lock('art/two'), 1, 'one with room for 40 files')}"
+
+
+def check_expiry(server, _):
+    """A token that expires while its connection is open is refused there."""
+    server.end(signal.SIGTERM)
+    policy = Path(f"{server.room}/policy.toml")
+    policy.write_text(policy.read_text().replace("token_seconds = 86400", "token_seconds = 60"))
+    Path(f"{server.room}/random").write_bytes(b"\xbb" * 32)
+    then = int(time.time()) - 57
+    words = ["authenticate", *server.files(), "--user", "ann", "--random", f"{server.room}/random", "--now", str(then)]
+    subprocess.run([server.program, *words, "studio/film", "upload"], check=True, stdout=subprocess.DEVNULL)
+    server.start()
+    with server.client() as client:
+        found = []
+        for _ in range(6):
+            found.append(client.ask(message("GET", TARGET, letter="b"))[0])
+            time.sleep(1)
+    require(found[0] == 200 and found[-1] == 401, f"the replies were {found}")
+    return f"the replies of 6 seconds over one connection were {found}"
 
 
 def check_no_reader(server, _):
@@ -398,8 +488,10 @@ CHECKS = {
     "keep-alive": check_keep_alive,
     "one-connection": check_one_connection,
     "idle-end": check_idle_end,
-    "idle": check_idle,
-    "slow-sender": check_slow_sender,
+    "crowd": check_crowd,
+    "late": check_late,
+    "many": check_many,
+    "expiry": check_expiry,
     "no-reader": check_no_reader,
     "reset": check_reset,
     "early-reply": check_early_reply,

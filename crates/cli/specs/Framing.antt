@@ -1,5 +1,5 @@
 -- How long the first message of some bytes is.
-use Rattle.std.specs.Prelude.{◌≡◌, ℕ, List, ◌⊎◌, drop, Ok, Err, tt}
+use Rattle.std.specs.Prelude.{◌≡◌, ℕ, List, ◌⊎◌, drop, Ok, Err}
 use Rattle.names.specs.declared.rules.Rule.{Rule}
 use Rattle.httparse.specs.Grammar.{RequestHead}
 use Rattle.model.specs.Heads.{check_framing, content_length}

@@ -75,11 +75,21 @@ impl State {
         self.begun
     }
 
-    /// Counts a connection that ended, and reports it if it failed.
-    fn note<E: Write>(&mut self, errors: &mut E, number: u64, end: End) {
+    /// Counts a connection that ended, and reports it if it failed; `None` for one that goes on.
+    fn note<E: Write>(&mut self, errors: &mut E, number: u64, end: Option<End>) {
+        let Some(end) = end else {
+            return;
+        };
         self.ended = self.ended.saturating_add(1);
         if is_reported(end) {
             let _ = write_end(errors, number, end);
+        }
+    }
+
+    /// The same of one that ended while it waited for its next message.
+    fn note_ended<E: Write>(&mut self, queue: &mut Queue<'_>, errors: &mut E) {
+        if let Some(ended) = queue.ended() {
+            self.note(errors, ended.number, Some(end_of(ended)));
         }
     }
 }
@@ -209,8 +219,35 @@ impl<C: Clock> ServeContext<'_, C> {
         ended.map_err(|_| Fault::Clock)
     }
 
+    /// Serves a turn of a client, and reports if its connection failed. After the first turn of as many connections as
+    /// `most`, no others are served.
+    ///
+    /// # Errors
+    ///
+    /// `Clock`.
+    fn serve_client<S: Storage, E: Write>(
+        &self,
+        store: &mut Store<S>,
+        queue: &mut Queue<'_>,
+        most: u64,
+        mut client: Client,
+        state: &mut State,
+        errors: &mut E,
+    ) -> Result<(), Fault>
+        ensures { From S.Store store.old store.new (λ world.
+            Works S.Store store.old store.new world) }
+    {
+        let number = state.number_of(&mut client);
+        if state.begun >= most {
+            queue.shut();
+        }
+        let end = self.serve_turn(store, queue, client, &mut state.unswept)?;
+        state.note(errors, number, end);
+        Ok(())
+    }
+
     /// Waits for the next caller and answers it: a turn of a client, or an operator; or takes note of a connection that
-    /// ended between two turns. After the first turn of as many connections as `most`, no others are served.
+    /// ended between two turns.
     ///
     /// # Errors
     ///
@@ -226,23 +263,18 @@ impl<C: Clock> ServeContext<'_, C> {
         ensures { From S.Store store.old store.new (λ world.
             Works S.Store store.old store.new world) }
     {
-        match queue.take(self.clock, &Messages) {
-            Ok(Some(Caller::Client(mut client))) => {
-                let number = state.number_of(&mut client);
-                if state.begun >= most {
-                    queue.shut();
-                }
-                if let Some(end) = self.serve_turn(store, queue, client, &mut state.unswept)? {
-                    state.note(errors, number, end);
-                }
+        let Ok(caller) = queue.take(self.clock, &Messages) else {
+            return Err(Fault::Network);
+        };
+        match caller {
+            Some(Caller::Client(client)) => {
+                return self.serve_client(store, queue, most, client, state, errors);
             }
-            Ok(Some(Caller::Operator(stream))) => self.answer_operator(store, &stream, errors),
-            Ok(None) => {
-                if let Some(ended) = queue.ended() {
-                    state.note(errors, ended.number, end_of(ended));
-                }
+            Some(Caller::Operator(stream)) => {
+                self.answer_operator(store, &stream, errors);
+                return Ok(());
             }
-            Err(_) => return Err(Fault::Network),
+            None => state.note_ended(queue, errors),
         }
         Ok(())
     }
@@ -268,6 +300,7 @@ impl<C: Clock> ServeContext<'_, C> {
         let mut state = State::new();
         'callers: for _ in 0..u64::MAX {
             if state.ended == most {
+                let _ = queue.settle(self.clock, &Messages);
                 return Ok(most);
             }
             self.serve_next(store, queue, most, &mut state, errors)?;

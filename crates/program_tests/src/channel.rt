@@ -13,7 +13,7 @@ use std::os::unix::net::{UnixListener, UnixStream};
 use std::rt::HostRuntime;
 use tables::Unknown;
 
-/// Serves a client that sends nothing, and an operator who sends these bytes. Returns the bytes of the reply; asserts that
+/// Serves a client that sends no head, and an operator who sends these bytes. Returns the bytes of the reply; asserts that
 /// the server reports on its error stream if there is none.
 fn call(rt: &impl Tester, host: &HostRuntime, folder: &str, request: &[u8]) -> Vec<u8> {
     let (db, policy) = (path_of(rt, folder, "db"), path_of(rt, folder, "policy"));
@@ -24,7 +24,8 @@ fn call(rt: &impl Tester, host: &HostRuntime, folder: &str, request: &[u8]) -> V
     unwrap(rt, operator.write_all(request));
     unwrap(rt, operator.shutdown(Shutdown::Write));
     let address = unwrap(rt, clients.local_addr());
-    let client = unwrap(rt, TcpStream::connect(host, address));
+    let mut client = unwrap(rt, TcpStream::connect(host, address));
+    unwrap(rt, client.write_all(b"no head\r\n\r\n"));
     unwrap(rt, client.shutdown(Shutdown::Write));
     let args = serve_args(db.as_str(), policy.as_str(), 1, 1);
     let doors = Doors {

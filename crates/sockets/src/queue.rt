@@ -256,6 +256,21 @@ impl<'a> Queue<'a> {
         self.room.send_away();
     }
 
+    /// Waits until each client whose connection was closed has closed its side, for at most two seconds.
+    ///
+    /// # Errors
+    ///
+    /// Fails if a listener or the clock did.
+    pub fn settle(&mut self, clock: &impl Clock, framing: &impl Framing) -> io::Result<()> {
+        'looks: for _ in 0..u64::MAX {
+            if self.room.is_empty() {
+                break;
+            }
+            self.look(clock, framing)?;
+        }
+        Ok(())
+    }
+
     /// Takes a client back after a turn whose message was handed out.
     ///
     /// # Errors

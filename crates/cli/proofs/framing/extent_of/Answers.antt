@@ -1,5 +1,4 @@
-use Rattle.std.proofs.Common.{refl}
-use Rattle.std.specs.Prelude.{inl, inr}
+use Rattle.std.proofs.Common.{inl, inr}
 use Rattle.cli.proofs.framing.extent_of.Goals as goal
 
 pub returns-in-Ok : goal.returns-in-Ok
@@ -13,7 +12,7 @@ pub returns-in-Err : goal.returns-in-Err
 returns-in-Err c =
     let cut = c.in-Head.ensures.cut in
     let framed = c.body_length.ensures cut.0 (c.new.ensures cut.0 (rw c.front_of.ensures cut.2)) in
-    inr (record { head = cut.0; rest = _; rule = _; begins = cut.1; refused = rw c.in-Err.is at framed; })
+    inr (record { head = cut.0; rest = _; rule = _; begins = cut.1; refused = rw c.in-Err.is at framed })
 
 pub returns-in-Bad : goal.returns-in-Bad
 returns-in-Bad c = inl c.in-Bad.ensures.cut
