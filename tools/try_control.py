@@ -163,7 +163,7 @@ def check_terminal(server, _):
 
 
 def check_idle_client(server, _):
-    """A client that idles gives way to an operator."""
+    """An operator beside a client that idles."""
     with server.client() as client:
         require(client.ask(message("POST", TARGET, {"path": "art/idle"}))[0] == 201, "no lock")
         begun = time.monotonic()
@@ -174,15 +174,9 @@ def check_idle_client(server, _):
 
 
 def ask(server, data):
-    """The reply. The server closes a connection that idles for 200 milliseconds while others wait, as it may on a busy
-    machine: then the request is sent again, at most ten times."""
-    for _ in range(10):
-        try:
-            with server.client() as client:
-                return client.ask(data)
-        except (Failed, ConnectionError) as fault:
-            found = fault
-    raise found
+    """The reply over a connection of its own."""
+    with server.client() as client:
+        return client.ask(data)
 
 
 def work(server, number, ends, faults, counts):

@@ -8,9 +8,7 @@ without a pause: a batch with an upload and its verification, a batch with a dow
 verified and released. 200 of them use nginx with examples/nginx-site in a temporary folder, over TLS and one connection
 each; 50 use the server itself, with a connection for each push, pull or lock. Every reply has to be the right one, and
 the memory of the server may not grow: its highest in the last fifth of the time is at most 8 MiB more than in the second
-fifth. No connection to nginx may break off. The server itself closes a connection that idles for 200 milliseconds while
-others wait, as those of a client do that gets no processor for so long: the client then sends its request again, and the
-reply has to be that to a request that was not carried out.
+fifth. No connection may break off.
 
 Each check prints one line: the requests, those that were refused with the status, the waits, the memory, how far the
 queue of the server's port was filled, and the kernel's counters of connections that found it full, which count those
@@ -62,8 +60,6 @@ rights = ["pull", "push", "list", "lock"]
 SIZES = [0, 100, 1_000, 5_000, 5_000, 20_000, 20_000, 70_000, 150_000]
 PROCESSES = 4
 GROWTH = 8192
-# How a connection fails that the server has closed before it read anything of a request.
-CLOSED = (http.client.RemoteDisconnected, BrokenPipeError, ConnectionResetError)
 COUNTERS = ["ListenOverflows", "ListenDrops", "TCPReqQFullDrop", "TCPSynRetrans"]
 
 
@@ -90,7 +86,7 @@ class User:
         self.name, self.token, self.connect, self.keeps = f"user-{number}", token, connect, keeps
         self.address = f"127.0.1.{number + 1}"
         self.random = random.Random(number)
-        self.connection, self.stored, self.count, self.again = None, [], 0, 0
+        self.connection, self.stored, self.count = None, [], 0
         self.times, self.refused, self.faults = collections.defaultdict(list), collections.Counter(), []
 
     def ask(self, name, method, rest, body=None, data=None, want=200):
@@ -107,18 +103,10 @@ class User:
         return json.loads(text) if name != "get" and text else text
 
     def reply(self, method, target, data):
-        """The reply. Without nginx, a request that found its connection closed is sent again."""
-        while True:
-            if self.connection is None:
-                self.connection = self.connect(self.address)
-            try:
-                self.connection.request(method, target, data, {"Authorization": f"Bearer {self.token}"})
-                return self.connection.getresponse()
-            except CLOSED:
-                if self.keeps:
-                    raise
-                self.again += 1
-                self.close()
+        if self.connection is None:
+            self.connection = self.connect(self.address)
+        self.connection.request(method, target, data, {"Authorization": f"Bearer {self.token}"})
+        return self.connection.getresponse()
 
     def batch(self, operation, oid, size):
         body = {"operation": operation, "objects": [{"oid": oid, "size": size}]}
@@ -184,7 +172,7 @@ def work(users, end, results):
         thread.start()
     for thread in threads:
         thread.join()
-    results.put([(dict(user.times), user.refused, user.faults, user.again) for user in users])
+    results.put([(dict(user.times), user.refused, user.faults) for user in users])
 
 
 def memory_of(process):
@@ -267,17 +255,16 @@ def names_of(counter):
 def report(site, found, watch):
     """The line of a check. Requires what the check promises."""
     times = collections.defaultdict(list)
-    refused, faults, again = collections.Counter(), [], 0
-    for theirs, theirs_refused, theirs_faults, theirs_again in found:
+    refused, faults = collections.Counter(), []
+    for theirs, theirs_refused, theirs_faults in found:
         for name, some in theirs.items():
             times[name] += some
-        refused, faults, again = refused + theirs_refused, faults + theirs_faults, again + theirs_again
+        refused, faults = refused + theirs_refused, faults + theirs_faults
     queue, waits = watch.end(), sorted(wait for some in times.values() for wait in some)
     (early, late), total = watch.growth(), len(waits)
     counted = ", ".join(f"{len(times[name])} {name}" for name in sorted(times))
     parts = [
         f"{len(found)} clients, {total} requests ({counted}): {len(faults)} failed, refused: {names_of(refused)}",
-        f"{again} were sent again",
         f"waits: median {waits[total // 2] * 1e3:.0f} ms, one of 100 longer than {waits[total * 99 // 100]:.2f} s, "
         f"longest {waits[-1]:.2f} s",
         f"memory {early} KiB, later {late} KiB (at most {GROWTH} more)",

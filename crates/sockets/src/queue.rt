@@ -200,9 +200,10 @@ impl<'a> Queue<'a> {
         Ok(found)
     }
 
-    /// Looks at those of whom the system has news, and waits for some if nobody is ready.
+    /// Looks at those of whom the system has news, and waits for some if there is nothing to do.
     fn look(&mut self, clock: &impl Clock, framing: &impl Framing) -> io::Result<()> {
-        let longest = if self.room.has_ready() || self.operators_wait {
+        let is_busy = self.room.has_ready() || self.room.has_ended() || self.operators_wait;
+        let longest = if is_busy {
             Some(Duration::ZERO)
         } else if self.room.is_empty() && !self.clients_wait {
             None
