@@ -11,6 +11,7 @@ pause. Without --program it is bin/custody.
 import argparse
 import collections
 import contextlib
+import hashlib
 import json
 import os
 import random
@@ -365,6 +366,28 @@ def check_expiry(server, _):
     return f"the replies of 6 seconds over one connection were {found}"
 
 
+def check_busy(server, _):
+    """Clients beside one that sends an object slowly, which holds them up for longer than they may idle."""
+    server.end(signal.SIGTERM)
+    server.idle = 2
+    server.start()
+    data, half = os.urandom(200_000), lock("art/half")
+    put = message("PUT", f"/studio/film.git/info/lfs/content/{hashlib.sha256(data).hexdigest()}",
+                  more=f"Content-Length: {len(data)}\r\n")
+    with server.client() as idle, server.client() as other, server.client() as slow:
+        require(idle.ask(lock("art/hero"))[0] == 201, "a lock was not made")
+        other.send(half[:60])
+        slow.send(put)
+        for at in range(0, len(data), 25_000):
+            slow.send(data[at : at + 25_000])
+            time.sleep(0.5)
+        require(slow.reply()[0] == 200, "the object was not stored")
+        other.send(half[60:])
+        require(other.reply()[0] == 201, "a lock in halves was not made")
+        require(idle.ask(lock("art/two"))[0] == 201, "a second lock was not made")
+    return "an object in 4 s, beside clients that may idle for 2 s"
+
+
 def check_no_reader(server, _):
     """A client beside one that sends requests and never reads."""
     with server.client() as client:
@@ -493,6 +516,7 @@ CHECKS = {
     "late": check_late,
     "many": check_many,
     "expiry": check_expiry,
+    "busy": check_busy,
     "no-reader": check_no_reader,
     "reset": check_reset,
     "early-reply": check_early_reply,

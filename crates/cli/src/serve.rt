@@ -18,8 +18,8 @@ use names::{Counted, Moment};
 use policy::Policy;
 use service::{End, Routes};
 use sockets::{
-    Caller, Client, ControlSocket, Ended, Front, Limits, PatientReader, PatientWriter, Queue,
-    listen,
+    Caller, Client, ControlSocket, Course, Ended, Front, Limits, PatientReader, PatientWriter,
+    Queue, listen,
 };
 use std::cell::Cell;
 use std::io::{self, Write};
@@ -106,7 +106,7 @@ impl<C: Clock> ServeContext<'_, C> {
         ensures { From S.Store store.old store.new (λ world.
             Works S.Store store.old store.new world) }
     {
-        let course = Cell::new(client.course());
+        let course = Cell::new(Course::new());
         let stream = client.stream();
         let mut source = Counted::new(PatientReader {
             clock: self.clock,

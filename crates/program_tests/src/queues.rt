@@ -1,7 +1,7 @@
 //! The order in which the callers of a server are answered: operators and clients in turn, clients as their messages arrive.
 
 use crate::harness::{Tester, unwrap};
-use sockets::{Caller, Client, Extent, Framing, Limits, PatientReader, Queue, listen};
+use sockets::{Caller, Client, Course, Extent, Framing, Limits, PatientReader, Queue, listen};
 use std::cell::Cell;
 use std::fs;
 use std::io::{self, Read, Write};
@@ -64,7 +64,7 @@ fn queue_of<'a>(
 fn serve(host: &HostRuntime, queue: &mut Queue<'_>, mut client: Client) -> io::Result<(u8, u64)> {
     client.number = Some(1);
     let mut front = client.begin(host.alloc())?;
-    let course = Cell::new(client.course());
+    let course = Cell::new(Course::new());
     let mut reader = PatientReader {
         clock: host,
         stream: client.stream(),

@@ -197,11 +197,6 @@ impl Client {
         &self.stream
     }
 
-    /// Since when the message of this turn arrives, and how many bytes of it did.
-    pub fn course(&self) -> Course {
-        self.course
-    }
-
     /// How many bytes a turn hands out.
     fn size(&self) -> u64
         ensures { result ≡ turn_size self.now.extent }
@@ -211,6 +206,12 @@ impl Client {
             Extent::Message { head, body } => body.saturating_add(head as u64),
             Extent::Refused => u64::MAX,
         }
+    }
+
+    /// Begins the client's times anew, since the server was busy for long.
+    pub(crate) fn forgive(&mut self, now: Instant) {
+        self.since = now;
+        self.course = self.course.anew(now);
     }
 
     /// Begins a turn: the result hands out what arrived, and the socket waits from now on.

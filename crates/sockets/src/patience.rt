@@ -74,8 +74,8 @@ pub(crate) fn is_pause(kind: ErrorKind) -> bool {
 }
 
 impl Course {
-    /// The course of a message of which nothing arrived yet.
-    pub(crate) fn new() -> Course {
+    /// The course of a turn, or of a message, of which nothing was read yet.
+    pub fn new() -> Course {
         Course::of(Activity::Message)
     }
 
@@ -96,6 +96,14 @@ impl Course {
     pub(crate) fn begun(self, now: Instant) -> Course {
         Course {
             since: Some(self.since.unwrap_or(now)),
+            ..self
+        }
+    }
+
+    /// The same, as if it had begun at this moment, if it had begun.
+    pub(crate) fn anew(self, now: Instant) -> Course {
+        Course {
+            since: self.since.map(|_| now),
             ..self
         }
     }

@@ -9,7 +9,7 @@ use mio::event::Events;
 use mio::unix::SourceFd;
 use mio::{Interest, Poll, Token};
 use std::io::{self, ErrorKind};
-use std::net::TcpListener;
+use std::net::{TcpListener, TcpStream};
 use std::os::fd::AsRawFd;
 use std::os::unix::net::{UnixListener, UnixStream};
 use std::rt::HostRuntime;
@@ -130,20 +130,39 @@ impl<'a> Queue<'a> {
         })
     }
 
+    /// Takes in a client that was accepted, in the place of the one that gives way.
+    fn welcome(
+        &mut self,
+        stream: TcpStream,
+        gives_way: Option<usize>,
+        now: Instant,
+        framing: &impl Framing,
+    ) {
+        if let Some(key) = gives_way {
+            self.room.remove(key, false);
+        }
+        self.room.enter(&self.poll, stream, now, framing);
+    }
+
     /// Accepts the clients that wait at the listener. If there are as many connections as there may be, or if the system
     /// has no room for one more, that one is closed whose client has sent nothing for the longest time.
     fn admit(&mut self, now: Instant, framing: &impl Framing) -> io::Result<()> {
         'clients: for _ in 0..ACCEPTED {
-            if !self.is_open || !self.clients_wait || (self.room.is_full() && !self.room.evict()) {
-                return Ok(());
+            let gives_way = if self.room.is_full() {
+                self.room.most_silent()
+            } else {
+                None
+            };
+            if !self.is_open || !self.clients_wait || (self.room.is_full() && gives_way.is_none()) {
+                break;
             }
             match self.listener.accept() {
-                Ok((stream, _)) => self.room.enter(&self.poll, stream, now, framing),
+                Ok((stream, _)) => self.welcome(stream, gives_way, now, framing),
                 Err(error) if error.kind() == ErrorKind::WouldBlock => self.clients_wait = false,
                 Err(error) if is_passing(error.kind()) => {}
                 Err(error) if is_shortage(&error) => {
                     if !self.room.evict() {
-                        return Ok(());
+                        break;
                     }
                 }
                 Err(error) => return Err(error),

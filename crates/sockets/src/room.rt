@@ -19,6 +19,9 @@ const LONGEST_LEAVING: u64 = 2;
 /// How often it is looked for clients that have waited for too long, in milliseconds.
 pub(crate) const ROUND: u64 = 250;
 
+/// After how long a turn the times of those who wait begin anew, in seconds.
+const LONG_TURN: u64 = 1;
+
 /// The token of the connection with key 0. Those below it are of the listeners.
 const FIRST: usize = 2;
 
@@ -148,7 +151,7 @@ impl Room {
     }
 
     /// Closes a connection, and keeps its number if it had a turn.
-    fn remove(&mut self, key: usize, is_failed: bool) {
+    pub(crate) fn remove(&mut self, key: usize, is_failed: bool) {
         if let Some(Place::Waiting(client)) = self.places.try_remove(key)
             && let Some(number) = client.number
         {
@@ -230,9 +233,8 @@ impl Room {
         }
     }
 
-    /// Closes the connection whose client has sent nothing for the longest time, of those that are not ready. Returns
-    /// whether there was one.
-    pub(crate) fn evict(&mut self) -> bool {
+    /// The connection whose client has sent nothing for the longest time, of those that are not ready.
+    pub(crate) fn most_silent(&self) -> Option<usize> {
         let mut found: Option<(usize, Instant)> = None;
         for key in 0..self.limits.connections {
             let Some(since) = self.silent_since(key) else {
@@ -243,7 +245,12 @@ impl Room {
                 _ => found = Some((key, since)),
             }
         }
-        let Some((key, _)) = found else {
+        found.map(|(key, _)| key)
+    }
+
+    /// Closes that connection. Returns whether there was one.
+    pub(crate) fn evict(&mut self) -> bool {
+        let Some(key) = self.most_silent() else {
             return false;
         };
         self.remove(key, false);
@@ -262,16 +269,30 @@ impl Room {
         }
     }
 
+    /// Begins the times of a client anew, since the server was busy for long.
+    fn forgive(&mut self, key: usize, now: Instant) {
+        match self.places.get_mut(key) {
+            Some(Place::Waiting(client)) => client.forgive(now),
+            Some(Place::Leaving(client)) => client.forgive(now),
+            _ => {}
+        }
+    }
+
     /// Closes the connections that have waited for too long. Most calls return at once: it is looked for them four times
     /// a second.
     pub(crate) fn expire(&mut self, now: Instant) {
-        let round = Duration::from_millis(ROUND);
-        match self.round {
-            Some(last) if now.duration_since(last) < round => return,
-            _ => self.round = Some(now),
+        let busy = match self.round {
+            Some(last) => now.duration_since(last),
+            None => Duration::ZERO,
+        };
+        if self.round.is_some() && busy < Duration::from_millis(ROUND) {
+            return;
         }
+        self.round = Some(now);
         for key in 0..self.limits.connections {
-            if self.is_late(key, now) {
+            if busy >= Duration::from_secs(LONG_TURN) {
+                self.forgive(key, now);
+            } else if self.is_late(key, now) {
                 self.remove(key, false);
             }
         }
