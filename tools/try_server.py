@@ -399,18 +399,17 @@ def check_no_reader(server, _):
     silent.connect(("127.0.0.1", server.port))
     silent.setblocking(False)
     wanted = message("GET", TARGET + "?limit=100") * 2000
-    begun = time.monotonic()
-    while wanted and time.monotonic() - begun < 2:
-        try:
-            wanted = wanted[silent.send(wanted):]
-        except BlockingIOError:
-            time.sleep(0.01)
+    begun, worst, count = time.monotonic(), 0, 0
     try:
-        result = within(server.time_of_lock("art/hero"), 35, "a lock beside a client that never reads")
+        while "WriteFailed" not in server.errors() and time.monotonic() - begun < 60:
+            with contextlib.suppress(BlockingIOError):
+                wanted = wanted[silent.send(wanted):]
+            worst = max(worst, server.time_of_lock(f"art/beside/{count}"))
+            count += 1
     finally:
         silent.close()
     require("WriteFailed" in server.errors(), "the failed write was not reported")
-    return result
+    return within(worst, 35, f"the slowest of {count} locks beside a client that never reads")
 
 
 def check_reset(server, _):
