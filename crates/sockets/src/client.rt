@@ -5,7 +5,7 @@ ghost use Rattle.sockets.specs.Turns.{is_ready, turn_size};
 
 use crate::patience::{Course, is_pause};
 use std::alloc::{AllocError, Global};
-use std::io::{self, Cursor, Read};
+use std::io::{self, Cursor, ErrorKind, Read};
 use std::mem;
 use std::net::{Shutdown, TcpStream};
 use std::time::{Duration, Instant};
@@ -122,7 +122,8 @@ impl Client {
 
     /// Whether a turn may begin.
     pub(crate) fn is_ready(&self) -> bool
-        ensures { result ≡ is_ready self.now.extent self.now.has_ended (length self.now.arrived.items) }
+        ensures { result ≡ is_ready self.now.extent self.now.has_ended
+            (length self.now.arrived.items) }
     {
         match self.extent {
             Extent::Head => false,
@@ -170,6 +171,7 @@ impl Client {
                         return Progress::Failed;
                     }
                 }
+                Err(error) if error.kind() == ErrorKind::Interrupted => {}
                 Err(error) if is_pause(error.kind()) => return Progress::Waiting,
                 Err(_) => return Progress::Failed,
             }

@@ -173,7 +173,8 @@ impl<'a> Queue<'a> {
 
     /// Accepts an operator, if one waits.
     fn next_operator(&mut self) -> io::Result<Option<Caller>>
-        ensures kind { IfOk result (λ found. IfSome found (λ caller. kind_of caller ≡ Kind.Operator)) }
+        ensures kind { IfOk result (λ found. IfSome found
+            (λ caller. kind_of caller ≡ Kind.Operator)) }
         ensures turn { self.new.turn ≡ self.old.turn }
     {
         let Some(control) = self.control else {
