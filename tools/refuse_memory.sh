@@ -61,6 +61,7 @@ outcomes() {
     rt try --test --fail-alloc "$2" >"$room/log" 2>&1 || true
     awk '/^test memory::/ { name = $2; sub("memory::", "", name); waits = 1; next }
         waits && /^test result/ { exit }
+        waits && /an answer is an error/ { print name, "Unmade"; waits = 0; next }
         waits { print name, /Before|Answered|Refused|SyncFailed|BrokenOff|After/ ? $1 : "Neither"; waits = 0 }' "$room/log" >"$room/some"
     if [ "$(wc -l <"$room/some")" -ne "$(wc -l <"$1")" ]; then
         tail -n 20 "$room/log" >&2
@@ -116,6 +117,9 @@ awk '
                 if (number[name, "SyncFailed", k]) line = line ", and after a failed sync: " number[name, "SyncFailed", k]
                 if (number[name, "BrokenOff", k]) line = line ", its content broken off: " number[name, "BrokenOff", k]
             }
+            # The arguments of a call are made between two calls, by the test.
+            if (name == "Calls") line = line "; arguments not made: " total[name, "Unmade"] + 0
+            else total[name, "Neither"] += total[name, "Unmade"]
             print line "; before the first message " total[name, "Before"] + 0 ", after the connection " total[name, "After"] + 0 "; none of these " total[name, "Neither"] + 0
             if (total[name, "Neither"] || total[name, "Before"] != 1 || total[name, "After"] != 1) failed = 1
         }
