@@ -198,7 +198,10 @@ fn follow(rt: &impl Tester, host: &HostRuntime, listeners: Listeners<'_>, steps:
     let mut clients = Vec::new(rt.alloc());
     let mut record = Vec::new(rt.alloc());
     let mut rest = steps.0;
-    while let Some(letter) = rest.bytes().next() {
+    for _ in 0..steps.0.len() {
+        let Some(letter) = rest.bytes().next() else {
+            break;
+        };
         rest = rest.get(1..).unwrap_or("");
         match letter {
             b'!' => unwrap(rt, record.push(unwrap(rt, take(host, &mut queue)).0)),
