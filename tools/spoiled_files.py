@@ -4,6 +4,7 @@ The good one has three repositories with objects of no byte to three chunks, loc
 expired one, and two names that were removed for good. Its first half is in the file, and the rest in the log, as a
 program that was killed leaves them. What was stored after each request is kept too, and the files of some moments.
 """
+import contextlib
 import hashlib
 import random
 import shutil
@@ -114,12 +115,19 @@ class Good:
     pages: dict = field(default_factory=dict)
 
 
-def rows_of(folder):
-    """The rows of each table, by Python's sqlite3 on a copy, or None if it cannot read one of them."""
+@contextlib.contextmanager
+def copied(folder):
+    """A connection of Python's sqlite3 to a copy of the database."""
     with tempfile.TemporaryDirectory(dir=MEMORY) as copy:
         for file in Path(folder).glob("db*"):
             shutil.copy(file, copy)
-        base = sqlite3.connect(f"{copy}/db")
+        with contextlib.closing(sqlite3.connect(f"{copy}/db")) as base:
+            yield base
+
+
+def rows_of(folder):
+    """The rows of each table, or None if sqlite3 cannot read one of them."""
+    with copied(folder) as base:
         base.text_factory = bytes
         try:
             if not base.execute("SELECT * FROM sqlite_schema").fetchall():
@@ -127,36 +135,24 @@ def rows_of(folder):
             return {table: frozenset(base.execute(f"SELECT * FROM {table}").fetchall()) for table in TABLES}
         except (sqlite3.Error, UnicodeError):
             return None
-        finally:
-            base.close()
 
 
 def is_sound(folder):
-    """Whether `PRAGMA integrity_check` finds nothing in a copy of the database."""
-    with tempfile.TemporaryDirectory(dir=MEMORY) as copy:
-        for file in Path(folder).glob("db*"):
-            shutil.copy(file, copy)
-        base = sqlite3.connect(f"{copy}/db")
+    """Whether `PRAGMA integrity_check` finds nothing."""
+    with copied(folder) as base:
         try:
             return base.execute("PRAGMA integrity_check").fetchall() == [("ok",)]
         except (sqlite3.Error, UnicodeError):
             return False
-        finally:
-            base.close()
 
 
 def pages_of(folder):
-    """The table or index of each page of a copy of the database; pages of none are not in it."""
-    with tempfile.TemporaryDirectory(dir=MEMORY) as copy:
-        for file in Path(folder).glob("db*"):
-            shutil.copy(file, copy)
-        base = sqlite3.connect(f"{copy}/db")
+    """The table or index of each page of the database; pages of none are not in it."""
+    with copied(folder) as base:
         try:
             return dict(base.execute("SELECT pageno, name || ', ' || pagetype FROM dbstat").fetchall())
         except sqlite3.Error as fault:
             return stop(f"Python's sqlite3 has no dbstat: {fault}")
-        finally:
-            base.close()
 
 
 class Maker:

@@ -29,19 +29,18 @@ other. Each is answered as soon as it has arrived.
 The status is 0 if the input ended or the server closed the connection, 1 if the policy or the \
 database was refused or reading or writing failed, and 2 if the arguments are wrong.";
 
-const SERVE_ABOUT: &str = "Serves connections to a TCP address, one after the other";
+const SERVE_ABOUT: &str = "Serves connections to a TCP address, one message after the other";
 
 const SERVE_LONG_ABOUT: &str = "\
-Serves connections to a TCP address, one after the other.
+Serves connections to a TCP address, one message after the other.
 
-Each connection has the moment of the clock at which it begins to be served. The command prints \
-\"listening on ADDR\" as soon as clients can connect, and runs until it is ended, or until as many \
-connections were served as --requests says. It may be ended at any time: each change that a reply \
-reports is on the disk.
+A message has its turn when it has arrived, with the moment of the clock at which the turn begins. \
+Until then its client costs the others nothing. The command prints \"listening on ADDR\" as soon as \
+clients can connect, and runs until it is ended, or until as many connections were served as \
+--requests says. It may be ended at any time: each change that a reply reports is on the disk.
 
-A client may idle between two requests for --idle seconds, and for a fifth of a second once \
-another one waits. A connection that fails is reported on the error stream, and the next one is \
-served.
+A client may idle between two requests for --idle seconds. A connection that fails is reported on \
+the error stream, and the next message is served.
 
 The status is 0 after the last connection, 1 if the policy, the address or the database was \
 refused, and 2 if the arguments are wrong.";

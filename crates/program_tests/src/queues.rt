@@ -8,7 +8,7 @@ use std::io::{self, Read, Write};
 use std::net::{Shutdown, TcpListener, TcpStream};
 use std::os::unix::net::{UnixListener, UnixStream};
 use std::rt::HostRuntime;
-use std::time::Duration;
+use std::time::{Clock, Duration};
 
 /// Messages of a letter, the number of bytes of the body, the end of the line, and the body.
 #[derive(Clone, Copy)]
@@ -43,7 +43,7 @@ struct Listeners<'a> {
     operators: Option<&'a UnixListener>,
 }
 
-/// A queue of so many connections.
+/// A queue that keeps at most this many connections.
 fn queue_of<'a>(
     rt: &impl Tester,
     host: &HostRuntime,
@@ -51,7 +51,7 @@ fn queue_of<'a>(
     connections: usize,
 ) -> Queue<'a> {
     let limits = Limits {
-        idle: Duration::from_secs(60),
+        idle: Duration::from_secs(30),
         connections,
     };
     unwrap(
@@ -61,7 +61,12 @@ fn queue_of<'a>(
 }
 
 /// Reads the message of a client's turn, and ends the turn. Returns the message's letter and its size.
-fn serve(host: &HostRuntime, queue: &mut Queue<'_>, mut client: Client) -> io::Result<(u8, u64)> {
+fn serve(
+    host: &HostRuntime,
+    clock: &impl Clock,
+    queue: &mut Queue<'_>,
+    mut client: Client,
+) -> io::Result<(u8, u64)> {
     client.number = Some(1);
     let mut front = client.begin(host.alloc())?;
     let course = Cell::new(Course::new());
@@ -73,14 +78,14 @@ fn serve(host: &HostRuntime, queue: &mut Queue<'_>, mut client: Client) -> io::R
     };
     let mut message = Vec::new(host.alloc());
     let size = reader.read_to_end(&mut message)?;
-    queue.put_back(client, &front, host, &Letters)?;
+    queue.put_back(client, &front, clock, &Letters)?;
     Ok((message.first().copied().unwrap_or(b'?'), size as u64))
 }
 
 /// Answers the next caller. Returns the letter of its message and its size; a minus sign for a connection that ended.
 fn take(host: &HostRuntime, queue: &mut Queue<'_>) -> io::Result<(u8, u64)> {
     match queue.take(host, &Letters)? {
-        Some(Caller::Client(client)) => serve(host, queue, client),
+        Some(Caller::Client(client)) => serve(host, host, queue, client),
         Some(Caller::Operator(mut stream)) => {
             let mut letter = [0];
             stream.read_exact(&mut letter)?;
@@ -247,6 +252,64 @@ fn a_head_that_arrives_byte_by_byte_holds_nobody_up(rt: HostRuntime) {
     }
     unwrap(&rt, slow.write_all(b"\n"));
     assert!(&rt; unwrap(&rt, take(&rt, &mut queue)) == (b'a', LONGEST));
+}
+
+/// A clock that runs 200 milliseconds ahead at each look.
+#[derive(Drop)]
+struct FastClock<'a> {
+    host: &'a HostRuntime,
+    looks: Cell<u64>,
+}
+
+impl Clock for FastClock<'_> {
+    fn monotonic(&self) -> io::Result<Duration> {
+        let looks = self.looks.get().saturating_add(1);
+        self.looks.set(looks);
+        let ahead = Duration::from_millis(looks.saturating_mul(200));
+        Ok(self.host.monotonic()?.saturating_add(ahead))
+    }
+
+    fn since_1970(&self) -> io::Result<Duration> {
+        self.host.since_1970()
+    }
+}
+
+/// The number of messages of another client, two looks at the clock each, before a client is closed that sends this after
+/// its first message, and nothing more. The other has 100 messages at most.
+fn messages_before_the_end(rt: &impl Tester, host: &HostRuntime, beginning: &[u8]) -> usize {
+    let listener = unwrap(rt, listen(host, "127.0.0.1:0"));
+    let listeners = Listeners {
+        clients: &listener,
+        operators: None,
+    };
+    let mut queue = queue_of(rt, host, listeners, 3);
+    let mut client = connect(rt, host, &listener);
+    let mut other = connect(rt, host, &listener);
+    unwrap(rt, client.write_all(b"a0\n"));
+    unwrap(rt, take(host, &mut queue));
+    unwrap(rt, client.write_all(beginning));
+    let clock = FastClock {
+        host,
+        looks: Cell::new(0),
+    };
+    for count in 0..100 {
+        unwrap(rt, other.write_all(b"b0\n"));
+        let Some(Caller::Client(turn)) = unwrap(rt, queue.take(&clock, &Letters)) else {
+            assert!(rt; queue.ended().is_some());
+            return count;
+        };
+        unwrap(rt, serve(host, &clock, &mut queue, turn));
+    }
+    100
+}
+
+#[test]
+fn a_client_that_sends_nothing_more_is_closed(rt: HostRuntime) {
+    // 30 seconds are 75 messages of the other, or fewer on a slow machine.
+    for beginning in [b"".as_slice(), b"a".as_slice()] {
+        let count = messages_before_the_end(&rt, &rt, beginning);
+        assert!(rt; count > 40 && count < 77, "{count}");
+    }
 }
 
 /// More clients than the 128 for which a listener usually has room.

@@ -28,8 +28,8 @@ turn_size extents.Head = 0
 turn_size (extents.Message head body) = min (body + head) 18446744073709551615
 turn_size extents.Refused = 18446744073709551615
 
--- whether a turn may begin with so many bytes that arrived: those of a message of at most 80 KiB have all arrived or no more
--- will, the head of a longer message has, or the bytes are refused
+-- whether a turn may begin after n bytes have arrived: they begin with a message of at most 80 KiB that is complete or whose
+-- client has ended, with the complete head of a longer message, or with what is refused
 abbrev pub is_ready : Extent → Bool → ℕ → Bool
 is_ready extents.Head ended arrived = false
 is_ready (extents.Message head body) ended arrived =

@@ -1,6 +1,7 @@
 //! A client's connection between its turns: what has arrived of its next message, and how long the rest may take.
 
-ghost use Rattle.std.specs.Prelude.{◌≡◌, length, min, nat_eq};
+ghost use Rattle.std.specs.Prelude.{◌≡◌, length, min, nat_eq, IfOk};
+ghost use Rattle.std.specs.Io.Cursor.{cursor_inner, cursor_position};
 ghost use Rattle.sockets.specs.Turns.{is_ready, turn_size};
 
 use crate::patience::{Course, is_pause};
@@ -210,7 +211,7 @@ impl Client {
         }
     }
 
-    /// Begins the client's times anew, since the server was busy for long.
+    /// Starts the waiting time again, since the server was busy for long.
     pub(crate) fn forgive(&mut self, now: Instant) {
         self.since = now;
         self.course = self.course.anew(now);
@@ -221,7 +222,11 @@ impl Client {
     /// # Errors
     ///
     /// Fails if the system refuses to set the option of the socket.
-    pub fn begin(&mut self, alloc: Global) -> io::Result<Front> {
+    pub fn begin(&mut self, alloc: Global) -> io::Result<Front>
+        ensures size { IfOk result (λ front. front.left ≡ turn_size self.old.extent) }
+        ensures bytes { IfOk result (λ front. cursor_inner front.arrived ≡ self.old.arrived) }
+        ensures start { IfOk result (λ front. cursor_position front.arrived ≡ 0) }
+    {
         self.stream.set_nonblocking(false)?;
         let arrived = mem::replace(&mut self.arrived, Vec::new(alloc));
         Ok(Front {

@@ -16,10 +16,10 @@ use std::time::{Duration, Instant};
 /// How long a client whose connection was closed may take to close its side, in seconds.
 const LONGEST_LEAVING: u64 = 2;
 
-/// How often it is looked for clients that have waited for too long, in milliseconds.
+/// How often clients that have waited for too long are looked for, in milliseconds.
 pub(crate) const ROUND: u64 = 250;
 
-/// After how long a turn the times of those who wait begin anew, in seconds.
+/// The length of a turn after which the waiting times of all clients start again, in seconds.
 const LONG_TURN: u64 = 1;
 
 /// The token of the connection with key 0. Those below it are of the listeners.
@@ -64,7 +64,7 @@ pub(crate) struct Room {
     /// Those that had a turn, and ended in the room.
     ended: VecDeque<Ended>,
     limits: Limits,
-    /// When it was last looked for clients that have waited for too long.
+    /// When clients that have waited for too long were last looked for.
     round: Option<Instant>,
 }
 
@@ -269,7 +269,7 @@ impl Room {
         }
     }
 
-    /// Begins the times of a client anew, since the server was busy for long.
+    /// Starts the waiting time of a client again, since the server was busy for long.
     fn forgive(&mut self, key: usize, now: Instant) {
         match self.places.get_mut(key) {
             Some(Place::Waiting(client)) => client.forgive(now),
@@ -278,8 +278,8 @@ impl Room {
         }
     }
 
-    /// Closes the connections that have waited for too long. Most calls return at once: it is looked for them four times
-    /// a second.
+    /// Closes the connections that have waited for too long. It looks for them four times a second, so most calls return
+    /// at once.
     pub(crate) fn expire(&mut self, now: Instant) {
         let busy = match self.round {
             Some(last) => now.duration_since(last),

@@ -16,3 +16,8 @@ returns-in-Err c =
 
 pub returns-in-Bad : goal.returns-in-Bad
 returns-in-Bad c = inl c.in-Bad.ensures.cut
+
+pub returns-in-Unfinished : goal.returns-in-Unfinished
+returns-in-Unfinished c =
+    let cut = c.in-Unfinished.ensures.cut in
+    (record { none = cut.0; short = cut.1 }, cut.2)
