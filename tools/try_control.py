@@ -85,6 +85,38 @@ def check_only_the_user(server, _):
     return "mode 0600"
 
 
+# What the calls of a start do to the socket, in their order.
+MAKING = ["mkdir 0700", "bind", "chmod 0600", "link", "unlink", "rmdir"]
+
+
+def making_calls(trace, name):
+    """The calls of a trace that are about files with this name, without a path."""
+    for line in trace.splitlines():
+        if name in line and " = 0" in line:
+            call = line.split("(")[0].split()[-1].removesuffix("at")
+            mode = [word.rstrip(")") for word in line.split(" = ")[0].split(", ") if call in ("mkdir", "chmod")][-1:]
+            yield " ".join(["rmdir" if "AT_REMOVEDIR" in line else call.replace("fchmod", "chmod"), *mode])
+
+
+def check_never_open(server, _):
+    """With a umask of 0, the socket has its mode before it has its name: the calls of a start, as strace lists them."""
+    require(has_command("strace"), "strace is not installed")
+    server.end(signal.SIGKILL)
+    os.unlink(socket_of(server))
+    trace = f"{socket_of(server)}.trace"
+    words = [server.program, "serve", *server.files(), "--listen", "127.0.0.1:0", "--control", socket_of(server)]
+    calls = "trace=mkdir,mkdirat,bind,chmod,fchmodat,link,linkat,unlink,unlinkat,rmdir"
+    with subprocess.Popen(["strace", "-f", "-e", calls, "-o", trace, *words], stdout=subprocess.PIPE, umask=0) as ran:
+        require(ran.stdout.readline().startswith(b"listening on "), "it did not start")
+        mode = stat.S_IMODE(os.stat(socket_of(server)).st_mode)
+        subprocess.run(["pkill", "-KILL", "-P", str(ran.pid)], check=False)
+    made = list(making_calls(Path(trace).read_text(), Path(socket_of(server)).name))
+    require((made, mode) == (MAKING, 0o600), f"{made}, {mode:o}")
+    os.unlink(trace)
+    server.start()
+    return f"with a umask of 0: {', '.join(made)}"
+
+
 def check_stale(server, _):
     """A socket that a killed server left is replaced; a file of another kind is left, and the server does not start."""
     server.end(signal.SIGKILL)
@@ -295,6 +327,7 @@ def controlled(check):
 CHECKS = {
     "same-words": controlled(check_same_words),
     "only-the-user": controlled(check_only_the_user),
+    "never-open": controlled(check_never_open),
     "stale": controlled(check_stale),
     "no-server": controlled(check_no_server),
     "silent": controlled(check_silent),
