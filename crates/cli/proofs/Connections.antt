@@ -1,20 +1,24 @@
 -- A connection that was served, as steps of a run.
-use Rattle.std.specs.Prelude.{⊤}
-use Rattle.std.proofs.Common.{◌≡◌, ◌⊎◌, inl, inr, ℕ, Option, Result, Ok, Err, MatchResult, List, [], ◌∷◌, map, refl, sym, ap, subst}
+use Rattle.std.proofs.lemmas.List.Elements.{All-from_recursion}
+use Rattle.std.specs.Prelude.{⊤, IsTrue, OnOk}
+use Rattle.std.proofs.Common.{false, true, Result, Ok, Err, ◌≡◌, ◌⊎◌, inl, inr, ℕ, Option, List, [], ◌∷◌, map, refl, sym, ap, subst}
 use Rattle.sqlite_trees.specs.declared.store.Store.{Ghosts}
 use Rattle.model.specs.World.{World}
-use Rattle.model.specs.Cases.{Setting}
 use Rattle.model.specs.Steps.{Event, exchanged, Run}
 use Rattle.model.specs.Bounds.{Bound, next_world, bound_after, bound_of_run}
+use Rattle.policy.specs.declared.policies.Policy.{Policy}
+use Rattle.desk.specs.Asking.{setting_of}
 use Rattle.tables.specs.declared.Store.{Store}
-use Rattle.refinement.specs.Left.{IsBoundedBy, From}
-use Rattle.refinement.proofs.Leading.{from_weaker}
-use Rattle.tokens.specs.declared.requests.TokenRequest.{TokenRequest}
-use Rattle.tokens.specs.Issuing.{Issues}
+use Rattle.refinement.specs.Left.{IsBoundedBy}
 use Rattle.service.specs.declared.ends.Served.{Served}
-use Rattle.service.specs.Served.{IsServed, IsUnserved}
-use Rattle.operator.specs.Works.{takes, steps_of, bound_of_works, Works}
-use Rattle.operator.proofs.Working.{works_still, works_takes}
+use Rattle.service.specs.Served.{IsCountedAs, IsServed, IsUnserved}
+use Rattle.service.specs.declared.ends.End.{End}
+use Rattle.service.specs.declared.ends.End.TheVariants.{InputEnded, Closed, StoreRefused, ReadFailed, WriteFailed, StoreFailed}
+use Rattle.cli.specs.Statuses.{is_good}
+use Rattle.cli.specs.declared.faults.Fault.{Fault}
+use Rattle.operator.specs.Works.{takes, steps_of, bound_of_works}
+use Rattle.operator.proofs.Working.{still_steps, works_still}
+use Rattle.cli.specs.Jobs.{Converses}
 
 -- the steps of calls that each take one
 steps_taken : (events : List Event) → steps_of (map takes events) ≡ events
@@ -28,23 +32,37 @@ bound_taken world (event ∷ events) bound = bound_taken (next_world world event
 
 module _ {S : Type 0} (g : Ghosts S) where
   -- a connection leads the store by the steps of its exchanges, or by none
-  pub works_served : (C : List ℕ → Type 0) (F R : Type 0) (setting : Setting) (was is : Option (List ℕ)) (a b : Store S) (world : World) (served : Served)
-      → ((bytes : List ℕ) × C bytes × IsServed g setting bytes world a b was is served) ⊎ (F × R × IsUnserved g setting world a b was is served) → Works g a b world
-  works_served C F R setting was is a b world served (inl (bytes, _, s)) =
+  pub converses : (C : List ℕ → Type 0) (F R : Type 0) (policy : Policy) (now : ℕ) (was is : Option (List ℕ)) (a b : Store S) (world : World) (served : Served)
+      → ((bytes : List ℕ) × C bytes × IsServed g (setting_of policy now) bytes world a b was is served) ⊎ (F × R × IsUnserved g (setting_of policy now) world a b was is served) → Converses g policy now a b world
+  converses C F R policy now was is a b world served (inl (bytes, _, s)) =
       let events = map exchanged s.exchanges in
       record {
-        works = map takes events;
-        kept = s.kept;
-        run = subst (λ (l : List Event). Run world l s.kept) (sym (steps_taken events)) s.session.run;
-        leads = record {
-          holds = s.leads.holds;
-          left = λ bound was. subst (IsBoundedBy g b) (sym (bound_taken world events bound)) (s.leads.left bound was);
+        exchanges = s.exchanges;
+        under = s.session.under;
+        done = record {
+          works = map takes events;
+          kept = s.kept;
+          run = subst (λ (l : List Event). Run world l s.kept) (sym (steps_taken events)) s.session.run;
+          leads = record {
+            holds = s.leads.holds;
+            left = λ bound was. subst (IsBoundedBy g b) (sym (bound_taken world events bound)) (s.leads.left bound was);
+          };
         };
+        steps = steps_taken events;
       }
-  works_served C F R setting was is a b world served (inr (_, _, u)) = works_still g a b world u.leads
+  converses C F R policy now was is a b world served (inr (_, _, u)) = record {
+    exchanges = [];
+    under = All-from_recursion (λ e. e.setting ≡ setting_of policy now) [] tt;
+    done = works_still g a b world u.leads;
+    steps = still_steps g a b world u.leads;
+  }
 
-  -- a token is issued, or not
-  pub from_issued : {E : Type 0} (a b : Store S) (r : Result ⊤ E)
-      → From g a b (λ world. MatchResult r (λ _. (request : TokenRequest) × (text : List ℕ) × Issues g world a b request text) (λ _. Works g a b world)) → From g a b (Works g a b)
-  from_issued a b (Ok u) p = from_weaker g a b _ _ (λ world d. works_takes g a b world _ _ d.2.takes) p
-  from_issued a b (Err e) p = p
+-- a connection that ended well has written all that it had to
+pub good_written : (old new : ℕ) (end : End) (r : Result ⊤ Fault) → IsCountedAs old new end → OnOk r (IsTrue (is_good end)) → OnOk r (new ≡ old)
+good_written old new InputEnded (Ok u) counted good = counted
+good_written old new Closed (Ok u) counted good = counted
+good_written old new StoreRefused (Ok u) counted good = counted
+good_written old new StoreFailed (Ok u) counted good = counted
+good_written old new ReadFailed (Ok u) counted good = counted
+good_written old new WriteFailed (Ok u) counted good = absurd (let e : false ≡ true = good in cc)
+good_written old new end (Err e) counted good = tt

@@ -1,1 +1,4 @@
 mod Connections
+mod Jobs
+mod Swept
+mod Commands

@@ -51,5 +51,5 @@ row_line row (Some earlier) =
 
 -- the line of a database that was migrated, or had version 2 already
 abbrev pub migrated_line : Migrated → List ℕ
-migrated_line From1 = codes "migrated from version 1"
-migrated_line Already = codes "already version 2"
+migrated_line From1 = codes "migrated from version 1" ++ 10 ∷ []
+migrated_line Already = codes "already version 2" ++ 10 ∷ []

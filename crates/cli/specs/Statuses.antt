@@ -19,7 +19,7 @@ use Rattle.operator.specs.declared.paths.PathsFault.TheVariants as paths
 use Rattle.control.specs.declared.status.Status.{Status}
 use Rattle.control.specs.declared.status.Status.TheVariants.{Good, Refused, Invalid}
 use Rattle.cli.specs.declared.faults.Fault.{Fault}
-use Rattle.cli.specs.declared.faults.Fault.TheVariants.{Arguments, Value, BadPath, TooManyPaths, InputTooLong, NoMessage, NoCaller, NoObject, Clock, PolicyFile, Policy, PolicyDescribed, Repository, Random, Network, UnknownSchema, Store, Token, Memory, Output, Session, Control, Operator, Request, Reported}
+use Rattle.cli.specs.declared.faults.Fault.TheVariants.{Arguments, Value, BadPath, TooManyPaths, InputTooLong, NoMessage, NoCaller, NoObject, Clock, PolicyFile, Policy, PolicyDescribed, Repository, Random, Network, UnknownSchema, Store, Token, Memory, Output, Session, Control, Operator, Request, Reported, ReportedInvalid}
 
 -- invalid for a fault of the arguments, of the paths, of a request or of its size, the status that was reported, else refused
 abbrev pub status_of : Fault → Status
@@ -47,7 +47,8 @@ status_of Output = Refused
 status_of (Session _) = Refused
 status_of Control = Refused
 status_of Operator = Refused
-status_of (Reported status) = status
+status_of Reported = Refused
+status_of ReportedInvalid = Invalid
 
 -- good if the command ended without a fault
 abbrev pub status_of_end : {A : Type 0} → Result A Fault → Status
@@ -84,7 +85,7 @@ of_task task.NoCaller = NoCaller
 of_task task.NoObject = NoObject
 of_task task.Memory = Memory
 of_task task.Output = Output
-of_task task.Reported = Reported Refused
+of_task task.Reported = Reported
 
 -- lines that are not the paths of a push, or memory ran out
 abbrev pub of_paths : PathsFault → Fault

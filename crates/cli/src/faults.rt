@@ -14,7 +14,7 @@ use thiserror::Error;
 use tokens::TokenFault;
 
 /// Why the program ends with a status other than 0. Each prints one line; the first prints the text of `clap`,
-/// `PolicyDescribed` two lines, and the last none.
+/// `PolicyDescribed` two lines, and the last two none.
 #[derive(Debug, Drop, Error)]
 pub enum Fault {
     /// The arguments are not a command. The text is `clap`'s, with its own line ends.
@@ -89,14 +89,17 @@ pub enum Fault {
     /// The server was asked for something that is not a command, or a command that it does not do.
     #[error("custody: bad request")]
     Request,
-    /// What is wrong was reported already, with this status.
+    /// What is wrong was reported already.
     #[error("reported")]
-    Reported(Status),
+    Reported,
+    /// The server reported that the words or the input are invalid.
+    #[error("reported as invalid")]
+    ReportedInvalid,
 }
 
 impl Fault {
-    /// The exit status: `Invalid` for arguments, their values and the lines of the input, the status that was reported, and
-    /// else `Refused`.
+    /// The exit status: `Invalid` for arguments, their values and the lines of the input, here or at the server, and else
+    /// `Refused`.
     pub fn status(&self) -> Status
         ensures { result ≡ status_of self.now }
     {
@@ -119,7 +122,8 @@ impl Fault {
             Fault::Session(_) => Status::Refused,
             Fault::Control => Status::Refused,
             Fault::Operator => Status::Refused,
-            Fault::Reported(status) => *status,
+            Fault::Reported => Status::Refused,
+            Fault::ReportedInvalid => Status::Invalid,
         }
     }
 }
@@ -191,7 +195,7 @@ impl From<TaskFault> for Fault {
             TaskFault::NoObject => Fault::NoObject,
             TaskFault::Memory => Fault::Memory,
             TaskFault::Output => Fault::Output,
-            TaskFault::Reported => Fault::Reported(Status::Refused),
+            TaskFault::Reported => Fault::Reported,
         }
     }
 }

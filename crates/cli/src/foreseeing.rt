@@ -1,6 +1,7 @@
 //! The message whose reply the command `foresee` prints.
 
-ghost use Rattle.std.specs.Prelude.{IfOk};
+ghost use Rattle.std.specs.Prelude.{◌≡◌, IfOk};
+ghost use Rattle.operator.specs.declared.foreseeing.Foresight.{Foresight};
 ghost use Rattle.cli.specs.Given.{IsGiven};
 
 use crate::faults::Fault;
@@ -51,7 +52,9 @@ pub(crate) fn message_in<'a>(
 
 impl GivenMessage<'_> {
     /// The task that foresees the reply to the message, by this policy, at this moment.
-    pub fn task<'t>(&'t self, policy: &'t Policy, args: &'t ForeseeArgs, now: Moment) -> Task<'t> {
+    pub fn task<'t>(&'t self, policy: &'t Policy, args: &'t ForeseeArgs, now: Moment) -> Task<'t>
+        ensures { (asked : Foresight) × (result ≡ Task.Foresee asked) }
+    {
         Task::Foresee(Foresight {
             policy,
             user: &args.user,

@@ -1,11 +1,13 @@
 //! The command `migrate`: gives a database of version 1 the tables of version 2.
 
-ghost use Rattle.std.specs.Prelude.{◌≡◌};
+ghost use Rattle.std.specs.Prelude.{◌≡◌, OnOk};
 ghost use Rattle.cli.specs.Answers.{migrated_line};
 
 use crate::faults::Fault;
 use crate::opening::migrate_at;
-use std::io::{self, IsTerminal, Stderr, Write};
+use names::Sink;
+use operator::print;
+use std::io::{IsTerminal, Stderr, Write};
 use std::rt::HostRuntime;
 use tables::{Migrated, Start};
 
@@ -26,15 +28,9 @@ fn migrated_line(migrated: Migrated) -> &'static str
     ensures { result.now ≡ migrated_line migrated }
 {
     match migrated {
-        Migrated::From1 => "migrated from version 1",
-        Migrated::Already => "already version 2",
+        Migrated::From1 => "migrated from version 1\n",
+        Migrated::Already => "already version 2\n",
     }
-}
-
-/// Writes a line at once.
-fn write_line<W: Write>(output: &mut W, line: &str) -> io::Result<()> {
-    writeln!(output, "{line}")?;
-    output.flush()
 }
 
 /// Gives a database of version 1 the tables of version 2, and prints whether that was needed. Shows that it works on the
@@ -44,16 +40,19 @@ fn write_line<W: Write>(output: &mut W, line: &str) -> io::Result<()> {
 ///
 /// `UnknownSchema` if the database has other tables, which leaves it as it was; `Store` and `Memory`, after which it has
 /// version 1 or version 2; and `Output` if the line could not be written: it has version 2 all the same.
-pub(crate) fn migrate<S: Start, W: Write>(
+pub(crate) fn migrate<S: Start, K: Sink>(
     rt: &HostRuntime,
     db: &str,
-    output: &mut W,
+    output: &mut K,
     start: S,
-) -> Result<(), Fault> {
+) -> Result<(), Fault>
+    ensures { OnOk result (K.failed output.new ≡ K.failed output.old) }
+{
     let errors = rt.stderr();
     let terminal = errors.is_terminal().then_some(&errors);
     show(terminal, "migrating ...");
     let migrated = migrate_at(rt, db, start);
     show(terminal, CLEAR);
-    write_line(output, migrated_line(migrated?)).map_err(|_| Fault::Output)
+    print(output, migrated_line(migrated?).as_bytes())?;
+    Ok(())
 }

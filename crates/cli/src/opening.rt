@@ -1,9 +1,9 @@
-//! Opens the database, for a job over it, or to migrate it.
+//! Opens the database, for work over it, or to migrate it.
 
-ghost use Rattle.refinement.specs.Left.{From};
-ghost use Rattle.operator.specs.Works.{Works};
+ghost use Rattle.std.specs.Prelude.{◌≡◌, OnOk};
 
 use crate::faults::Fault;
+use names::Sink;
 use refinement::open_from;
 use std::fs::OpenOptions;
 use std::os::unix::fs::OpenOptionsExt;
@@ -14,11 +14,10 @@ use tables::{Migrated, Start, Storage, Store};
 const MODE: u32 = 0o600;
 
 /// What is done with an open database.
-pub(crate) trait Job: Drop {
-    /// Does it. Whether it succeeds or fails, the store was led by the steps of a run of the definitions.
-    fn work<S: Storage>(self, store: &mut Store<S>) -> Result<(), Fault>
-        ensures { From S.Store store.old store.new (λ world.
-            Works S.Store store.old store.new world) };
+pub(crate) trait Work: Drop {
+    /// Does it, and prints what it has to. `Ok` means that all of that was written.
+    fn run<S: Storage, K: Sink>(self, store: &mut Store<S>, output: &mut K) -> Result<(), Fault>
+        ensures { OnOk result (K.failed output.new ≡ K.failed output.old) };
 }
 
 /// Makes the database's file if it does not exist. If that fails, opening the database reports why.
@@ -35,20 +34,23 @@ fn make_file(rt: &HostRuntime, db: &str) {
         .open(rt, db);
 }
 
-/// Opens the database, making it if it does not exist, and does the job with it.
+/// Opens the database, making it if it does not exist, and does the work with it.
 ///
 /// # Errors
 ///
-/// `Store` and `Memory` if it could not be opened; and those of the job.
-pub(crate) fn open_for<S: Start, J: Job>(
+/// `Store` and `Memory` if it could not be opened; and those of the work.
+pub(crate) fn open_for<S: Start, J: Work, K: Sink>(
     rt: &HostRuntime,
     db: &str,
     start: S,
-    job: J,
-) -> Result<(), Fault> {
+    work: J,
+    output: &mut K,
+) -> Result<(), Fault>
+    ensures { OnOk result (K.failed output.new ≡ K.failed output.old) }
+{
     make_file(rt, db);
     let mut store = open_from(rt, db, start)?;
-    job.work(&mut store)
+    work.run(&mut store, output)
 }
 
 /// Opens the database, making it if it does not exist, and gives it the tables of version 2, if it has those of version 1

@@ -1,17 +1,22 @@
 //! The commands of an operator, over files that are opened for them.
 
+ghost use Rattle.std.specs.Prelude.{◌≡◌, OnOk};
+ghost use Rattle.names.specs.Names.{repo_text};
+ghost use Rattle.tokens.specs.Issuing.{token_asked};
+ghost use Rattle.cli.specs.Jobs.{token_of};
+
 use crate::faults::Fault;
 use crate::files::{read_input, read_policy, read_random};
 use crate::foreseeing::message_in;
 use crate::moments::moment;
-use crate::opening::{Job, open_for};
+use crate::opening::{Work, open_for};
 use command_line::{Files, ForeseeArgs, OperatorCommand, PushArgs, TokenArgs};
-use names::{Moment, RepoName};
+use names::{Moment, RepoName, Sink};
 use operator::{Destination, LONGEST_PATHS, Push, Task, paths_in, repo_at};
 use policy::Policy;
 use service::LONGEST_MESSAGE;
 use std::alloc::Global;
-use std::io::{IsTerminal, Read, Write};
+use std::io::{IsTerminal, Read};
 use std::rt::HostRuntime;
 use tables::{Start, Storage, Store};
 use tokens::TokenRequest;
@@ -23,7 +28,9 @@ pub(crate) fn token_request<'a>(
     now: Moment,
     seconds: u64,
     random: &'a [u8; 32],
-) -> TokenRequest<'a> {
+) -> TokenRequest<'a>
+    ensures { token_asked result ≡ token_of asked.entry.now (repo_text repo.now) now seconds random.now }
+{
     TokenRequest {
         user: &asked.user,
         repo,
@@ -34,51 +41,52 @@ pub(crate) fn token_request<'a>(
     }
 }
 
-/// A task over the database, and where it prints.
+/// A task over the database.
 #[derive(Drop)]
-struct OperatorTask<'a, W> {
+struct OperatorTask<'a> {
     alloc: Global,
     task: &'a Task<'a>,
     destination: Destination,
-    output: &'a mut W,
 }
 
-impl<W: Write> Job for OperatorTask<'_, W> {
-    fn work<S: Storage>(self, store: &mut Store<S>) -> Result<(), Fault> {
-        self.task
-            .run(self.alloc, store, self.destination, self.output)?;
+impl Work for OperatorTask<'_> {
+    fn run<S: Storage, K: Sink>(self, store: &mut Store<S>, output: &mut K) -> Result<(), Fault> {
+        self.task.run(self.alloc, store, self.destination, output)?;
         Ok(())
     }
 }
 
 /// Opens the database, and runs the task over it.
-fn run_task<S: Start, W: Write>(
+fn run_task<S: Start, K: Sink>(
     rt: &HostRuntime,
     db: &str,
     task: &Task<'_>,
     destination: Destination,
-    output: &mut W,
+    output: &mut K,
     start: S,
-) -> Result<(), Fault> {
+) -> Result<(), Fault>
+    ensures { OnOk result (K.failed output.new ≡ K.failed output.old) }
+{
     let alloc = rt.alloc();
     let task = OperatorTask {
         alloc,
         task,
         destination,
-        output,
     };
-    open_for(rt, db, start, task)
+    open_for(rt, db, start, task, output)
 }
 
 /// Issues a token to the user, and prints the line that the client needs.
-fn authenticate<S: Start, W: Write>(
+fn authenticate<S: Start, K: Sink>(
     rt: &HostRuntime,
     files: &Files<'_>,
     asked: &TokenArgs<'_>,
     destination: Destination,
-    output: &mut W,
+    output: &mut K,
     start: S,
-) -> Result<(), Fault> {
+) -> Result<(), Fault>
+    ensures { OnOk result (K.failed output.new ≡ K.failed output.old) }
+{
     let now = moment(rt, asked.now)?;
     let policy = read_policy(rt, files.policy)?;
     let repo = repo_at(&policy, asked.path).ok_or(Fault::Repository)?;
@@ -105,15 +113,17 @@ pub(crate) fn push_of<'a>(
 }
 
 /// Checks the paths of the input, and prints a verdict for each.
-fn push_check<S: Start, R: Read, W: Write>(
+fn push_check<S: Start, R: Read, K: Sink>(
     rt: &HostRuntime,
     files: &Files<'_>,
     asked: &PushArgs,
     input: &mut R,
     destination: Destination,
-    output: &mut W,
+    output: &mut K,
     start: S,
-) -> Result<(), Fault> {
+) -> Result<(), Fault>
+    ensures { OnOk result (K.failed output.new ≡ K.failed output.old) }
+{
     let alloc = rt.alloc();
     let policy = read_policy(rt, files.policy)?;
     // The limit is one byte more than a push check takes, so a longer input is refused and not cut.
@@ -124,15 +134,17 @@ fn push_check<S: Start, R: Read, W: Write>(
 }
 
 /// Prints the reply that the user would get to the message of the input.
-fn foresee<S: Start, R: Read, W: Write>(
+fn foresee<S: Start, R: Read, K: Sink>(
     rt: &HostRuntime,
     files: &Files<'_>,
     asked: &ForeseeArgs,
     input: &mut R,
     destination: Destination,
-    output: &mut W,
+    output: &mut K,
     start: S,
-) -> Result<(), Fault> {
+) -> Result<(), Fault>
+    ensures { OnOk result (K.failed output.new ≡ K.failed output.old) }
+{
     let alloc = rt.alloc();
     let now = moment(rt, asked.now)?;
     let policy = read_policy(rt, files.policy)?;
@@ -144,14 +156,16 @@ fn foresee<S: Start, R: Read, W: Write>(
 
 /// Hashes the objects again, and removes those that are damaged, if the command is to repair. Shows how far it is on the
 /// error stream, if that is a terminal.
-fn hash_objects<S: Start, W: Write>(
+fn hash_objects<S: Start, K: Sink>(
     rt: &HostRuntime,
     db: &str,
     command: &OperatorCommand<'_>,
     destination: Destination,
-    output: &mut W,
+    output: &mut K,
     start: S,
-) -> Result<(), Fault> {
+) -> Result<(), Fault>
+    ensures { OnOk result (K.failed output.new ≡ K.failed output.old) }
+{
     let errors = rt.stderr();
     let terminal = errors.is_terminal().then_some(&errors);
     let task = match command {
@@ -170,15 +184,17 @@ fn hash_objects<S: Start, W: Write>(
 /// read, or a line not be written; and `Reported` if a path may not be pushed, or an object is damaged. After any of them
 /// no token is stored and no object removed, except perhaps if the database failed while doing it, and an object if the
 /// line could not be written; and no lock is changed.
-pub(crate) fn operate<S: Start, R: Read, W: Write>(
+pub(crate) fn operate<S: Start, R: Read, K: Sink>(
     rt: &HostRuntime,
     files: &Files<'_>,
     command: &OperatorCommand<'_>,
     input: &mut R,
     destination: Destination,
-    output: &mut W,
+    output: &mut K,
     start: S,
-) -> Result<(), Fault> {
+) -> Result<(), Fault>
+    ensures { OnOk result (K.failed output.new ≡ K.failed output.old) }
+{
     let db = files.db;
     let task = match command {
         OperatorCommand::Authenticate(asked) => {

@@ -1,25 +1,24 @@
 //! Answers operators, who call a server on its control socket.
 
-ghost use Rattle.std.specs.Prelude.{◌≡◌, ℕ, List, MatchResult};
+ghost use Rattle.std.specs.Prelude.{List, IfOk, OnErr};
 ghost use Rattle.refinement.specs.Left.{From};
-ghost use Rattle.tokens.specs.declared.requests.TokenRequest.{TokenRequest};
-ghost use Rattle.tokens.specs.Issuing.{Issues};
-ghost use Rattle.operator.specs.Works.{Works};
+ghost use Rattle.operator.specs.Tasks.{IsStepOf};
+ghost use Rattle.operator.specs.Works.{WorksOwn};
+ghost use Rattle.cli.specs.Jobs.{Call, Calls, Helps, IsAnswer, IsCommand, IsMomentOf, heard_in};
 
 use crate::faults::Fault;
-use crate::files::read_random;
 use crate::foreseeing::message_in;
-use crate::moments::moment;
+use crate::machine::Machine;
 use crate::operating::{push_of, token_request};
-use crate::program::{status_after, write_text};
-use command_line::{Asked, ForeseeArgs, OperatorCommand, RANDOM, TokenArgs, read_words};
+use crate::program::{print_text, status_after};
+use command_line::{Asked, ForeseeArgs, OperatorCommand, TokenArgs, read_words};
 use control::{Request, read_request, reply_bytes, request_size};
+use names::{Moment, Sink, VecSink};
 use operator::{Destination, Task, repo_at};
 use policy::Policy;
 use std::alloc::Global;
 use std::io::{self, ErrorKind, Read, Write};
 use std::os::unix::net::UnixStream;
-use std::rt::HostRuntime;
 use std::time::{Clock, Duration, Instant};
 use tables::{Alter, Store};
 
@@ -28,10 +27,9 @@ const PATIENCE: u64 = 2;
 
 /// What the commands of operators are run with.
 #[derive(Clone, Copy)]
-pub(crate) struct OperatorContext<'a, C> {
-    pub rt: &'a HostRuntime,
+pub(crate) struct OperatorContext<'a> {
+    pub alloc: Global,
     pub policy: &'a Policy,
-    pub clock: &'a C,
 }
 
 /// Reads from an operator until a moment.
@@ -72,110 +70,167 @@ fn read_bytes<C: Clock>(alloc: Global, clock: &C, stream: &UnixStream) -> io::Re
     Ok(bytes)
 }
 
-impl<C: Clock> OperatorContext<'_, C> {
-    /// Issues a token by the server's policy.
-    fn issue<S: Alter>(
+/// The given moment, else the machine's.
+///
+/// # Errors
+///
+/// `Clock` if none was given and the machine's is out of range.
+fn moment_of<M: Machine>(machine: &mut M, given: Option<Moment>) -> Result<Moment, Fault>
+    ensures ok { IfOk result (λ now. (calls : List Call)
+        × Calls M.Machine machine.old calls machine.new × IsMomentOf given now (heard_in calls)) }
+    ensures err { OnErr result ((calls : List Call) × Calls M.Machine machine.old calls machine.new) }
+{
+    match given {
+        Some(moment) => Ok(moment),
+        None => machine.moment(),
+    }
+}
+
+impl OperatorContext<'_> {
+    /// Runs a task over the server's store. The program that prints the reply escapes what it prints on a terminal.
+    fn work<S: Alter>(
         &self,
         store: &mut Store<S>,
-        asked: &TokenArgs<'_>,
-        output: &mut Vec<u8>,
+        task: &Task<'_>,
+        output: &mut VecSink,
     ) -> Result<(), Fault>
-        ensures { From S.Store store.old store.new (λ world. MatchResult result
-            (λ _. (request : TokenRequest) × (text : List ℕ)
-            × Issues S.Store world store.old store.new request text)
-            (λ _. Works S.Store store.old store.new world)) }
+        ensures { From S.Store store.old store.new (λ world.
+            WorksOwn S.Store (IsStepOf task.now) store.old store.new world) }
     {
-        let now = moment(self.clock, asked.now)?;
-        let repo = repo_at(self.policy, asked.path).ok_or(Fault::Repository)?;
-        let random = read_random(self.rt, RANDOM)?;
-        let request = token_request(asked, repo, now, self.policy.token_seconds(), &random);
-        let task = Task::Issue(self.policy, request);
-        task.run(self.rt.alloc(), store, Destination::Other, output)?;
+        task.run(self.alloc, store, Destination::Other, output)?;
         Ok(())
+    }
+
+    /// Removes the tokens that are not valid.
+    fn prune<S: Alter, M: Machine>(
+        &self,
+        store: &mut Store<S>,
+        machine: &mut M,
+        named: Option<Moment>,
+        output: &mut VecSink,
+    ) -> Result<(), Fault>
+        ensures { From S.Store store.old store.new (λ world.
+            Helps M.Machine S.Store (IsCommand self.now.policy.now (OperatorCommand.Prune named))
+            store.old store.new machine.old machine.new world) }
+    {
+        let now = moment_of(machine, named)?;
+        self.work(store, &Task::Prune(now), output)
+    }
+
+    /// Issues a token by the server's policy.
+    fn issue<S: Alter, M: Machine>(
+        &self,
+        store: &mut Store<S>,
+        machine: &mut M,
+        asked: &TokenArgs<'_>,
+        output: &mut VecSink,
+    ) -> Result<(), Fault>
+        ensures { From S.Store store.old store.new (λ world.
+            Helps M.Machine S.Store (IsCommand self.now.policy.now (OperatorCommand.Authenticate asked.entry.now))
+            store.old store.new machine.old machine.new world) }
+    {
+        let now = moment_of(machine, asked.now)?;
+        let Some(repo) = repo_at(self.policy, asked.path) else {
+            return Err(Fault::Repository);
+        };
+        let random = machine.random()?;
+        let request = token_request(asked, repo, now, self.policy.token_seconds(), &random);
+        self.work(store, &Task::Issue(self.policy, request), output)
     }
 
     /// Foresees a reply by the server's policy.
-    fn foresee<S: Alter>(
+    fn foresee<S: Alter, M: Machine>(
         &self,
         store: &mut Store<S>,
+        machine: &mut M,
         asked: &ForeseeArgs,
         input: &[u8],
-        output: &mut Vec<u8>,
+        output: &mut VecSink,
     ) -> Result<(), Fault>
         ensures { From S.Store store.old store.new (λ world.
-            Works S.Store store.old store.new world) }
+            Helps M.Machine S.Store (IsCommand self.now.policy.now (OperatorCommand.Foresee asked.entry.now))
+            store.old store.new machine.old machine.new world) }
     {
-        let alloc = self.rt.alloc();
-        let now = moment(self.clock, asked.now)?;
+        let alloc = self.alloc;
+        let now = moment_of(machine, asked.now)?;
         let message = message_in(alloc, &asked.repo, input)?;
-        let task = message.task(self.policy, asked, now);
-        task.run(alloc, store, Destination::Other, output)?;
-        Ok(())
+        self.work(store, &message.task(self.policy, asked, now), output)
     }
 
     /// Runs a command over the server's store.
-    fn run<'x, S: Alter>(
+    fn run<'x, S: Alter, M: Machine>(
         &self,
         store: &mut Store<S>,
+        machine: &mut M,
         policy: &'x Policy,
         command: &'x OperatorCommand<'x>,
         input: &[u8],
-        output: &mut Vec<u8>,
+        output: &mut VecSink,
     ) -> Result<(), Fault>
         ensures { From S.Store store.old store.new (λ world.
-            Works S.Store store.old store.new world) }
+            Helps M.Machine S.Store (IsCommand self.now.policy.now command.now)
+            store.old store.new machine.old machine.new world) }
     {
-        let alloc = self.rt.alloc();
-        let task = match command {
-            OperatorCommand::Authenticate(asked) => return self.issue(store, asked, output),
-            OperatorCommand::Foresee(asked) => return self.foresee(store, asked, input, output),
-            OperatorCommand::Prune(now) => Task::Prune(moment(self.clock, *now)?),
+        match command {
+            OperatorCommand::Authenticate(asked) => self.issue(store, machine, asked, output),
+            OperatorCommand::Foresee(asked) => self.foresee(store, machine, asked, input, output),
+            OperatorCommand::Prune(now) => self.prune(store, machine, *now, output),
             OperatorCommand::PushCheck(asked) => {
-                Task::CheckPush(push_of(alloc, policy, asked, input)?)
+                let push = push_of(self.alloc, policy, asked, input)?;
+                self.work(store, &Task::CheckPush(push), output)
             }
-            OperatorCommand::Locks(repo) => Task::ListLocks(repo),
-            OperatorCommand::Objects(repo) => Task::ListObjects(repo),
-            OperatorCommand::Check => Task::CheckObjects(None),
-            OperatorCommand::Repair => Task::Repair(None),
-            OperatorCommand::Sweep => Task::Sweep,
-            OperatorCommand::Retire(asked) => Task::Retire(&asked.repo, &asked.oid),
-        };
-        // The program that prints the reply escapes what it prints on a terminal.
-        task.run(alloc, store, Destination::Other, output)?;
-        Ok(())
+            OperatorCommand::Locks(repo) => self.work(store, &Task::ListLocks(repo), output),
+            OperatorCommand::Objects(repo) => self.work(store, &Task::ListObjects(repo), output),
+            OperatorCommand::Check => self.work(store, &Task::CheckObjects(None), output),
+            OperatorCommand::Repair => self.work(store, &Task::Repair(None), output),
+            OperatorCommand::Sweep => self.work(store, &Task::Sweep, output),
+            OperatorCommand::Retire(asked) => {
+                self.work(store, &Task::Retire(&asked.repo, &asked.oid), output)
+            }
+        }
     }
 
     /// Runs the command of a request.
-    fn answer<S: Alter>(
+    fn answer<S: Alter, M: Machine>(
         &self,
         store: &mut Store<S>,
+        machine: &mut M,
         bytes: &[u8],
-        output: &mut Vec<u8>,
+        output: &mut VecSink,
     ) -> Result<(), Fault>
         ensures { From S.Store store.old store.new (λ world.
-            Works S.Store store.old store.new world) }
+            Helps M.Machine S.Store (IsAnswer self.now.policy.now)
+            store.old store.new machine.old machine.new world) }
     {
-        let alloc = self.rt.alloc();
+        let alloc = self.alloc;
         let Some(Request { input, words }) = read_request(alloc, bytes)? else {
             return Err(Fault::Request);
         };
         match read_words(alloc, words.as_slice())? {
-            Asked::Text(text) => write_text(&text, output).map_err(|_| Fault::Output),
-            Asked::Command(command) => self.run(store, self.policy, &command, input, output),
+            Asked::Text(text) => print_text(alloc, &text, output),
+            Asked::Command(command) => {
+                self.run(store, machine, self.policy, &command, input, output)
+            }
         }
     }
 
     /// The reply to a request, after its command was run.
-    fn reply<S: Alter>(&self, store: &mut Store<S>, bytes: &[u8]) -> Result<Vec<u8>, Fault>
+    fn reply<S: Alter, M: Machine>(
+        &self,
+        store: &mut Store<S>,
+        machine: &mut M,
+        bytes: &[u8],
+    ) -> Result<Vec<u8>, Fault>
         ensures { From S.Store store.old store.new (λ world.
-            Works S.Store store.old store.new world) }
+            Helps M.Machine S.Store (IsAnswer self.now.policy.now)
+            store.old store.new machine.old machine.new world) }
     {
-        let alloc = self.rt.alloc();
-        let mut output = Vec::new(alloc);
+        let alloc = self.alloc;
+        let mut output = VecSink::new(alloc, usize::MAX);
         let mut errors = Vec::new(alloc);
-        let ended = self.answer(store, bytes, &mut output);
-        let status = status_after(ended, &mut errors);
-        reply_bytes(alloc, status, output.as_slice(), errors.as_slice()).map_err(|_| Fault::Memory)
+        let ended = self.answer(store, machine, bytes, &mut output);
+        let status = status_after(without_memory(ended, &output), &mut errors);
+        reply_bytes(alloc, status, output.taken(), errors.as_slice()).map_err(|_| Fault::Memory)
     }
 
     /// Answers one request of an operator over the server's store: what the command prints and its status are those that
@@ -185,13 +240,28 @@ impl<C: Clock> OperatorContext<'_, C> {
     ///
     /// `Operator` if the request did not arrive in time or is too long, which leaves the store; or if the reply could not
     /// be written, after the command was run. `Memory`, in either case.
-    pub fn serve<S: Alter>(&self, store: &mut Store<S>, stream: &UnixStream) -> Result<(), Fault>
+    pub fn serve<S: Alter, M: Machine, C: Clock>(
+        &self,
+        store: &mut Store<S>,
+        machine: &mut M,
+        clock: &C,
+        stream: &UnixStream,
+    ) -> Result<(), Fault>
         ensures { From S.Store store.old store.new (λ world.
-            Works S.Store store.old store.new world) }
+            Helps M.Machine S.Store (IsAnswer self.now.policy.now)
+            store.old store.new machine.old machine.new world) }
     {
-        let bytes = read_bytes(self.rt.alloc(), self.clock, stream).map_err(|_| Fault::Operator)?;
-        let reply = self.reply(store, bytes.as_slice())?;
+        let bytes = read_bytes(self.alloc, clock, stream).map_err(|_| Fault::Operator)?;
+        let reply = self.reply(store, machine, bytes.as_slice())?;
         write_reply(stream, reply.as_slice()).map_err(|_| Fault::Operator)
+    }
+}
+
+/// How a command ended: an output in memory fails for want of it alone.
+fn without_memory(ended: Result<(), Fault>, output: &VecSink) -> Result<(), Fault> {
+    match ended {
+        Err(Fault::Output) if output.failures() > 0 => Err(Fault::Memory),
+        ended => ended,
     }
 }
 

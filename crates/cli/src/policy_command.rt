@@ -1,6 +1,6 @@
 //! The command `policy`: checks a policy file, decides a question by it, and lists its rows.
 
-ghost use Rattle.std.specs.Prelude.{◌≡◌, map, option_map, IfOk, IsTrue, is_ok};
+ghost use Rattle.std.specs.Prelude.{◌≡◌, map, option_map, IfOk, OnOk, IsTrue, is_ok};
 ghost use Rattle.model.specs.Policy.{decide};
 ghost use Rattle.policy.specs.Values.{decision_view, policy_view, row_view};
 ghost use Rattle.cli.specs.Answers.{covering_in, is_allowed, number_of, row_numbered};
@@ -10,11 +10,10 @@ use crate::faults::Fault;
 use crate::files::read_policy;
 use crate::policy_lines::{decision_line, policy_line, row_line};
 use command_line::{AskedQuestion, PolicyArgs, PolicyTask};
-use control::Status;
+use names::Sink;
 use operator::Lines;
 use policy::{Policy, Row, Sentence, Verdict, decide};
-use std::alloc::Global;
-use std::io::Write;
+use std::alloc::{AllocError, Global};
 use std::rt::HostRuntime;
 
 /// Reads the policy in the file. A fault of its text is described.
@@ -58,7 +57,7 @@ fn ending(verdict: Verdict) -> Result<(), Fault>
 {
     match verdict {
         Verdict::Allow(_) => Ok(()),
-        Verdict::Deny(_) => Err(Fault::Reported(Status::Refused)),
+        Verdict::Deny(_) => Err(Fault::Reported),
     }
 }
 
@@ -74,42 +73,48 @@ fn covering_in(earlier: &[Row], row: &Row) -> Option<usize>
     None
 }
 
-/// Writes the number of repositories and rows.
-fn write_counts<W: Write>(alloc: Global, policy: &Policy, output: &mut W) -> Result<(), Fault> {
-    let mut lines = Lines::new(alloc, output)?;
-    lines.write(policy_line(alloc, policy)?.as_bytes())?;
-    Ok(lines.end()?)
+/// The line with the number of repositories and rows.
+fn count_lines(alloc: Global, policy: &Policy) -> Result<Lines, AllocError> {
+    let mut lines = Lines::new(alloc);
+    lines.push(policy_line(alloc, policy)?.as_bytes())?;
+    Ok(lines)
+}
+
+/// The lines with the verdict, and with the row that decides.
+fn decision_lines(alloc: Global, policy: &Policy, verdict: Verdict) -> Result<Lines, AllocError> {
+    let mut lines = Lines::new(alloc);
+    lines.push(decision_line(alloc, verdict)?.as_bytes())?;
+    if let Some(row) = row_numbered(policy.rows(), number_of(verdict)) {
+        lines.push(row.to_string(alloc)?.as_bytes())?;
+    }
+    Ok(lines)
 }
 
 /// Writes which row decides the question, and its text. `Ok` means that the question is allowed.
-fn write_decision<W: Write>(
+fn write_decision<K: Sink>(
     alloc: Global,
     policy: &Policy,
     asked: &AskedQuestion,
-    output: &mut W,
+    output: &mut K,
 ) -> Result<(), Fault>
-    ensures { IfOk result
+    ensures allowed { IfOk result
         (λ _. IsTrue (is_allowed (decide (policy_view policy.now) (asked_view asked.now)))) }
+    ensures good { OnOk result (K.failed output.new ≡ K.failed output.old) }
 {
     let verdict = verdict_on(policy, asked);
-    let mut lines = Lines::new(alloc, output)?;
-    lines.write(decision_line(alloc, verdict)?.as_bytes())?;
-    if let Some(row) = row_numbered(policy.rows(), number_of(verdict)) {
-        lines.write(row.to_string(alloc)?.as_bytes())?;
-    }
-    lines.end()?;
+    decision_lines(alloc, policy, verdict)?.write(output)?;
     ending(verdict)
 }
 
-/// Writes each row, after a line with its number.
-fn write_rows<W: Write>(alloc: Global, rows: &[Row], output: &mut W) -> Result<(), Fault> {
-    let mut lines = Lines::new(alloc, output)?;
+/// The text of each row, after a line with its number.
+fn row_lines(alloc: Global, rows: &[Row]) -> Result<Lines, AllocError> {
+    let mut lines = Lines::new(alloc);
     for (index, row) in rows.iter().enumerate() {
         let covering = covering_in(&rows[..index], row);
-        lines.write(row_line(alloc, index + 1, covering)?.as_bytes())?;
-        lines.write(row.to_string(alloc)?.as_bytes())?;
+        lines.push(row_line(alloc, index + 1, covering)?.as_bytes())?;
+        lines.push(row.to_string(alloc)?.as_bytes())?;
     }
-    Ok(lines.end()?)
+    Ok(lines)
 }
 
 /// Prints what the arguments ask of the policy file. No database is opened.
@@ -118,16 +123,20 @@ fn write_rows<W: Write>(alloc: Global, rows: &[Row], output: &mut W) -> Result<(
 ///
 /// `PolicyFile`, `PolicyDescribed` and `Memory`; `Output` if a line could not be written; and `Reported` if the
 /// question is denied.
-pub(crate) fn policy_command<W: Write>(
+pub(crate) fn policy_command<K: Sink>(
     rt: &HostRuntime,
     args: &PolicyArgs<'_>,
-    output: &mut W,
-) -> Result<(), Fault> {
+    output: &mut K,
+) -> Result<(), Fault>
+    ensures { OnOk result (K.failed output.new ≡ K.failed output.old) }
+{
     let alloc = rt.alloc();
     let policy = read_described(rt, args.policy)?;
-    match &args.task {
-        PolicyTask::Count => write_counts(alloc, &policy, output),
-        PolicyTask::Decide(asked) => write_decision(alloc, &policy, asked, output),
-        PolicyTask::List => write_rows(alloc, policy.rows(), output),
-    }
+    let lines = match &args.task {
+        PolicyTask::Decide(asked) => return write_decision(alloc, &policy, asked, output),
+        PolicyTask::Count => count_lines(alloc, &policy)?,
+        PolicyTask::List => row_lines(alloc, policy.rows())?,
+    };
+    lines.write(output)?;
+    Ok(())
 }

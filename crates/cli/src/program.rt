@@ -1,6 +1,6 @@
 //! The whole program.
 
-ghost use Rattle.std.specs.Prelude.{◌≡◌, ◌≢◌, ◌≤◌};
+ghost use Rattle.std.specs.Prelude.{◌≡◌, ◌≢◌, ◌≤◌, OnOk};
 ghost use Rattle.std.specs.IoError.{error_kind};
 ghost use Rattle.cli.specs.Statuses.{status_of, status_of_end};
 
@@ -13,29 +13,44 @@ use crate::session::session;
 use crate::via::ask;
 use command_line::{Command, read_args};
 use control::Status;
-use operator::Destination;
+use names::Sink;
+use operator::{Destination, print};
+use std::alloc::Global;
 use std::io::{self, ErrorKind, Read, Write};
 use std::rt::HostRuntime;
 use tables::Start;
 
-/// Writes the help or the version.
-pub(crate) fn write_text<W: Write>(text: &clap::Error, output: &mut W) -> io::Result<()> {
-    write!(output, "{text}")?;
-    output.flush()
+/// Prints the help or the version.
+///
+/// # Errors
+///
+/// `Output` if it could not be written, and `Memory`.
+pub(crate) fn print_text<K: Sink>(
+    alloc: Global,
+    text: &clap::Error,
+    output: &mut K,
+) -> Result<(), Fault>
+    ensures { OnOk result (K.failed output.new ≡ K.failed output.old) }
+{
+    let text = format!(in alloc; "{text}")?;
+    print(output, text.as_bytes())?;
+    Ok(())
 }
 
 /// Runs the command that the arguments name.
-fn dispatch<S: Start, R: Read, W: Write, E: Write>(
+fn dispatch<S: Start, R: Read, K: Sink, E: Write>(
     rt: &HostRuntime,
     args: &[String],
     input: &mut R,
     destination: Destination,
-    output: &mut W,
+    output: &mut K,
     errors: &mut E,
     start: S,
-) -> Result<(), Fault> {
+) -> Result<(), Fault>
+    ensures { OnOk result (K.failed output.new ≡ K.failed output.old) }
+{
     match read_args(rt.alloc(), args)? {
-        Command::Text(text) => write_text(&text, output).map_err(|_| Fault::Output),
+        Command::Text(text) => print_text(rt.alloc(), &text, output),
         Command::Session(asked) => session(rt, &asked, input, output, start),
         Command::Serve(asked) => serve(rt, &asked, output, errors, start),
         Command::Policy(asked) => policy_command(rt, &asked, output),
@@ -60,7 +75,7 @@ fn dispatch<S: Start, R: Read, W: Write, E: Write>(
 pub(crate) fn print_fault<E: Write>(fault: &Fault, errors: &mut E) -> io::Result<()> {
     match fault {
         Fault::Arguments(text) => write!(errors, "{text}")?,
-        Fault::Reported(_) => {}
+        Fault::Reported | Fault::ReportedInvalid => {}
         _ => writeln!(errors, "{fault}")?,
     }
     errors.flush()
@@ -85,7 +100,8 @@ pub(crate) fn status_after<E: Write>(ended: Result<(), Fault>, errors: &mut E) -
 }
 
 /// The program: runs the command that its arguments name, over its input, its output and its error
-/// stream. Returns the exit status: 0 for success, 1 for a refusal, 2 for invalid arguments.
+/// stream. Returns the exit status: 0 for success, 1 for a refusal, 2 for invalid arguments. If it is 0, all output was
+/// written.
 ///
 /// The first argument is the program's own name. `destination` is where the output is written to.
 /// `docs/COMMANDS.md` lists what the commands print, and each line on the error stream.
@@ -93,16 +109,17 @@ pub(crate) fn status_after<E: Write>(ended: Result<(), Fault>, errors: &mut E) -
 /// `start` represents the contents of the database and its log when they are opened, which no code can
 /// read: so the proofs about the commands hold for every file. A program passes
 /// [`Unknown`](tables::Unknown).
-pub fn run<S: Start, R: Read, W: Write, E: Write>(
+pub fn run<S: Start, R: Read, K: Sink, E: Write>(
     rt: &HostRuntime,
     args: &[String],
     input: &mut R,
     destination: Destination,
-    output: &mut W,
+    output: &mut K,
     errors: &mut E,
     start: S,
 ) -> u8
-    ensures { result ≤ 2 }
+    ensures status { result ≤ 2 }
+    ensures good { result ≡ 0 → K.failed output.new ≡ K.failed output.old }
 {
     let ended = dispatch(rt, args, input, destination, output, errors, start);
     status_after(ended, errors).code()

@@ -1,10 +1,15 @@
 //! Asks a running server to run a command.
 
+ghost use Rattle.std.specs.Prelude.{◌≡◌, IfErr, IfOk, OnOk};
+ghost use Rattle.std.specs.Io.KnownBytes.{Consumes};
+ghost use Rattle.cli.specs.Asked.{IsReplyPrinted, IsUnanswered, ending};
+
 use crate::faults::Fault;
 use crate::files::read_input;
 use command_line::OperatorCommand;
-use control::{LONGEST_REQUEST, Reply, Status, read_reply, request_bytes};
-use operator::{Destination, LONGEST_PATHS, shown};
+use control::{LONGEST_REQUEST, Status, read_reply, request_bytes};
+use names::{Counted, Sink, Source};
+use operator::{Destination, LONGEST_PATHS, print, shown};
 use std::alloc::{AllocError, Global};
 use std::io::{self, Read, Write};
 use std::net::Shutdown;
@@ -44,52 +49,121 @@ fn input_of<R: Read>(
     }
 }
 
-/// Sends the request, and returns the bytes of the reply.
-fn exchange(rt: &HostRuntime, socket: &str, request: &[u8]) -> io::Result<Vec<u8>> {
-    let mut stream = UnixStream::connect(rt, socket)?;
-    stream.write_all(request)?;
-    stream.shutdown(Shutdown::Write)?;
-    let mut reply = Vec::new(rt.alloc());
-    stream.read_to_end(&mut reply)?;
-    Ok(reply)
-}
-
-/// Writes what the command has printed.
-fn write_printed<W: Write>(output: &mut W, printed: &[u8]) -> io::Result<()> {
-    output.write_all(printed)?;
-    output.flush()
-}
-
-/// Asks the server at the socket to run the command, and writes what the server has printed.
+/// The request for a command, with the input that the command reads.
 ///
 /// # Errors
 ///
-/// `Control` if the server could not be reached, or did not reply; the command may have been run all the same. `Reported`
-/// with the status that the server has reported, `InputTooLong`, `Output` if the input could not be read or the output not
-/// be written, and `Memory`.
-pub(crate) fn ask<R: Read, W: Write, E: Write>(
+/// `InputTooLong`, `Output` if the input could not be read, and `Memory`.
+pub fn request_of<R: Read>(
+    alloc: Global,
+    command: &OperatorCommand<'_>,
+    args: &[String],
+    input: &mut R,
+) -> Result<Vec<u8>, Fault> {
+    let words = words_of(alloc, args)?;
+    let input = input_of(alloc, command, input)?;
+    Ok(request_bytes(alloc, input.as_slice(), words.as_slice())?)
+}
+
+/// Reads the bytes of a source to its end.
+///
+/// # Errors
+///
+/// `Control` if a read failed, and `Memory`.
+fn read_all<R: Source>(alloc: Global, source: &mut R) -> Result<Vec<u8>, Fault>
+    ensures bytes { IfOk result (λ bytes.
+        Consumes (R.left source.old) (R.left source.new) bytes.items) }
+    ensures err { IfErr result IsUnanswered }
+{
+    let mut bytes = Vec::new(alloc);
+    let mut piece = [0; 4_096];
+    'pieces: for _ in 0..u64::MAX {
+        match source.read(&mut piece) {
+            Ok(0) => return Ok(bytes),
+            Ok(count) => bytes.extend_from_slice(&piece[..count])?,
+            Err(_) => return Err(Fault::Control),
+        }
+    }
+    Err(Fault::Control)
+}
+
+/// How the command ended that a server ran.
+fn ending(status: Status) -> Result<(), Fault>
+    ensures { result ≡ ending status }
+{
+    match status {
+        Status::Good => Ok(()),
+        Status::Refused => Err(Fault::Reported),
+        Status::Invalid => Err(Fault::ReportedInvalid),
+    }
+}
+
+/// Writes on the error stream what the command has written on its own.
+fn write_errors<E: Write>(errors: &mut E, text: &[u8]) -> io::Result<()> {
+    errors.write_all(text)?;
+    errors.flush()
+}
+
+/// Reads the reply of a server, and prints what its command has printed. The result is that of the command.
+///
+/// # Errors
+///
+/// `Control` if there is no reply: the command may have been run all the same. `Reported` and `ReportedInvalid` with the
+/// status that the server has reported, `Output` if the output could not be written, and `Memory`.
+pub fn print_reply<R: Source, K: Sink, E: Write>(
+    alloc: Global,
+    source: &mut R,
+    destination: Destination,
+    output: &mut K,
+    errors: &mut E,
+) -> Result<(), Fault>
+    ensures reply { IsReplyPrinted (R.left source.old) (R.left source.new) destination
+        (K.taken output.old) (K.taken output.new) result }
+    ensures good { OnOk result (K.failed output.new ≡ K.failed output.old) }
+{
+    let bytes = read_all(alloc, source)?;
+    let Some(reply) = read_reply(bytes.as_slice()) else {
+        return Err(Fault::Control);
+    };
+    let printed = shown(alloc, reply.output, destination)?;
+    print(output, printed.as_slice())?;
+    if write_errors(errors, reply.errors).is_err() {
+        return Err(Fault::Output);
+    }
+    ending(reply.status)
+}
+
+/// Sends the request to the server at the socket.
+fn send(rt: &HostRuntime, socket: &str, request: &[u8]) -> io::Result<UnixStream> {
+    let mut stream = UnixStream::connect(rt, socket)?;
+    stream.write_all(request)?;
+    stream.shutdown(Shutdown::Write)?;
+    Ok(stream)
+}
+
+/// Asks the server at the socket to run the command, and prints what the server has printed.
+///
+/// # Errors
+///
+/// `Control` if the server could not be reached, `InputTooLong`, `Output` if the input could not be read, and those of
+/// [`print_reply`].
+pub(crate) fn ask<R: Read, K: Sink, E: Write>(
     rt: &HostRuntime,
     socket: &str,
     command: &OperatorCommand<'_>,
     args: &[String],
     input: &mut R,
     destination: Destination,
-    output: &mut W,
+    output: &mut K,
     errors: &mut E,
-) -> Result<(), Fault> {
+) -> Result<(), Fault>
+    ensures { OnOk result (K.failed output.new ≡ K.failed output.old) }
+{
     let alloc = rt.alloc();
-    let words = words_of(alloc, args)?;
-    let input = input_of(alloc, command, input)?;
-    let request = request_bytes(alloc, input.as_slice(), words.as_slice())?;
-    let bytes = exchange(rt, socket, request.as_slice()).map_err(|_| Fault::Control)?;
-    let Some(reply) = read_reply(bytes.as_slice()) else {
+    let request = request_of(alloc, command, args, input)?;
+    let Ok(stream) = send(rt, socket, request.as_slice()) else {
         return Err(Fault::Control);
     };
-    let printed = shown(alloc, reply.output, destination)?;
-    write_printed(output, printed.as_slice()).map_err(|_| Fault::Output)?;
-    write_printed(errors, reply.errors).map_err(|_| Fault::Output)?;
-    match reply.status {
-        Status::Good => Ok(()),
-        status => Err(Fault::Reported(status)),
-    }
+    let mut source = Counted::new(&stream);
+    print_reply(alloc, &mut source, destination, output, errors)
 }

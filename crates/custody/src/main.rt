@@ -1,7 +1,8 @@
 //! The program `custody`: passes the machine's arguments, streams and files to the crate `cli`.
 #![tactic(auto)]
 
-use cli::Destination;
+use cli::{Destination, Flushed};
+use names::Counted;
 use std::io::IsTerminal;
 use std::process::ExitCode;
 use std::{env, io};
@@ -22,6 +23,7 @@ fn destination(rt: &HostRuntime) -> Destination {
 }
 
 fn main(rt: HostRuntime) -> ExitCode {
+    let mut output = Counted::new(Flushed::new(rt.stdout()));
     let mut errors = rt.stderr();
     let status = match args(&rt) {
         Ok(args) => cli::run(
@@ -29,7 +31,7 @@ fn main(rt: HostRuntime) -> ExitCode {
             args.as_slice(),
             &mut rt.stdin(),
             destination(&rt),
-            &mut rt.stdout(),
+            &mut output,
             &mut errors,
             Unknown,
         ),

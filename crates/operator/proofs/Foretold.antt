@@ -1,5 +1,5 @@
 -- What a view foretells is what the world of the view foretells.
-use Rattle.operator.proofs.Prelude.{⊤, ◌≡◌, IfOk, Result, Ok, Err, World, subst}
+use Rattle.operator.proofs.Prelude.{◌≡◌, Result, Ok, Err, World, subst}
 use Rattle.names.specs.Names.{repo_text, user_text}
 use Rattle.policy.specs.Values.{policy_view}
 use Rattle.model.specs.Views.{View, view_of}
@@ -8,7 +8,10 @@ use Rattle.desk.specs.declared.foreseeing.ForeseeFault.{ForeseeFault}
 use Rattle.desk.specs.declared.foreseeing.ForeseeFault.TheVariants as fault
 use Rattle.desk.specs.declared.replies.Reply.{Reply}
 use Rattle.operator.specs.Faults.{of_foresight}
-use Rattle.operator.specs.Foresights.{Foretells, HasForetold}
+use Rattle.operator.specs.Foresights.{Foretells, IsReplyFault}
+use Rattle.operator.specs.Tasks.{IsForesightFault}
+use Rattle.operator.specs.declared.faults.TaskFault.{TaskFault}
+use Rattle.operator.specs.declared.faults.TaskFault.TheVariants as task
 use Rattle.operator.specs.declared.foreseeing.Foresight.{Foresight}
 
 -- the view of the task
@@ -26,7 +29,12 @@ pub not_foretold : (world : World) (f : Foresight) (seen : View) (why : ForeseeF
 not_foretold world f seen fault.NoCaller same is request read repo = seen_so world f seen (Err fault.NoCaller) same is request read repo
 not_foretold world f seen fault.Memory same is request read repo = tt
 
--- the reply, whether it could be written or not
-pub if_done : {E : Type 0} (world : World) (f : Foresight) (reply : Reply) (r : Result ⊤ E) → Foretells world f (Ok reply) → IfOk r (λ _. HasForetold world f)
-if_done world f reply (Ok done) is = (reply, is)
-if_done world f reply (Err e) is = tt
+-- why no reply is foreseen is why the task fails
+pub foresight_cause : (world : World) (f : Foresight) (e : TaskFault) → IsReplyFault e → Foretells world f (Err e) → IsForesightFault world f e
+foresight_cause world f task.NoCaller why told = told
+foresight_cause world f (task.Store x) why told = tt
+foresight_cause world f task.Memory why told = tt
+foresight_cause world f task.Output why told = tt
+foresight_cause world f (task.Token x) why told = absurd why
+foresight_cause world f task.NoObject why told = absurd why
+foresight_cause world f task.Reported why told = absurd why

@@ -1,6 +1,11 @@
 mod Prelude
 mod Escaping
 pub mod Working
+mod Failing
+mod Granting
+mod Pushed
+mod Ran
+mod Remotes
 pub mod Reached
 mod Foretold
 mod Removed

@@ -5,11 +5,11 @@ pub use Rattle.model.specs.Bounds.{Bound, Ending, IsWithin, SameWorld, bound_aft
 pub use Rattle.model.specs.Steps.{Event, IsStep, Run, by_verdict, exchanged, issues, judgement, prunes}
 pub use Rattle.model.specs.World.{IsWorld, World, nothing}
 pub use Rattle.operator.specs.Escapes.{escape, escaped, is_control, shown}
-pub use Rattle.operator.specs.Works.{Work, Works, bound_of_works, keeps, steps_of, takes}
-pub use Rattle.refinement.proofs.Leading.{from_weaker, leads_none, reads_lead, takes_then}
+pub use Rattle.operator.specs.Works.{Work, Works, WorksOwn, bound_of_works, keeps, steps_of, takes}
+pub use Rattle.refinement.proofs.Leading.{from_weaker, keeps_still, leads_none, reads_lead, reads_none, takes_then}
 pub use Rattle.refinement.proofs.ReadOnly.{reads_then, reads_weaker}
 pub use Rattle.refinement.specs.Left.{From, IsAmong, IsBoundedBy, Keeps, Leads, Reads, Takes}
-pub use Rattle.std.proofs.Common.{Err, List, IfOk, MatchResult, Ok, Result, Some, [], ap, append_assoc, arith, false, inl, inr, length, refl, rules, string_bytes, subst, sym, true, ℕ, ◌++◌, ◌∙◌, ◌∷◌, ◌≡◌, ◌≤◌, ◌⊎◌}
+pub use Rattle.std.proofs.Common.{Err, List, IfErr, IfOk, MatchResult, Ok, Result, Some, [], ap, append_assoc, arith, false, inl, inr, length, refl, rules, string_bytes, subst, sym, true, ℕ, ◌++◌, ◌∙◌, ◌∷◌, ◌≡◌, ◌≤◌, ◌⊎◌}
 pub use Rattle.std.proofs.lemmas.Result.{IfOk-weaker, err_from_is_err_and}
 pub use Rattle.std.specs.Prelude.{⊤}
 pub use Rattle.tokens.specs.Pruning.{Prunes}

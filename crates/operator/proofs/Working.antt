@@ -1,20 +1,16 @@
 -- Calls that lead a store by the steps of a run, one after another; for proofs in other crates too.
-use Rattle.operator.proofs.Prelude.{⊤, ◌≡◌, ℕ, List, [], ◌∷◌, ◌++◌, Result, Ok, Err, IfOk, MatchResult, refl, sym, ap, subst, World, Event, Run, Bound, bound_after, reports_are_true, run_append, IsBoundedBy, Leads, Keeps, Takes, From, Reads, leads_none, reads_lead, from_weaker, Prunes, Sweeps, Work, takes, keeps, steps_of, bound_of_works, Works}
+use Rattle.operator.proofs.Prelude.{⊤, ◌≡◌, inl, inr, List, [], ◌∷◌, ◌++◌, Result, Ok, Err, refl, sym, ap, subst, World, Event, Run, Bound, bound_after, reports_are_true, run_append, IsBoundedBy, Leads, Keeps, Takes, From, Reads, leads_none, reads_lead, from_weaker, Work, takes, keeps, steps_of, bound_of_works, Works, WorksOwn}
 use Rattle.sqlite_trees.specs.declared.store.Store.{Ghosts}
 use Rattle.tables.specs.declared.Store.{Store}
-use Rattle.tables.specs.declared.fault.StoreFault.{StoreFault}
 use Rattle.refinement.specs.Representation.{Holds}
-use Rattle.tokens.specs.declared.issuing.TokenFault.{TokenFault}
-use Rattle.tokens.specs.declared.requests.TokenRequest.{TokenRequest}
-use Rattle.tokens.specs.Issuing.{Issues, Refuses}
-use Rattle.uploads.specs.declared.retiring.Retired.{Retired}
-use Rattle.uploads.specs.Retiring.{Retires}
+use Rattle.operator.specs.declared.faults.TaskFault.{TaskFault}
 use Rattle.operator.specs.declared.tasks.Task.{Task}
 use Rattle.operator.specs.declared.tasks.Task.TheVariants.{Issue, Prune, CheckPush, Foresee, ListLocks, ListObjects, CheckObjects, Repair, Sweep, Retire}
-use Rattle.operator.specs.Tasks.{Does}
+use Rattle.operator.specs.Failing.{Attempts, Fails}
+use Rattle.operator.specs.Tasks.{Does, IsStepOf, Ran}
 
 -- the steps of the calls, and of more calls
-steps_append : (before after : List Work) → steps_of (before ++ after) ≡ steps_of before ++ steps_of after
+pub steps_append : (before after : List Work) → steps_of (before ++ after) ≡ steps_of before ++ steps_of after
 steps_append [] after = refl
 steps_append (takes event ∷ before) after = ap (λ (l : List Event). event ∷ l) (steps_append before after)
 steps_append (keeps ∷ before) after = steps_append before after
@@ -65,6 +61,20 @@ module _ {S : Type 0} (g : Ghosts S) where
     };
   }
 
+  -- the steps of those, one after another
+  pub steps_then : (a b c : Store S) (world : World) (p : Works g a b world) (q : Works g b c p.kept) → steps_of (works_then a b c world p q).works ≡ steps_of p.works ++ steps_of q.works
+  unfolding works_then
+  steps_then a b c world p q = steps_append p.works q.works
+
+  -- calls that took no step
+  pub still_steps : (a b : Store S) (world : World) (lead : Leads g a b world (λ bound. bound)) → steps_of (works_still a b world lead).works ≡ []
+  unfolding works_still
+  still_steps a b world lead = refl
+
+  pub keeps_steps : (a b : Store S) (world : World) (k : Keeps g a b world) → steps_of (works_keeps a b world k).works ≡ []
+  unfolding works_keeps
+  keeps_steps a b world k = refl
+
   -- ---- from each world that the store held
 
   -- a call that only reads
@@ -85,70 +95,41 @@ module _ {S : Type 0} (g : Ghosts S) where
     each = λ honest world h. let before = p.each (q.honest honest) world h in works_then a b c world before (q.each honest before.kept before.leads.holds);
   }
 
-  -- ---- from the contracts of the calls
+  -- ---- a step of the caller's own, or none
 
-  -- expired tokens are removed, or the store refused
-  pub prunes_work : (a b : Store S) (now : ℕ) (r : Result ℕ StoreFault) (world : World) → Prunes g world now a b r → Works g a b world
-  prunes_work a b now (Ok n) world t = works_takes a b world _ _ t
-  prunes_work a b now (Err f) world t = works_takes a b world _ _ t.0
+  own_still : (a b : Store S) (world : World) (IsOwn : Event → Type 0) → Leads g a b world (λ bound. bound) → WorksOwn g IsOwn a b world
+  unfolding works_still
+  own_still a b world IsOwn lead = (works_still a b world lead, inl refl)
 
-  -- staged uploads are removed, or the store refused
-  pub sweeps_work : (a b : Store S) (r : Result ℕ StoreFault) (world : World) → Sweeps g world a b r → Works g a b world
-  sweeps_work a b (Ok n) world p = works_keeps a b world p.0
-  sweeps_work a b (Err f) world p = works_keeps a b world p
+  own_keeps : (a b : Store S) (world : World) (IsOwn : Event → Type 0) → Keeps g a b world → WorksOwn g IsOwn a b world
+  unfolding works_keeps
+  own_keeps a b world IsOwn k = (works_keeps a b world k, inl refl)
 
-  -- an object is removed for good, or there is none, or the store refused
-  pub retires_work : (a b : Store S) (repo name : List ℕ) (r : Result Retired StoreFault) (world : World) → Retires g world repo name a b r → Works g a b world
-  retires_work a b repo name (Ok given) world t = works_takes a b world _ _ t
-  retires_work a b repo name (Err f) world t = works_takes a b world _ _ t
+  own_takes : (a b : Store S) (world kept : World) (event : Event) (IsOwn : Event → Type 0) → IsOwn event → Takes g a b world event kept → WorksOwn g IsOwn a b world
+  unfolding works_takes
+  own_takes a b world kept event IsOwn own t = (works_takes a b world kept event t, inr (event, own, refl))
 
-  -- a token is issued
-  pub from_issues : (a b : Store S) (asked : TokenRequest) (text : List ℕ) → From g a b (λ world. Issues g world a b asked text) → From g a b (Works g a b)
-  from_issues a b asked text p = from_weaker g a b _ _ (λ world i. works_takes a b world _ _ i.takes) p
+  fails_own : (a b : Store S) (world : World) (IsOwn : Event → Type 0) (follows : Type 0) → Fails g IsOwn follows a b world → WorksOwn g IsOwn a b world
+  fails_own a b world IsOwn follows f = at f.attempts
+    where
+      at : Attempts g IsOwn a b world f.kept → WorksOwn g IsOwn a b world
+      at (inl kept) = own_keeps a b world IsOwn kept.0
+      at (inr (event, own, t)) = own_takes a b world f.kept event IsOwn own t
 
-  -- no token is issued
-  pub from_refuses : (a b : Store S) (asked : TokenRequest) (fault : TokenFault) → From g a b (λ world. Refuses g world a b asked fault) → From g a b (Works g a b)
-  from_refuses a b asked fault p = from_weaker g a b _ _ (λ world i. works_takes a b world _ _ i.takes) p
-
-  -- a task that was done
-  pub does_work : (a b : Store S) (task : Task) (world : World) → Does g a b world task → Works g a b world
-  does_work a b (Issue policy asked) world d = works_takes a b world _ _ d.1.takes
-  does_work a b (Prune now) world d = prunes_work a b now (Ok d.0) world d.1
-  does_work a b Sweep world d = sweeps_work a b (Ok d.0) world d.1
-  does_work a b (Retire repo oid) world d = works_takes a b world _ _ d.2
-  does_work a b (CheckPush push) world d = works_still a b world d
-  does_work a b (Foresee asked) world d = works_still a b world d.0
-  does_work a b (ListLocks repo) world d = works_still a b world d
-  does_work a b (ListObjects repo) world d = works_still a b world d
-  does_work a b (CheckObjects terminal) world d = works_still a b world d
-  does_work a b (Repair terminal) world d = works_still a b world d.0
+  -- a task that was done takes its own step, or none
+  does_own : (a b : Store S) (task : Task) (world : World) → Does g a b world task → WorksOwn g (IsStepOf task) a b world
+  does_own a b (Issue policy asked) world d = own_takes a b world _ _ _ (_, refl) d.1.takes
+  does_own a b (Prune now) world d = own_takes a b world _ _ _ (_, refl) d.1
+  does_own a b Sweep world d = own_keeps a b world _ d.1.0
+  does_own a b (Retire repo oid) world d = own_takes a b world _ _ _ (_, refl) d.2
+  does_own a b (CheckPush push) world d = own_still a b world _ d.0
+  does_own a b (Foresee asked) world d = own_still a b world _ d.0
+  does_own a b (ListLocks repo) world d = own_still a b world _ d
+  does_own a b (ListObjects repo) world d = own_still a b world _ d
+  does_own a b (CheckObjects terminal) world d = own_still a b world _ d
+  does_own a b (Repair terminal) world d = own_still a b world _ d.0
 
   -- a task, whether it was done or not
-  pub from_task : {E : Type 0} (a b : Store S) (task : Task) (r : Result ⊤ E) → From g a b (λ world. MatchResult r (λ _. Does g a b world task) (λ _. Works g a b world)) → From g a b (Works g a b)
-  from_task a b task (Ok u) p = from_weaker g a b _ _ (does_work a b task) p
-  from_task a b task (Err e) p = p
-
-  -- a task that only reads
-  pub from_reading : {E : Type 0} (a b : Store S) (P : World → Type 0) (r : Result ⊤ E) → Reads g a b P
-      → From g a b (λ world. MatchResult r (λ _. Leads g a b world (λ bound. bound)) (λ _. Works g a b world))
-  from_reading a b P (Ok u) p = record { honest = p.same.was_honest; each = λ honest world h. reads_lead g a b P world p h }
-  from_reading a b P (Err e) p = from_reads a b P p
-
-  -- the same, with what a task that was done has found in the world
-  pub from_finding : {E : Type 0} (a b : Store S) (P : World → Type 0) (r : Result ⊤ E) → Reads g a b (λ world. IfOk r (λ _. P world))
-      → From g a b (λ world. MatchResult r (λ _. Leads g a b world (λ bound. bound) × P world) (λ _. Works g a b world))
-  from_finding a b P (Ok u) p = record { honest = p.same.was_honest; each = λ honest world h. (reads_lead g a b P world p h, p.each honest world h) }
-  from_finding a b P (Err e) p = from_reads a b (λ world. ⊤) p
-
-  -- a token is issued, or the world is as before
-  pub from_granting : {E : Type 0} (a b : Store S) (asked : TokenRequest) (r : Result ⊤ E)
-      → From g a b (λ world. MatchResult r (λ _. (text : List ℕ) × Issues g world a b asked text) (λ _. Holds g b world)) → From g a b (Works g a b)
-      → From g a b (λ world. MatchResult r (λ _. (text : List ℕ) × Issues g world a b asked text) (λ _. Works g a b world))
-  from_granting a b asked (Ok u) p q = p
-  from_granting a b asked (Err e) p q = q
-
-  -- what a call did, whatever its caller then returns
-  pub from_either : {E : Type 0} (a b : Store S) (P Q : World → Type 0) (r : Result ⊤ E) → ((world : World) → P world → Q world) → From g a b P
-      → From g a b (λ world. MatchResult r (λ _. P world) (λ _. Q world))
-  from_either a b P Q (Ok u) f p = p
-  from_either a b P Q (Err e) f p = from_weaker g a b P Q f p
+  pub from_task : (a b : Store S) (task : Task) (r : Result ⊤ TaskFault) → From g a b (λ world. Ran g a b world task r) → From g a b (WorksOwn g (IsStepOf task) a b)
+  from_task a b task (Ok u) p = from_weaker g a b _ _ (does_own a b task) p
+  from_task a b task (Err e) p = from_weaker g a b _ _ (λ world f. fails_own a b world _ _ f.0) p

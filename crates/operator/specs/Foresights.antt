@@ -10,6 +10,7 @@ use Rattle.desk.specs.Asking.{request_read}
 use Rattle.desk.specs.Foreseeing.{caller_request}
 use Rattle.desk.specs.Replies.{IsReply}
 use Rattle.desk.specs.declared.replies.Reply.{Reply}
+use Rattle.operator.specs.Failing.{IsPlain}
 use Rattle.operator.specs.declared.faults.TaskFault.{TaskFault}
 use Rattle.operator.specs.declared.faults.TaskFault.TheVariants as fault
 use Rattle.operator.specs.declared.foreseeing.Foresight.{Foresight}
@@ -25,6 +26,11 @@ abbrev pub Foretells : World → Foresight → Result Reply TaskFault → Type 0
 Foretells world f r =
     (request : Request) → request_read f.request ≡ Ok request → f.request.repo.now ≡ repo_text f.repo.now
     → IsToldAs r (foresee (view_of world (policy_view f.policy.now) (user_text f.user.now) (repo_text f.repo.now)) f.now (caller_request f.request f.body.now request))
+
+-- a reply is not foreseen: there is no caller, or for a plain reason
+abbrev pub IsReplyFault : TaskFault → Type 0
+IsReplyFault fault.NoCaller = ⊤
+IsReplyFault other = IsPlain other
 
 -- some reply is foreseen
 abbrev pub HasForetold : World → Foresight → Type 0

@@ -1,7 +1,10 @@
 pub mod Escapes
+pub mod Failing
 pub mod Faults
 pub mod Foresights
 pub mod Lines
+pub mod Texts
+pub mod Paths
 pub mod Removals
 pub mod Works
 pub mod Reached

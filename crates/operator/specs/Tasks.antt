@@ -1,28 +1,96 @@
--- What a task that succeeds has done.
-use Rattle.std.specs.Prelude.{ℕ, List, Ok}
+-- What a task does: it succeeds or fails as its verdicts say, and takes no step but its own.
+use Rattle.std.specs.Prelude.{◌≡◌, ℕ, Bool, true, false, List, map, Option, Result, Ok, Err, MatchResult, ⊤}
+use Rattle.std.specs.List.{list_all}
 use Rattle.sqlite_trees.specs.declared.store.Store.{Ghosts}
+use Rattle.names.specs.Names.{repo_text, path_text}
+use Rattle.policy.specs.Values.{policy_view}
 use Rattle.model.specs.World.{World}
+use Rattle.model.specs.Operator.{removal_of}
+use Rattle.model.specs.PushChecks.{PushVerdict, free, push_verdicts}
+use Rattle.model.specs.Steps.{Event, prunes}
 use Rattle.tables.specs.declared.Store.{Store}
 use Rattle.refinement.specs.Left.{Leads, KeepsTables}
 use Rattle.tokens.specs.Issuing.{Issues}
 use Rattle.tokens.specs.Pruning.{Prunes}
 use Rattle.uploads.specs.Removing.{Sweeps}
-use Rattle.names.specs.Names.{repo_text}
-use Rattle.operator.specs.Foresights.{HasForetold}
-use Rattle.operator.specs.Removals.{IsRemoved}
+use Rattle.pushcheck.specs.Verdicts.{push_by}
+use Rattle.operator.specs.Failing.{Fails, IsPlain, IsOutput, IsIssueOf, IsTokenFault}
+use Rattle.operator.specs.Foresights.{Foretells, HasForetold}
+use Rattle.operator.specs.Removals.{IsRemoved, IsRemovalOf, IsRemovalFault}
+use Rattle.operator.specs.declared.faults.TaskFault.{TaskFault}
+use Rattle.operator.specs.declared.faults.TaskFault.TheVariants.{NoCaller, Reported}
+use Rattle.operator.specs.declared.foreseeing.Foresight.{Foresight}
+use Rattle.operator.specs.declared.pushing.Push.{Push}
 use Rattle.operator.specs.declared.tasks.Task.{Task}
 use Rattle.operator.specs.declared.tasks.Task.TheVariants.{Issue, Prune, CheckPush, Foresee, ListLocks, ListObjects, CheckObjects, Repair, Sweep, Retire}
 
+-- ---- success
+
+-- the path may be pushed
+abbrev pub is_free : PushVerdict → Bool
+is_free free = true
+is_free _ = false
+
+-- each path of the push may be pushed
+abbrev pub may_push : World → Push → Bool
+may_push world push =
+    list_all is_free (push_verdicts (policy_view push.policy.now) world (push_by push.user.now push.repo.now push.ref_name.now) (map path_text push.paths.items))
+
 -- the token is issued, the expired ones are removed, no upload is left staged, or the object is removed, now or before; the
--- other tasks only read, and a reply is foreseen; a repair finds no damaged object in a world, and leaves the tables
+-- other tasks only read: each path may be pushed, a reply is foreseen; a repair finds no damaged object in a world, and leaves
+-- the tables
 abbrev pub Does : {S : Type 0} (g : Ghosts S) → Store S → Store S → World → Task → Type 0
 Does g old new world (Issue policy asked) = (text : List ℕ) × Issues g world old new asked text
 Does g old new world (Prune now) = (n : ℕ) × Prunes g world now old new (Ok n)
 Does g old new world Sweep = (n : ℕ) × Sweeps g world old new (Ok n)
 Does g old new world (Retire repo oid) = IsRemoved g old new world (repo_text repo.now) oid.now
-Does g old new world (CheckPush push) = Leads g old new world (λ bound. bound)
+Does g old new world (CheckPush push) = Leads g old new world (λ bound. bound) × (may_push world push ≡ true)
 Does g old new world (Foresee asked) = Leads g old new world (λ bound. bound) × HasForetold world asked
 Does g old new world (ListLocks repo) = Leads g old new world (λ bound. bound)
 Does g old new world (ListObjects repo) = Leads g old new world (λ bound. bound)
 Does g old new world (CheckObjects terminal) = Leads g old new world (λ bound. bound)
 Does g old new world (Repair terminal) = Leads g old new world (λ bound. bound) × KeepsTables g old new
+
+-- ---- failure
+
+-- the one step of a task, whatever it reports: a token that is issued, expired ones or an object that are removed
+abbrev pub IsStepOf : Task → Event → Type 0
+IsStepOf (Issue policy asked) event = IsIssueOf asked event
+IsStepOf (Prune now) event = (given : Option ℕ) × (event ≡ prunes now given)
+IsStepOf (Retire repo oid) event = IsRemovalOf (repo_text repo.now) oid.now event
+IsStepOf _ event = ⊥
+
+-- after tokens or an object were removed, the line may not be written
+abbrev pub MayFollow : Task → TaskFault → Type 0
+MayFollow (Prune now) fault = IsOutput fault
+MayFollow (Retire repo oid) fault = IsOutput fault
+MayFollow _ fault = ⊥
+
+-- not each path of the push may be pushed
+abbrev pub IsPushFault : World → Push → TaskFault → Type 0
+IsPushFault world push Reported = may_push world push ≡ false
+IsPushFault world push fault = IsPlain fault
+
+-- no reply is foreseen, as the definitions say, or for a plain reason
+abbrev pub IsForesightFault : World → Foresight → TaskFault → Type 0
+IsForesightFault world asked NoCaller = Foretells world asked (Err NoCaller)
+IsForesightFault world asked fault = IsPlain fault
+
+-- the fault is the task's own, as the definitions say: a path may not be pushed, a token may not be issued, no reply is
+-- foreseen, or there is no object; no object of a world is damaged
+abbrev pub IsFaultOf : World → Task → TaskFault → Type 0
+IsFaultOf world (CheckPush push) fault = IsPushFault world push fault
+IsFaultOf world (Issue policy asked) fault = IsTokenFault world asked fault
+IsFaultOf world (Foresee asked) fault = IsForesightFault world asked fault
+IsFaultOf world (Retire repo oid) fault = IsRemovalFault (removal_of world (repo_text repo.now) oid.now) fault
+IsFaultOf world _ fault = IsPlain fault
+
+-- the task fails for a reason of its own, and takes no step but its own
+abbrev pub FailsAs : {S : Type 0} (g : Ghosts S) → Store S → Store S → World → Task → TaskFault → Type 0
+FailsAs g old new world task fault = Fails g (IsStepOf task) (MayFollow task fault) old new world × IsFaultOf world task fault
+
+-- ---- both
+
+-- the task did what it is to do, or failed
+abbrev pub Ran : {S : Type 0} (g : Ghosts S) → Store S → Store S → World → Task → Result ⊤ TaskFault → Type 0
+Ran g old new world task result = MatchResult result (λ _. Does g old new world task) (FailsAs g old new world task)

@@ -1,16 +1,20 @@
 //! Hashes every stored object again.
 
-ghost use Rattle.std.specs.Prelude.{◌≡◌, ⊤, not, IfOk};
+ghost use Rattle.std.specs.Prelude.{◌≡◌, ⊤, not, IfOk, IfErr, OnOk};
+ghost use Rattle.std.specs.List.{AllByRecursion};
 ghost use Rattle.tables.specs.Staging.{upload_number};
-ghost use Rattle.refinement.specs.Left.{Reads};
+ghost use Rattle.refinement.specs.Left.{From, Reads};
 ghost use Rattle.chunks.specs.Pouring.{OfBytes};
-ghost use Rattle.operator.specs.Damage.{has_bytes};
+ghost use Rattle.operator.specs.Damage.{has_bytes, IsWhole};
+ghost use Rattle.operator.specs.Failing.{IsPlain};
 
 use crate::faults::TaskFault;
 use crate::lines::damage_line;
+use crate::output::{print, print_count};
 use chunks::is_whole;
+use names::Sink;
 use std::alloc::Global;
-use std::io::{self, Stderr, Write};
+use std::io::{Stderr, Write};
 use tables::{Alter, Store, StoreFault};
 use uploads::Stored;
 
@@ -49,39 +53,44 @@ impl Progress<'_> {
 }
 
 /// Writes a line at once.
-pub(crate) fn write_line<W: Write>(output: &mut W, line: &str) -> io::Result<()> {
-    writeln!(output, "{line}")?;
-    output.flush()
+///
+/// # Errors
+///
+/// `Memory`, and `Output` if it could not be written.
+pub(crate) fn print_line<K: Sink>(output: &mut K, mut line: String) -> Result<(), TaskFault>
+    ensures good { OnOk result (K.failed output.new ≡ K.failed output.old) }
+    ensures err { IfErr result IsPlain }
+{
+    line.push('\n')?;
+    print(output, line.as_bytes())
 }
 
 /// Reads the objects, one after the other, and writes a line for each one that is damaged. Returns their number.
-fn check_all<S: Alter, W: Write>(
+fn check_all<S: Alter, K: Sink>(
     alloc: Global,
     store: &mut Store<S>,
     rows: &[Stored],
     progress: &Progress<'_>,
-    output: &mut W,
+    output: &mut K,
 ) -> Result<usize, TaskFault>
-    ensures { Reads S.Store store.old store.new (λ _. ⊤) }
+    ensures reads { Reads S.Store store.old store.new (λ _. ⊤) }
+    ensures whole { From S.Store store.old store.new (λ _.
+        AllByRecursion (IsWhole S.Store store.old) rows.now
+        → IfOk result (λ damaged. damaged ≡ 0)) }
+    ensures good { OnOk result (K.failed output.new ≡ K.failed output.old) }
+    ensures err { IfErr result IsPlain }
 {
     let mut damaged = 0usize;
     for (index, row) in rows.iter().enumerate() {
         progress.show(index);
         if is_damaged(store, row)? {
             progress.clear();
-            let line = damage_line(alloc, row)?;
-            write_line(output, line.as_str()).map_err(|_| TaskFault::Output)?;
+            print_line(output, damage_line(alloc, row)?)?;
             damaged += 1;
         }
     }
     progress.clear();
     Ok(damaged)
-}
-
-/// Writes the number of checked objects.
-fn write_count<W: Write>(output: &mut W, count: usize) -> io::Result<()> {
-    writeln!(output, "checked {count} objects")?;
-    output.flush()
 }
 
 /// Hashes each object again, in the order of repositories and names, and prints a line for each one that is damaged, and
@@ -90,13 +99,14 @@ fn write_count<W: Write>(output: &mut W, count: usize) -> io::Result<()> {
 /// # Errors
 ///
 /// `Store` and `Memory`, `Output` if a line could not be written, and `Reported` if an object is damaged.
-pub(crate) fn check_objects<S: Alter, W: Write>(
+pub(crate) fn check_objects<S: Alter, K: Sink>(
     alloc: Global,
     store: &mut Store<S>,
     terminal: Option<&Stderr>,
-    output: &mut W,
+    output: &mut K,
 ) -> Result<(), TaskFault>
-    ensures { Reads S.Store store.old store.new (λ _. ⊤) }
+    ensures reads { Reads S.Store store.old store.new (λ _. IfErr result IsPlain) }
+    ensures good { OnOk result (K.failed output.new ≡ K.failed output.old) }
 {
     let rows = uploads::all(alloc, store, None)?;
     let progress = Progress {
@@ -104,7 +114,7 @@ pub(crate) fn check_objects<S: Alter, W: Write>(
         all: rows.len(),
     };
     let damaged = check_all(alloc, store, rows.as_slice(), &progress, output)?;
-    write_count(output, rows.len()).map_err(|_| TaskFault::Output)?;
+    print_count(output, "checked", rows.len() as u64, "objects")?;
     if damaged == 0 {
         Ok(())
     } else {

@@ -1,18 +1,18 @@
 //! Foresees the reply to a request of a user.
 
-ghost use Rattle.std.specs.Prelude.{IfOk};
+ghost use Rattle.std.specs.Prelude.{◌≡◌, IfErr, OnOk, MatchResult};
 ghost use Rattle.refinement.specs.Left.{Reads};
-ghost use Rattle.operator.specs.Foresights.{Foretells, HasForetold};
+ghost use Rattle.operator.specs.Foresights.{Foretells, HasForetold, IsReplyFault};
+ghost use Rattle.operator.specs.Tasks.{IsForesightFault};
 
 use crate::escapes::{Destination, shown};
 use crate::faults::TaskFault;
 use crate::lines::{content_line, reply_line};
 use crate::output::Lines;
 use desk::{Reply, ReplyBody, RepoRequest, foresee, view};
-use names::{Moment, RepoName, UserName};
+use names::{Moment, RepoName, Sink, UserName};
 use policy::Policy;
-use std::alloc::Global;
-use std::io::Write;
+use std::alloc::{AllocError, Global};
 use tables::{Alter, Store};
 
 /// A request whose reply is foreseen.
@@ -38,35 +38,30 @@ fn reply_to<S: Alter>(
     store: &mut Store<S>,
     asked: &Foresight<'_>,
 ) -> Result<Reply, TaskFault>
-    ensures { Reads S.Store store.old store.new (λ world. Foretells world asked.entry.now result) }
+    ensures reads { Reads S.Store store.old store.new (λ world.
+        Foretells world asked.entry.now result) }
+    ensures err { IfErr result IsReplyFault }
 {
     let view = view(alloc, store, asked.policy, asked.user, asked.repo)?;
     let reply = foresee(alloc, &view, asked.now, &asked.request, asked.body)?;
     Ok(reply)
 }
 
-/// Writes the lines of the reply.
-fn write_reply<W: Write>(
-    alloc: Global,
-    reply: &Reply,
-    destination: Destination,
-    output: &mut W,
-) -> Result<(), TaskFault> {
-    let mut lines = Lines::new(alloc, output)?;
-    lines.write(reply_line(alloc, reply)?.as_bytes())?;
+/// The lines of the reply.
+fn lines_of(alloc: Global, reply: &Reply, destination: Destination) -> Result<Lines, AllocError> {
+    let mut lines = Lines::new(alloc);
+    lines.push(reply_line(alloc, reply)?.as_bytes())?;
     match &reply.body {
         ReplyBody::Empty => {}
-        ReplyBody::Json(text) => lines.write(shown(
-            alloc,
-            text.as_bytes(),
-            destination,
-        )?.as_slice())?,
-        ReplyBody::Refused(text) => lines.write(text.as_bytes())?,
-        ReplyBody::Content(name, size) => lines.write(content_line(
-            alloc, *name, *size,
-        )?.as_bytes())?,
+        ReplyBody::Json(text) => {
+            lines.push(shown(alloc, text.as_bytes(), destination)?.as_slice())?
+        }
+        ReplyBody::Refused(text) => lines.push(text.as_bytes())?,
+        ReplyBody::Content(name, size) => {
+            lines.push(content_line(alloc, *name, *size)?.as_bytes())?
+        }
     }
-    lines.end()
+    Ok(lines)
 }
 
 /// Prints the reply that the user would get to the request: its status and the rule that refuses it, and then its body, or
@@ -76,16 +71,17 @@ fn write_reply<W: Write>(
 ///
 /// `NoCaller` if the request presents no valid token of the user for the repository; `Store` and `Memory`; and `Output` if a
 /// line could not be written.
-pub(crate) fn print_foreseen<S: Alter, W: Write>(
+pub(crate) fn print_foreseen<S: Alter, K: Sink>(
     alloc: Global,
     store: &mut Store<S>,
     asked: &Foresight<'_>,
     destination: Destination,
-    output: &mut W,
+    output: &mut K,
 ) -> Result<(), TaskFault>
-    ensures { Reads S.Store store.old store.new (λ world.
-        IfOk result (λ _. HasForetold world asked.entry.now)) }
+    ensures reads { Reads S.Store store.old store.new (λ world. MatchResult result
+        (λ _. HasForetold world asked.entry.now) (IsForesightFault world asked.entry.now)) }
+    ensures good { OnOk result (K.failed output.new ≡ K.failed output.old) }
 {
     let reply = reply_to(alloc, store, asked)?;
-    write_reply(alloc, &reply, destination, output)
+    lines_of(alloc, &reply, destination)?.write(output)
 }

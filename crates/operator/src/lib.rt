@@ -28,7 +28,7 @@ pub use escapes::{Destination, shown};
 pub use faults::TaskFault;
 pub use foreseeing::Foresight;
 pub use issuing::repo_at;
-pub use output::Lines;
+pub use output::{Lines, print};
 pub use paths::{LONGEST_PATHS, PathsFault, paths_in};
 pub use pushing::Push;
 pub use reopening::reopening_law;

@@ -1,28 +1,24 @@
 //! Lists the objects of a repository.
 
-ghost use Rattle.std.specs.Prelude.{⊤};
+ghost use Rattle.std.specs.Prelude.{◌≡◌, ⊤, IfErr, OnOk};
 ghost use Rattle.refinement.specs.Left.{Reads};
+ghost use Rattle.operator.specs.Failing.{IsPlain};
 
 use crate::faults::TaskFault;
 use crate::lines::object_line;
 use crate::output::Lines;
-use names::RepoName;
-use std::alloc::Global;
-use std::io::Write;
+use names::{RepoName, Sink};
+use std::alloc::{AllocError, Global};
 use tables::{Alter, Store};
 use uploads::Stored;
 
-/// Writes a line for each object.
-fn write_objects<W: Write>(
-    alloc: Global,
-    rows: &[Stored],
-    output: &mut W,
-) -> Result<(), TaskFault> {
-    let mut lines = Lines::new(alloc, output)?;
+/// A line for each object.
+fn lines_of(alloc: Global, rows: &[Stored]) -> Result<Lines, AllocError> {
+    let mut lines = Lines::new(alloc);
     for row in rows {
-        lines.write(object_line(alloc, row)?.as_bytes())?;
+        lines.push(object_line(alloc, row)?.as_bytes())?;
     }
-    lines.end()
+    Ok(lines)
 }
 
 /// Prints a line for each object of the repository, in rising names.
@@ -30,14 +26,16 @@ fn write_objects<W: Write>(
 /// # Errors
 ///
 /// `Store` and `Memory`, and `Output` if a line could not be written.
-pub(crate) fn list_objects<S: Alter, W: Write>(
+pub(crate) fn list_objects<S: Alter, K: Sink>(
     alloc: Global,
     store: &mut Store<S>,
     repo: &RepoName,
-    output: &mut W,
+    output: &mut K,
 ) -> Result<(), TaskFault>
-    ensures { Reads S.Store store.old store.new (λ _. ⊤) }
+    ensures reads { Reads S.Store store.old store.new (λ _. ⊤) }
+    ensures good { OnOk result (K.failed output.new ≡ K.failed output.old) }
+    ensures err { IfErr result IsPlain }
 {
     let rows = uploads::all(alloc, store, Some(repo))?;
-    write_objects(alloc, rows.as_slice(), output)
+    lines_of(alloc, rows.as_slice())?.write(output)
 }

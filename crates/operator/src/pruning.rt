@@ -1,20 +1,15 @@
 //! Removes the tokens that have expired.
 
-ghost use Rattle.std.specs.Prelude.{ℕ, Ok, MatchResult};
+ghost use Rattle.std.specs.Prelude.{◌≡◌, ℕ, Option, OnOk, Ok, MatchResult};
+ghost use Rattle.model.specs.Steps.{prunes};
 ghost use Rattle.refinement.specs.Left.{From};
 ghost use Rattle.tokens.specs.Pruning.{Prunes};
-ghost use Rattle.operator.specs.Works.{Works};
+ghost use Rattle.operator.specs.Failing.{Fails, IsOutput, IsPlain};
 
 use crate::faults::TaskFault;
-use names::Moment;
-use std::io::{self, Write};
+use crate::output::print_count;
+use names::{Moment, Sink};
 use tables::{Alter, Store};
-
-/// Writes the number of removed tokens.
-fn write_count<W: Write>(output: &mut W, count: u64) -> io::Result<()> {
-    writeln!(output, "pruned {count} tokens")?;
-    output.flush()
-}
 
 /// Removes the tokens that are not valid at the moment, and prints their number.
 ///
@@ -22,15 +17,17 @@ fn write_count<W: Write>(output: &mut W, count: u64) -> io::Result<()> {
 ///
 /// `Store` and `Memory`, which leave the tokens; and `Output` if the line could not be written: the tokens are removed
 /// all the same.
-pub(crate) fn prune<S: Alter, W: Write>(
+pub(crate) fn prune<S: Alter, K: Sink>(
     store: &mut Store<S>,
     now: Moment,
-    output: &mut W,
+    output: &mut K,
 ) -> Result<(), TaskFault>
-    ensures { From S.Store store.old store.new (λ world. MatchResult result
+    ensures world { From S.Store store.old store.new (λ world. MatchResult result
         (λ _. (n : ℕ) × Prunes S.Store world now store.old store.new (Ok n))
-        (λ _. Works S.Store store.old store.new world)) }
+        (λ fault. Fails S.Store (λ event. (given : Option ℕ) × (event ≡ prunes now given))
+        (IsOutput fault) store.old store.new world × IsPlain fault)) }
+    ensures good { OnOk result (K.failed output.new ≡ K.failed output.old) }
 {
     let count = tokens::prune(store, now)?;
-    write_count(output, count).map_err(|_| TaskFault::Output)
+    print_count(output, "pruned", count, "tokens")
 }

@@ -1,17 +1,19 @@
 //! Checks the paths of a push.
 
-ghost use Rattle.std.specs.Prelude.{⊤};
+ghost use Rattle.std.specs.Prelude.{◌≡◌, true, OnOk, MatchResult};
+ghost use Rattle.std.specs.List.{list_all};
 ghost use Rattle.refinement.specs.Left.{Reads};
+ghost use Rattle.pushcheck.specs.Verdicts.{verdict_view};
+ghost use Rattle.operator.specs.Tasks.{IsPushFault, is_free, may_push};
 
 use crate::escapes::Destination;
 use crate::faults::TaskFault;
 use crate::lines::shown_verdict;
 use crate::output::Lines;
-use names::{LockPath, RefName, RepoName, UserName};
+use names::{LockPath, RefName, RepoName, Sink, UserName};
 use policy::Policy;
 use pushcheck::{PushVerdict, check};
-use std::alloc::Global;
-use std::io::Write;
+use std::alloc::{AllocError, Global};
 use tables::{Alter, Store};
 
 /// A push that is checked.
@@ -29,26 +31,35 @@ pub struct Push<'a> {
     pub paths: Vec<LockPath>,
 }
 
-/// Whether each path may be pushed.
-fn are_ok(verdicts: &[PushVerdict]) -> bool {
-    verdicts
-        .iter()
-        .all(|verdict| matches!(verdict, PushVerdict::Ok))
+/// Whether the path may be pushed.
+fn is_ok(verdict: &PushVerdict) -> bool
+    ensures { result ≡ is_free (verdict_view verdict.now) }
+{
+    match verdict {
+        PushVerdict::Ok => true,
+        PushVerdict::Denied(_) | PushVerdict::Locked(_, _) => false,
+    }
 }
 
-/// Writes the verdict on each path.
-fn write_verdicts<W: Write>(
+/// Whether each path may be pushed.
+fn are_ok(verdicts: &[PushVerdict]) -> bool
+    ensures { result ≡ list_all (λ verdict. is_free (verdict_view verdict)) verdicts.now }
+{
+    verdicts.iter().all(|verdict| is_ok(verdict))
+}
+
+/// The line with the verdict on each path.
+fn lines_of(
     alloc: Global,
     paths: &[LockPath],
     verdicts: &[PushVerdict],
     destination: Destination,
-    output: &mut W,
-) -> Result<(), TaskFault> {
-    let mut lines = Lines::new(alloc, output)?;
+) -> Result<Lines, AllocError> {
+    let mut lines = Lines::new(alloc);
     for (path, verdict) in paths.iter().zip(verdicts) {
-        lines.write(shown_verdict(alloc, path, verdict, destination)?.as_slice())?;
+        lines.push(shown_verdict(alloc, path, verdict, destination)?.as_slice())?;
     }
-    lines.end()
+    Ok(lines)
 }
 
 /// Prints a verdict on each path of the push, in the order of the paths.
@@ -56,19 +67,21 @@ fn write_verdicts<W: Write>(
 /// # Errors
 ///
 /// `Store` and `Memory`; `Output` if a line could not be written; and `Reported` if a path may not be pushed.
-pub(crate) fn check_push<S: Alter, W: Write>(
+pub(crate) fn check_push<S: Alter, K: Sink>(
     alloc: Global,
     store: &mut Store<S>,
     push: &Push<'_>,
     destination: Destination,
-    output: &mut W,
+    output: &mut K,
 ) -> Result<(), TaskFault>
-    ensures { Reads S.Store store.old store.new (λ _. ⊤) }
+    ensures reads { Reads S.Store store.old store.new (λ world. MatchResult result
+        (λ _. may_push world push.now ≡ true) (IsPushFault world push.now)) }
+    ensures good { OnOk result (K.failed output.new ≡ K.failed output.old) }
 {
     let (policy, user, repo, ref_name) = (push.policy, push.user, push.repo, push.ref_name);
     let paths = push.paths.as_slice();
     let verdicts = check(alloc, store, policy, user, repo, ref_name, paths)?;
-    write_verdicts(alloc, paths, verdicts.as_slice(), destination, output)?;
+    lines_of(alloc, paths, verdicts.as_slice(), destination)?.write(output)?;
     if are_ok(verdicts.as_slice()) {
         Ok(())
     } else {

@@ -1,25 +1,33 @@
 //! Removes an object for good.
 
-ghost use Rattle.std.specs.Prelude.{◌≡◌, Err, MatchResult, OnOk};
+ghost use Rattle.std.specs.Prelude.{◌≡◌, IfErr, MatchResult, OnOk};
 ghost use Rattle.names.specs.Names.{repo_text};
-ghost use Rattle.model.specs.Operator.{no_object, removal_of};
+ghost use Rattle.model.specs.Operator.{removal_of};
 ghost use Rattle.refinement.specs.Left.{From};
 ghost use Rattle.uploads.specs.Retiring.{removal_seen};
-ghost use Rattle.operator.specs.declared.faults.TaskFault.TheVariants.{NoObject};
-ghost use Rattle.operator.specs.Removals.{IsGone, IsRemoved};
-ghost use Rattle.operator.specs.Works.{Works};
+ghost use Rattle.operator.specs.declared.faults.TaskFault.TheVariants.{Output};
+ghost use Rattle.operator.specs.Failing.{Fails, IsOutput};
+ghost use Rattle.operator.specs.Removals.{IsGone, IsRemovalFault, IsRemovalOf, IsRemoved, IsReportFault};
 
 use crate::faults::TaskFault;
-use names::{Oid, RepoName};
+use crate::output::print;
+use arrayvec::ArrayString;
+use names::{Oid, RepoName, Sink};
 use std::alloc::Global;
-use std::io::{self, Write};
+use std::fmt::Write;
 use tables::{Alter, Store};
 use uploads::Retired;
 
-/// Writes what became of the object.
-fn write_line<W: Write>(output: &mut W, became: &str, oid: &Oid) -> io::Result<()> {
-    writeln!(output, "{became} {oid}")?;
-    output.flush()
+/// Prints what became of the object. This needs no memory, so it can be done after the removal.
+fn print_line<K: Sink>(output: &mut K, became: &str, oid: &Oid) -> Result<(), TaskFault>
+    ensures good { OnOk result (K.failed output.new ≡ K.failed output.old) }
+    ensures err { IfErr result (λ fault. fault ≡ Output) }
+{
+    let mut line = ArrayString::<96>::new();
+    match writeln!(line, "{became} {oid}") {
+        Ok(()) => print(output, line.as_bytes()),
+        Err(_) => Err(TaskFault::Output),
+    }
 }
 
 /// Prints that the object was removed, now or before.
@@ -27,19 +35,17 @@ fn write_line<W: Write>(output: &mut W, became: &str, oid: &Oid) -> io::Result<(
 /// # Errors
 ///
 /// `NoObject` if there was none, and `Output` if the line could not be written.
-fn report<W: Write>(output: &mut W, oid: &Oid, removal: Retired) -> Result<(), TaskFault>
+fn report<K: Sink>(output: &mut K, oid: &Oid, removal: Retired) -> Result<(), TaskFault>
     ensures gone { OnOk result (IsGone (removal_seen removal)) }
-    ensures none { result ≡ Err NoObject → removal_seen removal ≡ no_object }
+    ensures err { IfErr result (IsReportFault (removal_seen removal)) }
+    ensures good { OnOk result (K.failed output.new ≡ K.failed output.old) }
 {
     let became = match removal {
         Retired::Now => "retired",
         Retired::Already => "already retired",
         Retired::Unknown => return Err(TaskFault::NoObject),
     };
-    match write_line(output, became, oid) {
-        Ok(()) => Ok(()),
-        Err(_) => Err(TaskFault::Output),
-    }
+    print_line(output, became, oid)
 }
 
 /// Removes the object that the repository has under this name, for good, and prints whether that was done now or before.
@@ -48,18 +54,19 @@ fn report<W: Write>(output: &mut W, oid: &Oid, removal: Retired) -> Result<(), T
 ///
 /// `NoObject` if the repository has neither the object nor its name among those removed; `Store` and `Memory`, which leave
 /// the object; and `Output` if the line could not be written: the object is removed all the same.
-pub(crate) fn retire<S: Alter, W: Write>(
+pub(crate) fn retire<S: Alter, K: Sink>(
     alloc: Global,
     store: &mut Store<S>,
     repo: &RepoName,
     oid: &Oid,
-    output: &mut W,
+    output: &mut K,
 ) -> Result<(), TaskFault>
     ensures world { From S.Store store.old store.new (λ world. MatchResult result
         (λ _. IsRemoved S.Store store.old store.new world (repo_text repo.now) oid.now)
-        (λ _. Works S.Store store.old store.new world)) }
-    ensures none { From S.Store store.old store.new (λ world. result ≡ Err NoObject
-        → removal_of world (repo_text repo.now) oid.now ≡ no_object) }
+        (λ fault. Fails S.Store (IsRemovalOf (repo_text repo.now) oid.now) (IsOutput fault)
+        store.old store.new world
+        × IsRemovalFault (removal_of world (repo_text repo.now) oid.now) fault)) }
+    ensures good { OnOk result (K.failed output.new ≡ K.failed output.old) }
 {
     let removal = uploads::retire(alloc, store, repo, *oid)?;
     report(output, oid, removal)

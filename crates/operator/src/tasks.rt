@@ -1,9 +1,8 @@
 //! What an operator asks for.
 
-ghost use Rattle.std.specs.Prelude.{MatchResult};
+ghost use Rattle.std.specs.Prelude.{◌≡◌, OnOk};
 ghost use Rattle.refinement.specs.Left.{From};
-ghost use Rattle.operator.specs.Works.{Works};
-ghost use Rattle.operator.specs.Tasks.{Does};
+ghost use Rattle.operator.specs.Tasks.{Ran};
 
 use crate::checking::check_objects;
 use crate::escapes::Destination;
@@ -17,10 +16,10 @@ use crate::pushing::{Push, check_push};
 use crate::repairing::repair;
 use crate::retiring::retire;
 use crate::sweeping::sweep;
-use names::{Moment, Oid, RepoName};
+use names::{Moment, Oid, RepoName, Sink};
 use policy::Policy;
 use std::alloc::Global;
-use std::io::{Stderr, Write};
+use std::io::Stderr;
 use tables::{Alter, Store};
 use tokens::TokenRequest;
 
@@ -53,25 +52,25 @@ impl Task<'_> {
     /// Does what the operator asks for, and writes what the command prints. `docs/COMMANDS.md` has the lines. The
     /// destination is what the output writes to: on a terminal, control characters of paths are escaped.
     ///
-    /// The store is led by the steps of a run of the definitions: at most one token is issued, or the expired ones are
-    /// removed, or one object is. If the task is to foresee a reply and succeeds, the definitions foresee one. A repair
-    /// leaves the tables as they are: each object of a world has the bytes of its name. After an error the world is the
-    /// same, but for an `Output` after tokens or an object were removed.
+    /// It takes at most one step of the definitions, and none but its own: a token is issued, the expired ones are removed,
+    /// or one object is. It succeeds or fails as the definitions say: if each path may be pushed, or a reply is foreseen. A
+    /// repair leaves the tables as they are: each object of a world has the bytes of its name. After an error the world is
+    /// the same, but for an `Output` after tokens or an object were removed. `Ok` means that all output was written.
     ///
     /// # Errors
     ///
     /// `Store`, `Token`, `NoCaller`, `NoObject` and `Memory`; `Output` if a line could not be written; and `Reported` if a
     /// path may not be pushed, or an object is damaged.
-    pub fn run<S: Alter, W: Write>(
+    pub fn run<S: Alter, K: Sink>(
         &self,
         alloc: Global,
         store: &mut Store<S>,
         destination: Destination,
-        output: &mut W,
+        output: &mut K,
     ) -> Result<(), TaskFault>
-        ensures world { From S.Store store.old store.new (λ world. MatchResult result
-            (λ _. Does S.Store store.old store.new world self.now)
-            (λ _. Works S.Store store.old store.new world)) }
+        ensures world { From S.Store store.old store.new (λ world.
+            Ran S.Store store.old store.new world self.now result) }
+        ensures good { OnOk result (K.failed output.new ≡ K.failed output.old) }
     {
         match self {
             Task::Issue(policy, asked) => grant(alloc, store, policy, asked, output),

@@ -2,15 +2,18 @@
 //! before the server begins, and reads the reply after it has ended.
 
 use crate::harness::{Tester, unwrap};
-use crate::program::{Ran, path_of, prepare, remove, serve_args, words};
+use crate::messages::MESSAGE;
+use crate::program::{Ran, path_of, prepare, remove, run, serve_args, words};
 use crate::transcript::{POLICY, perform};
-use cli::{Doors, serve_doors};
-use control::{Status, read_reply, request_bytes};
-use std::fs;
+use cli::{Destination, Doors, print_reply, request_of, serve_doors};
+use command_line::{Command, read_args};
+use control::{Status, request_bytes};
+use names::{SliceSource, VecSink};
 use std::io::{Read, Write};
 use std::net::{Shutdown, TcpListener, TcpStream};
 use std::os::unix::net::{UnixListener, UnixStream};
 use std::rt::HostRuntime;
+use std::{fs, str};
 use tables::Unknown;
 
 /// Serves a client that sends no head, and an operator who sends these bytes. Returns the bytes of the reply; asserts that
@@ -32,10 +35,11 @@ fn call(rt: &impl Tester, host: &HostRuntime, folder: &str, request: &[u8]) -> V
         clients: &clients,
         operators: Some(&operators),
     };
-    let (mut output, mut errors) = (Vec::new(rt.alloc()), Vec::new(rt.alloc()));
+    let mut output = VecSink::new(rt.alloc(), 7);
+    let mut errors = Vec::new(rt.alloc());
     let status = serve_doors(host, host, &args, doors, &mut output, &mut errors, Unknown);
     assert!(rt; status == 0);
-    assert!(rt; output.as_slice() == b"listening on here\nserved 1 connections\n".as_slice());
+    assert!(rt; output.taken() == b"listening on here\nserved 1 connections\n".as_slice());
     unwrap(rt, fs::remove_file(host, socket.as_str()));
     let mut reply = Vec::new(rt.alloc());
     unwrap(rt, operator.read_to_end(&mut reply));
@@ -48,14 +52,37 @@ fn call(rt: &impl Tester, host: &HostRuntime, folder: &str, request: &[u8]) -> V
     reply
 }
 
-/// What the reply says.
+/// What the program prints that asked a server, and got this reply.
 fn ran_of(rt: &impl Tester, reply: &[u8]) -> Ran {
-    let reply = unwrap(rt, read_reply(reply).ok_or(()));
+    let mut output = VecSink::new(rt.alloc(), 7);
+    let mut errors = Vec::new(rt.alloc());
+    let mut source = SliceSource::new(reply, 5);
+    let ended = print_reply(
+        rt.alloc(),
+        &mut source,
+        Destination::Other,
+        &mut output,
+        &mut errors,
+    );
+    let status = match ended {
+        Ok(()) => Status::Good,
+        Err(fault) => fault.status(),
+    };
     Ran {
-        status: reply.status.code(),
-        output: unwrap(rt, reply.output.to_vec(rt.alloc())),
-        errors: unwrap(rt, reply.errors.to_vec(rt.alloc())),
+        status: status.code(),
+        output: unwrap(rt, output.taken().to_vec(rt.alloc())),
+        errors,
     }
+}
+
+/// The request of the program for a command, and for words that are none the request with these.
+fn request_for(rt: &impl Tester, args: &[String], input: &str) -> Vec<u8> {
+    let mut rest = input.as_bytes();
+    if let Ok(Command::Remote(_, command)) = read_args(rt.alloc(), args) {
+        return unwrap(rt, request_of(rt.alloc(), &command, args, &mut rest));
+    }
+    let words = args.get(1..args.len().saturating_sub(2)).unwrap_or(&[]);
+    unwrap(rt, request_bytes(rt.alloc(), rest, words))
 }
 
 /// Runs the command at a server, over the files of a folder.
@@ -66,9 +93,12 @@ pub(crate) fn run_via(
     line: &str,
     input: &str,
 ) -> Ran {
-    let words = words(rt, folder, line);
-    let words = words.as_slice().get(1..).unwrap_or(&[]);
-    let request = unwrap(rt, request_bytes(rt.alloc(), input.as_bytes(), words));
+    let mut args = words(rt, folder, line);
+    for word in words(rt, folder, "--via socket").as_slice().iter().skip(1) {
+        let word = unwrap(rt, word.as_str().to_owned(rt.alloc()));
+        unwrap(rt, args.push(word));
+    }
+    let request = request_for(rt, args.as_slice(), input);
     let reply = call(rt, host, folder, request.as_slice());
     ran_of(rt, reply.as_slice())
 }
@@ -135,6 +165,28 @@ status 2
 #[test]
 fn a_server_runs_the_commands_of_an_operator(rt: HostRuntime) {
     perform(&rt, &rt, "channel", POLICY, COMMANDS);
+}
+
+/// The token that `authenticate` has printed.
+fn token_in(printed: &[u8]) -> &str {
+    let text = str::from_utf8(printed).unwrap_or("");
+    let (_, rest) = text.split_once("Bearer ").unwrap_or(("", ""));
+    rest.get(..64).unwrap_or("")
+}
+
+#[test]
+fn a_token_that_a_server_issues_is_good(rt: HostRuntime) {
+    prepare(&rt, &rt, "issued_via", POLICY);
+    let asked = "authenticate --user ann studio/film upload";
+    let issued = run_via(&rt, &rt, "issued_via", asked, "");
+    assert!(rt; issued.status == 0);
+    let token = token_in(issued.output.as_slice());
+    let old = unwrap(&rt, "a".repeat(rt.alloc(), 64));
+    let message = unwrap(&rt, MESSAGE.replace(rt.alloc(), old.as_str(), token));
+    let session = "session --db @/db --policy @/policy";
+    let ran = run(&rt, &rt, "issued_via", session, message.as_str());
+    assert!(rt; ran.output.starts_with(b"HTTP/1.1 201 Created\r\n"));
+    remove(&rt, "issued_via");
 }
 
 /// Words that a server refuses: files, sockets, and commands that are not an operator's. Nothing is printed on the output.

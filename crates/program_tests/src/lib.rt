@@ -9,6 +9,8 @@ mod channel;
 #[cfg(test)]
 mod commands;
 #[cfg(test)]
+mod control_sockets;
+#[cfg(test)]
 mod foreseeing;
 #[cfg(test)]
 mod harness;

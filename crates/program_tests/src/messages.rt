@@ -16,6 +16,10 @@ pub(crate) const CREATED: &str =
 pub(crate) const HELD: &str =
     "HTTP/1.1 409 Conflict\r\nContent-Type: application/vnd.git-lfs+json\r\nContent-Length: 142\r\n\r\n{\"lock\":{\"id\":\"1\",\"locked_at\":\"2016-05-17T15:49:06Z\",\"owner\":{\"name\":\"ann\"},\"path\":\"art/hero.psd\"},\"message\":\"L1: the path is already locked\"}";
 
+/// The refusal of a token that has expired.
+pub(crate) const EXPIRED: &str =
+    "HTTP/1.1 401 Unauthorized\r\nContent-Type: application/vnd.git-lfs+json\r\nContent-Length: 39\r\nLFS-Authenticate: Bearer realm=\"Git LFS\"\r\n\r\n{\"message\":\"A3: the token has expired\"}";
+
 /// The refusal if the store refuses.
 pub(crate) const STORE_REFUSED: &str =
     "HTTP/1.1 500 Internal Server Error\r\nContent-Type: application/vnd.git-lfs+json\r\nContent-Length: 35\r\nConnection: close\r\n\r\n{\"message\":\"S1: the store refused\"}";

@@ -3,6 +3,7 @@
 
 use crate::harness::{Tester, unwrap};
 use cli::{Destination, ServeArgs};
+use names::Counted;
 use sqlite::{Connection, Error, File, FileStore};
 use std::io::{Read, Write};
 use std::rt::{Files, HostRuntime};
@@ -68,12 +69,13 @@ pub(crate) fn status_over<R: Read, W: Write>(
     errors: &mut Vec<u8>,
 ) -> u8 {
     let words = words(rt, folder, line);
+    let mut output = Counted::new(output);
     cli::run(
         host,
         words.as_slice(),
         input,
         destination,
-        output,
+        &mut output,
         errors,
         Unknown,
     )

@@ -2,10 +2,11 @@
 //! begins, and read after it has ended.
 
 use crate::harness::{Tester, unwrap};
-use crate::messages::{BAD_HEAD, CREATED, HELD, MESSAGE, MESSAGE_BUT_ONE, STORE_REFUSED};
+use crate::messages::{BAD_HEAD, CREATED, EXPIRED, HELD, MESSAGE, MESSAGE_BUT_ONE, STORE_REFUSED};
 use crate::program::{Ran, path_of, prepare, remove, run, serve_args};
 use crate::transcript::{POLICY, perform, play};
 use cli::{Doors, serve_doors};
+use names::Counted;
 use std::cell::Cell;
 use std::io::{self, Read, Write};
 use std::net::{Shutdown, TcpListener, TcpStream};
@@ -92,11 +93,15 @@ fn an_address_in_use_is_refused(rt: HostRuntime) {
     remove(&rt, "in_use");
 }
 
-/// A clock that shows one second since 1970, or fails, and whose other time runs faster.
+/// A clock that shows seconds since 1970, or fails, and whose other time runs faster.
 #[derive(Drop)]
 struct TestClock<'a> {
     host: &'a HostRuntime,
+    /// What it shows at the first look.
     second: Option<u64>,
+    /// How many seconds it shows more at each look.
+    pace: u64,
+    shown: Cell<u64>,
     /// How many seconds the other time leaps at each look.
     leap: u64,
     looks: Cell<u64>,
@@ -112,7 +117,11 @@ impl Clock for TestClock<'_> {
 
     fn since_1970(&self) -> io::Result<Duration> {
         match self.second {
-            Some(second) => Ok(Duration::from_secs(second)),
+            Some(second) => {
+                let ahead = self.shown.get();
+                self.shown.set(ahead.saturating_add(self.pace));
+                Ok(Duration::from_secs(second.saturating_add(ahead)))
+            }
             None => Err(io::ErrorKind::Other.into()),
         }
     }
@@ -208,12 +217,13 @@ fn serve(
     let args = serve_args(db.as_str(), policy.as_str(), count as u64, idle);
     let mut output = Vec::new(rt.alloc());
     let mut errors = Vec::new(rt.alloc());
+    let mut sink = Counted::new(&mut output);
     let host = clock.host;
     let doors = Doors {
         clients: listener,
         operators: None,
     };
-    let status = serve_doors(host, clock, &args, doors, &mut output, &mut errors, Unknown);
+    let status = serve_doors(host, clock, &args, doors, &mut sink, &mut errors, Unknown);
     Ran {
         status,
         output,
@@ -269,6 +279,8 @@ fn clock_of(host: &HostRuntime, leap: u64) -> TestClock<'_> {
     TestClock {
         host,
         second: Some(1_463_500_146),
+        pace: 0,
+        shown: Cell::new(0),
         leap,
         looks: Cell::new(0),
     }
@@ -284,6 +296,21 @@ fn connections_are_served_in_turn(rt: HostRuntime) {
     ];
     let ran = serve_clients(&rt, &clock_of(&rt, 0), "served", 10, clients.as_slice());
     assert!(rt; ran.is(0, "listening on here\nserved 3 connections\n", ""));
+}
+
+#[test]
+fn each_message_has_a_moment_of_its_own(rt: HostRuntime) {
+    // The token is valid for 3,600 seconds from 1,463,500,000 on.
+    let clients = [
+        client_of(&[MESSAGE, MESSAGE], After::Ends, &[CREATED, EXPIRED]),
+        client_of(&[MESSAGE], After::Ends, &[EXPIRED]),
+    ];
+    let clock = TestClock {
+        pace: 3_454,
+        ..clock_of(&rt, 0)
+    };
+    let ran = serve_clients(&rt, &clock, "moments", 10, clients.as_slice());
+    assert!(rt; ran.is(0, "listening on here\nserved 2 connections\n", ""));
 }
 
 #[test]
@@ -380,10 +407,8 @@ fn a_pause_within_a_long_body_ends_the_connection(rt: HostRuntime) {
 #[test]
 fn a_connection_needs_a_moment(rt: HostRuntime) {
     let clock = TestClock {
-        host: &rt,
         second: None,
-        leap: 0,
-        looks: Cell::new(0),
+        ..clock_of(&rt, 0)
     };
     let clients = [client_of(&[MESSAGE], After::Leaves, &[])];
     let ran = serve_clients(&rt, &clock, "timeless", 10, clients.as_slice());

@@ -28,6 +28,16 @@ const AUTHENTICATE: &str =
 const LATE: &str =
     "authenticate --db @/db --policy @/policy --user bob --now 253402300799 --random @/b studio/film upload";
 
+const FORESEE: &str =
+    "foresee --db @/db --policy @/policy --user ann --repo studio/film --now 1463500146";
+
+const PUSHCHECK: &str =
+    "pushcheck --db @/db --policy @/policy --user ann --repo studio/film --ref refs/heads/main";
+
+const LOCKS: &str = "locks --db @/db --repo studio/film";
+
+const OBJECTS: &str = "objects --db @/db --repo studio/film";
+
 const PRUNE: &str = "prune --db @/db --now 1463503600";
 
 const RETIRE: &str =
@@ -100,6 +110,13 @@ const CUT: &[(&str, &str, &str)] = &[
     (AUTHENTICATE, "", "custody: input or output\n"),
     (LATE, "", "custody: K2: expiry out of range\n"),
     (SESSION, LOCK_HERO, "custody: session WriteFailed\n"),
+    (FORESEE, LOCK_HERO, "custody: input or output\n"),
+    (PUSHCHECK, "art/hero.psd\n", "custody: input or output\n"),
+    (LOCKS, "", "custody: input or output\n"),
+    (OBJECTS, "", "custody: input or output\n"),
+    ("check --db @/db", "", "custody: input or output\n"),
+    ("repair --db @/db", "", "custody: input or output\n"),
+    ("sweep --db @/db", "", "custody: input or output\n"),
     (PRUNE, "", "custody: input or output\n"),
     (RETIRE, "", "custody: input or output\n"),
     (RETIRE_NONE, "", "custody: no such object\n"),

@@ -1,8 +1,10 @@
-use Rattle.operator.proofs.Prelude.{◌≤◌, ⊤, Reads}
+use Rattle.operator.proofs.Prelude.{◌≡◌, ◌≤◌}
+use Rattle.operator.proofs.Damaged.{Finds}
 use Rattle.operator.proofs.checking.check_all.Given as goal
 
 abbrev pub invariant-loop-index : goal.invariant-loop-index
 invariant-loop-index g l = record {
-  reads : Reads g.S.Store l.fn.store l.store (λ _. ⊤);
+  finds : Finds g.S.Store l.rows l.fn.store l.store l.damaged;
   count : l.damaged ≤ l.index;
+  good : g.K.Sink.failed l.output ≡ g.K.Sink.failed l.fn.output;
 }

@@ -1,12 +1,17 @@
-use Rattle.operator.proofs.Prelude.{err_from_is_err_and, reads_weaker}
-use Rattle.operator.proofs.Foretold.{if_done}
+use Rattle.operator.proofs.Prelude.{◌≡◌, sym, subst, err_from_is_err_and, reads_weaker}
+use Rattle.operator.specs.Foresights.{HasForetold, IsReplyFault}
+use Rattle.operator.specs.declared.faults.TaskFault.TheVariants.{Output}
+use Rattle.operator.proofs.Failing.{reads_last}
+use Rattle.operator.proofs.Foretold.{foresight_cause}
 use Rattle.operator.proofs.foreseeing.print_foreseen.Goals as goal
 
-pub returns-in_err-reply : goal.returns-in_err-reply
-returns-in_err-reply g c =
+pub returns-in_err-reply-clause-reads : goal.returns-in_err-reply-clause-reads
+returns-in_err-reply-clause-reads g c =
     let p = err_from_is_err_and c.from_residual.result c.from_residual.ensures.1 in
-    reads_weaker g.S.Store c.args.store.now c.reply_to.new.store _ _ (λ world laws seen. rw p.1 tt) c.reply_to.ensures
+    rw (p.1, p.2) (reads_weaker g.S.Store c.args.store.now c.reply_to.new.store _ _ (λ world laws seen. foresight_cause world c.args.asked.now _ c.in_err-reply.ensures.err seen) c.in_err-reply.ensures.reads)
 
-pub returns : goal.returns
-returns g c =
-    reads_weaker g.S.Store c.args.store.now c.reply_to.new.store _ _ (λ world laws seen. if_done world c.args.asked.now c.in_ok-reply.reply _ seen) c.in_ok-reply.ensures
+pub returns-clause-reads : goal.returns-clause-reads
+returns-clause-reads g c =
+    reads_last g.S.Store c.args.store.now c.reply_to.new.store c.write.result (λ e. e ≡ Output) (λ world. HasForetold world c.args.asked.now) _ c.write.ensures.err
+    (λ world e is. foresight_cause world c.args.asked.now e (subst IsReplyFault (sym is) tt) (rw is (λ request read repo. tt)))
+    (reads_weaker g.S.Store c.args.store.now c.reply_to.new.store _ _ (λ world laws seen. (c.in_ok-reply.reply, seen)) c.in_ok-reply.ensures.reads)

@@ -1,8 +1,11 @@
 use Rattle.operator.proofs.Prelude.{reads_weaker}
 use Rattle.operator.proofs.listing_objects.list_objects.Goals as goal
 
-pub returns-in_err-rows : goal.returns-in_err-rows
-returns-in_err-rows g c = reads_weaker g.S.Store c.args.store.now c.all.new.store _ _ (λ world laws p. tt) c.all.ensures
+pub returns-in_err-rows-clause-reads : goal.returns-in_err-rows-clause-reads
+returns-in_err-rows-clause-reads g c = reads_weaker g.S.Store c.args.store.now c.all.new.store _ _ (λ world laws p. tt) c.all.ensures
 
-pub returns : goal.returns
-returns g c = reads_weaker g.S.Store c.args.store.now c.all.new.store _ _ (λ world laws p. tt) c.all.ensures
+pub returns-in_err-lines_of-clause-reads : goal.returns-in_err-lines_of-clause-reads
+returns-in_err-lines_of-clause-reads g c = reads_weaker g.S.Store c.args.store.now c.all.new.store _ _ (λ world laws p. tt) c.all.ensures
+
+pub returns-clause-reads : goal.returns-clause-reads
+returns-clause-reads g c = reads_weaker g.S.Store c.args.store.now c.all.new.store _ _ (λ world laws p. tt) c.all.ensures

@@ -1,14 +1,18 @@
-use Rattle.operator.proofs.Prelude.{ℕ, Ok, err_from_is_err_and, from_weaker, Prunes}
-use Rattle.operator.proofs.Working.{prunes_work, from_either}
+use Rattle.operator.proofs.Prelude.{refl, ℕ, Ok, ◌≡◌, err_from_is_err_and, from_weaker, Prunes}
+use Rattle.operator.specs.declared.faults.TaskFault.TheVariants.{Output}
+use Rattle.operator.proofs.Failing.{fails_before, fails_after, is_store, is_output, output_follows, from_last}
 use Rattle.operator.proofs.pruning.prune.Goals as goal
 
-pub returns-in_err-count : goal.returns-in_err-count
-returns-in_err-count g c =
+pub returns-in_err-count-clause-world : goal.returns-in_err-count-clause-world
+returns-in_err-count-clause-world g c =
     let p = err_from_is_err_and c.from_residual.result c.from_residual.ensures.1 in
-    rw p.1 (from_weaker g.S.Store c.args.store.now c.prune.new.store _ _ (prunes_work g.S.Store c.args.store.now c.prune.new.store c.args.now c.prune.result) c.prune.ensures)
+    rw p.1
+    (from_weaker g.S.Store c.args.store.now c.prune.new.store _ _
+    (λ world d. (fails_before g.S.Store _ _ c.args.store.now c.prune.new.store world _ (_, refl) d.0, is_store _ c.in_err-count.field-0.0 p.2)) c.in_err-count.ensures)
 
-pub returns : goal.returns
-returns g c =
-    from_either g.S.Store c.args.store.now c.prune.new.store (λ world. (n : ℕ) × Prunes g.S.Store world c.args.now c.args.store.now c.prune.new.store (Ok n)) _ c.map_err.result
-    (λ world d. prunes_work g.S.Store c.args.store.now c.prune.new.store c.args.now (Ok d.0) world d.1)
+pub returns-clause-world : goal.returns-clause-world
+returns-clause-world g c =
+    from_last g.S.Store c.args.store.now c.prune.new.store c.print_count.result (λ e. e ≡ Output)
+    (λ world. (n : ℕ) × Prunes g.S.Store world c.args.now c.args.store.now c.prune.new.store (Ok n)) _ c.print_count.ensures.err
+    (λ world e is d. (fails_after g.S.Store _ _ c.args.store.now c.prune.new.store world _ _ (_, refl) d.1 (output_follows e is), is_output e is))
     (from_weaker g.S.Store c.args.store.now c.prune.new.store _ _ (λ world d. (c.in_ok-count.count, d)) c.in_ok-count.ensures)

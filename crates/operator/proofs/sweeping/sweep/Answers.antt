@@ -1,14 +1,15 @@
-use Rattle.operator.proofs.Prelude.{ℕ, Ok, err_from_is_err_and, from_weaker, Sweeps}
-use Rattle.operator.proofs.Working.{sweeps_work, from_either}
+use Rattle.operator.proofs.Prelude.{ℕ, Ok, ◌≡◌, err_from_is_err_and, from_weaker, Sweeps}
+use Rattle.operator.specs.declared.faults.TaskFault.TheVariants.{Output}
+use Rattle.operator.proofs.Failing.{is_store, is_output, from_last}
 use Rattle.operator.proofs.sweeping.sweep.Goals as goal
 
-pub returns-in_err-count : goal.returns-in_err-count
-returns-in_err-count g c =
+pub returns-in_err-count-clause-world : goal.returns-in_err-count-clause-world
+returns-in_err-count-clause-world g c =
     let p = err_from_is_err_and c.from_residual.result c.from_residual.ensures.1 in
-    rw p.1 (from_weaker g.S.Store c.args.store.now c.sweep.new.store _ _ (sweeps_work g.S.Store c.args.store.now c.sweep.new.store c.sweep.result) c.sweep.ensures)
+    rw p.1 (from_weaker g.S.Store c.args.store.now c.sweep.new.store _ _ (λ world d. (d, is_store _ c.in_err-count.field-0.0 p.2)) c.in_err-count.ensures)
 
-pub returns : goal.returns
-returns g c =
-    from_either g.S.Store c.args.store.now c.sweep.new.store (λ world. (n : ℕ) × Sweeps g.S.Store world c.args.store.now c.sweep.new.store (Ok n)) _ c.map_err.result
-    (λ world d. sweeps_work g.S.Store c.args.store.now c.sweep.new.store (Ok d.0) world d.1)
+pub returns-clause-world : goal.returns-clause-world
+returns-clause-world g c =
+    from_last g.S.Store c.args.store.now c.sweep.new.store c.print_count.result (λ e. e ≡ Output)
+    (λ world. (n : ℕ) × Sweeps g.S.Store world c.args.store.now c.sweep.new.store (Ok n)) _ c.print_count.ensures.err (λ world e is d. (d.1.0, is_output e is))
     (from_weaker g.S.Store c.args.store.now c.sweep.new.store _ _ (λ world d. (c.in_ok-count.count, d)) c.in_ok-count.ensures)

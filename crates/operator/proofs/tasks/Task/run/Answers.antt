@@ -1,35 +1,32 @@
-use Rattle.operator.proofs.Working.{from_finding, from_granting, from_reading}
-use Rattle.operator.proofs.Damaged.{from_still}
+use Rattle.operator.proofs.Ran.{ran_found, ran_reads, ran_repair, ran_still, ran_sweep}
 use Rattle.operator.proofs.tasks.Task.run.Goals as goal
 
-pub returns-in-Issue : goal.returns-in-Issue
-returns-in-Issue g c = record {
-  world = rw c.in-Issue.is (from_granting g.S.Store c.args.store.now c.grant.new.store c.in-Issue.asked c.grant.result c.grant.ensures.issues c.grant.ensures.world);
-}
+pub returns-in-Issue-clause-world : goal.returns-in-Issue-clause-world
+returns-in-Issue-clause-world g c = rw c.in-Issue.is c.grant.ensures.world
 
-pub returns-in-Prune : goal.returns-in-Prune
-returns-in-Prune g c = record { world = rw c.in-Prune.is c.prune.ensures }
+pub returns-in-Prune-clause-world : goal.returns-in-Prune-clause-world
+returns-in-Prune-clause-world g c = rw c.in-Prune.is c.prune.ensures.world
 
-pub returns-in-Sweep : goal.returns-in-Sweep
-returns-in-Sweep g c = record { world = rw c.in-Sweep.is c.sweep.ensures }
+pub returns-in-Sweep-clause-world : goal.returns-in-Sweep-clause-world
+returns-in-Sweep-clause-world g c = rw c.in-Sweep.is (ran_sweep g.S.Store _ c.args.store.now c.sweep.new.store c.sweep.result c.sweep.ensures.world)
 
-pub returns-in-Retire : goal.returns-in-Retire
-returns-in-Retire g c = record { world = rw c.in-Retire.is c.retire.ensures.world }
+pub returns-in-Retire-clause-world : goal.returns-in-Retire-clause-world
+returns-in-Retire-clause-world g c = rw c.in-Retire.is c.retire.ensures.world
 
-pub returns-in-CheckPush : goal.returns-in-CheckPush
-returns-in-CheckPush g c = record { world = rw c.in-CheckPush.is (from_reading g.S.Store c.args.store.now c.check_push.new.store _ c.check_push.result c.check_push.ensures) }
+pub returns-in-CheckPush-clause-world : goal.returns-in-CheckPush-clause-world
+returns-in-CheckPush-clause-world g c = rw c.in-CheckPush.is (ran_reads g.S.Store _ c.args.store.now c.check_push.new.store _ _ c.check_push.result c.check_push.ensures.reads)
 
-pub returns-in-Foresee : goal.returns-in-Foresee
-returns-in-Foresee g c = record { world = rw c.in-Foresee.is (from_finding g.S.Store c.args.store.now c.print_foreseen.new.store _ c.print_foreseen.result c.print_foreseen.ensures) }
+pub returns-in-Foresee-clause-world : goal.returns-in-Foresee-clause-world
+returns-in-Foresee-clause-world g c = rw c.in-Foresee.is (ran_reads g.S.Store _ c.args.store.now c.print_foreseen.new.store _ _ c.print_foreseen.result c.print_foreseen.ensures.reads)
 
-pub returns-in-ListLocks : goal.returns-in-ListLocks
-returns-in-ListLocks g c = record { world = rw c.in-ListLocks.is (from_reading g.S.Store c.args.store.now c.list_locks.new.store _ c.list_locks.result c.list_locks.ensures) }
+pub returns-in-ListLocks-clause-world : goal.returns-in-ListLocks-clause-world
+returns-in-ListLocks-clause-world g c = rw c.in-ListLocks.is (ran_still g.S.Store _ c.args.store.now c.list_locks.new.store c.list_locks.result c.list_locks.ensures.err c.list_locks.ensures.reads)
 
-pub returns-in-ListObjects : goal.returns-in-ListObjects
-returns-in-ListObjects g c = record { world = rw c.in-ListObjects.is (from_reading g.S.Store c.args.store.now c.list_objects.new.store _ c.list_objects.result c.list_objects.ensures) }
+pub returns-in-ListObjects-clause-world : goal.returns-in-ListObjects-clause-world
+returns-in-ListObjects-clause-world g c = rw c.in-ListObjects.is (ran_still g.S.Store _ c.args.store.now c.list_objects.new.store c.list_objects.result c.list_objects.ensures.err c.list_objects.ensures.reads)
 
-pub returns-in-CheckObjects : goal.returns-in-CheckObjects
-returns-in-CheckObjects g c = record { world = rw c.in-CheckObjects.is (from_reading g.S.Store c.args.store.now c.check_objects.new.store _ c.check_objects.result c.check_objects.ensures) }
+pub returns-in-CheckObjects-clause-world : goal.returns-in-CheckObjects-clause-world
+returns-in-CheckObjects-clause-world g c = rw c.in-CheckObjects.is (ran_found g.S.Store _ c.args.store.now c.check_objects.new.store c.check_objects.result c.check_objects.ensures.reads)
 
-pub returns-in-Repair : goal.returns-in-Repair
-returns-in-Repair g c = record { world = rw c.in-Repair.is (from_still g.S.Store c.args.store.now c.repair.new.store c.repair.result c.repair.ensures) }
+pub returns-in-Repair-clause-world : goal.returns-in-Repair-clause-world
+returns-in-Repair-clause-world g c = rw c.in-Repair.is (ran_repair g.S.Store _ c.args.store.now c.repair.new.store c.repair.result c.repair.ensures.err c.repair.ensures.world)

@@ -1,0 +1,39 @@
+-- Tasks that take no step, by the calls that they make.
+use Rattle.operator.proofs.Prelude.{⊤, ℕ, Result, Ok, Err, IfErr, MatchResult, World, Event, From, Reads, Keeps, Leads, reads_lead, from_weaker, Sweeps}
+use Rattle.sqlite_trees.specs.declared.store.Store.{Ghosts}
+use Rattle.tables.specs.declared.Store.{Store}
+use Rattle.refinement.specs.Left.{KeepsTables}
+use Rattle.operator.specs.Failing.{Fails, IsPlain}
+use Rattle.operator.specs.declared.faults.TaskFault.{TaskFault}
+use Rattle.operator.proofs.Failing.{fails_keeps, fails_still}
+
+module _ {S : Type 0} (g : Ghosts S) where
+  -- a call that only reads, and succeeds or fails by what it finds
+  pub ran_reads : (IsOwn : Event → Type 0) (a b : Store S) (P : World → Type 0) (Q : World → TaskFault → Type 0) (r : Result ⊤ TaskFault) → Reads g a b (λ world. MatchResult r (λ _. P world) (Q world))
+      → From g a b (λ world. MatchResult r (λ _. Leads g a b world (λ bound. bound) × P world) (λ e. Fails g IsOwn ⊥ a b world × Q world e))
+  ran_reads IsOwn a b P Q (Ok u) p = record { honest = p.same.was_honest; each = λ honest world h. (reads_lead g a b _ world p h, p.each honest world h) }
+  ran_reads IsOwn a b P Q (Err e) p = record { honest = p.same.was_honest; each = λ honest world h. (fails_still g IsOwn ⊥ a b world (reads_lead g a b _ world p h), p.each honest world h) }
+
+  -- a call that only reads, and finds nothing that matters
+  pub ran_found : (IsOwn : Event → Type 0) (a b : Store S) (r : Result ⊤ TaskFault) → Reads g a b (λ world. IfErr r IsPlain)
+      → From g a b (λ world. MatchResult r (λ _. Leads g a b world (λ bound. bound)) (λ e. Fails g IsOwn ⊥ a b world × IsPlain e))
+  ran_found IsOwn a b (Ok u) p = record { honest = p.same.was_honest; each = λ honest world h. reads_lead g a b _ world p h }
+  ran_found IsOwn a b (Err e) p = record { honest = p.same.was_honest; each = λ honest world h. (fails_still g IsOwn ⊥ a b world (reads_lead g a b _ world p h), p.each honest world h) }
+
+  pub ran_still : (IsOwn : Event → Type 0) (a b : Store S) (r : Result ⊤ TaskFault) → IfErr r IsPlain → Reads g a b (λ world. ⊤)
+      → From g a b (λ world. MatchResult r (λ _. Leads g a b world (λ bound. bound)) (λ e. Fails g IsOwn ⊥ a b world × IsPlain e))
+  ran_still IsOwn a b (Ok u) why p = record { honest = p.same.was_honest; each = λ honest world h. reads_lead g a b _ world p h }
+  ran_still IsOwn a b (Err e) why p = record { honest = p.same.was_honest; each = λ honest world h. (fails_still g IsOwn ⊥ a b world (reads_lead g a b _ world p h), why) }
+
+  -- a repair of a world changes nothing
+  pub ran_repair : (IsOwn : Event → Type 0) (a b : Store S) (r : Result ⊤ TaskFault) → IfErr r IsPlain → From g a b (λ _. Reads g a b (λ _. ⊤))
+      → From g a b (λ world. MatchResult r (λ _. Leads g a b world (λ bound. bound) × KeepsTables g a b) (λ e. Fails g IsOwn ⊥ a b world × IsPlain e))
+  ran_repair IsOwn a b (Ok u) why p = record { honest = p.honest; each = λ honest world h. let it = p.each honest world h in (reads_lead g a b _ world it h, it.same) }
+  ran_repair IsOwn a b (Err e) why p = record { honest = p.honest; each = λ honest world h. (fails_still g IsOwn ⊥ a b world (reads_lead g a b _ world (p.each honest world h) h), why) }
+
+  -- staged uploads are removed
+  pub ran_sweep : (IsOwn : Event → Type 0) (a b : Store S) (r : Result ⊤ TaskFault)
+      → From g a b (λ world. MatchResult r (λ _. (n : ℕ) × Sweeps g world a b (Ok n)) (λ e. Keeps g a b world × IsPlain e))
+      → From g a b (λ world. MatchResult r (λ _. (n : ℕ) × Sweeps g world a b (Ok n)) (λ e. Fails g IsOwn ⊥ a b world × IsPlain e))
+  ran_sweep IsOwn a b (Ok u) p = p
+  ran_sweep IsOwn a b (Err e) p = from_weaker g a b _ _ (λ world d. (fails_keeps g IsOwn ⊥ a b world d.0, d.1)) p
