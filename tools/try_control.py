@@ -7,7 +7,7 @@ Each check starts a server on a new database and a free port of this machine, pr
 its bound, and fails if the bound is not kept. The check `killed` kills servers while three users send all eight kinds of
 requests and run ten commands. After each start exactly what was acknowledged is listed; after each 100, and at the end,
 every object is also served as it was sent, and what was removed or released is not there. The last line counts the
-checks; the status is 1 if one failed. It needs Linux and python3, and takes some minutes. Without --program it is
+checks; the status is 1 if one failed. It needs Linux, python3 and strace, and takes some minutes. Without --program it is
 bin/custody.
 """
 import argparse
@@ -17,6 +17,7 @@ import hashlib
 import os
 import pty
 import random
+import shutil
 import signal
 import socket
 import stat
@@ -100,7 +101,7 @@ def making_calls(trace, name):
 
 def check_never_open(server, _):
     """With a umask of 0, the socket has its mode before it has its name: the calls of a start, as strace lists them."""
-    require(has_command("strace"), "strace is not installed")
+    require(shutil.which("strace"), "strace is not installed")
     server.end(signal.SIGKILL)
     os.unlink(socket_of(server))
     trace = f"{socket_of(server)}.trace"
