@@ -211,22 +211,14 @@ fn a_connection_goes_on_after_a_failed_read(rt: HostRuntime) {
     }
 }
 
-/// A source that records its calls as decimal digits: 1 and 2 for a message that is expected and has not
-/// begun or has, 3 for a read.
+/// A source that counts its reads.
 #[derive(Drop)]
-struct Recorded<'c, S> {
+struct Metered<'c, S> {
     inner: S,
-    calls: &'c Cell<u64>,
+    reads: &'c Cell<u64>,
 }
 
-impl<S> Recorded<'_, S> {
-    fn record(&self, digit: u64) {
-        let calls = self.calls.get();
-        self.calls.set(calls.wrapping_mul(10).wrapping_add(digit));
-    }
-}
-
-impl<S: Source> Source for Recorded<'_, S> {
+impl<S: Source> Source for Metered<'_, S> {
     ghost left = { λ s. S.left s.inner };
 
     ghost reference = { λ s. S.reference s.inner };
@@ -238,13 +230,8 @@ impl<S: Source> Source for Recorded<'_, S> {
     ghost bounded = { λ s. S.bounded s.inner };
 
     fn read(&mut self, piece: &mut [u8]) -> Result<usize, DeviceFault> {
-        self.record(3);
+        self.reads.set(self.reads.get().saturating_add(1));
         self.inner.read(piece)
-    }
-
-    fn expect_message(&mut self, has_begun: bool) {
-        self.record(if has_begun { 2 } else { 1 });
-        self.inner.expect_message(has_begun)
     }
 
     fn failures(&self) -> u64 {
@@ -252,44 +239,28 @@ impl<S: Source> Source for Recorded<'_, S> {
     }
 }
 
-/// Streams, the most bytes of a read, and the calls of the source in four calls for a message.
-const CALLS: &[(&[u8], usize, u64)] = &[
+/// Streams, the most bytes of a read, and the reads of the source in four calls for a message.
+const READS: &[(&[u8], usize, u64)] = &[
     // Two messages in one read, and then the end.
-    (
-        b"GET /a HTTP/1.1\r\n\r\nGET /b HTTP/1.1\r\n\r\n",
-        4_096,
-        13_13,
-    ),
+    (b"GET /a HTTP/1.1\r\n\r\nGET /b HTTP/1.1\r\n\r\n", 4_096, 2),
     // The first read has a part of the second message.
-    (
-        b"GET /a HTTP/1.1\r\n\r\nGET /b HTTP/1.1\r\n\r\n",
-        20,
-        13_23_13,
-    ),
+    (b"GET /a HTTP/1.1\r\n\r\nGET /b HTTP/1.1\r\n\r\n", 20, 3),
     // The bytes after the first message are no head: they are not read on.
-    (
-        b"GET /a HTTP/1.1\r\n\r\n\x00GET /b HTTP/1.1\r\n\r\n",
-        20,
-        13,
-    ),
+    (b"GET /a HTTP/1.1\r\n\r\n\x00GET /b HTTP/1.1\r\n\r\n", 20, 1),
     // The body is read in the call for it.
-    (
-        b"PUT /a HTTP/1.1\r\nContent-Length: 5\r\n\r\nhello",
-        39,
-        133_13,
-    ),
+    (b"PUT /a HTTP/1.1\r\nContent-Length: 5\r\n\r\nhello", 39, 3),
 ];
 
 #[test]
 fn a_source_is_read_only_if_it_has_to_be(rt: HostRuntime) {
-    for &(stream, most, want) in CALLS {
-        let calls = Cell::new(0);
-        let source = Recorded {
+    for &(stream, most, want) in READS {
+        let reads = Cell::new(0);
+        let source = Metered {
             inner: SliceSource::new(stream, most),
-            calls: &calls,
+            reads: &reads,
         };
         let _log = transcript(&rt, source, Way::Whole);
-        expect(&rt, &(stream, most), calls.get(), want);
+        expect(&rt, &(stream, most), reads.get(), want);
     }
 }
 

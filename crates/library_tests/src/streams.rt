@@ -254,11 +254,6 @@ impl<S: Source> Source for Ticking<'_, S> {
         self.inner.read(piece)
     }
 
-    fn expect_message(&mut self, has_begun: bool) {
-        self.tick();
-        self.inner.expect_message(has_begun)
-    }
-
     fn failures(&self) -> u64 {
         self.inner.failures()
     }

@@ -253,10 +253,6 @@ impl<S: Source> Source for FailAfter<S> {
         Err(DeviceFault)
     }
 
-    fn expect_message(&mut self, has_begun: bool) {
-        self.inner.expect_message(has_begun)
-    }
-
     fn failures(&self) -> u64 {
         self.failures
     }

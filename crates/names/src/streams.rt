@@ -46,20 +46,6 @@ pub trait Source {
         ensures good { OnOk result (failed self.new ≡ failed self.old) }
         ensures fault { OnErr result (HasGrown (failed self.old) (failed self.new)) };
 
-    /// Announces that the next read is the first one for a message, of which `has_begun` says whether a
-    /// part was read already. Nothing is read.
-    ///
-    /// A source that waits for its bytes may wait for another time between messages than within one. Any
-    /// other ignores this, as it does by default.
-    fn expect_message(&mut self, has_begun: bool)
-        ensures bytes { left self.new ≡ left self.old }
-        ensures same_reference { reference self.new ≡ reference self.old }
-        ensures budget { budget self.new ≡ budget self.old }
-        ensures good { failed self.new ≡ failed self.old }
-    {
-        let _ = has_begun;
-    }
-
     /// The number of failed reads so far. At its maximum the count stays.
     fn failures(&self) -> u64
         ensures { result ≡ failed self.now };
@@ -115,10 +101,6 @@ impl<S: Source> Source for &mut S {
 
     fn read(&mut self, piece: &mut [u8]) -> Result<usize, DeviceFault> {
         (**self).read(piece)
-    }
-
-    fn expect_message(&mut self, has_begun: bool) {
-        (**self).expect_message(has_begun)
     }
 
     fn failures(&self) -> u64 {

@@ -47,9 +47,8 @@ impl<R: Source + Drop> Conn<R> {
 
     /// Reads the head of the next message.
     ///
-    /// If the bytes that wait do not decide whether they begin with a head, the source learns that a
-    /// message is expected ([`Source::expect_message`]), and then it is read until they do. Nothing is
-    /// read after that, so bytes that follow the head in the same read wait.
+    /// If the bytes that wait do not decide whether they begin with a head, the source is read until they
+    /// do. Nothing is read after that, so bytes that follow the head in the same read wait.
     ///
     /// # Errors
     ///

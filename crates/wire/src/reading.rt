@@ -43,16 +43,11 @@ pub(crate) fn read_head<S: Source>(
         ≤ length (front buffer.old) + S.budget source.old }
     ensures good { result ≢ Err Halt.Device → S.failed source.new ≡ S.failed source.old }
 {
-    let mut is_expected = false;
     'reading: loop {
         match cut_front(buffer, fields) {
             Cut::Head(spans) => return Ok(spans),
             Cut::Bad => return Err(Halt::Bad),
             Cut::Unfinished => {}
-        }
-        if !is_expected {
-            source.expect_message(buffer.has_unused());
-            is_expected = true;
         }
         match buffer.fill(source) {
             Ok(0) => return Err(Halt::End),

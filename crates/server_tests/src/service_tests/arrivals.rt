@@ -10,45 +10,32 @@ use service::Served;
 use std::cell::Cell;
 use std::process::Abort;
 
-/// A call of a source.
-#[derive(Clone, Copy, Debug, PartialEq, Eq)]
-enum Call {
-    /// A message is expected, of which nothing was read.
-    Expects,
-    /// A message is expected, of which a part was read.
-    ExpectsMore,
-    /// A read.
-    Reads,
-}
+/// A read: the number of bytes that the source returned before, and the number that the sink had taken.
+type Entry = (usize, usize);
 
-use Call::{Expects, ExpectsMore, Reads};
-
-/// A call, the number of bytes that the source returned before, and the number that the sink had taken.
-type Entry = (Call, usize, usize);
-
-/// A source that records its calls. Of successive reads between two replies it records the first.
+/// A source that records its reads: of successive ones between two replies the first.
 #[derive(Drop)]
 struct Watched<'c, S> {
     inner: S,
     returned: usize,
     taken: &'c Cell<usize>,
-    calls: Vec<Entry>,
+    reads: Vec<Entry>,
 }
 
 impl<S> Watched<'_, S> {
     /// Whether a read was recorded since the sink took its last byte.
     fn has_read(&self) -> bool {
-        match self.calls.last() {
-            Some((call, _, taken)) => *call == Reads && *taken == self.taken.get(),
+        match self.reads.last() {
+            Some((_, taken)) => *taken == self.taken.get(),
             None => false,
         }
     }
 
-    fn record(&mut self, call: Call)
+    fn record(&mut self)
         ensures { self.new.inner ≡ self.old.inner }
     {
-        let entry = (call, self.returned, self.taken.get());
-        let _recorded = self.calls.push(entry);
+        let entry = (self.returned, self.taken.get());
+        let _recorded = self.reads.push(entry);
     }
 }
 
@@ -65,16 +52,11 @@ impl<S: Source> Source for Watched<'_, S> {
 
     fn read(&mut self, piece: &mut [u8]) -> Result<usize, DeviceFault> {
         if !self.has_read() {
-            self.record(Reads);
+            self.record();
         }
         let size = self.inner.read(piece)?;
         self.returned = self.returned.saturating_add(size);
         Ok(size)
-    }
-
-    fn expect_message(&mut self, has_begun: bool) {
-        self.record(if has_begun { ExpectsMore } else { Expects });
-        self.inner.expect_message(has_begun)
     }
 
     fn failures(&self) -> u64 {
@@ -108,8 +90,8 @@ impl<K: Sink> Sink for Metered<'_, K> {
 /// What a connection has to do.
 #[derive(Clone, Copy, Debug)]
 struct Wanted<'w> {
-    /// The calls of the source.
-    calls: &'w [Entry],
+    /// The reads of the source.
+    reads: &'w [Entry],
     /// The number of bytes that the source returned.
     returned: usize,
     /// The text written, and the end.
@@ -125,7 +107,7 @@ fn expect_calls(rt: &impl Tester, messages: &[&str], most: usize, want: &Wanted<
         inner: SliceSource::new(bytes.as_bytes(), most),
         returned: 0,
         taken: &taken,
-        calls: Vec::new(rt.alloc()),
+        reads: Vec::new(rt.alloc()),
     };
     let mut sink = Metered {
         inner: VecSink::new(rt.alloc(), usize::MAX),
@@ -133,15 +115,15 @@ fn expect_calls(rt: &impl Tester, messages: &[&str], most: usize, want: &Wanted<
     };
     let served = Server::new(rt).serve(rt, &mut source, &mut sink);
     assert_eq!(rt;
-        (source.calls.as_slice(), source.returned),
-        (want.calls, want.returned),
+        (source.reads.as_slice(), source.returned),
+        (want.reads, want.returned),
         "reads of {most}"
     );
     assert!(rt; sink.inner.taken() == want.text.as_bytes());
     assert_eq!(rt; served, want.served);
 }
 
-/// Messages, and the most bytes of a read; then the calls of the source, the number of bytes that it
+/// Messages, and the most bytes of a read; then the reads of the source, the number of bytes that it
 /// returns, the replies, and whether the last of them closes.
 type Arrival = (
     &'static [&'static str],
@@ -157,14 +139,7 @@ const ARRIVALS: &[Arrival] = &[
     (
         &[MESSAGE, MESSAGE],
         1,
-        &[
-            (Expects, 0, 0),
-            (Reads, 0, 0),
-            (Expects, 180, 187),
-            (Reads, 180, 187),
-            (Expects, 360, 419),
-            (Reads, 360, 419),
-        ],
+        &[(0, 0), (180, 187), (360, 419)],
         360,
         &[CREATED, HELD],
         false,
@@ -172,14 +147,7 @@ const ARRIVALS: &[Arrival] = &[
     (
         &[MESSAGE, MESSAGE],
         60,
-        &[
-            (Expects, 0, 0),
-            (Reads, 0, 0),
-            (Expects, 180, 187),
-            (Reads, 180, 187),
-            (Expects, 360, 419),
-            (Reads, 360, 419),
-        ],
+        &[(0, 0), (180, 187), (360, 419)],
         360,
         &[CREATED, HELD],
         false,
@@ -188,14 +156,7 @@ const ARRIVALS: &[Arrival] = &[
     (
         &[MESSAGE, MESSAGE],
         200,
-        &[
-            (Expects, 0, 0),
-            (Reads, 0, 0),
-            (ExpectsMore, 200, 187),
-            (Reads, 200, 187),
-            (Expects, 360, 419),
-            (Reads, 360, 419),
-        ],
+        &[(0, 0), (200, 187), (360, 419)],
         360,
         &[CREATED, HELD],
         false,
@@ -204,13 +165,7 @@ const ARRIVALS: &[Arrival] = &[
     (
         &[MESSAGE, MESSAGE],
         337,
-        &[
-            (Expects, 0, 0),
-            (Reads, 0, 0),
-            (Reads, 337, 187),
-            (Expects, 360, 419),
-            (Reads, 360, 419),
-        ],
+        &[(0, 0), (337, 187), (360, 419)],
         360,
         &[CREATED, HELD],
         false,
@@ -218,52 +173,28 @@ const ARRIVALS: &[Arrival] = &[
     (
         &[MESSAGE, MESSAGE],
         usize::MAX,
-        &[
-            (Expects, 0, 0),
-            (Reads, 0, 0),
-            (Expects, 360, 419),
-            (Reads, 360, 419),
-        ],
+        &[(0, 0), (360, 419)],
         360,
         &[CREATED, HELD],
         false,
     ),
     // A message that asks to be the last is the last that is read.
-    (
-        &[LAST, MESSAGE],
-        1,
-        &[(Expects, 0, 0), (Reads, 0, 0)],
-        199,
-        &[CREATED_LAST],
-        true,
-    ),
+    (&[LAST, MESSAGE], 1, &[(0, 0)], 199, &[CREATED_LAST], true),
     // Of a message whose head is refused, only the head is read.
-    (
-        &[CHUNKED, MESSAGE],
-        1,
-        &[(Expects, 0, 0), (Reads, 0, 0)],
-        185,
-        &[REFUSED],
-        true,
-    ),
+    (&[CHUNKED, MESSAGE], 1, &[(0, 0)], 185, &[REFUSED], true),
     (
         &[MESSAGE, CHUNKED, MESSAGE],
         1,
-        &[
-            (Expects, 0, 0),
-            (Reads, 0, 0),
-            (Expects, 180, 187),
-            (Reads, 180, 187),
-        ],
+        &[(0, 0), (180, 187)],
         365,
         &[CREATED, REFUSED],
         true,
     ),
-    // What is not read on, since its head came with the message before, is not expected.
+    // A head that came with the message before is not read for.
     (
         &[MESSAGE, CHUNKED, MESSAGE],
         365,
-        &[(Expects, 0, 0), (Reads, 0, 0)],
+        &[(0, 0)],
         365,
         &[CREATED, REFUSED],
         true,
@@ -273,10 +204,10 @@ const ARRIVALS: &[Arrival] = &[
 #[test]
 fn a_reply_is_written_before_more_is_read(rt: HostRuntime) {
     assert_eq!(rt; LAST.len(), 199);
-    for (messages, most, calls, returned, replies, closes) in ARRIVALS {
+    for (messages, most, reads, returned, replies, closes) in ARRIVALS {
         let text = texts(&rt, replies);
         let want = Wanted {
-            calls,
+            reads,
             returned: *returned,
             text: text.as_str(),
             served: served(replies.len(), *closes),
@@ -306,7 +237,7 @@ fn nothing_is_read_after_a_head_that_is_refused(rt: HostRuntime) {
         let head = message(&rt, line, fields, "");
         let text = refusal(&rt, code, true);
         let want = Wanted {
-            calls: &[(Expects, 0, 0), (Reads, 0, 0)],
+            reads: &[(0, 0)],
             returned: head.len(),
             text: text.as_str(),
             served: served(1, true),
