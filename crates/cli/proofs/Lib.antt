@@ -1,4 +1,1 @@
-mod Connections
-mod Jobs
-mod Swept
-mod Commands
+mod Sessions

@@ -1,8 +1,4 @@
-pub mod Clocks
-pub mod Framing
-pub mod Given
-pub mod Heard
-pub mod Jobs
 pub mod Asked
+pub mod Reading
+pub mod Sessions
 pub mod Answers
-pub mod Statuses

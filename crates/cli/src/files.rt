@@ -1,8 +1,12 @@
-//! Reads what is not the database: the policy, random bytes, and the input.
+//! Reads what is not the database: the policy and the input.
 
-use crate::faults::Fault;
+ghost use Rattle.std.specs.Prelude.{IfOk, IfSome};
+ghost use Rattle.cli.specs.Reading.{IsReadTo};
+
+use names::Source;
 use policy::{LONGEST_FILE, Policy};
-use std::alloc::Global;
+use server::Fault;
+use std::alloc::{AllocError, Global};
 use std::fs::File;
 use std::io::{self, ErrorKind, Read};
 use std::rt::HostRuntime;
@@ -30,36 +34,49 @@ pub(crate) fn read_policy(rt: &HostRuntime, path: &str) -> Result<Policy, Fault>
     }
 }
 
-/// Reads the first 32 bytes of the file.
+/// Reads a source until it ends, or this many bytes or more were read. `None` if a read failed.
 ///
 /// # Errors
 ///
-/// `Random` if it could not be opened or read, or is shorter.
-pub(crate) fn read_random(rt: &HostRuntime, path: &str) -> Result<[u8; 32], Fault> {
-    let mut bytes = [0; 32];
-    let Ok(mut file) = File::open(rt, path) else {
-        return Err(Fault::Random);
-    };
-    match file.read_exact(&mut bytes) {
-        Ok(()) => Ok(bytes),
-        Err(_) => Err(Fault::Random),
+/// Memory ran out.
+pub(crate) fn read_to<R: Source>(
+    alloc: Global,
+    source: &mut R,
+    most: usize,
+) -> Result<Option<Vec<u8>>, AllocError>
+    ensures { IfOk result (λ read. IfSome read (λ bytes.
+        IsReadTo most (R.left source.old) (R.left source.new) bytes.items)) }
+{
+    let mut bytes = Vec::new(alloc);
+    let mut piece = [0; 4_096];
+    'pieces: for _ in 0..u64::MAX {
+        if bytes.len() >= most {
+            return Ok(Some(bytes));
+        }
+        match source.read(&mut piece) {
+            Ok(0) => return Ok(Some(bytes)),
+            Ok(count) => bytes.extend_from_slice(&piece[..count])?,
+            Err(_) => return Ok(None),
+        }
     }
+    Ok(None)
 }
 
-/// Reads the input to its end, and at most this many bytes of it.
+/// Reads the input until it ends, or this many bytes or more were read.
 ///
 /// # Errors
 ///
 /// `Output` if the input could not be read, and `Memory`.
-pub(crate) fn read_input<R: Read>(
+pub(crate) fn read_input<R: Source>(
     alloc: Global,
     input: &mut R,
-    most: u64,
-) -> Result<Vec<u8>, Fault> {
-    let mut bytes = Vec::new(alloc);
-    match input.take(most).read_to_end(&mut bytes) {
-        Ok(_) => Ok(bytes),
-        Err(error) if error.kind() == ErrorKind::OutOfMemory => Err(Fault::Memory),
-        Err(_) => Err(Fault::Output),
+    most: usize,
+) -> Result<Vec<u8>, Fault>
+    ensures { IfOk result (λ bytes.
+        IsReadTo most (R.left input.old) (R.left input.new) bytes.items) }
+{
+    match read_to(alloc, input, most)? {
+        Some(bytes) => Ok(bytes),
+        None => Err(Fault::Output),
     }
 }

@@ -1,10 +1,15 @@
 //! Opens the database, for work over it, or to migrate it.
 
-ghost use Rattle.std.specs.Prelude.{◌≡◌, OnOk};
+ghost use Rattle.std.specs.Prelude.{◌≡◌, ⊤, OnOk, Result};
+ghost use Rattle.sqlite_trees.specs.declared.store.Store.{Ghosts};
+ghost use Rattle.model.specs.World.{World};
+ghost use Rattle.tables.specs.declared.Store as tables;
+ghost use Rattle.refinement.specs.Left.{From};
+ghost use Rattle.server.specs.declared.faults.Fault.{Fault};
 
-use crate::faults::Fault;
 use names::Sink;
 use refinement::open_from;
+use server::Fault;
 use std::fs::OpenOptions;
 use std::os::unix::fs::OpenOptionsExt;
 use std::rt::HostRuntime;
@@ -15,9 +20,14 @@ const MODE: u32 = 0o600;
 
 /// What is done with an open database.
 pub(crate) trait Work: Drop {
+    /// The work led a store that held this world to the other store, and ended so.
+    ghost leads: { Self → {S : Type 0} → Ghosts S → (old new : tables.Store S) → World → Result ⊤ Fault → Type 0 };
+
     /// Does it, and prints what it has to. `Ok` means that all of that was written.
     fn run<S: Storage, K: Sink>(self, store: &mut Store<S>, output: &mut K) -> Result<(), Fault>
-        ensures { OnOk result (K.failed output.new ≡ K.failed output.old) };
+        ensures world { From S.Store store.old store.new (λ world.
+            leads self S.Store store.old store.new world result) }
+        ensures good { OnOk result (K.failed output.new ≡ K.failed output.old) };
 }
 
 /// Makes the database's file if it does not exist. If that fails, opening the database reports why.

@@ -6,13 +6,13 @@ ghost use Rattle.policy.specs.Values.{decision_view, policy_view, row_view};
 ghost use Rattle.cli.specs.Answers.{covering_in, is_allowed, number_of, row_numbered};
 ghost use Rattle.command_line.specs.Asking.{asked_view};
 
-use crate::faults::Fault;
 use crate::files::read_policy;
 use crate::policy_lines::{decision_line, policy_line, row_line};
 use command_line::{AskedQuestion, PolicyArgs, PolicyTask};
 use names::Sink;
 use operator::Lines;
 use policy::{Policy, Row, Sentence, Verdict, decide};
+use server::Fault;
 use std::alloc::{AllocError, Global};
 use std::rt::HostRuntime;
 

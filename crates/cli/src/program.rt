@@ -2,19 +2,17 @@
 
 ghost use Rattle.std.specs.Prelude.{◌≡◌, ◌≢◌, ◌≤◌, OnOk};
 ghost use Rattle.std.specs.IoError.{error_kind};
-ghost use Rattle.cli.specs.Statuses.{status_of, status_of_end};
 
-use crate::faults::Fault;
 use crate::migrating::migrate;
 use crate::operating::operate;
 use crate::policy_command::policy_command;
 use crate::serve::serve;
 use crate::session::session;
-use crate::via::ask;
+use crate::via::ask_at;
 use command_line::{Command, read_args};
-use control::Status;
-use names::Sink;
+use names::{Counted, Sink};
 use operator::{Destination, print};
+use server::{Fault, status_after};
 use std::alloc::Global;
 use std::io::{self, ErrorKind, Read, Write};
 use std::rt::HostRuntime;
@@ -25,11 +23,7 @@ use tables::Start;
 /// # Errors
 ///
 /// `Output` if it could not be written, and `Memory`.
-pub(crate) fn print_text<K: Sink>(
-    alloc: Global,
-    text: &clap::Error,
-    output: &mut K,
-) -> Result<(), Fault>
+fn print_text<K: Sink>(alloc: Global, text: &clap::Error, output: &mut K) -> Result<(), Fault>
     ensures { OnOk result (K.failed output.new ≡ K.failed output.old) }
 {
     let text = format!(in alloc; "{text}")?;
@@ -51,51 +45,30 @@ fn dispatch<S: Start, R: Read, K: Sink, E: Write>(
 {
     match read_args(rt.alloc(), args)? {
         Command::Text(text) => print_text(rt.alloc(), &text, output),
-        Command::Session(asked) => session(rt, &asked, input, output, start),
+        Command::Session(asked) => session(rt, &asked, &mut Counted::new(input), output, start),
         Command::Serve(asked) => serve(rt, &asked, output, errors, start),
         Command::Policy(asked) => policy_command(rt, &asked, output),
         Command::Migrate(db) => migrate(rt, db, output, start),
         Command::Local(files, command) => {
-            operate(rt, &files, &command, input, destination, output, start)
+            operate(
+                rt,
+                &files,
+                &command,
+                &mut Counted::new(input),
+                destination,
+                output,
+                start,
+            )
         }
-        Command::Remote(socket, command) => ask(
+        Command::Remote(socket, command) => ask_at(
             rt,
             socket,
             &command,
-            args,
-            input,
+            &mut Counted::new(input),
             destination,
             output,
             errors,
         ),
-    }
-}
-
-/// Prints why the program ends, unless that was reported already.
-pub(crate) fn print_fault<E: Write>(fault: &Fault, errors: &mut E) -> io::Result<()> {
-    match fault {
-        Fault::Arguments(text) => write!(errors, "{text}")?,
-        Fault::Reported | Fault::ReportedInvalid => {}
-        _ => writeln!(errors, "{fault}")?,
-    }
-    errors.flush()
-}
-
-/// Prints the fault and returns its exit status; a failed print does not change the status.
-fn refuse<E: Write>(fault: &Fault, errors: &mut E) -> Status
-    ensures { result ≡ status_of fault.now }
-{
-    let _ = print_fault(fault, errors);
-    fault.status()
-}
-
-/// The exit status of a command that ended; prints its fault, if there is one.
-pub(crate) fn status_after<E: Write>(ended: Result<(), Fault>, errors: &mut E) -> Status
-    ensures { result ≡ status_of_end ended }
-{
-    match ended {
-        Ok(()) => Status::Good,
-        Err(fault) => refuse(&fault, errors),
     }
 }
 
@@ -141,7 +114,7 @@ pub fn refuse_args<E: Write>(error: &io::Error, errors: &mut E) -> u8
     ensures other { error_kind error.now ≢ ErrorKind.OutOfMemory → result ≡ 2 }
 {
     match error.kind() {
-        ErrorKind::OutOfMemory => refuse(&Fault::Memory, errors).code(),
+        ErrorKind::OutOfMemory => status_after(Err(Fault::Memory), errors).code(),
         _ => {
             let _ = print_not_utf8(errors);
             2

@@ -1,17 +1,16 @@
 //! The command `serve`: connections of a TCP socket, whose messages are served one after the other.
 
 ghost use Rattle.std.specs.Prelude.{◌≡◌, ◌≤◌, OnOk};
+ghost use Rattle.refinement.specs.Left.{From};
+ghost use Rattle.server.specs.Jobs.{ServesAll};
 
-use crate::faults::Fault;
 use crate::files::read_policy;
-use crate::machine::Sockets;
 use crate::opening::{Work, open_for};
-use crate::program::status_after;
-use crate::server::Server;
 use command_line::ServeArgs;
 use names::Sink;
 use operator::print;
 use policy::Policy;
+use server::{Fault, Server, Sockets, status_after};
 use service::Routes;
 use sockets::{ControlSocket, Limits, Queue, listen};
 use std::alloc::Global;
@@ -28,16 +27,16 @@ const CONNECTIONS: usize = 960;
 
 /// Where the callers of a server connect.
 #[derive(Clone, Copy)]
-pub struct Doors<'a> {
+pub struct Listeners<'a> {
     /// Clients.
     pub clients: &'a TcpListener,
     /// Operators; `None` for a server without a control socket.
     pub operators: Option<&'a UnixListener>,
 }
 
-/// The doors of a server with a control socket.
-fn doors_of<'x>(clients: &'x TcpListener, operators: &'x UnixListener) -> Doors<'x> {
-    Doors {
+/// The listeners of a server with a control socket.
+fn listeners_of<'x>(clients: &'x TcpListener, operators: &'x UnixListener) -> Listeners<'x> {
+    Listeners {
         clients,
         operators: Some(operators),
     }
@@ -70,21 +69,23 @@ struct ServeContext<'a, C> {
 }
 
 impl<C: Clock> ServeContext<'_, C> {
-    /// Serves those who connect at the doors.
+    /// Serves those who connect at the listeners.
     fn serve<S: Storage, K: Sink, E: Write>(
         &self,
         store: &mut Store<S>,
-        doors: Doors<'_>,
+        listeners: Listeners<'_>,
         output: &mut K,
         errors: &mut E,
     ) -> Result<(), Fault>
-        ensures { OnOk result (K.failed output.new ≡ K.failed output.old) }
+        ensures world { From S.Store store.old store.new (λ world.
+            ServesAll S.Store self.now.server.now.policy.now store.old store.new world) }
+        ensures good { OnOk result (K.failed output.new ≡ K.failed output.old) }
     {
         let limits = Limits {
             idle: Duration::from_secs(self.args.idle),
             connections: CONNECTIONS,
         };
-        let Ok(queue) = Queue::new(self.rt, doors.clients, doors.operators, limits) else {
+        let Ok(queue) = Queue::new(self.rt, listeners.clients, listeners.operators, limits) else {
             return Err(Fault::Network);
         };
         let mut machine = Sockets {
@@ -108,13 +109,15 @@ impl<C: Clock> ServeContext<'_, C> {
         output: &mut K,
         errors: &mut E,
     ) -> Result<(), Fault>
-        ensures { OnOk result (K.failed output.new ≡ K.failed output.old) }
+        ensures world { From S.Store store.old store.new (λ world.
+            ServesAll S.Store self.now.server.now.policy.now store.old store.new world) }
+        ensures good { OnOk result (K.failed output.new ≡ K.failed output.old) }
     {
         let Ok(control) = ControlSocket::bind(self.rt, path) else {
             return Err(Fault::Control);
         };
-        let doors = doors_of(clients, control.listener());
-        let served = self.serve(store, doors, output, errors);
+        let listeners = listeners_of(clients, control.listener());
+        let served = self.serve(store, listeners, output, errors);
         control.remove(self.rt);
         served
     }
@@ -124,31 +127,33 @@ impl<C: Clock> ServeContext<'_, C> {
 #[derive(Drop)]
 struct Serving<'a, C, E> {
     context: &'a ServeContext<'a, C>,
-    doors: Doors<'a>,
+    listeners: Listeners<'a>,
     errors: &'a mut E,
 }
 
 impl<C: Clock, E: Write> Work for Serving<'_, C, E> {
+    ghost leads = { λ work g old new world ended. ServesAll g work.context.now.server.now.policy.now old new world };
+
     fn run<S: Storage, K: Sink>(self, store: &mut Store<S>, output: &mut K) -> Result<(), Fault> {
         let Serving {
             context,
-            doors,
+            listeners,
             errors,
         } = self;
-        match context.args.control {
-            None => context.serve(store, doors, output, errors),
-            Some(path) => context.serve_controlled(store, doors.clients, path, output, errors),
-        }
+        let Some(path) = context.args.control else {
+            return context.serve(store, listeners, output, errors);
+        };
+        context.serve_controlled(store, listeners.clients, path, output, errors)
     }
 }
 
-/// Serves those who connect at the doors, as [`serve`] does after it has read the policy and bound the address.
+/// Serves those who connect at the listeners, as [`serve`] does after it has read the policy and bound the address.
 fn serve_bound<C: Clock, S: Start, K: Sink, E: Write>(
     rt: &HostRuntime,
     clock: &C,
     args: &ServeArgs<'_>,
     policy: &Policy,
-    doors: Doors<'_>,
+    listeners: Listeners<'_>,
     output: &mut K,
     errors: &mut E,
     start: S,
@@ -169,7 +174,7 @@ fn serve_bound<C: Clock, S: Start, K: Sink, E: Write>(
     };
     let serving = Serving {
         context: &context,
-        doors,
+        listeners,
         errors,
     };
     open_for(rt, args.db, start, serving, output)
@@ -195,30 +200,31 @@ pub(crate) fn serve<S: Start, K: Sink, E: Write>(
     let Ok(listener) = listen(rt, args.listen) else {
         return Err(Fault::Network);
     };
-    let doors = Doors {
+    let listeners = Listeners {
         clients: &listener,
         operators: None,
     };
-    serve_bound(rt, rt, args, &policy, doors, output, errors, start)
+    serve_bound(rt, rt, args, &policy, listeners, output, errors, start)
 }
 
-/// Runs the command `serve` over doors that are bound already, at the moments of a clock, and returns the exit status.
-/// `args.listen` is only printed, and `args.control` names a socket in place of that of the doors.
+/// Runs the command `serve` over listeners that are bound already, at the moments of a clock, and returns the exit status.
+/// `args.listen` is only printed, and `args.control` names a socket in place of that of the listeners.
 ///
 /// The lines are those of [`run`](crate::run).
-pub fn serve_doors<C: Clock, S: Start, K: Sink, E: Write>(
+pub fn serve_listeners<C: Clock, S: Start, K: Sink, E: Write>(
     rt: &HostRuntime,
     clock: &C,
     args: &ServeArgs<'_>,
-    doors: Doors<'_>,
+    listeners: Listeners<'_>,
     output: &mut K,
     errors: &mut E,
     start: S,
 ) -> u8
-    ensures { result ≤ 2 }
+    ensures status { result ≤ 2 }
+    ensures good { result ≡ 0 → K.failed output.new ≡ K.failed output.old }
 {
     let served = match read_policy(rt, args.policy) {
-        Ok(policy) => serve_bound(rt, clock, args, &policy, doors, output, errors, start),
+        Ok(policy) => serve_bound(rt, clock, args, &policy, listeners, output, errors, start),
         Err(fault) => Err(fault),
     };
     status_after(served, errors).code()

@@ -1,21 +1,17 @@
 //! The command `session`: one connection over the program's own input and output.
 
-ghost use Rattle.std.specs.Prelude.{◌≡◌, IsTrue, OnOk};
-ghost use Rattle.refinement.specs.Left.{From};
-ghost use Rattle.service.specs.Served.{IsCountedAs};
-ghost use Rattle.cli.specs.Jobs.{Converses};
-ghost use Rattle.cli.specs.Statuses.{is_good};
+ghost use Rattle.std.specs.Prelude.{◌≡◌, OnOk};
+ghost use Rattle.desk.specs.Asking.{setting_of};
+ghost use Rattle.cli.specs.Sessions.{IsSession, session_ended};
 
-use crate::faults::Fault;
 use crate::files::read_policy;
-use crate::moments::moment;
 use crate::opening::{Work, open_for};
 use command_line::SessionArgs;
-use names::{Counted, Moment, Sink};
+use names::{Moment, Sink, Source};
 use policy::Policy;
+use server::{Fault, is_good, moment};
 use service::{End, Routes, serve};
 use std::alloc::Global;
-use std::io::Read;
 use std::rt::HostRuntime;
 use tables::{Start, Storage, Store};
 
@@ -27,44 +23,9 @@ struct SessionContext<'a> {
     now: Moment,
 }
 
-/// Whether a connection ended well.
-pub(crate) fn is_good(end: End) -> bool
-    ensures { result ≡ is_good end }
-{
-    match end {
-        End::InputEnded | End::Closed | End::StoreRefused => true,
-        End::ReadFailed | End::WriteFailed | End::StoreFailed => false,
-    }
-}
-
-/// Serves the connection, and returns how it ended.
-fn serve_streams<S: Storage, R: Read, K: Sink>(
-    alloc: Global,
-    store: &mut Store<S>,
-    context: &SessionContext<'_>,
-    input: &mut R,
-    output: &mut K,
-) -> End
-    ensures world { From S.Store store.old store.new (λ world. Converses S.Store
-        context.entry.now.policy.now context.entry.now.now store.old store.new world) }
-    ensures counted { IsCountedAs (K.failed output.old) (K.failed output.new) result }
-{
-    let mut source = Counted::new(input);
-    serve(
-        alloc,
-        store,
-        context.policy,
-        context.routes,
-        context.now,
-        &mut source,
-        output,
-    )
-    .end
-}
-
 /// How the command ends after the connection has.
 fn ending(end: End) -> Result<(), Fault>
-    ensures { OnOk result (IsTrue (is_good end)) }
+    ensures { result ≡ session_ended end }
 {
     if is_good(end) {
         Ok(())
@@ -81,14 +42,19 @@ struct Connection<'a, R> {
     input: &'a mut R,
 }
 
-impl<R: Read> Work for Connection<'_, R> {
+impl<R: Source> Work for Connection<'_, R> {
+    ghost leads = { λ work g old new world ended. IsSession g
+        (setting_of work.context.now.policy.now work.context.now.now) (R.left work.input.now) old new world ended };
+
     fn run<S: Storage, K: Sink>(self, store: &mut Store<S>, output: &mut K) -> Result<(), Fault> {
         let Connection {
             alloc,
             context,
             input,
         } = self;
-        ending(serve_streams(alloc, store, context, input, output))
+        let (policy, routes) = (context.policy, context.routes);
+        let served = serve(alloc, store, policy, routes, context.now, input, output);
+        ending(served.end)
     }
 }
 
@@ -99,7 +65,7 @@ impl<R: Read> Work for Connection<'_, R> {
 /// `Clock`, `PolicyFile` and `Policy`, which leave the database unopened; `Store` and `Memory` if it
 /// could not be opened; and `Session` if reading or writing failed, or the store within the content of an
 /// object: what was answered before remains valid.
-pub(crate) fn session<S: Start, R: Read, K: Sink>(
+pub(crate) fn session<S: Start, R: Source, K: Sink>(
     rt: &HostRuntime,
     args: &SessionArgs<'_>,
     input: &mut R,

@@ -1,51 +1,29 @@
 //! Asks a running server to run a command.
 
-ghost use Rattle.std.specs.Prelude.{◌≡◌, IfErr, IfOk, OnOk};
-ghost use Rattle.std.specs.Io.KnownBytes.{Consumes};
-ghost use Rattle.cli.specs.Asked.{IsReplyPrinted, IsUnanswered, ending};
+ghost use Rattle.std.specs.Prelude.{◌≡◌, IfOk, OnOk};
+ghost use Rattle.std.specs.Io.KnownBytes.{Appends};
+ghost use Rattle.control.specs.declared.status.Status.TheVariants.{Good};
+ghost use Rattle.cli.specs.Asked.{HasPrinted, IsReplyPrinted, IsRequestFor, ending, wanted_of};
 
-use crate::faults::Fault;
-use crate::files::read_input;
+use crate::files::{read_input, read_to};
 use command_line::OperatorCommand;
 use control::{LONGEST_REQUEST, Status, read_reply, request_bytes};
 use names::{Counted, Sink, Source};
 use operator::{Destination, LONGEST_PATHS, print, shown};
-use std::alloc::{AllocError, Global};
-use std::io::{self, Read, Write};
-use std::net::Shutdown;
+use server::Fault;
+use std::alloc::Global;
+use std::io::{self, Write};
 use std::os::unix::net::UnixStream;
 use std::rt::HostRuntime;
 
-/// The words of the command without the socket: `--via SOCKET` and `--via=SOCKET` are left out, and the program's name.
-fn words_of(alloc: Global, args: &[String]) -> Result<Vec<String>, AllocError> {
-    let mut words = Vec::new(alloc);
-    let mut is_socket = false;
-    let mut are_options = true;
-    for word in args.iter().skip(1) {
-        let text = word.as_str();
-        are_options = are_options && text != "--";
-        if is_socket {
-            is_socket = false;
-        } else if are_options && text == "--via" {
-            is_socket = true;
-        } else if !(are_options && text.starts_with("--via=")) {
-            words.push(text.to_owned(alloc)?).map_err(AllocError::from)?;
-        }
-    }
-    Ok(words)
-}
-
-/// The input of the command, if it reads any.
-fn input_of<R: Read>(
-    alloc: Global,
-    command: &OperatorCommand<'_>,
-    input: &mut R,
-) -> Result<Vec<u8>, Fault> {
+/// How many bytes of its input a command may want: one more than it takes, so that a longer input is noticed.
+fn wanted_of(command: &OperatorCommand<'_>) -> usize
+    ensures { result ≡ wanted_of command.now }
+{
     match command {
-        OperatorCommand::PushCheck(_) => read_input(alloc, input, LONGEST_PATHS),
-        // One byte more than a request has room for, so that a longer message is noticed.
-        OperatorCommand::Foresee(_) => read_input(alloc, input, LONGEST_REQUEST as u64 + 1),
-        _ => Ok(Vec::new(alloc)),
+        OperatorCommand::PushCheck(_) => LONGEST_PATHS as usize,
+        OperatorCommand::Foresee(_) => LONGEST_REQUEST + 1,
+        _ => 0,
     }
 }
 
@@ -54,37 +32,17 @@ fn input_of<R: Read>(
 /// # Errors
 ///
 /// `InputTooLong`, `Output` if the input could not be read, and `Memory`.
-pub fn request_of<R: Read>(
+pub fn request_of<R: Source>(
     alloc: Global,
     command: &OperatorCommand<'_>,
-    args: &[String],
     input: &mut R,
-) -> Result<Vec<u8>, Fault> {
-    let words = words_of(alloc, args)?;
-    let input = input_of(alloc, command, input)?;
-    Ok(request_bytes(alloc, input.as_slice(), words.as_slice())?)
-}
-
-/// Reads the bytes of a source to its end.
-///
-/// # Errors
-///
-/// `Control` if a read failed, and `Memory`.
-fn read_all<R: Source>(alloc: Global, source: &mut R) -> Result<Vec<u8>, Fault>
-    ensures bytes { IfOk result (λ bytes.
-        Consumes (R.left source.old) (R.left source.new) bytes.items) }
-    ensures err { IfErr result IsUnanswered }
+) -> Result<Vec<u8>, Fault>
+    ensures { IfOk result (λ bytes.
+        IsRequestFor command.now (R.left input.old) (R.left input.new) bytes.items) }
 {
-    let mut bytes = Vec::new(alloc);
-    let mut piece = [0; 4_096];
-    'pieces: for _ in 0..u64::MAX {
-        match source.read(&mut piece) {
-            Ok(0) => return Ok(bytes),
-            Ok(count) => bytes.extend_from_slice(&piece[..count])?,
-            Err(_) => return Err(Fault::Control),
-        }
-    }
-    Err(Fault::Control)
+    let words = command.words(alloc)?;
+    let input = read_input(alloc, input, wanted_of(command))?;
+    Ok(request_bytes(alloc, input.as_slice(), words.as_slice())?)
 }
 
 /// How the command ended that a server ran.
@@ -121,7 +79,9 @@ pub fn print_reply<R: Source, K: Sink, E: Write>(
         (K.taken output.old) (K.taken output.new) result }
     ensures good { OnOk result (K.failed output.new ≡ K.failed output.old) }
 {
-    let bytes = read_all(alloc, source)?;
+    let Some(bytes) = read_to(alloc, source, usize::MAX)? else {
+        return Err(Fault::Control);
+    };
     let Some(reply) = read_reply(bytes.as_slice()) else {
         return Err(Fault::Control);
     };
@@ -133,25 +93,63 @@ pub fn print_reply<R: Source, K: Sink, E: Write>(
     ending(reply.status)
 }
 
-/// Sends the request to the server at the socket.
-fn send(rt: &HostRuntime, socket: &str, request: &[u8]) -> io::Result<UnixStream> {
-    let mut stream = UnixStream::connect(rt, socket)?;
-    stream.write_all(request)?;
-    stream.shutdown(Shutdown::Write)?;
-    Ok(stream)
+/// Writes all bytes of a request.
+///
+/// # Errors
+///
+/// `Control` if a write failed.
+fn send<W: Sink>(to: &mut W, request: &[u8]) -> Result<(), Fault>
+    ensures { OnOk result (Appends (W.taken to.old) (W.taken to.new) request.now) }
+{
+    match print(to, request) {
+        Ok(()) => Ok(()),
+        Err(_) => Err(Fault::Control),
+    }
+}
+
+/// A request to a server, and where the output of its reply is printed.
+#[derive(Clone, Copy)]
+pub struct Question<'a> {
+    /// For the reply.
+    pub alloc: Global,
+    /// The bytes of the request.
+    pub request: &'a [u8],
+    /// Where the output is written to.
+    pub destination: Destination,
+}
+
+impl Question<'_> {
+    /// Sends the request to a server, and prints what the server replies. The result is that of the command.
+    ///
+    /// # Errors
+    ///
+    /// `Control` if the request could not be sent, and those of [`print_reply`].
+    pub fn ask<W: Sink, R: Source, K: Sink, E: Write>(
+        &self,
+        to: &mut W,
+        from: &mut R,
+        output: &mut K,
+        errors: &mut E,
+    ) -> Result<(), Fault>
+        ensures asked { OnOk result (Appends (W.taken to.old) (W.taken to.new) self.now.request.now) }
+        ensures reply { OnOk result (HasPrinted (R.left from.old) (R.left from.new)
+            self.now.destination (K.taken output.old) (K.taken output.new) Good) }
+        ensures good { OnOk result (K.failed output.new ≡ K.failed output.old) }
+    {
+        send(to, self.request)?;
+        print_reply(self.alloc, from, self.destination, output, errors)
+    }
 }
 
 /// Asks the server at the socket to run the command, and prints what the server has printed.
 ///
 /// # Errors
 ///
-/// `Control` if the server could not be reached, `InputTooLong`, `Output` if the input could not be read, and those of
-/// [`print_reply`].
-pub(crate) fn ask<R: Read, K: Sink, E: Write>(
+/// Those of [`request_of`], `Control` if the server could not be reached, and those of [`Question::ask`].
+pub(crate) fn ask_at<R: Source, K: Sink, E: Write>(
     rt: &HostRuntime,
     socket: &str,
     command: &OperatorCommand<'_>,
-    args: &[String],
     input: &mut R,
     destination: Destination,
     output: &mut K,
@@ -160,10 +158,15 @@ pub(crate) fn ask<R: Read, K: Sink, E: Write>(
     ensures { OnOk result (K.failed output.new ≡ K.failed output.old) }
 {
     let alloc = rt.alloc();
-    let request = request_of(alloc, command, args, input)?;
-    let Ok(stream) = send(rt, socket, request.as_slice()) else {
+    let request = request_of(alloc, command, input)?;
+    let Ok(stream) = UnixStream::connect(rt, socket) else {
         return Err(Fault::Control);
     };
-    let mut source = Counted::new(&stream);
-    print_reply(alloc, &mut source, destination, output, errors)
+    let question = Question {
+        alloc,
+        request: request.as_slice(),
+        destination,
+    };
+    let (mut to, mut from) = (Counted::new(&stream), Counted::new(&stream));
+    question.ask(&mut to, &mut from, output, errors)
 }

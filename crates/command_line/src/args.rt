@@ -6,7 +6,7 @@ ghost use Rattle.std.specs.List.{list_all};
 ghost use Rattle.command_line.specs.Numbers.{number_in, number_within, moment_in};
 ghost use Rattle.command_line.specs.Ranges.{AreInRange, IsInRange};
 
-use crate::commands::{program, served_program};
+use crate::commands::program;
 use crate::faults::ArgsFault;
 use crate::parameters::UPLOAD;
 use crate::policy_args::{PolicyArgs, policy_args};
@@ -182,7 +182,7 @@ fn number_within(text: &str, least: u64, most: u64) -> Option<u64>
 }
 
 /// The moment that 1 to 18 decimal digits write; `None` for any other text.
-fn moment_in(text: &str) -> Option<Moment>
+pub(crate) fn moment_in(text: &str) -> Option<Moment>
     ensures { result ≡ moment_in text.now }
 {
     Moment::read(number_in(text)?)
@@ -389,33 +389,4 @@ pub fn read_args<'a>(alloc: Global, args: &'a [String]) -> Result<Command<'a>, A
             "a command is needed",
         )?)),
     }
-}
-
-/// What the words of a request ask a server for.
-#[derive(Debug, Drop)]
-pub enum Asked<'a> {
-    /// Print the help on the output.
-    Text(clap::Error),
-    /// A command of an operator.
-    Command(OperatorCommand<'a>),
-}
-
-/// Parses the words of a request. The first is the command.
-///
-/// # Errors
-///
-/// `Rejected` if `clap` rejects them, which it does if they name files, a socket, or a command that is not an
-/// operator's; `Value` if a value is out of range; `NoCommand` if there is no command, and `Memory`.
-pub fn read_words<'a>(alloc: Global, words: &'a [String]) -> Result<Asked<'a>, ArgsFault> {
-    let mut program = served_program(alloc)?;
-    let matches = match program.try_get_matches_from_mut(words) {
-        Ok(matches) => matches,
-        Err(error) if is_text_asked_for(error.kind()) => return Ok(Asked::Text(error)),
-        Err(error) => return Err(ArgsFault::from(error)),
-    };
-    let command = match matches.subcommand() {
-        Some((name, matches)) => operator_command_of(alloc, name, matches)?,
-        None => None,
-    };
-    Ok(Asked::Command(command.ok_or(ArgsFault::NoCommand)?))
 }

@@ -1,7 +1,7 @@
 //! The commands, as `clap` parses and documents them.
 
 use crate::operator_commands::{OPERATOR_COMMANDS, REPO_HELP};
-use crate::parameters::{CommandText, Kind, Parameter, Place, commands_of};
+use crate::parameters::{CommandText, Kind, Parameter, commands_of};
 use clap::Command;
 use std::alloc::{AllocError, Global};
 
@@ -212,8 +212,8 @@ const OWN_COMMANDS: [CommandText; 4] = [SESSION, SERVE, POLICY_COMMAND, MIGRATE]
 
 /// The program, with its commands.
 pub(crate) fn program<'a>(alloc: Global) -> Result<Command<'a>, AllocError> {
-    let own = commands_of(alloc, OWN_COMMANDS.as_slice(), Place::Here)?;
-    let operators = commands_of(alloc, OPERATOR_COMMANDS.as_slice(), Place::Here)?;
+    let own = commands_of(alloc, OWN_COMMANDS.as_slice())?;
+    let operators = commands_of(alloc, OPERATOR_COMMANDS.as_slice())?;
     Command::new(alloc, "custody")
         .about(ABOUT)
         .version(VERSION)
@@ -221,14 +221,5 @@ pub(crate) fn program<'a>(alloc: Global) -> Result<Command<'a>, AllocError> {
         .subcommand_required(true)
         .arg_required_else_help(true)
         .subcommands(own)?
-        .subcommands(operators)
-}
-
-/// The commands that a server takes from operators. The first word is the command.
-pub(crate) fn served_program<'a>(alloc: Global) -> Result<Command<'a>, AllocError> {
-    let operators = commands_of(alloc, OPERATOR_COMMANDS.as_slice(), Place::Server)?;
-    Command::new(alloc, "custody")
-        .no_binary_name(true)
-        .subcommand_required(true)
         .subcommands(operators)
 }

@@ -14,7 +14,7 @@ pub enum ArgsFault {
     /// A value is not valid for its option; this is the option's name.
     #[error("bad value for {0}")]
     Value(&'static str),
-    /// The words of a request name no command.
+    /// The words of a request are those of no command.
     #[error("no command")]
     NoCommand,
     /// Memory ran out.

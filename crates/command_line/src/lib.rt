@@ -1,7 +1,7 @@
 //! The command line of `custody`: its commands and options with their help, and their arguments as typed values.
 //!
-//! [`read_args`] parses the arguments of the program, and [`read_words`] those of a command that a running server is to
-//! do.
+//! [`read_args`] parses the arguments of the program. A command for a running server is sent as its words:
+//! [`OperatorCommand::words`] returns them, and [`OperatorCommand::read`] returns the command that has them.
 #![tactic(auto)]
 
 mod args;
@@ -10,10 +10,11 @@ mod faults;
 mod operator_commands;
 mod parameters;
 mod policy_args;
+mod words;
 
 pub use args::{
-    Asked, Command, Files, ForeseeArgs, OperatorCommand, PushArgs, RetireArgs, ServeArgs,
-    SessionArgs, TokenArgs, read_args, read_words,
+    Command, Files, ForeseeArgs, OperatorCommand, PushArgs, RetireArgs, ServeArgs, SessionArgs,
+    TokenArgs, read_args,
 };
 pub use faults::ArgsFault;
 pub use parameters::RANDOM;

@@ -3,15 +3,6 @@
 use clap::{Arg, ArgAction, Command};
 use std::alloc::{AllocError, Global};
 
-/// Where a command is run.
-#[derive(Clone, Copy, Debug, PartialEq, Eq)]
-pub(crate) enum Place {
-    /// In the program that parses it, over files, or at a server.
-    Here,
-    /// At a server, which has its files open.
-    Server,
-}
-
 /// How a parameter is given, and when it has to be.
 #[derive(Clone, Copy, Debug, PartialEq, Eq)]
 pub(crate) enum Kind {
@@ -33,13 +24,6 @@ pub(crate) enum Kind {
     Argument,
     /// The same for the operation of a token, which has two values.
     Operation,
-}
-
-impl Kind {
-    /// Whether a server, which has its files open, takes no such parameter.
-    fn is_for_files(self) -> bool {
-        matches!(self, Kind::File | Kind::Random | Kind::Socket)
-    }
 }
 
 /// An option or an argument of a command.
@@ -127,17 +111,11 @@ fn arg_of<'a>(alloc: Global, parameter: &Parameter) -> Result<Arg<'a>, AllocErro
     }
 }
 
-/// The parameters that a command takes at this place.
-fn args_of<'a>(
-    alloc: Global,
-    parameters: &[Parameter],
-    place: Place,
-) -> Result<Vec<Arg<'a>>, AllocError> {
+/// The parameters, as `clap` takes them.
+fn args_of<'a>(alloc: Global, parameters: &[Parameter]) -> Result<Vec<Arg<'a>>, AllocError> {
     let mut args = Vec::new(alloc);
     for parameter in parameters {
-        if place == Place::Here || !parameter.kind.is_for_files() {
-            args.push(arg_of(alloc, parameter)?)?;
-        }
+        args.push(arg_of(alloc, parameter)?)?;
     }
     Ok(args)
 }
@@ -152,12 +130,8 @@ pub(crate) struct CommandText {
 }
 
 /// The command, as `clap` takes it.
-fn command_of<'a>(
-    alloc: Global,
-    text: &CommandText,
-    place: Place,
-) -> Result<Command<'a>, AllocError> {
-    let args = args_of(alloc, text.parameters, place)?;
+fn command_of<'a>(alloc: Global, text: &CommandText) -> Result<Command<'a>, AllocError> {
+    let args = args_of(alloc, text.parameters)?;
     Command::new(alloc, text.name)
         .about(text.about)
         .long_about(text.long_about)
@@ -168,11 +142,10 @@ fn command_of<'a>(
 pub(crate) fn commands_of<'a>(
     alloc: Global,
     texts: &[CommandText],
-    place: Place,
 ) -> Result<Vec<Command<'a>>, AllocError> {
     let mut commands = Vec::new(alloc);
     for text in texts {
-        commands.push(command_of(alloc, text, place)?)?;
+        commands.push(command_of(alloc, text)?)?;
     }
     Ok(commands)
 }

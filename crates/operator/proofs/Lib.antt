@@ -10,3 +10,4 @@ pub mod Reached
 mod Foretold
 mod Removed
 mod Damaged
+mod Listed

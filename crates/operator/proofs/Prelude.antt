@@ -5,7 +5,7 @@ pub use Rattle.model.specs.Bounds.{Bound, Ending, IsWithin, SameWorld, bound_aft
 pub use Rattle.model.specs.Steps.{Event, IsStep, Run, by_verdict, exchanged, issues, judgement, prunes}
 pub use Rattle.model.specs.World.{IsWorld, World, nothing}
 pub use Rattle.operator.specs.Escapes.{escape, escaped, is_control, shown}
-pub use Rattle.operator.specs.Works.{Work, Works, WorksOwn, bound_of_works, keeps, steps_of, takes}
+pub use Rattle.operator.specs.Works.{Work, Works, bound_of_works, keeps, steps_of, takes}
 pub use Rattle.refinement.proofs.Leading.{from_weaker, keeps_still, leads_none, reads_lead, reads_none, takes_then}
 pub use Rattle.refinement.proofs.ReadOnly.{reads_then, reads_weaker}
 pub use Rattle.refinement.specs.Left.{From, IsAmong, IsBoundedBy, Keeps, Leads, Reads, Takes}

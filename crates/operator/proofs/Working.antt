@@ -1,13 +1,12 @@
 -- Calls that lead a store by the steps of a run, one after another; for proofs in other crates too.
-use Rattle.operator.proofs.Prelude.{⊤, ◌≡◌, inl, inr, List, [], ◌∷◌, ◌++◌, Result, Ok, Err, refl, sym, ap, subst, World, Event, Run, Bound, bound_after, reports_are_true, run_append, IsBoundedBy, Leads, Keeps, Takes, From, Reads, leads_none, reads_lead, from_weaker, Work, takes, keeps, steps_of, bound_of_works, Works, WorksOwn}
+use Rattle.operator.proofs.Prelude.{⊤, ◌≡◌, inl, inr, List, [], ◌∷◌, ◌++◌, Result, Ok, Err, refl, sym, ap, subst, World, Event, Run, Bound, bound_after, reports_are_true, run_append, IsBoundedBy, Leads, Keeps, Takes, From, from_weaker, Work, takes, keeps, steps_of, bound_of_works, Works}
 use Rattle.sqlite_trees.specs.declared.store.Store.{Ghosts}
 use Rattle.tables.specs.declared.Store.{Store}
-use Rattle.refinement.specs.Representation.{Holds}
 use Rattle.operator.specs.declared.faults.TaskFault.{TaskFault}
 use Rattle.operator.specs.declared.tasks.Task.{Task}
 use Rattle.operator.specs.declared.tasks.Task.TheVariants.{Issue, Prune, CheckPush, Foresee, ListLocks, ListObjects, CheckObjects, Repair, Sweep, Retire}
-use Rattle.operator.specs.Failing.{Attempts, Fails}
-use Rattle.operator.specs.Tasks.{Does, IsStepOf, Ran}
+use Rattle.operator.specs.Failing.{Attempts}
+use Rattle.operator.specs.Tasks.{Does, FailsAs, HasDone, HasEnded, IsStepOf, Ran, WorksAs}
 
 -- the steps of the calls, and of more calls
 pub steps_append : (before after : List Work) → steps_of (before ++ after) ≡ steps_of before ++ steps_of after
@@ -29,10 +28,6 @@ module _ {S : Type 0} (g : Ghosts S) where
   -- a call that leaves the tables, and what a stop leaves, as they were
   pub works_still : (a b : Store S) (world : World) → Leads g a b world (λ bound. bound) → Works g a b world
   works_still a b world lead = record { works = []; kept = world; run = refl; leads = record { holds = lead.holds; left = λ bound was. lead.left bound was } }
-
-  -- no call
-  pub works_none : (a : Store S) (world : World) → Holds g a world → Works g a a world
-  works_none a world h = works_still a a world (leads_none g a world h)
 
   -- a call that takes a step
   pub works_takes : (a b : Store S) (world kept : World) (event : Event) → Takes g a b world event kept → Works g a b world
@@ -66,6 +61,15 @@ module _ {S : Type 0} (g : Ghosts S) where
   unfolding works_then
   steps_then a b c world p q = steps_append p.works q.works
 
+  -- the world to which those led
+  pub then_kept : (a b c : Store S) (world : World) (p : Works g a b world) (q : Works g b c p.kept) → (works_then a b c world p q).kept ≡ q.kept
+  unfolding works_then
+  then_kept a b c world p q = refl
+
+  pub still_kept : (a b : Store S) (world : World) (lead : Leads g a b world (λ bound. bound)) → (works_still a b world lead).kept ≡ world
+  unfolding works_still
+  still_kept a b world lead = refl
+
   -- calls that took no step
   pub still_steps : (a b : Store S) (world : World) (lead : Leads g a b world (λ bound. bound)) → steps_of (works_still a b world lead).works ≡ []
   unfolding works_still
@@ -75,61 +79,45 @@ module _ {S : Type 0} (g : Ghosts S) where
   unfolding works_keeps
   keeps_steps a b world k = refl
 
-  -- ---- from each world that the store held
+  -- ---- a task
 
-  -- a call that only reads
-  pub from_reads : (a b : Store S) (P : World → Type 0) → Reads g a b P → From g a b (Works g a b)
-  from_reads a b P r = record {
-    honest = r.same.was_honest;
-    each = λ honest world h. works_still a b world (reads_lead g a b P world r h);
-  }
-
-  -- no call
-  pub from_none : (a : Store S) → From g a a (Works g a a)
-  from_none a = record { honest = λ k. k; each = λ honest world h. works_none a world h }
-
-  -- calls, and more calls
-  pub from_then : (a b c : Store S) → From g a b (Works g a b) → From g b c (Works g b c) → From g a c (Works g a c)
-  from_then a b c p q = record {
-    honest = λ k. p.honest (q.honest k);
-    each = λ honest world h. let before = p.each (q.honest honest) world h in works_then a b c world before (q.each honest before.kept before.leads.holds);
-  }
-
-  -- ---- a step of the caller's own, or none
-
-  own_still : (a b : Store S) (world : World) (IsOwn : Event → Type 0) → Leads g a b world (λ bound. bound) → WorksOwn g IsOwn a b world
+  as_still : (IsEnd : List Event → World → Type 0) (a b : Store S) (world : World) → Leads g a b world (λ bound. bound) → IsEnd [] world → (done : Works g a b world) × IsEnd (steps_of done.works) done.kept
   unfolding works_still
-  own_still a b world IsOwn lead = (works_still a b world lead, inl refl)
+  as_still IsEnd a b world lead end = (works_still a b world lead, end)
 
-  own_keeps : (a b : Store S) (world : World) (IsOwn : Event → Type 0) → Keeps g a b world → WorksOwn g IsOwn a b world
+  as_keeps : (IsEnd : List Event → World → Type 0) (a b : Store S) (world : World) → Keeps g a b world → IsEnd [] world → (done : Works g a b world) × IsEnd (steps_of done.works) done.kept
   unfolding works_keeps
-  own_keeps a b world IsOwn k = (works_keeps a b world k, inl refl)
+  as_keeps IsEnd a b world k end = (works_keeps a b world k, end)
 
-  own_takes : (a b : Store S) (world kept : World) (event : Event) (IsOwn : Event → Type 0) → IsOwn event → Takes g a b world event kept → WorksOwn g IsOwn a b world
+  as_takes : (IsEnd : List Event → World → Type 0) (a b : Store S) (world kept : World) (event : Event) → Takes g a b world event kept → IsEnd (event ∷ []) kept → (done : Works g a b world) × IsEnd (steps_of done.works) done.kept
   unfolding works_takes
-  own_takes a b world kept event IsOwn own t = (works_takes a b world kept event t, inr (event, own, refl))
+  as_takes IsEnd a b world kept event t end = (works_takes a b world kept event t, end)
 
-  fails_own : (a b : Store S) (world : World) (IsOwn : Event → Type 0) (follows : Type 0) → Fails g IsOwn follows a b world → WorksOwn g IsOwn a b world
-  fails_own a b world IsOwn follows f = at f.attempts
+  -- a task that failed takes its own step, or none
+  fails_as : (a b : Store S) (world : World) (task : Task) (fault : TaskFault) → FailsAs g a b world task fault → (done : Works g a b world) × HasEnded world task (steps_of done.works) done.kept (Err fault)
+  fails_as a b world task fault f = at f.0.attempts
     where
-      at : Attempts g IsOwn a b world f.kept → WorksOwn g IsOwn a b world
-      at (inl kept) = own_keeps a b world IsOwn kept.0
-      at (inr (event, own, t)) = own_takes a b world f.kept event IsOwn own t
+      IsEnd : List Event → World → Type 0
+      IsEnd steps kept = HasEnded world task steps kept (Err fault)
+
+      at : Attempts g (IsStepOf task) a b world f.0.kept → (done : Works g a b world) × HasEnded world task (steps_of done.works) done.kept (Err fault)
+      at (inl kept) = as_keeps IsEnd a b world kept.0 (inl refl, inl refl, f.1)
+      at (inr (event, own, t)) = as_takes IsEnd a b world f.0.kept event t (inr (event, own, refl), f.0.same, f.1)
 
   -- a task that was done takes its own step, or none
-  does_own : (a b : Store S) (task : Task) (world : World) → Does g a b world task → WorksOwn g (IsStepOf task) a b world
-  does_own a b (Issue policy asked) world d = own_takes a b world _ _ _ (_, refl) d.1.takes
-  does_own a b (Prune now) world d = own_takes a b world _ _ _ (_, refl) d.1
-  does_own a b Sweep world d = own_keeps a b world _ d.1.0
-  does_own a b (Retire repo oid) world d = own_takes a b world _ _ _ (_, refl) d.2
-  does_own a b (CheckPush push) world d = own_still a b world _ d.0
-  does_own a b (Foresee asked) world d = own_still a b world _ d.0
-  does_own a b (ListLocks repo) world d = own_still a b world _ d
-  does_own a b (ListObjects repo) world d = own_still a b world _ d
-  does_own a b (CheckObjects terminal) world d = own_still a b world _ d
-  does_own a b (Repair terminal) world d = own_still a b world _ d.0
+  does_as : (a b : Store S) (task : Task) (world : World) → Does g a b world task → (done : Works g a b world) × HasDone world task (steps_of done.works)
+  does_as a b (Issue policy asked) world d = as_takes (λ steps kept. HasDone world (Issue policy asked) steps) a b world _ _ d.1.takes (d.1.token, d.1.verdict, refl)
+  does_as a b (Prune now) world d = as_takes (λ steps kept. HasDone world (Prune now) steps) a b world _ _ d.1 (d.0, refl)
+  does_as a b Sweep world d = as_keeps (λ steps kept. HasDone world Sweep steps) a b world d.1.0 refl
+  does_as a b (Retire repo oid) world d = as_takes (λ steps kept. HasDone world (Retire repo oid) steps) a b world _ _ d.2 (d.0, d.1, refl)
+  does_as a b (CheckPush push) world d = as_still (λ steps kept. HasDone world (CheckPush push) steps) a b world d.0 (d.1, refl)
+  does_as a b (Foresee asked) world d = as_still (λ steps kept. HasDone world (Foresee asked) steps) a b world d.0 (d.1, refl)
+  does_as a b (ListLocks repo) world d = as_still (λ steps kept. HasDone world (ListLocks repo) steps) a b world d refl
+  does_as a b (ListObjects repo) world d = as_still (λ steps kept. HasDone world (ListObjects repo) steps) a b world d refl
+  does_as a b (CheckObjects terminal) world d = as_still (λ steps kept. HasDone world (CheckObjects terminal) steps) a b world d refl
+  does_as a b (Repair terminal) world d = as_still (λ steps kept. HasDone world (Repair terminal) steps) a b world d.0 refl
 
   -- a task, whether it was done or not
-  pub from_task : (a b : Store S) (task : Task) (r : Result ⊤ TaskFault) → From g a b (λ world. Ran g a b world task r) → From g a b (WorksOwn g (IsStepOf task) a b)
-  from_task a b task (Ok u) p = from_weaker g a b _ _ (does_own a b task) p
-  from_task a b task (Err e) p = from_weaker g a b _ _ (λ world f. fails_own a b world _ _ f.0) p
+  pub from_task : (a b : Store S) (task : Task) (r : Result ⊤ TaskFault) → From g a b (λ world. Ran g a b world task r) → From g a b (λ world. WorksAs g a b world task r)
+  from_task a b task (Ok u) p = from_weaker g a b _ _ (λ world d. let its = does_as a b task world d in record { done = its.0; end = its.1 }) p
+  from_task a b task (Err e) p = from_weaker g a b _ _ (λ world f. let its = fails_as a b world task e f in record { done = its.0; end = its.1 }) p

@@ -5,6 +5,7 @@ pub mod Foresights
 pub mod Lines
 pub mod Texts
 pub mod Paths
+pub mod Listed
 pub mod Removals
 pub mod Works
 pub mod Reached

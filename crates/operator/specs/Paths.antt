@@ -1,5 +1,6 @@
 -- The repository that the path of a Git remote names.
-use Rattle.std.specs.Prelude.{◌≡◌, ◌≢◌, ◌⊎◌, ◌++◌, ℕ, List, codes}
+use Rattle.std.specs.Prelude.{◌≡◌, ◌≢◌, ◌⊎◌, ◌++◌, ℕ, List, Some, codes}
+use Rattle.model.specs.Policy.{Policy, Repo, repo_named}
 
 -- the text after this beginning, or the whole text if it does not begin so
 abbrev pub IsAfter : (beginning text rest : List ℕ) → Type 0
@@ -12,3 +13,7 @@ IsBefore ending text rest = (text ≡ rest ++ ending) ⊎ (((before : List ℕ) 
 -- the repository's name, perhaps with a slash before it and .git after it
 abbrev pub IsRepoAt : (path repo : List ℕ) → Type 0
 IsRepoAt path repo = (rest : List ℕ) × IsAfter (codes "/") path rest × IsBefore (codes ".git") rest repo
+
+-- the policy has a repository of the name
+abbrev pub HasRepo : Policy → (name : List ℕ) → Type 0
+HasRepo policy name = (repo : Repo) × (repo_named name policy ≡ Some repo)

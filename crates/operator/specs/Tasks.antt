@@ -1,22 +1,23 @@
 -- What a task does: it succeeds or fails as its verdicts say, and takes no step but its own.
-use Rattle.std.specs.Prelude.{◌≡◌, ℕ, Bool, true, false, List, map, Option, Result, Ok, Err, MatchResult, ⊤}
+use Rattle.std.specs.Prelude.{◌≡◌, ◌⊎◌, ℕ, Bool, true, false, List, [], ◌∷◌, map, Option, Some, Result, Ok, Err, MatchResult, ⊤}
 use Rattle.std.specs.List.{list_all}
 use Rattle.sqlite_trees.specs.declared.store.Store.{Ghosts}
 use Rattle.names.specs.Names.{repo_text, path_text}
 use Rattle.policy.specs.Values.{policy_view}
-use Rattle.model.specs.World.{World}
-use Rattle.model.specs.Operator.{removal_of}
+use Rattle.model.specs.World.{World, Token}
+use Rattle.model.specs.Operator.{Removal, removal_of, token_verdict}
 use Rattle.model.specs.PushChecks.{PushVerdict, free, push_verdicts}
-use Rattle.model.specs.Steps.{Event, prunes}
+use Rattle.model.specs.Steps.{Event, issues, prunes, retires}
 use Rattle.tables.specs.declared.Store.{Store}
 use Rattle.refinement.specs.Left.{Leads, KeepsTables}
-use Rattle.tokens.specs.Issuing.{Issues}
+use Rattle.tokens.specs.Issuing.{Issues, token_asked}
 use Rattle.tokens.specs.Pruning.{Prunes}
 use Rattle.uploads.specs.Removing.{Sweeps}
 use Rattle.pushcheck.specs.Verdicts.{push_by}
 use Rattle.operator.specs.Failing.{Fails, IsPlain, IsOutput, IsIssueOf, IsTokenFault}
 use Rattle.operator.specs.Foresights.{Foretells, HasForetold}
-use Rattle.operator.specs.Removals.{IsRemoved, IsRemovalOf, IsRemovalFault}
+use Rattle.operator.specs.Removals.{IsGone, IsRemoved, IsRemovalOf, IsRemovalFault}
+use Rattle.operator.specs.Works.{Works, steps_of}
 use Rattle.operator.specs.declared.faults.TaskFault.{TaskFault}
 use Rattle.operator.specs.declared.faults.TaskFault.TheVariants.{NoCaller, Reported}
 use Rattle.operator.specs.declared.foreseeing.Foresight.{Foresight}
@@ -94,3 +95,34 @@ FailsAs g old new world task fault = Fails g (IsStepOf task) (MayFollow task fau
 -- the task did what it is to do, or failed
 abbrev pub Ran : {S : Type 0} (g : Ghosts S) → Store S → Store S → World → Task → Result ⊤ TaskFault → Type 0
 Ran g old new world task result = MatchResult result (λ _. Does g old new world task) (FailsAs g old new world task)
+
+-- ---- the steps of both
+
+-- the steps of a task that succeeded: its token was issued, the expired ones were removed, the object was removed, now or
+-- before; each path may be pushed, a reply is foreseen; the other tasks take none
+abbrev pub HasDone : World → Task → List Event → Type 0
+HasDone world (Issue policy asked) steps =
+    (token : Token) × (token_verdict world (token_asked asked) ≡ Ok token)
+    × (steps ≡ issues (token_asked asked) (Some (Ok token)) ∷ [])
+HasDone world (Prune now) steps = (n : ℕ) × (steps ≡ prunes now (Some n) ∷ [])
+HasDone world (Retire repo oid) steps =
+    (given : Removal) × IsGone given × (steps ≡ retires (repo_text repo.now) oid.now (Some given) ∷ [])
+HasDone world (CheckPush push) steps = (may_push world push ≡ true) × (steps ≡ [])
+HasDone world (Foresee asked) steps = HasForetold world asked × (steps ≡ [])
+HasDone world _ steps = steps ≡ []
+
+-- the steps of a task that failed: its own one, or none
+abbrev pub HasTried : Task → List Event → Type 0
+HasTried task steps = (steps ≡ []) ⊎ ((event : Event) × IsStepOf task event × (steps ≡ event ∷ []))
+
+-- what a task did that ended so: after an error the world is as before, unless a removal was not reported; and the fault is one
+-- of its own
+abbrev pub HasEnded : World → Task → List Event → (kept : World) → Result ⊤ TaskFault → Type 0
+HasEnded world task steps kept (Ok done) = HasDone world task steps
+HasEnded world task steps kept (Err fault) =
+    HasTried task steps × ((kept ≡ world) ⊎ MayFollow task fault) × IsFaultOf world task fault
+
+-- a task ended so: the store was led by its steps
+pub record WorksAs {S : Type 0} (g : Ghosts S) (old new : Store S) (world : World) (task : Task) (ended : Result ⊤ TaskFault) : Type 0 where
+  pub done : Works g old new world
+  pub end : HasEnded world task (steps_of done.works) done.kept ended

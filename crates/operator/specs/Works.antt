@@ -1,5 +1,5 @@
 -- What an operator's command does to the world, and what a stop leaves after it.
-use Rattle.std.specs.Prelude.{◌≡◌, ◌⊎◌, List, [], ◌∷◌}
+use Rattle.std.specs.Prelude.{List, [], ◌∷◌}
 use Rattle.sqlite_trees.specs.declared.store.Store.{Ghosts}
 use Rattle.model.specs.World.{World}
 use Rattle.model.specs.Steps.{Event, Run}
@@ -30,9 +30,3 @@ pub record Works {S : Type 0} (g : Ghosts S) (old new : Store S) (world : World)
   pub kept : World
   pub run : Run world (steps_of works) kept
   pub leads : Leads g old new kept (bound_of_works world works)
-
--- the same by one step of the caller's own, or by none
-abbrev pub WorksOwn : {S : Type 0} (g : Ghosts S) → (Event → Type 0) → (old new : Store S) → World → Type 0
-WorksOwn g IsOwn old new world =
-    (done : Works g old new world)
-    × ((steps_of done.works ≡ []) ⊎ ((event : Event) × IsOwn event × (steps_of done.works ≡ event ∷ [])))

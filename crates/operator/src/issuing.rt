@@ -7,7 +7,7 @@ ghost use Rattle.model.specs.Replies.{action_data};
 ghost use Rattle.policy.specs.Values.{policy_view};
 ghost use Rattle.operator.specs.Failing.{Fails, IsIssueOf, IsTokenFault};
 ghost use Rattle.operator.specs.Lines.{token_action};
-ghost use Rattle.operator.specs.Paths.{IsRepoAt};
+ghost use Rattle.operator.specs.Paths.{HasRepo, IsRepoAt};
 ghost use Rattle.refinement.specs.Left.{From};
 ghost use Rattle.tokens.specs.Issuing.{Issues};
 
@@ -23,7 +23,8 @@ use tokens::{TokenRequest, issue, offer};
 /// The policy's repository that a path names. The path may have the form of an address, with one slash
 /// before the name and `.git` after it.
 pub fn repo_at<'p>(policy: &'p Policy, path: &str) -> Option<&'p RepoName>
-    ensures { IfSome result (λ repo. IsRepoAt path.now (repo_text repo.now)) }
+    ensures path { IfSome result (λ repo. IsRepoAt path.now (repo_text repo.now)) }
+    ensures repo { IfSome result (λ repo. HasRepo (policy_view policy.now) (repo_text repo.now)) }
 {
     match policy.repo(name_in(path)) {
         Some(repo) => Some(repo.name()),

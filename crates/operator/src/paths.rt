@@ -1,6 +1,8 @@
 //! Reads the paths of a push from lines of text.
 
-ghost use Rattle.std.specs.Prelude.{◌≡◌};
+ghost use Rattle.std.specs.Prelude.{◌≡◌, map, IfOk, IfSome};
+ghost use Rattle.names.specs.Names.{path_text};
+ghost use Rattle.operator.specs.Listed.{AreLinesOf};
 
 use names::LockPath;
 use std::alloc::{AllocError, Global};
@@ -38,7 +40,9 @@ impl From<AllocError> for PathsFault {
 }
 
 /// The path in a line; `None` if it has none.
-fn path_in(alloc: Global, line: &[u8]) -> Result<Option<LockPath>, AllocError> {
+fn path_in(alloc: Global, line: &[u8]) -> Result<Option<LockPath>, AllocError>
+    ensures { IfOk result (λ found. IfSome found (λ path. path_text path ≡ line.now)) }
+{
     match str::from_utf8(line) {
         Ok(text) if LockPath::accepts(text) => Ok(LockPath::read(text.to_owned(alloc)?)),
         _ => Ok(None),
@@ -51,7 +55,9 @@ fn path_in(alloc: Global, line: &[u8]) -> Result<Option<LockPath>, AllocError> {
 ///
 /// `BadPath` for the first line that is not a path, if it is among the first 10,000; `TooMany` if there is none and there
 /// are more lines; and `Memory`.
-pub fn paths_in(alloc: Global, bytes: &[u8]) -> Result<Vec<LockPath>, PathsFault> {
+pub fn paths_in(alloc: Global, bytes: &[u8]) -> Result<Vec<LockPath>, PathsFault>
+    ensures lines { IfOk result (λ paths. AreLinesOf bytes.now (map path_text paths.items)) }
+{
     let mut paths = Vec::new(alloc);
     if bytes.is_empty() {
         return Ok(paths);

@@ -5,7 +5,7 @@ use crate::harness::{Tester, unwrap};
 use crate::messages::MESSAGE;
 use crate::program::{Ran, path_of, prepare, remove, run, serve_args, words};
 use crate::transcript::{POLICY, perform};
-use cli::{Destination, Doors, print_reply, request_of, serve_doors};
+use cli::{Destination, Listeners, Question, request_of, serve_listeners};
 use command_line::{Command, read_args};
 use control::{Status, request_bytes};
 use names::{SliceSource, VecSink};
@@ -31,13 +31,21 @@ fn call(rt: &impl Tester, host: &HostRuntime, folder: &str, request: &[u8]) -> V
     unwrap(rt, client.write_all(b"no head\r\n\r\n"));
     unwrap(rt, client.shutdown(Shutdown::Write));
     let args = serve_args(db.as_str(), policy.as_str(), 1, 1);
-    let doors = Doors {
+    let listeners = Listeners {
         clients: &clients,
         operators: Some(&operators),
     };
     let mut output = VecSink::new(rt.alloc(), 7);
     let mut errors = Vec::new(rt.alloc());
-    let status = serve_doors(host, host, &args, doors, &mut output, &mut errors, Unknown);
+    let status = serve_listeners(
+        host,
+        host,
+        &args,
+        listeners,
+        &mut output,
+        &mut errors,
+        Unknown,
+    );
     assert!(rt; status == 0);
     assert!(rt; output.taken() == b"listening on here\nserved 1 connections\n".as_slice());
     unwrap(rt, fs::remove_file(host, socket.as_str()));
@@ -52,18 +60,19 @@ fn call(rt: &impl Tester, host: &HostRuntime, folder: &str, request: &[u8]) -> V
     reply
 }
 
-/// What the program prints that asked a server, and got this reply.
-fn ran_of(rt: &impl Tester, reply: &[u8]) -> Ran {
+/// What the program prints that sends this request to a server, and gets this reply. Asserts that it sends the request.
+fn ran_of(rt: &impl Tester, request: &[u8], reply: &[u8]) -> Ran {
     let mut output = VecSink::new(rt.alloc(), 7);
     let mut errors = Vec::new(rt.alloc());
-    let mut source = SliceSource::new(reply, 5);
-    let ended = print_reply(
-        rt.alloc(),
-        &mut source,
-        Destination::Other,
-        &mut output,
-        &mut errors,
-    );
+    let question = Question {
+        alloc: rt.alloc(),
+        request,
+        destination: Destination::Other,
+    };
+    let mut to = VecSink::new(rt.alloc(), 3);
+    let mut from = SliceSource::new(reply, 5);
+    let ended = question.ask(&mut to, &mut from, &mut output, &mut errors);
+    assert!(rt; to.taken() == request);
     let status = match ended {
         Ok(()) => Status::Good,
         Err(fault) => fault.status(),
@@ -75,17 +84,7 @@ fn ran_of(rt: &impl Tester, reply: &[u8]) -> Ran {
     }
 }
 
-/// The request of the program for a command, and for words that are none the request with these.
-fn request_for(rt: &impl Tester, args: &[String], input: &str) -> Vec<u8> {
-    let mut rest = input.as_bytes();
-    if let Ok(Command::Remote(_, command)) = read_args(rt.alloc(), args) {
-        return unwrap(rt, request_of(rt.alloc(), &command, args, &mut rest));
-    }
-    let words = args.get(1..args.len().saturating_sub(2)).unwrap_or(&[]);
-    unwrap(rt, request_bytes(rt.alloc(), rest, words))
-}
-
-/// Runs the command at a server, over the files of a folder.
+/// Runs the command at a server, over the files of a folder; if the arguments are invalid, the program alone.
 pub(crate) fn run_via(
     rt: &impl Tester,
     host: &HostRuntime,
@@ -93,14 +92,15 @@ pub(crate) fn run_via(
     line: &str,
     input: &str,
 ) -> Ran {
-    let mut args = words(rt, folder, line);
-    for word in words(rt, folder, "--via socket").as_slice().iter().skip(1) {
-        let word = unwrap(rt, word.as_str().to_owned(rt.alloc()));
-        unwrap(rt, args.push(word));
-    }
-    let request = request_for(rt, args.as_slice(), input);
+    let line = unwrap(rt, format!(in rt.alloc(); "{line} --via socket"));
+    let args = words(rt, folder, line.as_str());
+    let Ok(Command::Remote(_, command)) = read_args(rt.alloc(), args.as_slice()) else {
+        return run(rt, host, folder, line.as_str(), input);
+    };
+    let mut source = SliceSource::new(input.as_bytes(), 4_096);
+    let request = unwrap(rt, request_of(rt.alloc(), &command, &mut source));
     let reply = call(rt, host, folder, request.as_slice());
-    ran_of(rt, reply.as_slice())
+    ran_of(rt, request.as_slice(), reply.as_slice())
 }
 
 /// Each command, at a server: what it prints is what it prints over files.
@@ -189,31 +189,42 @@ fn a_token_that_a_server_issues_is_good(rt: HostRuntime) {
     remove(&rt, "issued_via");
 }
 
-/// Words that a server refuses: files, sockets, and commands that are not an operator's. Nothing is printed on the output.
+/// Words that are those of no command.
 const REFUSED: &[&str] = &[
-    "locks --repo studio/film --db @/db",
-    "pushcheck --user ann --repo studio/film --ref refs/heads/main --policy @/policy",
-    "authenticate --user ann --random @/a studio/film upload",
-    "locks --repo studio/film --via @/socket",
-    "check --listen 127.0.0.1:0",
-    "session --db @/db --policy @/policy",
-    "serve --db @/db --policy @/policy --listen 127.0.0.1:0",
-    "migrate --db @/db",
-    "migrate",
-    "paint",
     "",
+    "paint",
+    "session",
+    "serve",
+    "migrate",
+    "check --db db",
+    "check twice",
+    "locks",
+    "locks film",
+    "locks --repo studio/film",
+    "locks studio/film studio/film",
+    "authenticate ann studio/film",
+    "authenticate ann studio/film both",
+    "authenticate Ann studio/film upload",
+    "authenticate ann studio/film upload 1463500146 1463500146",
+    "authenticate --user ann studio/film upload",
+    "prune 01463503600",
+    "prune 253402300800",
+    "prune now",
+    "pushcheck ann studio/film main",
+    "foresee ann film",
+    "retire studio/film E3B0C44298FC1C149AFBF4C8996FB92427AE41E4649B934CA495991B7852B855",
 ];
 
 #[test]
 fn a_server_runs_no_other_command(rt: HostRuntime) {
     prepare(&rt, &rt, "refused_words", POLICY);
     for line in REFUSED {
-        let ran = run_via(&rt, &rt, "refused_words", line, "");
-        assert!(&rt;
-            ran.status == Status::Invalid.code() && ran.output.is_empty(),
-            "{line}"
-        );
-        assert!(&rt; ran.errors.starts_with(b"error: "), "{line}");
+        let words = words(&rt, "refused_words", line);
+        let words = words.as_slice().get(1..).unwrap_or(&[]);
+        let request = unwrap(&rt, request_bytes(rt.alloc(), b"", words));
+        let reply = call(&rt, &rt, "refused_words", request.as_slice());
+        let ran = ran_of(&rt, request.as_slice(), reply.as_slice());
+        assert!(&rt; ran.is(2, "", "custody: bad request\n"), "{line}");
     }
     remove(&rt, "refused_words");
 }
@@ -236,7 +247,7 @@ fn bytes_that_are_no_request_are_refused(rt: HostRuntime) {
     for &(bytes, is_answered) in MALFORMED {
         let reply = call(&rt, &rt, "malformed_bytes", bytes);
         if is_answered {
-            let ran = ran_of(&rt, reply.as_slice());
+            let ran = ran_of(&rt, bytes, reply.as_slice());
             assert!(&rt; ran.is(2, "", "custody: bad request\n"));
         } else {
             assert!(&rt; reply.is_empty());

@@ -98,7 +98,7 @@ fn take(host: &HostRuntime, queue: &mut Queue<'_>) -> io::Result<(u8, u64)> {
     }
 }
 
-/// What happens at the doors, and what is recorded. A capital letter is an operator who connects, a small one a client
+/// What happens at the listeners, and what is recorded. A capital letter is an operator who connects, a small one a client
 /// that sends a message; `!` answers the next caller, whose letter is recorded.
 const CASES: &[(&str, &str)] = &[
     ("ABCabc!!!!!!", "AaBbCc"),

@@ -5,7 +5,7 @@ use crate::harness::{Tester, unwrap};
 use crate::messages::{BAD_HEAD, CREATED, EXPIRED, HELD, MESSAGE, MESSAGE_BUT_ONE, STORE_REFUSED};
 use crate::program::{Ran, path_of, prepare, remove, run, serve_args};
 use crate::transcript::{POLICY, perform, play};
-use cli::{Doors, serve_doors};
+use cli::{Listeners, serve_listeners};
 use names::Counted;
 use std::cell::Cell;
 use std::io::{self, Read, Write};
@@ -219,11 +219,19 @@ fn serve(
     let mut errors = Vec::new(rt.alloc());
     let mut sink = Counted::new(&mut output);
     let host = clock.host;
-    let doors = Doors {
+    let listeners = Listeners {
         clients: listener,
         operators: None,
     };
-    let status = serve_doors(host, clock, &args, doors, &mut sink, &mut errors, Unknown);
+    let status = serve_listeners(
+        host,
+        clock,
+        &args,
+        listeners,
+        &mut sink,
+        &mut errors,
+        Unknown,
+    );
     Ran {
         status,
         output,

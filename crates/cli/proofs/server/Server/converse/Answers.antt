@@ -1,9 +1,0 @@
-use Rattle.refinement.proofs.Leading.{from_weaker}
-use Rattle.cli.proofs.Connections.{converses}
-use Rattle.cli.proofs.server.Server.converse.Goals as goal
-
-pub returns : goal.returns
-returns g c =
-    from_weaker g.S.Store c.args.store.now c.serve.new.store _ _
-    (λ world served. converses g.S.Store _ _ _ c.args.self.now.policy.now _ _ _ c.args.store.now c.serve.new.store world c.serve.result served)
-    c.serve.ensures.session

@@ -1,0 +1,225 @@
+-- What a server did, put together from its calls.
+use Rattle.std.specs.Prelude.{⊤, OnOk}
+use Rattle.std.proofs.Common.{None, Option, Some, Result, Ok, Err, IfOk, OnErr, ◌≡◌, ◌∙◌, ◌≤◌, ◌+◌, inl, inr, ℕ, List, [], ◌∷◌, ◌++◌, refl, sym, ap, subst, arith}
+use Rattle.std.proofs.lemmas.Grind.{flat_map-append}
+use Rattle.std.proofs.lemmas.List.{append-nil}
+use Rattle.std.proofs.lemmas.List.Sums.{sum_by-append}
+use Rattle.sqlite_trees.specs.declared.store.Store.{Ghosts}
+use Rattle.policy.specs.declared.policies.Policy.{Policy}
+use Rattle.model.specs.World.{World}
+use Rattle.model.specs.Steps.{Event}
+use Rattle.tables.specs.declared.Store.{Store}
+use Rattle.refinement.specs.Left.{From}
+use Rattle.refinement.proofs.Leading.{from_weaker, leads_none}
+use Rattle.sockets.specs.declared.queue.Caller.{Caller}
+use Rattle.operator.specs.Works.{Works, steps_of}
+use Rattle.operator.proofs.Working.{still_kept, steps_then, still_steps, then_kept, works_still, works_then}
+use Rattle.control.specs.declared.status.Status.{Status}
+use Rattle.server.specs.declared.machine.Machine as machine
+use Rattle.server.specs.Observations.{Observation, called, sent, timed}
+use Rattle.server.specs.declared.faults.Fault.{Fault}
+use Rattle.std.specs.declared.net.unix.UnixStream.{UnixStream}
+use Rattle.server.specs.Commands.{AreReadings, HasStatus, IsAnswered, IsMomentOf, IsRead, IsReplied, IsReplyWith}
+use Rattle.server.specs.Statuses.{status_of_end}
+use Rattle.server.specs.Jobs.{Job, seen_for, IsTurn, IsFor, AreJobs, first_turn, Call, idles, observes, seen_in, Calls, Converses, Tidies, Helps, Serves, ServesMore}
+
+-- ---- what is observed of a machine
+
+pub seen_append : (xs ys : List Call) → seen_in (xs ++ ys) ≡ seen_in xs ++ seen_in ys
+seen_append [] ys = refl
+seen_append (idles ∷ xs) ys = seen_append xs ys
+seen_append (observes seen ∷ xs) ys = ap (λ (l : List Observation). seen ∷ l) (seen_append xs ys)
+
+-- a moment, or none, is a reading
+pub moment_read : (named : Option ℕ) (now : ℕ) (seen : List Observation) → IsMomentOf named now seen → AreReadings seen
+moment_read (Some at) now seen is = subst AreReadings (sym is.1) tt
+moment_read None now seen is = subst AreReadings (sym is) tt
+
+-- calls of which nothing was observed
+pub none_read : (calls : List Call) → seen_in calls ≡ [] → AreReadings (seen_in calls)
+none_read calls none = subst AreReadings (sym none) tt
+
+module _ {M : Type 0} (m : machine.Ghosts M) where
+  pub calls_append : (u v w : M) (xs ys : List Call) → Calls m u xs v → Calls m v ys w → Calls m u (xs ++ ys) w
+  calls_append u v w [] ys p q = subst (λ (x : M). Calls m x ys w) p q
+  calls_append u v w (idles ∷ xs) ys p q = (p.0, p.1, calls_append p.0 v w xs ys p.2 q)
+  calls_append u v w (observes seen ∷ xs) ys p q = (p.0, p.1, calls_append p.0 v w xs ys p.2 q)
+
+  pub one_idle : (u v : M) → m.idled u v → Calls m u (idles ∷ []) v
+  one_idle u v i = (v, i, refl)
+
+  pub one_seen : (u v : M) (seen : Observation) → m.observed u v seen → Calls m u (observes seen ∷ []) v
+  one_seen u v seen h = (v, h, refl)
+
+  -- the moment that a command does not name
+  pub moment_timed : (u v : M) (r : Result ℕ Fault) → IfOk r (λ now. m.observed u v (timed now)) → IfOk r (λ now. (calls : List Call) × Calls m u calls v × IsMomentOf None now (seen_in calls))
+  moment_timed u v (Ok now) h = (observes (timed now) ∷ [], one_seen u v (timed now) h, refl)
+  moment_timed u v (Err e) h = tt
+
+  pub moment_untimed : (u v : M) (r : Result ℕ Fault) → OnErr r (m.idled u v) → OnErr r ((calls : List Call) × Calls m u calls v × (seen_in calls ≡ []))
+  moment_untimed u v (Ok now) i = tt
+  moment_untimed u v (Err e) i = (idles ∷ [], one_idle u v i, refl)
+
+  -- the reply to an operator, sent or not
+  pub sent_or_not : (u v : M) (r : Result ⊤ Fault) (operator : UnixStream) (bytes : List ℕ) → OnOk r (m.observed u v (sent operator bytes)) → OnErr r (m.idled u v)
+      → (calls : List Call) × Calls m u calls v × ((status : Status) → IsReplyWith status bytes → IsReplied operator status (seen_in calls))
+  sent_or_not u v (Ok done) operator bytes a i = (observes (sent operator bytes) ∷ [], one_seen u v (sent operator bytes) a, λ status reply. (refl, reply))
+  sent_or_not u v (Err e) operator bytes a i = (idles ∷ [], one_idle u v i, λ status reply. tt)
+
+  module _ {S : Type 0} (g : Ghosts S) where
+    -- ---- for one caller
+
+    -- no call of the store
+    pub from_idle : (IsOwn : World → List Observation → List Event → World → Type 0) (a : Store S) (u v : M) (calls : List Call) → Calls m u calls v → ((world : World) → IsOwn world (seen_in calls) [] world)
+        → From g a a (λ world. Helps m g IsOwn a a u v world)
+    from_idle IsOwn a u v calls made own = record {
+      honest = λ k. k;
+      each = λ honest world h.
+          let lead = leads_none g a world h in
+          record {
+            calls = calls;
+            made = made;
+            done = works_still g a a world lead;
+            own = subst (λ (w : World). IsOwn world (seen_in calls) (steps_of (works_still g a a world lead).works) w) (sym (still_kept g a a world lead))
+                (subst (λ (steps : List Event). IsOwn world (seen_in calls) steps world) (sym (still_steps g a a world lead)) (own world));
+          };
+    }
+
+    -- calls of the store, whose steps are the caller's
+    pub from_done : (IsOwn : World → List Observation → List Event → World → Type 0) (a b : Store S) (u v : M) (calls : List Call) (P : World → Type 0) → Calls m u calls v
+        → ((world : World) → P world → (done : Works g a b world) × IsOwn world (seen_in calls) (steps_of done.works) done.kept) → From g a b P → From g a b (λ world. Helps m g IsOwn a b u v world)
+    from_done IsOwn a b u v calls P made own p =
+        from_weaker g a b P _ (λ world d. let done = own world d in record { calls = calls; made = made; done = done.0; own = done.1 }) p
+
+    -- calls of the machine before, whose results are not worked with
+    pub from_before : (IsOwn : World → List Observation → List Event → World → Type 0) (a b : Store S) (u v w : M) (calls : List Call) → Calls m u calls v → seen_in calls ≡ []
+        → From g a b (λ world. Helps m g IsOwn a b v w world) → From g a b (λ world. Helps m g IsOwn a b u w world)
+    from_before IsOwn a b u v w calls made none p =
+        from_weaker g a b _ _
+        (λ world h. record {
+          calls = calls ++ h.calls;
+          made = calls_append u v w calls h.calls made h.made;
+          done = h.done;
+          own = subst (λ (l : List Observation). IsOwn world l (steps_of h.done.works) h.done.kept) (sym (seen_append calls h.calls ∙ ap (λ (l : List Observation). l ++ seen_in h.calls) none)) h.own;
+        })
+        p
+
+    pub from_own : (P Q : World → List Observation → List Event → World → Type 0) (a b : Store S) (u v : M) → ((world : World) (l : List Observation) (steps : List Event) (kept : World) → P world l steps kept → Q world l steps kept)
+        → From g a b (λ world. Helps m g P a b u v world) → From g a b (λ world. Helps m g Q a b u v world)
+    from_own P Q a b u v f p = from_weaker g a b _ _ (λ world h. record { calls = h.calls; made = h.made; done = h.done; own = f world (seen_in h.calls) (steps_of h.done.works) h.done.kept h.own }) p
+
+    -- a request was received and done, and perhaps replied to
+    pub from_served : (policy : Policy) (operator : UnixStream) (body : List ℕ) (P : Status → Type 0) (a b : Store S) (u v w x : M) (before after : List Call) → Calls m u before v → IsRead operator body (seen_in before) → Calls m w after x
+        → ((status : Status) → P status → IsReplied operator status (seen_in after)) → From g a b (λ world. Helps m g (HasStatus policy body P) a b v w world)
+        → From g a b (λ world. Helps m g (IsAnswered policy operator) a b u x world)
+    from_served policy operator body P a b u v w x before after first read last replied p =
+        from_weaker g a b _ _
+        (λ (world : World) (h : Helps m g (HasStatus policy body P) a b v w world). record {
+          calls = before ++ h.calls ++ after;
+          made = calls_append u w x (before ++ h.calls) after (calls_append u v w before h.calls first h.made) last;
+          done = h.done;
+          own = inl (record {
+            body = body;
+            ended = h.own.0;
+            asked = seen_in before;
+            own = seen_in h.calls;
+            end = seen_in after;
+            are = seen_append (before ++ h.calls) after ∙ ap (λ (l : List Observation). l ++ seen_in after) (seen_append before h.calls);
+            read = read;
+            done = h.own.1;
+            replied = replied (status_of_end h.own.0) h.own.2;
+          });
+        })
+        p
+
+    -- ---- a turn
+
+    -- the store was tidied, and then a connection served at the machine's moment
+    pub turn_served : (policy : Policy) (now : ℕ) (a b c : Store S) (u v : M) (calls : List Call) → From g a b (Tidies g a b) → Calls m u calls v → seen_in calls ≡ timed now ∷ []
+        → From g b c (λ world. Converses g policy now b c world) → From g a c (λ world. Helps m g (IsTurn policy) a c u v world)
+    turn_served policy now a b c u v calls p made seen q = record {
+      honest = λ k. p.honest (q.honest k);
+      each = λ honest world h.
+          let before = p.each (q.honest honest) world h in
+          let turn = q.each honest before.0.kept before.0.leads.holds in
+          let done = works_then g a b c world before.0 turn.done in
+          let steps = steps_then g a b c world before.0 turn.done ∙ ap (λ (l : List Event). l ++ steps_of turn.done.works) before.1 ∙ turn.steps in
+          record { calls = calls; made = made; done = done; own = inr (now, seen, turn.exchanges, turn.under, steps) };
+    }
+
+    -- the store was tidied, and no message served
+    pub turn_unserved : (policy : Policy) (a b : Store S) (u v : M) (calls : List Call) → From g a b (Tidies g a b) → Calls m u calls v → From g a b (λ world. Helps m g (IsTurn policy) a b u v world)
+    turn_unserved policy a b u v calls p made = from_weaker g a b _ _ (λ world t. record { calls = calls; made = made; done = t.0; own = inl t.1 }) p
+
+    -- ---- jobs
+
+    -- jobs, and more jobs from the world to which they led
+    are_append : (policy : Policy) (world mid kept : World) (jobs more : List Job) → AreJobs policy world jobs mid → AreJobs policy mid more kept → AreJobs policy world (jobs ++ more) kept
+    are_append policy world mid kept [] more p q = subst (λ (w : World). AreJobs policy w more kept) p q
+    are_append policy world mid kept (job ∷ jobs) more p q = (p.0, p.1, p.2, are_append policy p.0 mid kept jobs more p.3 q)
+
+    -- one job
+    pub serves_one : (policy : Policy) (caller : Caller) (a b : Store S) (u v w : M) (before after : ℕ) → m.observed u v (called caller) → after ≤ before + first_turn caller
+        → From g a b (λ world. Helps m g (IsFor policy caller) a b v w world) → From g a b (λ world. ServesMore m g policy a b u w world before after)
+    serves_one policy caller a b u v w before after call few p =
+        from_weaker g a b _ _
+        (λ (world : World) (h : Helps m g (IsFor policy caller) a b v w world).
+        let job : Job = record { caller = caller; seen = seen_in h.calls; steps = steps_of h.done.works } in (
+          job ∷ [],
+          record {
+            calls = observes (called caller) ∷ h.calls;
+            made = (v, call, h.made);
+            done = h.done;
+            are_jobs = (h.done.kept, h.own, h.done.run, refl);
+            seen = sym (append-nil (called caller ∷ seen_in h.calls));
+            steps = sym (append-nil (steps_of h.done.works));
+          },
+          omega (arith, few),
+        ))
+        p
+
+    -- no job
+    pub serves_none : (policy : Policy) (a : Store S) (u v : M) (calls : List Call) (count : ℕ) → Calls m u calls v → seen_in calls ≡ [] → From g a a (λ world. ServesMore m g policy a a u v world count count)
+    serves_none policy a u v calls count made none = record {
+      honest = λ k. k;
+      each = λ honest world h.
+          let lead = leads_none g a world h in (
+            [],
+            record {
+              calls = calls;
+              made = made;
+              done = works_still g a a world lead;
+              are_jobs = still_kept g a a world lead;
+              seen = none;
+              steps = still_steps g a a world lead;
+            },
+            omega arith,
+          );
+    }
+
+    -- jobs, and more jobs
+    pub serves_then : (policy : Policy) (a b c : Store S) (u v w : M) (world : World) (jobs more : List Job) (p : Serves m g policy a b u v world jobs) → Serves m g policy b c v w p.done.kept more
+        → Serves m g policy a c u w world (jobs ++ more)
+    serves_then policy a b c u v w world jobs more p q = record {
+      calls = p.calls ++ q.calls;
+      made = calls_append u v w p.calls q.calls p.made q.made;
+      done = works_then g a b c world p.done q.done;
+      are_jobs = subst (λ (w : World). AreJobs policy world (jobs ++ more) w) (sym (then_kept g a b c world p.done q.done))
+          (are_append policy world p.done.kept q.done.kept jobs more p.are_jobs q.are_jobs);
+      seen = seen_append p.calls q.calls ∙ rw (p.seen, q.seen) (sym (flat_map-append seen_for jobs more));
+      steps = steps_then g a b c world p.done q.done ∙ rw (p.steps, q.steps) (sym (flat_map-append (λ (job : Job). job.steps) jobs more));
+    }
+
+    pub from_serves : (policy : Policy) (a b c : Store S) (u v w : M) (first begun after : ℕ) → From g a b (λ world. ServesMore m g policy a b u v world first begun)
+        → From g b c (λ world. ServesMore m g policy b c v w world begun after) → From g a c (λ world. ServesMore m g policy a c u w world first after)
+    from_serves policy a b c u v w first begun after p q = record {
+      honest = λ k. p.honest (q.honest k);
+      each = λ honest world h.
+          let before = p.each (q.honest honest) world h in
+          let more = q.each honest before.1.done.kept before.1.done.leads.holds in
+          let sum = sum_by-append (λ (job : Job). first_turn job.caller) before.0 more.0 in (
+            before.0 ++ more.0,
+            serves_then policy a b c u v w world before.0 more.0 before.1 more.1,
+            let one = before.2 in let two = more.2 in omega (arith, one, two, sum),
+          );
+    }

@@ -1,0 +1,5 @@
+mod Commands
+pub mod Connections
+pub mod Leading
+mod Jobs
+mod Swept

@@ -1,0 +1,182 @@
+-- What is done for an operator: the task of the command that his request names.
+use Rattle.std.specs.Prelude.{◌≡◌, ◌⊎◌, ◌++◌, ℕ, List, [], ◌∷◌, map, length, Option, Some, None, Result, Err, ⊤}
+use Rattle.std.specs.declared.net.unix.UnixStream.{UnixStream}
+use Rattle.sqlite_trees.specs.declared.store.Store.{Ghosts}
+use Rattle.tables.specs.declared.Store.{Store}
+use Rattle.hex.specs.Hex.{encode_lower}
+use Rattle.names.specs.Names.{path_text, user_text}
+use Rattle.policy.specs.Values.{policy_view}
+use Rattle.policy.specs.declared.policies.Policy.{Policy}
+use Rattle.model.specs.World.{World}
+use Rattle.model.specs.Operator as model
+use Rattle.model.specs.Steps.{Event}
+use Rattle.tokens.specs.Issuing.{token_asked}
+use Rattle.tokens.specs.declared.requests.TokenRequest.{TokenRequest}
+use Rattle.control.specs.Fields.{number_bytes}
+use Rattle.control.specs.Requests.{Request, IsReadAs}
+use Rattle.control.specs.Replies as replies
+use Rattle.control.specs.declared.status.Status.{Status}
+use Rattle.service.specs.Messages.{IsRequestOf}
+use Rattle.command_line.specs.Words.{command_words}
+use Rattle.command_line.specs.declared.args.OperatorCommand.{OperatorCommand}
+use Rattle.command_line.specs.declared.args.OperatorCommand.TheVariants as command
+use Rattle.command_line.specs.declared.args.ForeseeArgs.{ForeseeArgs}
+use Rattle.command_line.specs.declared.args.PushArgs.{PushArgs}
+use Rattle.command_line.specs.declared.args.TokenArgs.{TokenArgs}
+use Rattle.operator.specs.Listed.{AreLinesOf}
+use Rattle.operator.specs.Paths.{HasRepo, IsRepoAt}
+use Rattle.operator.specs.Tasks.{HasEnded, WorksAs}
+use Rattle.operator.specs.declared.faults.TaskFault.{TaskFault}
+use Rattle.operator.specs.declared.foreseeing.Foresight.{Foresight}
+use Rattle.operator.specs.declared.pushing.Push.{Push}
+use Rattle.operator.specs.declared.tasks.Task.{Task}
+use Rattle.operator.specs.declared.tasks.Task.TheVariants as task
+use Rattle.server.specs.Observations.{Observation, timed, drawn, received, sent}
+use Rattle.server.specs.Given.{IsGiven}
+use Rattle.server.specs.Statuses.{ended_of, status_of_end}
+use Rattle.server.specs.declared.faults.Fault.{Fault}
+use Rattle.server.specs.declared.foreseeing.GivenMessage.{GivenMessage}
+
+-- ---- the task of a command
+
+-- the moment of a command: the one that it names, or the machine's
+abbrev pub IsMomentOf : Option ℕ → ℕ → List Observation → Type 0
+IsMomentOf (Some named) now seen = (now ≡ named) × (seen ≡ [])
+IsMomentOf None now seen = seen ≡ timed now ∷ []
+
+-- the token that the arguments ask for, of these random bytes
+abbrev pub token_of : TokenArgs → (repo : List ℕ) → (now seconds : ℕ) → (random : List ℕ) → model.TokenRequest
+token_of asked repo now seconds random = record {
+  text = encode_lower random;
+  user = user_text asked.user;
+  repo = repo;
+  operation = asked.operation;
+  now = now;
+  seconds = seconds;
+}
+
+-- a token of the machine's random bytes, for the user, the operation and the policy's repository that are asked for, valid for
+-- as long as the policy says from its moment on
+abbrev pub IsTokenOf : Policy → TokenArgs → List Observation → TokenRequest → Type 0
+IsTokenOf policy asked seen request =
+    (now : ℕ) × (before : List Observation) × IsMomentOf asked.now now before
+    × (random : List ℕ) × (seen ≡ before ++ drawn random ∷ [])
+    × (repo : List ℕ) × IsRepoAt asked.path.now repo × HasRepo (policy_view policy) repo
+    × (token_asked request ≡ token_of asked repo now (policy_view policy).token_seconds random)
+
+-- a push to the ref by the user, under the policy, of the paths in the lines of the input
+abbrev pub IsPushOf : Policy → PushArgs → (input : List ℕ) → Push → Type 0
+IsPushOf policy asked input push =
+    (push.policy.now ≡ policy) × (push.user.now ≡ asked.user) × (push.repo.now ≡ asked.repo)
+    × (push.ref_name.now ≡ asked.ref_name) × AreLinesOf input (map path_text push.paths.items)
+
+-- the request of a message and its body
+abbrev pub IsMessageOf : GivenMessage → Foresight → Type 0
+IsMessageOf message f = IsRequestOf message.asked message.request f.request × (f.body.now ≡ message.body.now)
+
+-- a message of the user to the repository at the moment, under the policy
+abbrev pub IsForesightOf : Policy → ForeseeArgs → (now : ℕ) → GivenMessage → Foresight → Type 0
+IsForesightOf policy asked now message f =
+    (f.policy.now ≡ policy) × (f.user.now ≡ asked.user) × (f.repo.now ≡ asked.repo) × (f.now ≡ now) × IsMessageOf message f
+
+-- the task of a command: under the policy, on the input, with what was observed of the machine
+abbrev pub IsTaskOf : Policy → OperatorCommand → (input : List ℕ) → List Observation → Task → Type 0
+IsTaskOf policy (command.Authenticate asked) input seen (task.Issue by request) =
+    (by.now ≡ policy) × IsTokenOf policy asked seen request
+IsTaskOf policy (command.Prune named) input seen (task.Prune now) = IsMomentOf named now seen
+IsTaskOf policy (command.PushCheck asked) input seen (task.CheckPush push) =
+    IsPushOf policy asked input push × (seen ≡ [])
+IsTaskOf policy (command.Foresee asked) input seen (task.Foresee f) =
+    (now : ℕ) × IsMomentOf asked.now now seen
+    × (message : GivenMessage) × IsGiven input asked.repo message × IsForesightOf policy asked now message f
+IsTaskOf policy (command.Locks asked) input seen (task.ListLocks repo) = (repo.now ≡ asked) × (seen ≡ [])
+IsTaskOf policy (command.Objects asked) input seen (task.ListObjects repo) = (repo.now ≡ asked) × (seen ≡ [])
+IsTaskOf policy command.Check input seen (task.CheckObjects terminal) = seen ≡ []
+IsTaskOf policy command.Repair input seen (task.Repair terminal) = seen ≡ []
+IsTaskOf policy command.Sweep input seen task.Sweep = seen ≡ []
+IsTaskOf policy (command.Retire asked) input seen (task.Retire repo oid) =
+    (repo.now ≡ asked.repo) × (oid.now ≡ asked.oid) × (seen ≡ [])
+IsTaskOf policy _ input seen _ = ⊥
+
+-- a task that needs nothing but the command
+abbrev pub IsPlainTask : OperatorCommand → Task → Type 0
+IsPlainTask command task = (policy : Policy) (input : List ℕ) → IsTaskOf policy command input [] task
+
+-- ---- what was done
+
+-- a task ended so, and so did its command
+pub record RunsAs {S : Type 0} (g : Ghosts S) (old new : Store S) (world : World) (task : Task) (ended : Result ⊤ Fault) : Type 0 where
+  pub tried : Result ⊤ TaskFault
+  pub is : ended ≡ ended_of tried
+  pub works : WorksAs g old new world task tried
+
+-- nothing was observed but moments and random bytes
+abbrev pub AreReadings : List Observation → Type 0
+AreReadings [] = ⊤
+AreReadings (timed now ∷ seen) = AreReadings seen
+AreReadings (drawn bytes ∷ seen) = AreReadings seen
+AreReadings (_ ∷ seen) = ⊥
+
+-- a command ended so: as its task did; or with a fault, and nothing was done
+abbrev pub IsDone : Policy → OperatorCommand → (input : List ℕ) → Result ⊤ Fault → World → List Observation → List Event → (kept : World) → Type 0
+IsDone policy command input ended world seen steps kept =
+    ((fault : Fault) × (ended ≡ Err fault) × (steps ≡ []) × AreReadings seen)
+    ⊎ ((task : Task) × IsTaskOf policy command input seen task
+    × (tried : Result ⊤ TaskFault) × (ended ≡ ended_of tried) × HasEnded world task steps kept tried)
+
+-- ---- requests
+
+-- the request for a command with this input
+abbrev pub request_for : OperatorCommand → (input : List ℕ) → Request
+request_for command input = record { input = input; words = command_words command }
+
+-- a request ended so: as the command that it is for; or with a fault, and nothing was done
+abbrev pub IsRequestDone : Policy → (body : List ℕ) → Result ⊤ Fault → World → List Observation → List Event → (kept : World) → Type 0
+IsRequestDone policy body ended world seen steps kept =
+    ((fault : Fault) × (ended ≡ Err fault) × (steps ≡ []) × (seen ≡ []))
+    ⊎ ((command : OperatorCommand) × (input : List ℕ) × IsReadAs body (request_for command input)
+    × IsDone policy command input ended world seen steps kept)
+
+-- the bytes of a request were received from the operator: their number, and then these
+abbrev pub IsRead : UnixStream → (body : List ℕ) → List Observation → Type 0
+IsRead operator body seen = seen ≡ received operator (number_bytes (length body)) ∷ received operator body ∷ []
+
+-- nothing was observed but bytes that were received
+abbrev pub IsSilent : List Observation → Type 0
+IsSilent [] = ⊤
+IsSilent (received operator bytes ∷ seen) = IsSilent seen
+IsSilent (_ ∷ seen) = ⊥
+
+-- ---- replies
+
+-- the bytes of a reply with this status
+abbrev pub IsReplyWith : Status → List ℕ → Type 0
+IsReplyWith status bytes = (reply : replies.Reply) × replies.IsReadAs bytes reply × (reply.status ≡ status)
+
+-- a request was done, and this holds for the status with which it ended
+abbrev pub HasStatus : Policy → (body : List ℕ) → (Status → Type 0) → World → List Observation → List Event → (kept : World) → Type 0
+HasStatus policy body P world seen steps kept =
+    (ended : Result ⊤ Fault) × IsRequestDone policy body ended world seen steps kept × P (status_of_end ended)
+
+-- a reply with this status was sent to the operator; or none
+abbrev pub IsReplied : UnixStream → Status → List Observation → Type 0
+IsReplied operator status [] = ⊤
+IsReplied operator status (sent to bytes ∷ []) = (to ≡ operator) × IsReplyWith status bytes
+IsReplied operator status _ = ⊥
+
+-- a request was received from the operator and done, and the reply has the status with which it ended
+pub record IsRequestServed (policy : Policy) (operator : UnixStream) (world : World) (seen : List Observation) (steps : List Event) (kept : World) : Type 0 where
+  pub body : List ℕ
+  pub ended : Result ⊤ Fault
+  pub asked : List Observation
+  pub own : List Observation
+  pub end : List Observation
+  pub are : seen ≡ asked ++ own ++ end
+  pub read : IsRead operator body asked
+  pub done : IsRequestDone policy body ended world own steps kept
+  pub replied : IsReplied operator (status_of_end ended) end
+
+-- an operator's request was served; or nothing was done
+abbrev pub IsAnswered : Policy → UnixStream → World → List Observation → List Event → (kept : World) → Type 0
+IsAnswered policy operator world seen steps kept =
+    IsRequestServed policy operator world seen steps kept ⊎ ((steps ≡ []) × IsSilent seen)

@@ -1,0 +1,119 @@
+-- What a server does: a list of jobs, each for somebody who called it.
+use Rattle.std.specs.Prelude.{◌≡◌, ◌⊎◌, ℕ, ◌≤◌, ◌+◌, flat_map, is_none, sum_by, List, [], ◌∷◌, map, if◌then◌else◌}
+use Rattle.sqlite_trees.specs.declared.store.Store.{Ghosts}
+use Rattle.policy.specs.declared.policies.Policy.{Policy}
+use Rattle.model.specs.World.{World}
+use Rattle.model.specs.Sessions.{AreUnder}
+use Rattle.model.specs.Steps.{Event, Exchange, Run, exchanged}
+use Rattle.desk.specs.Asking.{setting_of}
+use Rattle.tables.specs.declared.Store.{Store}
+use Rattle.sockets.specs.declared.queue.Caller.{Caller}
+use Rattle.sockets.specs.declared.queue.Caller.TheVariants.{Client, Operator}
+use Rattle.operator.specs.Works.{Works, steps_of}
+use Rattle.server.specs.declared.machine.Machine as machine
+use Rattle.server.specs.Observations.{Observation, called, timed}
+use Rattle.server.specs.Commands.{IsAnswered}
+
+-- ---- jobs
+
+-- a caller, what was observed of the machine while it was served, and the steps that were taken for it
+pub record Job : Type 0 where
+  pub caller : Caller
+  pub seen : List Observation
+  pub steps : List Event
+
+-- what was observed for a job: the call, and then the rest
+abbrev pub seen_for : Job → List Observation
+seen_for job = called job.caller ∷ job.seen
+
+-- a turn of a client: the exchanges of a connection, under the policy and at the machine's moment; or no step
+abbrev pub IsTurn : Policy → World → List Observation → List Event → (kept : World) → Type 0
+IsTurn policy world seen steps kept =
+    (steps ≡ []) ⊎ ((now : ℕ) × (seen ≡ timed now ∷ []) × (exchanges : List Exchange)
+    × AreUnder (setting_of policy now) exchanges × (steps ≡ map exchanged exchanges))
+
+-- the steps are those that the caller asked for, with what was observed
+abbrev pub IsFor : Policy → Caller → World → List Observation → List Event → (kept : World) → Type 0
+IsFor policy (Client client) world seen steps kept = IsTurn policy world seen steps kept
+IsFor policy (Operator stream) world seen steps kept = IsAnswered policy stream world seen steps kept
+
+-- each job is done for its caller, in the world that the jobs before it have left
+abbrev pub AreJobs : Policy → World → List Job → World → Type 0
+AreJobs policy world [] kept = kept ≡ world
+AreJobs policy world (job ∷ jobs) kept =
+    (after : World) × IsFor policy job.caller world job.seen job.steps after × Run world job.steps after
+    × AreJobs policy after jobs kept
+
+-- 1 for the first turn of a connection
+abbrev pub first_turn : Caller → ℕ
+first_turn (Client client) = if is_none client.number then 1 else 0
+first_turn (Operator stream) = 0
+
+-- how many connections had a turn
+abbrev pub connections : List Job → ℕ
+connections jobs = sum_by (λ job. first_turn job.caller) jobs
+
+-- ---- calls of the store
+
+module _ {S : Type 0} (g : Ghosts S) where
+  -- the exchanges of a connection, under the policy and at the moment
+  pub record Converses (policy : Policy) (now : ℕ) (old new : Store S) (world : World) : Type 0 where
+    pub exchanges : List Exchange
+    pub under : AreUnder (setting_of policy now) exchanges
+    pub done : Works g old new world
+    pub steps : steps_of done.works ≡ map exchanged exchanges
+
+  -- calls that take no step
+  abbrev pub Tidies : (old new : Store S) → World → Type 0
+  Tidies old new world = (done : Works g old new world) × (steps_of done.works ≡ [])
+
+  -- jobs, one after the other, whoever the callers are
+  pub record ServesAll (policy : Policy) (old new : Store S) (world : World) : Type 0 where
+    pub jobs : List Job
+    pub done : Works g old new world
+    pub are_jobs : AreJobs policy world jobs done.kept
+    pub steps : steps_of done.works ≡ flat_map (λ job. job.steps) jobs
+
+-- ---- a machine
+
+-- a call of a machine: something is observed, or no step depends on it
+pub data Call : Type 0 where
+  idles : Call
+  observes : Observation → Call
+
+-- what is observed
+abbrev pub seen_in : List Call → List Observation
+seen_in [] = []
+seen_in (idles ∷ calls) = seen_in calls
+seen_in (observes seen ∷ calls) = seen ∷ seen_in calls
+
+module _ {M : Type 0} (m : machine.Ghosts M) where
+  -- the calls made this machine the other one, one after the other
+  abbrev pub Calls : M → List Call → M → Type 0
+  Calls was [] is = is ≡ was
+  Calls was (idles ∷ calls) is = (mid : M) × m.idled was mid × Calls mid calls is
+  Calls was (observes seen ∷ calls) is = (mid : M) × m.observed was mid seen × Calls mid calls is
+
+  -- ---- a server
+
+  module _ {S : Type 0} (g : Ghosts S) where
+    -- for one caller: what was observed of the machine, and the steps by which the store was led
+    pub record Helps (IsOwn : World → List Observation → List Event → World → Type 0) (old new : Store S) (was is : M) (world : World) : Type 0 where
+      pub calls : List Call
+      pub made : Calls was calls is
+      pub done : Works g old new world
+      pub own : IsOwn world (seen_in calls) (steps_of done.works) done.kept
+
+    -- jobs, one after the other: what was observed of the machine is what was observed for each of them, in this order, and
+    -- the steps by which the store was led are theirs
+    pub record Serves (policy : Policy) (old new : Store S) (was is : M) (world : World) (jobs : List Job) : Type 0 where
+      pub calls : List Call
+      pub made : Calls was calls is
+      pub done : Works g old new world
+      pub are_jobs : AreJobs policy world jobs done.kept
+      pub seen : seen_in calls ≡ flat_map seen_for jobs
+      pub steps : steps_of done.works ≡ flat_map (λ job. job.steps) jobs
+
+    -- jobs were done, and no more connections had a turn than before, and had their first one in these jobs
+    abbrev pub ServesMore : Policy → (old new : Store S) → (was is : M) → World → (before after : ℕ) → Type 0
+    ServesMore policy old new was is world before after = (jobs : List Job) × Serves policy old new was is world jobs × (after ≤ before + connections jobs)

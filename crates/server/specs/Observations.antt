@@ -1,0 +1,12 @@
+-- What a server observes of the machine that it runs on.
+use Rattle.std.specs.Prelude.{ℕ, List}
+use Rattle.std.specs.declared.net.unix.UnixStream.{UnixStream}
+use Rattle.sockets.specs.declared.queue.Caller.{Caller}
+
+-- somebody called; it is this moment; these bytes are random; these were received from an operator; these were sent to one
+pub data Observation : Type 0 where
+  called : Caller → Observation
+  timed : ℕ → Observation
+  drawn : List ℕ → Observation
+  received : (operator : UnixStream) → List ℕ → Observation
+  sent : (operator : UnixStream) → List ℕ → Observation

@@ -1,0 +1,222 @@
+//! The machine that a server runs on.
+
+ghost use Rattle.std.specs.Prelude.{⊤, IfNone, IfOk, IfSome, OnErr, OnOk};
+ghost use Rattle.server.specs.Observations.{Observation, called, drawn, received, sent, timed};
+
+use crate::faults::Fault;
+use crate::framing::Messages;
+use crate::moments::moment;
+use crate::random::read_random;
+use command_line::RANDOM;
+use names::Moment;
+use service::End;
+use sockets::{Caller, Client, Ended, Front, Queue};
+use std::io::{self, ErrorKind, Read, Write};
+use std::os::unix::net::UnixStream;
+use std::rt::HostRuntime;
+use std::time::{Clock, Duration, Instant};
+
+/// How long an operator may take to send a command, and to take each part of a reply, in seconds.
+const PATIENCE: u64 = 2;
+
+/// A machine that a server runs on: it returns who calls, the time, random bytes, and what an operator sends.
+///
+/// What it returns is recorded: it is a relation between the machine before and after. So no step of a server depends on
+/// what the machine has not returned, and none on what it returned for another caller.
+pub trait Machine {
+    /// The first machine became the second by a call, of which this was observed.
+    ghost observed: { Self → Self → Observation → Type 0 };
+
+    /// The first machine became the second by a call on which no step depends.
+    ghost idled: { Self → Self → Type 0 };
+
+    /// Returns who is served next. Waits if nobody is ready; `None` if a connection ended that had a turn.
+    ///
+    /// # Errors
+    ///
+    /// `Network` if no connection could be accepted.
+    fn next(&mut self) -> Result<Option<Caller>, Fault>
+        ensures some { IfOk result (λ found. IfSome found
+            (λ caller. observed self.old self.new (called caller))) }
+        ensures none { IfOk result (λ found. IfNone found (idled self.old self.new)) }
+        ensures err { OnErr result (idled self.old self.new) };
+
+    /// Returns the time.
+    ///
+    /// # Errors
+    ///
+    /// `Clock` if it is out of range.
+    fn moment(&mut self) -> Result<Moment, Fault>
+        ensures ok { IfOk result (λ now. observed self.old self.new (timed now)) }
+        ensures err { OnErr result (idled self.old self.new) };
+
+    /// Returns random bytes.
+    ///
+    /// # Errors
+    ///
+    /// `Random` if the machine has none.
+    fn random(&mut self) -> Result<[u8; 32], Fault>
+        ensures ok { IfOk result (λ bytes. observed self.old self.new (drawn bytes)) }
+        ensures err { OnErr result (idled self.old self.new) };
+
+    /// Fills the piece with the next bytes that an operator sends, who is served since `start`.
+    ///
+    /// # Errors
+    ///
+    /// `Operator` if they did not arrive in time. The piece is unspecified then.
+    fn receive(
+        &mut self,
+        operator: &UnixStream,
+        start: Instant,
+        piece: &mut [u8],
+    ) -> Result<(), Fault>
+        ensures ok { OnOk result (observed self.old self.new (received operator.now piece.new)) }
+        ensures err { OnErr result (idled self.old self.new) };
+
+    /// Sends bytes to an operator.
+    ///
+    /// # Errors
+    ///
+    /// `Operator` if not all were sent.
+    fn send(&mut self, operator: &UnixStream, bytes: &[u8]) -> Result<(), Fault>
+        ensures ok { OnOk result (observed self.old self.new (sent operator.now bytes.now)) }
+        ensures err { OnErr result (idled self.old self.new) };
+
+    /// Returns a connection that had a turn, and ended while it waited for the next.
+    fn ended(&mut self) -> Option<Ended>
+        ensures { idled self.old self.new };
+
+    /// Takes back a client after a turn that ended so, and returns how its connection ended; `None` if it goes on, since
+    /// the whole message of the turn was read.
+    ///
+    /// # Errors
+    ///
+    /// `Clock`.
+    fn end_turn(&mut self, client: Client, front: &Front, end: End) -> Result<Option<End>, Fault>
+        ensures { idled self.old self.new };
+
+    /// Closes the connection of a client at once.
+    fn close(&mut self, client: Client)
+        ensures { idled self.old self.new };
+
+    /// Accepts no further client, and closes the connections that had no turn.
+    fn shut(&mut self)
+        ensures { idled self.old self.new };
+
+    /// Waits until each client whose connection was closed has closed its side, for at most two seconds.
+    fn settle(&mut self)
+        ensures { idled self.old self.new };
+}
+
+/// Reads from an operator until a moment.
+#[derive(Drop)]
+struct TimedReader<'a, C: Clock> {
+    clock: &'a C,
+    stream: &'a UnixStream,
+    start: Instant,
+}
+
+impl<C: Clock> Read for TimedReader<'_, C> {
+    fn read(&mut self, piece: &mut [u8]) -> io::Result<usize> {
+        let whole = Duration::from_secs(PATIENCE);
+        let left = whole.saturating_sub(self.start.elapsed(self.clock)?);
+        if left.is_zero() {
+            return Err(ErrorKind::TimedOut.into());
+        }
+        self.stream.set_read_timeout(Some(left))?;
+        let mut stream = self.stream;
+        stream.read(piece)
+    }
+}
+
+/// Writes all bytes to an operator.
+fn write_to(stream: &UnixStream, bytes: &[u8]) -> io::Result<()> {
+    stream.set_write_timeout(Some(Duration::from_secs(PATIENCE)))?;
+    let mut stream = stream;
+    stream.write_all(bytes)
+}
+
+/// A machine with sockets.
+#[derive(Drop)]
+pub struct Sockets<'a, C> {
+    /// For random bytes.
+    pub rt: &'a HostRuntime,
+    /// For moments, and for how long clients and operators are waited for.
+    pub clock: &'a C,
+    /// Those who wait at the sockets.
+    pub queue: Queue<'a>,
+}
+
+impl<C: Clock> Machine for Sockets<'_, C> {
+    // No contract says what a socket or a clock of the system returns.
+    ghost observed = { λ _ _ _. ⊤ };
+
+    ghost idled = { λ _ _. ⊤ };
+
+    fn next(&mut self) -> Result<Option<Caller>, Fault> {
+        self.queue
+            .take(self.clock, &Messages)
+            .map_err(|_| Fault::Network)
+    }
+
+    fn moment(&mut self) -> Result<Moment, Fault> {
+        moment(self.clock, None)
+    }
+
+    fn random(&mut self) -> Result<[u8; 32], Fault> {
+        read_random(self.rt, RANDOM)
+    }
+
+    fn receive(
+        &mut self,
+        operator: &UnixStream,
+        start: Instant,
+        piece: &mut [u8],
+    ) -> Result<(), Fault> {
+        let mut reader = TimedReader {
+            clock: self.clock,
+            stream: operator,
+            start,
+        };
+        reader.read_exact(piece).map_err(|_| Fault::Operator)
+    }
+
+    fn send(&mut self, operator: &UnixStream, bytes: &[u8]) -> Result<(), Fault> {
+        write_to(operator, bytes).map_err(|_| Fault::Operator)
+    }
+
+    fn ended(&mut self) -> Option<Ended> {
+        self.queue.ended()
+    }
+
+    fn end_turn(&mut self, client: Client, front: &Front, end: End) -> Result<Option<End>, Fault> {
+        let ended = match end {
+            End::InputEnded if front.is_over() => self
+                .queue
+                .put_back(client, front, self.clock, &Messages)
+                .map(|()| None),
+            End::Closed | End::StoreRefused => self
+                .queue
+                .dismiss(client, self.clock, &Messages)
+                .map(|()| Some(end)),
+            _ => {
+                self.queue.close(client);
+                Ok(Some(end))
+            }
+        };
+        ended.map_err(|_| Fault::Clock)
+    }
+
+    fn close(&mut self, client: Client) {
+        self.queue.close(client);
+    }
+
+    fn shut(&mut self) {
+        self.queue.shut();
+    }
+
+    fn settle(&mut self) {
+        // The server ends in any case.
+        let _ = self.queue.settle(self.clock, &Messages);
+    }
+}
