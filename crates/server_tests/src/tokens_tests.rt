@@ -4,8 +4,8 @@ use crate::harness::{Tester, in_memory, moment, repo, unwrap, user};
 use names::{Operation, Rule};
 use sha2::{Digest, Sha256};
 use sqlite::MemStore;
-use tables::Store;
-use tokens::{CallerFault, TokenFault, TokenRequest, caller, issue, of, offer, prune};
+use tables::{Store, TokenRow};
+use tokens::{CallerFault, TokenFault, TokenRequest, all, caller, issue, of, offer, prune};
 
 /// 64 times the letter c: 32 bytes 0xcc in hexadecimal digits.
 const TEXT: &str = "cccccccccccccccccccccccccccccccccccccccccccccccccccccccccccccccc";
@@ -216,4 +216,34 @@ fn a_user_has_the_tokens_that_were_issued(rt: HostRuntime) {
             "{user} {repo}"
         );
     }
+}
+
+/// Issues a token to the user for the repository, of 32 times the byte.
+fn issue_to(rt: &impl Tester, store: &mut Store<MemStore>, name: &str, place: &str, byte: u8) {
+    let asked = TokenRequest {
+        user: &user(rt, name),
+        repo: &repo(rt, place),
+        operation: Operation::Upload,
+        now: moment(rt, 40),
+        seconds: 60,
+        random: &[byte; 32],
+    };
+    unwrap(rt, issue(rt.alloc(), store, &asked));
+}
+
+/// Whether the user has one of these tokens.
+fn is_among(tokens: &[TokenRow], name: &str) -> bool {
+    tokens.iter().any(|token| token.user.as_str() == name)
+}
+
+#[test]
+fn a_repository_has_the_tokens_of_all_its_users(rt: HostRuntime) {
+    let mut store = in_memory(&rt);
+    issue_to(&rt, &mut store, "ann", "studio/film", 0xcc);
+    issue_to(&rt, &mut store, "bob", "studio/film", 0xdd);
+    issue_to(&rt, &mut store, "cid", "studio/game", 0xee);
+    let film = unwrap(&rt, all(rt.alloc(), &mut store, &repo(&rt, "studio/film")));
+    assert!(rt; film.len() == 2 && is_among(&film, "ann") && is_among(&film, "bob"));
+    let game = unwrap(&rt, all(rt.alloc(), &mut store, &repo(&rt, "studio/game")));
+    assert!(rt; game.len() == 1 && is_among(&game, "cid"));
 }

@@ -1,5 +1,5 @@
 -- The meaning of each statement under a schema that has them tables, computed from the texts.
-use Rattle.tables.proofs.Prelude.{◌≡◌, ℕ, ℤ, pos, negsuc, List, [], ◌∷◌, false, codes, refl, Null, Int, Term, lit, col, op2, Insert, Select, Update, Delete, Values, Eq, Le, Ge, understood, reads_listing, IsPlain, command_of, query_of, plain_query, sorted_by, ordered_by, is_given, Schema, first, Means, Plans, means, HasWhole, Part, name_of, table_for, place_of, tree_of, Token, Chunk, Lock, made_by, lock_at, lock_with_id, locks_in, locks_from, token, tokens_of, used_by, object, objects_in, objects, staged, chunk_at, read_text, add_lock, add_repo, set_made, remove_lock, add_token, remove_expired, add_chunk, remove_row, remove_chunks, remove_chunks_from, set_done, add_used, set_used, write_text}
+use Rattle.tables.proofs.Prelude.{◌≡◌, ℕ, ℤ, pos, negsuc, List, [], ◌∷◌, false, codes, refl, Null, Int, Term, lit, col, op2, Insert, Select, Update, Delete, Values, Eq, Le, Ge, understood, reads_listing, IsPlain, command_of, query_of, plain_query, sorted_by, ordered_by, is_given, Schema, first, Means, Plans, means, HasWhole, Part, name_of, table_for, place_of, tree_of, Token, Chunk, Lock, made_by, lock_at, lock_with_id, locks_in, locks_from, token, tokens_of, tokens_in, used_by, object, objects_in, objects, staged, chunk_at, read_text, add_lock, add_repo, set_made, remove_lock, add_token, remove_expired, add_chunk, remove_row, remove_chunks, remove_chunks_from, set_done, add_used, set_used, write_text}
 use Rattle.sqlite.specs.Query.{Query}
 use Rattle.sqlite.specs.Command.{Command}
 use Rattle.sqlite_sql.specs.declared.ops.BinaryOp.TheVariants.{Compare}
@@ -127,6 +127,10 @@ module _ (schema : Schema) (whole : HasWhole schema) where
   pub tokens_of_is : (user repo : List ℕ) → IsQuery schema (read_text (tokens_of user repo)) (query_of (is_given 2 0 ∷ is_given 3 1 ∷ []) token_columns (tree_of schema part.tokens))
   unfolding reading everything
   tokens_of_is user repo = asks part.tokens _ _ (token_names) (refl, (record { alone = refl; single = refl; source = (refl, refl, refl, refl, refl); ungrouped = refl; whole = refl; shown = refl; filter = refl; order = refl }, (refl, refl)))
+
+  pub tokens_in_is : (repo : List ℕ) → IsQuery schema (read_text (tokens_in repo)) (query_of (is_given 3 0 ∷ []) token_columns (tree_of schema part.tokens))
+  unfolding reading everything
+  tokens_in_is repo = asks part.tokens _ _ (token_names) (refl, (record { alone = refl; single = refl; source = (refl, refl, refl, refl, refl); ungrouped = refl; whole = refl; shown = refl; filter = refl; order = refl }, (refl, refl)))
 
   pub used_is : (repo : List ℕ) → IsQuery schema (read_text (used_by repo)) (query_of (is_given 1 0 ∷ []) (col 1 0 ∷ col 1 3 ∷ []) (tree_of schema part.repos))
   unfolding reading everything

@@ -59,7 +59,7 @@ pub use Rattle.tables.specs.Seeking.{Finds, IsStagedOf, Seeks}
 pub use Rattle.tables.specs.Shown.{Adds, AddsNothing, Begins, Changes, HasTables, IsHonest, IsOpen, Makes, Moves, Reads, shown}
 pub use Rattle.tables.specs.Schemas.{HasAll, HasCounts, HasNone, HasPart, HasWhole, IsLaid, LacksPart, counts_name, is_parent}
 pub use Rattle.tables.specs.Staging.{IsAbove, IsTotalOf, IsUploadOf, RepoTotal, UploadFields, after_begin, after_complete, after_completion, after_found, after_settling, asked_chunk, asked_upload, begun_as, completion_by, completion_of, is_as_begun, objects_of, read_object, read_total, read_upload, repo_total, settled_as, upload_fields, upload_number, upload_sized, with_bytes, with_kept, with_last, with_used, without_found, without_found_from, without_staged, without_staged_from, without_staged_in, without_upload}
-pub use Rattle.tables.specs.Statements.{Answered, Read, Write, add_chunk, add_lock, add_repo, add_token, add_used, answer, by_id, chunk_at, has_digest, has_expired, id_cmp, is_at, is_chunk, is_complete, is_from, is_held_by, is_named, is_object, is_object_in, is_of, is_of_from, is_staged, is_staged_in, is_staged_with, is_upload, lock_at, lock_with_id, locks_from, locks_in, made_by, name_cmp, object, objects, objects_in, read_params, read_text, remove_chunks, remove_chunks_from, remove_expired, remove_lock, remove_row, same_bytes, set_done, set_made, set_used, show_bytes, show_lock, show_made, show_meta, show_token, show_upload, show_used, staged, token, tokens_of, used_by, with_chunk, with_token, with_upload, without_chunks, without_chunks_from, without_lock, without_row, write_params, write_text}
+pub use Rattle.tables.specs.Statements.{Answered, Read, Write, add_chunk, add_lock, add_repo, add_token, add_used, answer, by_id, chunk_at, has_digest, has_expired, id_cmp, is_at, is_chunk, is_complete, is_for, is_from, is_held_by, is_named, is_object, is_object_in, is_of, is_of_from, is_staged, is_staged_in, is_staged_with, is_upload, lock_at, lock_with_id, locks_from, locks_in, made_by, name_cmp, object, objects, objects_in, read_params, read_text, remove_chunks, remove_chunks_from, remove_expired, remove_lock, remove_row, same_bytes, set_done, set_made, set_used, show_bytes, show_lock, show_made, show_meta, show_token, show_upload, show_used, staged, token, tokens_in, tokens_of, used_by, with_chunk, with_token, with_upload, without_chunks, without_chunks_from, without_lock, without_row, write_params, write_text}
 pub use Rattle.tables.specs.Steps.{IsCountOf, IsLockOf, IsOutcomeOf, Outcome, RepoCount, after_add, after_create, after_outcome, asked_lock, asked_token, has_token, held, held_at, lock_fields, made_in, made_of, next_outcome, outcome_by, outcome_of, read_count, read_lock, read_token, repo_count, set_first, token_fields, used_in, used_of, used_up, with_made, with_new_lock}
 pub use Rattle.tables.specs.declared.Store.{Store}
 pub use Rattle.tables.specs.declared.fault.StoreFault.{StoreFault}

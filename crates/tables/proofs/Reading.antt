@@ -1,5 +1,5 @@
 -- The result of each reading statement, on the typed rows.
-use Rattle.tables.proofs.Prelude.{◌≡◌, ℕ, pos, Bool, false, List, [], ◌∷◌, map, filter, IsTrue, true, refl, sym, ap, subst, ◌∙◌, list_all, Term, eval_all, holds, Eq, Ge, understood, State, Shown, IsPlain, at_texts, at_ints, at_blobs, then_term, last_term, filter_all, Schema, HasWhole, Part, tree_of, RowOf, encode, decode, rows_in, lock_in, tables_of, Read, made_by, lock_at, lock_with_id, locks_in, locks_from, token, tokens_of, used_by, object, objects_in, objects, staged, chunk_at, read_text, read_params, answer, Answered, by_id, show_meta, show_made, show_lock, show_token, show_used, show_upload, show_bytes, is_named, is_at, is_from, has_digest, is_held_by, is_staged_with, is_object, is_object_in, is_complete, is_staged, is_chunk, IsKept, Steps, tables_in, shown_open, shown_same, query_of}
+use Rattle.tables.proofs.Prelude.{◌≡◌, ℕ, pos, Bool, false, List, [], ◌∷◌, map, filter, IsTrue, true, refl, sym, ap, subst, ◌∙◌, list_all, Term, eval_all, holds, Eq, Ge, understood, State, Shown, IsPlain, at_texts, at_ints, at_blobs, then_term, last_term, filter_all, Schema, HasWhole, Part, tree_of, RowOf, encode, decode, rows_in, lock_in, tables_of, Read, made_by, lock_at, lock_with_id, locks_in, locks_from, token, tokens_of, tokens_in, used_by, object, objects_in, objects, staged, chunk_at, read_text, read_params, answer, Answered, by_id, show_meta, show_made, show_lock, show_token, show_used, show_upload, show_bytes, is_named, is_at, is_from, has_digest, is_held_by, is_for, is_staged_with, is_object, is_object_in, is_complete, is_staged, is_chunk, IsKept, Steps, tables_in, shown_open, shown_same, query_of}
 use Rattle.sqlite.specs.Order.{Row}
 use Rattle.std.proofs.lemmas.List.{take-map}
 use Rattle.sqlite_keyed.proofs.ListLemmas.{all_of}
@@ -8,7 +8,7 @@ use Rattle.tables.specs.Rows as part
 use Rattle.tables.specs.Layout.{Version}
 use Rattle.tables.specs.Runs.{HasMeta}
 use Rattle.tables.specs.Statements.{staged_with, has_id, is_in, meta_query_text, retired_as, retired_in, is_retired_as, is_retired_in, show_retired, reading}
-use Rattle.tables.proofs.Meanings.{IsQuery, meta_is, made_is, lock_at_is, lock_with_id_is, locks_in_is, locks_from_is, token_is, tokens_of_is, used_is, staged_with_is, object_is, objects_in_is, objects_is, staged_is, chunk_at_is, retired_as_is, retired_in_is}
+use Rattle.tables.proofs.Meanings.{IsQuery, meta_is, made_is, lock_at_is, lock_with_id_is, locks_in_is, locks_from_is, token_is, tokens_of_is, tokens_in_is, used_is, staged_with_is, object_is, objects_in_is, objects_is, staged_is, chunk_at_is, retired_as_is, retired_in_is}
 use Rattle.tables.proofs.Parts.{whole_of, keyed, back, own, own_in, typed_at}
 use Rattle.typed_rows.proofs.Selects.{selected}
 use Rattle.tables.proofs.Selects.{sorted, named, by_names}
@@ -35,6 +35,7 @@ module _ (old new : State) (rows : List Row) (kept : IsKept old.now) where
       ∙ take-map show_lock 64 (by_id (filter (is_from repo (pos id)) (map lock_in (old.now.trees (tree_of old.now.schema part.locks)))))
   answers (token digest) h = part_read part.tokens _ _ _ _ (token_is old.now.schema (whole_of old.now kept) digest) (has_digest digest) (λ t. last_term (at_blobs false Eq t.digest digest)) show_token (λ _. refl) h
   answers (tokens_of user repo) h = part_read part.tokens _ _ _ _ (tokens_of_is old.now.schema (whole_of old.now kept) user repo) (is_held_by user repo) (λ t. then_term (at_texts false Eq t.user user) (last_term (at_texts false Eq t.repo repo))) show_token (λ _. refl) h
+  answers (tokens_in repo) h = part_read part.tokens _ _ _ _ (tokens_in_is old.now.schema (whole_of old.now kept) repo) (is_for repo) (λ t. last_term (at_texts false Eq t.repo repo)) show_token (λ _. refl) h
   answers (used_by repo) h = part_read part.repos _ _ _ _ (used_is old.now.schema (whole_of old.now kept) repo) (is_named repo) (λ r. last_term (at_texts false Eq r.name repo)) show_used (λ _. refl) h
   answers (staged_with id) h = part_read part.uploads _ _ _ _ (staged_with_is old.now.schema (whole_of old.now kept) id) (is_staged_with id) (λ u. then_term (at_ints false Eq u.id id) (last_term (at_ints false Eq u.done (pos 0)))) show_upload (λ _. refl) h
   answers (object repo oid) h =
@@ -55,6 +56,7 @@ plain_read schema whole (locks_in repo) = (locks_in_is schema whole repo).plain
 plain_read schema whole (locks_from repo id) = (locks_from_is schema whole repo id).plain
 plain_read schema whole (token digest) = (token_is schema whole digest).plain
 plain_read schema whole (tokens_of user repo) = (tokens_of_is schema whole user repo).plain
+plain_read schema whole (tokens_in repo) = (tokens_in_is schema whole repo).plain
 plain_read schema whole (used_by repo) = (used_is schema whole repo).plain
 plain_read schema whole (staged_with id) = (staged_with_is schema whole id).plain
 plain_read schema whole (object repo oid) = (object_is schema whole repo oid).plain

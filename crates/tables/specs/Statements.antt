@@ -43,6 +43,10 @@ has_digest digest t = same_bytes t.digest digest
 abbrev pub is_held_by : List ℕ → List ℕ → Token → Bool
 is_held_by user repo t = same_bytes t.user user && same_bytes t.repo repo
 
+-- the token is for the repository
+abbrev pub is_for : List ℕ → Token → Bool
+is_for repo t = same_bytes t.repo repo
+
 -- the token is no longer valid at this moment
 abbrev pub has_expired : ℤ → Token → Bool
 has_expired moment t = int_le t.expires moment
@@ -174,6 +178,7 @@ pub data Read : Type 0 where
   locks_from : List ℕ → ℕ → Read
   token : List ℕ → Read
   tokens_of : List ℕ → List ℕ → Read
+  tokens_in : List ℕ → Read
   used_by : List ℕ → Read
   staged_with : ℤ → Read
   object : List ℕ → List ℕ → Read
@@ -220,6 +225,11 @@ reading (tokens_of user repo) = record {
   text = codes "SELECT digest, user, repo, op, expires FROM tokens WHERE user = ?1 AND repo = ?2 ORDER BY rowid";
   params = Text user ∷ Text repo ∷ [];
   meaning = λ t. map show_token (filter (is_held_by user repo) t.tokens);
+}
+reading (tokens_in repo) = record {
+  text = codes "SELECT digest, user, repo, op, expires FROM tokens WHERE repo = ?1 ORDER BY rowid";
+  params = Text repo ∷ [];
+  meaning = λ t. map show_token (filter (is_for repo) t.tokens);
 }
 reading (used_by repo) = record {
   text = codes "SELECT rowid, used FROM repos WHERE name = ?1 ORDER BY rowid";

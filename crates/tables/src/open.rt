@@ -2,6 +2,8 @@
 
 ghost use Rattle.std.specs.Prelude.{◌≡◌, ◌⊎◌, [], ◌∷◌, codes, IfOk, IsErr, OnErr, OnOk};
 ghost use Rattle.sqlite_wal.specs.Files.{image_at};
+ghost use Rattle.sqlite_wal.specs.Reads.{AreClean};
+ghost use Rattle.sqlite.specs.Closing.{IsCopied};
 ghost use Rattle.sqlite.specs.Start.{FindsIn};
 ghost use Rattle.sqlite.specs.Steps.{over_memory};
 ghost use Rattle.sqlite.specs.Files.{over_files, file_state, IsNothing};
@@ -17,6 +19,7 @@ use crate::rows::Migrated;
 use crate::storage::Storage;
 use crate::{Store, schema};
 use sqlite::{Alter, Connection, FileFrom, FileStore, MemStore, Start};
+use sqlite_disk::{Disk, Files};
 use std::alloc::Global;
 use std::rt::HostRuntime;
 
@@ -60,6 +63,24 @@ impl<S: Start> Store<FileStore<FileFrom<S>>> {
     {
         match Connection::open_from(rt, path, false, start) {
             Ok(conn) => Ok(Store::adopt(conn)),
+            Err((error, _)) => Err(StoreFault::from(error)),
+        }
+    }
+}
+
+impl<D: Disk + Drop> Store<FileStore<D>> {
+    /// Closes the database: copies what its log has into the file, which then holds the database alone, also after a
+    /// stop. Returns both files.
+    ///
+    /// # Errors
+    ///
+    /// `Refused` or `Memory` if it could not be copied. The file and its log then hold the database together, as before.
+    pub fn close(self) -> Result<Files<D>, StoreFault>
+        ensures { IfOk result (λ files.
+            AreClean D.Disk files.log files.db → IsCopied (connection self) files) }
+    {
+        match self.conn.close_files() {
+            Ok(files) => Ok(files),
             Err((error, _)) => Err(StoreFault::from(error)),
         }
     }

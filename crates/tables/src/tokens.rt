@@ -2,7 +2,7 @@
 
 ghost use Rattle.std.specs.Prelude.{◌≡◌, not, pos, length, find, filter};
 ghost use Rattle.names.specs.Names.{user_text, repo_text};
-ghost use Rattle.tables.specs.Statements.{has_digest, is_held_by, has_expired, with_token, without_expired};
+ghost use Rattle.tables.specs.Statements.{has_digest, is_held_by, is_for, has_expired, with_token, without_expired};
 ghost use Rattle.tables.specs.Calls.{Says, Does, Transacts};
 ghost use Rattle.tables.specs.Steps.{IsTokenOf, AreTokensOf, asked_token, has_token, after_add};
 ghost use Rattle.tables.specs.Shown.{Reads, Changes};
@@ -145,6 +145,23 @@ impl<S: Alter> Store<S> {
             &mut self.conn,
             "SELECT digest, user, repo, op, expires FROM tokens WHERE user = ?1 AND repo = ?2 ORDER BY rowid",
             params![user.as_str(), repo.as_str()],
+        )?;
+        all_tokens(alloc, rows.as_slice())
+    }
+
+    /// Returns all tokens for the repository, in the order in which they were added.
+    ///
+    /// # Errors
+    ///
+    /// `Refused` or `Memory`. The tables are unchanged in any case.
+    pub fn tokens_in(&mut self, alloc: Global, repo: &RepoName) -> Result<Vec<TokenRow>, StoreFault>
+        ensures { Reads S.Store self.old self.new result
+            (λ t found. AreTokensOf found.items (filter (is_for (repo_text repo.now)) t.tokens)) }
+    {
+        let rows = read(
+            &mut self.conn,
+            "SELECT digest, user, repo, op, expires FROM tokens WHERE repo = ?1 ORDER BY rowid",
+            params![repo.as_str()],
         )?;
         all_tokens(alloc, rows.as_slice())
     }
