@@ -33,7 +33,7 @@ mkdir -p "$documents/examples" "$root/usr/share/man/man1"
 install -D -m 755 "$program" "$root/usr/bin/custody"
 strip --strip-unneeded "$root/usr/bin/custody"
 install -D -m 755 -t "$root/usr/lib/custody" "$top/examples/forced-command" "$top/examples/spare" \
-    "$top/examples/unreferenced"
+    "$top/examples/unreferenced" "$top/examples/backup"
 install -D -m 644 "$top/examples/custody.service" "$root/lib/systemd/system/custody.service"
 install -D -m 644 "$top/examples/policy.toml" "$root/etc/custody/policy.toml"
 for example in nginx-site sshd-custody.conf custody-group.conf policy.toml; do

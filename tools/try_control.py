@@ -68,6 +68,9 @@ def check_same_words(server, _):
         (("authenticate", "--user", "ann", "studio/game", "upload"), b"", True),
         (("authenticate", "--user", "ann", "--now", "253402300799", "studio/film", "upload"), b"", True),
         (("prune", "--now", "0"), b"", False),
+        (("tokens", "--repo", "studio/film", "--now", "0"), b"", False),
+        (("tokens", "--repo", "film"), b"", False),
+        (("usage", "--now", "0"), b"", True),
     ]
     by_socket = [via(server, *words, given=given) for words, given, _ in asked]
     server.end(signal.SIGTERM)
@@ -257,6 +260,166 @@ def check_under_load(server, options):
             f"median {times[len(times) // 2]:.3f} s, slowest {times[-1]:.3f} s (at most 2 s)")
 
 
+@contextlib.contextmanager
+def holding(server, *words):
+    """The server is held within the block. The result is the process of the command, which has printed `held`."""
+    command = [server.program, "hold", "--via", socket_of(server), *words]
+    with subprocess.Popen(command, stdin=subprocess.PIPE, stdout=subprocess.PIPE, stderr=subprocess.PIPE) as held:
+        line = held.stdout.readline()
+        require(line == b"held\n", f"hold printed {line!r}")
+        yield held
+
+
+def locks_in_copy(server, name):
+    """The paths of the locks in a copy of both files, which is also checked."""
+    copy = f"{server.room}/{name}"
+    for end in ("", "-wal"):
+        shutil.copyfile(f"{server.room}/custody.db{end}", f"{copy}{end}")
+    for words in (["check"], ["locks", "--repo", "studio/film"]):
+        ran = subprocess.run([server.program, words[0], "--db", copy, *words[1:]], capture_output=True, text=True)
+        require(ran.returncode == 0, f"{words[0]} of the copy: {ran.stderr}")
+    return {line.split()[-1] for line in ran.stdout.splitlines()}
+
+
+def check_hold(server, _):
+    """A copy of both files that is made while the server is held, under load, has all that was acknowledged before."""
+    ends, made, faults = threading.Event(), [], []
+
+    def lock_on(number):
+        for count in range(10_000):
+            if ends.is_set():
+                return
+            path = f"art/{number}/{count}"
+            with server.client() as client:
+                if client.ask(message("POST", TARGET, {"path": path}))[0] != 201:
+                    faults.append(path)
+                    return
+            made.append(path)
+
+    workers = [threading.Thread(target=lock_on, args=(number,)) for number in range(4)]
+    for worker in workers:
+        worker.start()
+    time.sleep(0.5)
+    with holding(server) as held:
+        before = set(made)
+        copied = locks_in_copy(server, "copy.db")
+        time.sleep(0.5)
+        during = set(made) - before
+        held.stdin.close()
+        require(held.wait(timeout=5) == 0, f"hold ended with {held.returncode}: {held.stderr.read()}")
+    time.sleep(0.5)
+    ends.set()
+    for worker in workers:
+        worker.join()
+    require(not faults, f"a lock was refused: {faults}")
+    # A client that read its reply just after the hold began had its lock before.
+    require(len(during) <= len(workers), f"{len(during)} locks were made while the server was held")
+    require(before <= copied, f"{len(before - copied)} locks are not in the copy")
+    require(len(made) > len(before) + len(during), "no lock was made after the hold")
+    return f"{len(before)} locks before, all in the copy; {len(made) - len(before)} after"
+
+
+def check_hold_over(server, _):
+    """A hold ends after its time, and says so; the operator who goes away ends it at once."""
+    begun = time.monotonic()
+    with holding(server, "--seconds", "1") as held:
+        server.time_of_lock("art/one")
+        waited = time.monotonic() - begun
+        held.stdin.close()
+        status, errors = held.wait(timeout=5), held.stderr.read()
+    require(0.9 <= waited <= 1.5, f"a client waited {waited:.2f} s (about 1 s)")
+    require(status == 1 and errors == b"custody: the time of the hold is over\n", f"{status} {errors}")
+    with holding(server, "--seconds", "600") as held:
+        held.kill()
+        gone = server.time_of_lock("art/two")
+    require(gone <= 0.5, f"a client waited {gone:.2f} s for an operator who is gone")
+    return f"a client waited {waited:.2f} s (about 1 s), and {gone:.2f} s for an operator who is gone (at most 0.5 s)"
+
+
+def check_stop(server, _):
+    """A server that is stopped ends the upload that it reads, and leaves no socket. Its file needs no log then."""
+    data = os.urandom(20_000_000)
+    oid = hashlib.sha256(data).hexdigest()
+    put = message("PUT", content(oid), more=f"Content-Length: {len(data)}\r\n")
+    with server.client() as client:
+        client.send(put + data[:1_000_000])
+        time.sleep(0.3)
+        command = [server.program, "stop", "--via", socket_of(server)]
+        with subprocess.Popen(command, stdout=subprocess.PIPE, stderr=subprocess.PIPE) as stop:
+            time.sleep(0.3)
+            require(stop.poll() is None, "stop ended before the upload did")
+            client.send(data[1_000_000:])
+            status, _ = client.reply()
+            require(status == 200, f"the upload got {status}")
+            require(stop.wait(timeout=10) == 0, f"stop ended with {stop.returncode}: {stop.stderr.read()}")
+    # The command ends when the database is closed: so the file alone is a copy.
+    shutil.copyfile(f"{server.room}/custody.db", f"{server.room}/alone.db")
+    require(server.child.wait(timeout=5) == 0, f"the server ended with {server.child.returncode}")
+    require(server.child.stdout.read() == b"served 1 connections\n", "the server has not printed its count")
+    require(not os.path.exists(socket_of(server)), "the socket is there")
+    ran = subprocess.run([server.program, "objects", "--db", f"{server.room}/alone.db", "--repo", "studio/film"], capture_output=True, text=True)
+    require(ran.stdout == f"{oid} {len(data)}\n", f"the file alone has {ran.stdout!r}")
+    ran = via(server, "stop")
+    require(ran == (1, "", "custody: control socket\n"), f"without a server: {ran}")
+    server.start()
+    return "an upload of 20 MB was ended first; the file alone has it"
+
+
+def check_reload(server, _):
+    """A policy that is read again is that of the next request of the same connection; one with a fault is not taken."""
+    policy = Path(f"{server.room}/policy.toml")
+    whole = policy.read_text()
+    with server.client() as client:
+        require(client.ask(message("POST", TARGET, {"path": "art/one"}))[0] == 201, "no lock")
+        policy.write_text(whole.replace("lock", "list"))
+        ran = via(server, "reload")
+        require(ran[0] == 0 and ran[1].startswith("policy ok: "), f"reload: {ran}")
+        status, body = client.ask(message("POST", TARGET, {"path": "art/two"}))
+        require(status == 403, f"a lock got {status} without the right")
+        for bad in ("base = 1\n", "", whole.replace("allow", "alow", 1)):
+            policy.write_text(bad)
+            ran = via(server, "reload")
+            over = subprocess.run([server.program, "policy", "--policy", str(policy)], capture_output=True, text=True)
+            require(ran == (1, "", over.stderr) and over.stderr, f"reload of a bad policy: {ran}, policy: {over.stderr}")
+            require(client.ask(message("POST", TARGET, {"path": "art/two"}))[0] == 403, "the old policy has not stayed")
+        policy.unlink()
+        ran = via(server, "reload")
+        require(ran == (1, "", "custody: policy not read\n"), f"reload of no policy: {ran}")
+        policy.write_text(whole)
+        require(via(server, "reload")[0] == 0, "the policy is not read")
+        require(client.ask(message("POST", TARGET, {"path": "art/two"}))[0] == 201, "no lock under the first policy")
+    return "a right was taken away and given back between two requests of a connection; 4 policies were refused"
+
+
+def check_status(server, _):
+    """The status counts what was done, and promtool finds nothing to say of it."""
+    with server.client() as client:
+        for path in ("art/one", "art/two"):
+            require(client.ask(message("POST", TARGET, {"path": path}))[0] == 201, "no lock")
+    via(server, "hold", "--seconds", "0x")
+    status, text, errors = via(server, "status")
+    require(status == 0 and not errors, f"status: {status} {errors}")
+    values = dict(line.rsplit(" ", 1) for line in text.splitlines() if not line.startswith("#"))
+    wanted = {
+        "custody_replies_total": "2",
+        'custody_connections_total{end="input_ended"}': "1",
+        'custody_repository_locks_made_total{repository="studio/film"}': "2",
+        'custody_repository_stored_bytes{repository="studio/film"}': "0",
+        'custody_repository_quota_bytes{repository="studio/film"}': "4000000000",
+        'custody_database_bytes{file="database"}': str(os.path.getsize(f"{server.room}/custody.db")),
+        'custody_database_bytes{file="log"}': str(os.path.getsize(f"{server.room}/custody.db-wal")),
+    }
+    for name, value in wanted.items():
+        require(values.get(name) == value, f"{name} is {values.get(name)}, and should be {value}")
+    memory, resident = int(values["process_resident_memory_bytes"]) // 1024, server.memory()
+    require(abs(memory - resident) <= resident // 4, f"{memory} KiB of memory, where the system says {resident}")
+    if shutil.which("promtool"):
+        ran = subprocess.run(["promtool", "check", "metrics"], input=text, capture_output=True, text=True, check=False)
+        require(ran.returncode == 0 and not ran.stderr, f"promtool: {ran.stderr}")
+        return f"{len(values)} values; promtool finds nothing"
+    return f"{len(values)} values; there is no promtool here"
+
+
 def worked(work, commands, faults):
     """Acts until the server is killed, or a reply is wrong."""
     try:
@@ -336,6 +499,11 @@ CHECKS = {
     "terminal": controlled(check_terminal),
     "idle-client": controlled(check_idle_client),
     "under-load": controlled(check_under_load),
+    "hold": controlled(check_hold),
+    "hold-over": controlled(check_hold_over),
+    "stop": controlled(check_stop),
+    "reload": controlled(check_reload),
+    "status": controlled(check_status),
     "killed": controlled(check_killed),
 }
 

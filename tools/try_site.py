@@ -239,6 +239,11 @@ class Site:
         name, *rest = words
         return self.run(self.program, name, "--via", f"{self.room}/control", *rest, may_fail=True)
 
+    def reload(self):
+        """Has the server read its policy again."""
+        status, text = self.via("reload")
+        self.check(status == 0 and text.startswith("policy ok: "), "the policy is read again", text)
+
     def objects(self):
         """How many objects the server has."""
         return len(self.via("objects", "--repo", "studio/film")[1].splitlines())
@@ -316,8 +321,7 @@ def try_tokens(site):
     site.check(status == 0 and text != "pruned 0 tokens\n", "all are removed after that, beside the running server", text)
     # The client does not use what expires within 5 seconds.
     site.write_policy(7)
-    site.end_server()
-    site.start_server()
+    site.reload()
     site.add_files("ann", "expiring", 2000, 1_000)
     site.git("ann", "config", "lfs.concurrenttransfers", "1")
     began = time.monotonic()
@@ -326,8 +330,7 @@ def try_tokens(site):
     site.check(status == 0 and taken > 7, f"a push of 2000 files with tokens of 7 seconds passes, in {taken:.1f} s", text)
     site.git("ann", "config", "lfs.concurrenttransfers", "8")
     site.write_policy(3600)
-    site.end_server()
-    site.start_server()
+    site.reload()
 
 
 def try_restart(site):
@@ -353,6 +356,92 @@ def try_restart(site):
     site.check(status == 0, f"every object is whole: {text.strip()}", text)
     status, text = site.clone("bob", "again")
     site.check(status == 0 and same_files(site, "ann", "again", "restarted"), "a new clone has all files", text)
+
+
+def in_background(site, *words):
+    """Runs Git as ann while the caller goes on. The result returns what it ended with, and what it printed."""
+    ran = []
+    thread = threading.Thread(target=lambda: ran.append(site.git("ann", *words, may_fail=True)))
+    thread.start()
+
+    def result():
+        thread.join()
+        return ran[0]
+
+    return result
+
+
+def try_backup(site):
+    """A copy that examples/backup makes during a push is a whole database with the objects of that moment."""
+    site.add_files("ann", "copied", 300, 100_000)
+    before = site.objects()
+    pushed = in_background(site, "push", "-q", "origin", "main")
+    while site.objects() < before + 20:
+        time.sleep(0.02)
+    Path(site.room, "backups").mkdir()
+    began, least = time.monotonic(), site.objects()
+    environment = dict(site.environment, CUSTODY=site.program)
+    words = [str(TOP / "examples/backup"), f"{site.room}/control", f"{site.room}/db", f"{site.room}/backups", "2"]
+    ran = subprocess.run(words, env=environment, stdout=subprocess.PIPE, stderr=subprocess.STDOUT, text=True, check=False)
+    taken, most = time.monotonic() - began, site.objects()
+    status, text = pushed()
+    site.check(ran.returncode == 0, f"a copy is made during a push, and checked, in {taken:.1f} s: {ran.stdout.strip()}", ran.stdout)
+    site.check(status == 0, "the push passes", text)
+    copies = list(Path(site.room, "backups").iterdir())
+    found = site.run(site.program, "objects", "--db", f"{copies[0]}/db", "--repo", "studio/film", may_fail=True)
+    count = len(found[1].splitlines())
+    site.check(len(copies) == 1 and least <= count <= most, f"the copy has {count} objects: {least} or more", found[1][:200])
+
+
+def try_stop(site):
+    """A server that is stopped during a push breaks no transfer that it has in hand."""
+    site.add_files("ann", "stopped", 300, 100_000)
+    before = site.objects()
+    pushed = in_background(site, "push", "-q", "origin", "main")
+    while site.objects() < before + 20:
+        time.sleep(0.02)
+    status, text = site.via("stop")
+    ended = site.server.wait(timeout=10)
+    printed = site.server.stdout.read().decode()
+    site.server.stdout.close()
+    site.check((status, text, ended) == (0, "", 0) and printed.startswith("served "), f"a server is stopped: {printed.strip()}", text)
+    shutil.copyfile(f"{site.room}/db", f"{site.room}/alone")
+    site.start_server()
+    status, text = pushed()
+    print(f"     a push during which the server was stopped ended with {status}")
+    if status != 0:
+        status, text = site.git("ann", "push", "-q", "origin", "main", may_fail=True)
+    site.check(status == 0 and site.objects() == before + 300, "the push, or the one after it, passes", text)
+    status, text = site.run(site.program, "check", "--db", f"{site.room}/alone", may_fail=True)
+    site.check(status == 0, f"the file alone, without its log, is whole: {text.strip()}", text)
+
+
+def try_reload(site):
+    """A policy with a fault is not taken; one that takes a right away counts at the next push, without a restart."""
+    whole = Path(site.room, "policy.toml").read_text()
+    site.write("policy.toml", whole.replace('effect = "allow"', 'effect = "alow"', 1))
+    status, text = site.via("reload")
+    site.check(status == 1 and text.startswith("custody: policy "), f"a bad policy is refused: {text.splitlines()[0]}", text)
+    site.write("policy.toml", whole.replace('"push", ', ""))
+    site.reload()
+    site.add_files("ann", "denied", 1, 1_000)
+    status, text = site.git("ann", "push", "-q", "origin", "main", may_fail=True)
+    site.check(status != 0 and "P0" in text, "a push without the right is refused in words", text)
+    site.write("policy.toml", whole)
+    site.reload()
+    status, text = site.git("ann", "push", "-q", "origin", "main", may_fail=True)
+    site.check(status == 0, "and passes when the right is there again", text)
+
+
+def try_status(site):
+    status, text = site.via("status")
+    values = [line for line in text.splitlines() if not line.startswith("#")]
+    site.check(status == 0 and len(values) >= 20, f"the status has {len(values)} values", text)
+    if shutil.which("promtool"):
+        status, found = site.run("promtool", "check", "metrics", may_fail=True, given=text)
+        site.check(status == 0 and not found, "promtool finds nothing to say of it", found)
+    status, text = site.via("usage")
+    site.check(status == 0 and "studio/film" in text, f"usage: {' '.join(text.splitlines()[-1].split())}", text)
 
 
 def try_other_requests(site):
@@ -399,7 +488,8 @@ def main():
         site = Site(sys.argv[1], room)
         try:
             site.set_up()
-            for part in (try_push_and_clone, try_locks, try_transfers, try_tokens, try_restart, try_other_requests):
+            parts = (try_push_and_clone, try_locks, try_transfers, try_tokens, try_restart, try_backup, try_stop, try_reload)
+            for part in (*parts, try_status, try_other_requests):
                 part(site)
             try_large_files(site, gibibytes << 30)
         finally:

@@ -17,7 +17,7 @@ SIZES = [0, 1, 5_000, 65_536, 65_537, 300_000, 1_000_000]
 # What a request and a command get if the store refuses.
 REFUSED = (500, b'{"message":"S1: the store refused"}')
 COMMAND_REFUSED = (1, "custody: store G2\n")
-NO_SERVER = (1, "", "custody: control socket\n")
+NO_REPLY = (1, "custody: control socket\n")
 # A moment that is long past.
 NOW = 1463500146
 ABSENT = "0" * 64
@@ -73,7 +73,8 @@ class Work:
         """What the command prints, or None for a refusal."""
         self.unknown = unknown
         ran = via(self.server, *words, given=given)
-        if ran == NO_SERVER and self.is_killed:
+        # What a command has printed before its server is killed says nothing of whether it was done.
+        if (ran[0], ran[2]) == NO_REPLY and self.is_killed:
             raise Killed()
         self.unknown = None
         if self.may_refuse and (ran[0], ran[2]) == COMMAND_REFUSED:

@@ -1,6 +1,6 @@
 -- What the command `policy` answers, the lines that it prints, and those of `migrate`.
-use Rattle.std.specs.Prelude.{ℕ, ◌+◌, ◌-◌, ◌==◌, Bool, true, false, List, [], ◌∷◌, Option, Some, None, codes, decimal, length, ◌++◌, slice_get, if◌then◌else◌}
-use Rattle.model.specs.Policy.{Policy, Row, Decision, allowed, denied}
+use Rattle.std.specs.Prelude.{ℕ, ◌+◌, ◌-◌, ◌==◌, Bool, true, false, List, [], ◌∷◌, Option, Some, None, codes, decimal, ◌++◌, slice_get, if◌then◌else◌}
+use Rattle.model.specs.Policy.{Row, Decision, allowed, denied}
 use Rattle.policy.specs.Covering.{covers}
 use Rattle.tables.specs.declared.rows.Migrated.{Migrated}
 use Rattle.tables.specs.declared.rows.Migrated.TheVariants.{From1, Already}
@@ -28,15 +28,6 @@ covering_from n (other ∷ earlier) row =
 -- the number of the first of the earlier rows that covers the row, counted from 1
 abbrev pub covering_in : List Row → Row → Option ℕ
 covering_in earlier row = covering_from 1 earlier row
-
--- the line with the numbers of repositories and rows
-abbrev pub counts_line : ℕ → ℕ → List ℕ
-counts_line repos rows =
-    codes "policy ok: " ++ decimal repos ++ codes " repositories, " ++ decimal rows ++ codes " rows"
-
--- the line of a policy without a fault
-abbrev pub policy_line : Policy → List ℕ
-policy_line policy = counts_line (length policy.repos) (length policy.rows)
 
 -- the line with the row that decides a question
 abbrev pub decision_line : Decision → List ℕ

@@ -1,18 +1,20 @@
 -- What is asked of a server, what its reply says, and how the program that asked ends.
-use Rattle.std.specs.Prelude.{◌≡◌, ℕ, List, Option, Result, Ok, Err, ⊤}
+use Rattle.std.specs.Prelude.{◌≡◌, ◌⊎◌, ◌++◌, ℕ, List, [], ◌∷◌, flat_map, Option, Some, None, Result, Ok, Err, ⊤}
 use Rattle.std.specs.Io.KnownBytes.{Appends, Consumes}
+use Rattle.std.specs.List.{AllByRecursion}
 use Rattle.control.specs.Requests.{request_bytes}
-use Rattle.control.specs.Replies.{Reply, IsReadAs}
-use Rattle.command_line.specs.declared.args.OperatorCommand.{OperatorCommand}
-use Rattle.command_line.specs.declared.args.OperatorCommand.TheVariants.{PushCheck, Foresee}
-use Rattle.server.specs.Commands.{request_for}
-use Rattle.cli.specs.Reading.{IsReadTo}
+use Rattle.control.specs.Replies.{IsPiece, Piece, output_in, piece_bytes, status_code}
+use Rattle.control.specs.declared.reply.Stream.{Stream}
 use Rattle.control.specs.declared.status.Status.{Status}
 use Rattle.control.specs.declared.status.Status.TheVariants.{Good, Refused, Invalid}
+use Rattle.command_line.specs.declared.args.OperatorCommand.{OperatorCommand}
+use Rattle.command_line.specs.declared.args.OperatorCommand.TheVariants.{PushCheck, Foresee}
 use Rattle.operator.specs.Escapes.{shown}
 use Rattle.operator.specs.declared.escapes.Destination.{Destination}
+use Rattle.server.specs.Commands.{request_for}
 use Rattle.server.specs.declared.faults.Fault.{Fault}
-use Rattle.server.specs.declared.faults.Fault.TheVariants.{Control, Memory, Output, Reported, ReportedInvalid}
+use Rattle.server.specs.declared.faults.Fault.TheVariants.{Control, Memory, Output, Reported, ReportedInvalid, Version}
+use Rattle.cli.specs.Reading.{IsReadTo}
 
 -- how many bytes of its input a command may want: one more than it takes
 abbrev pub wanted_of : OperatorCommand → ℕ
@@ -31,22 +33,58 @@ ending Good = Ok tt
 ending Refused = Err Reported
 ending Invalid = Err ReportedInvalid
 
--- the bytes that were read are those of the reply
-abbrev pub HasReplied : (left rest : Option (List ℕ)) → Reply → Type 0
-HasReplied left rest reply = (bytes : List ℕ) × Consumes left rest bytes × IsReadAs bytes reply
+-- a piece of the output as it is printed; nothing of a piece of the error stream
+abbrev pub shown_piece : Destination → Piece → List ℕ
+shown_piece destination piece = shown destination (output_in piece.stream piece.content)
 
--- the same of a reply with this status, whose output was printed
-abbrev pub HasPrinted : (left rest : Option (List ℕ)) → Destination → (was is : Option (List ℕ)) → Status → Type 0
-HasPrinted left rest destination was is status =
-    (reply : Reply) × HasReplied left rest reply × (reply.status ≡ status) × Appends was is (shown destination reply.output)
+-- the pieces of the output as they are printed
+abbrev pub shown_pieces : Destination → List Piece → List ℕ
+shown_pieces destination pieces = flat_map (shown_piece destination) pieces
 
--- the result is the one that the reply reports, and its output was printed; or there is no reply, or no memory for it, and
--- nothing was printed; or what it says could not be written
-abbrev pub IsReplyPrinted : (left rest : Option (List ℕ)) → Destination → (was is : Option (List ℕ)) → Result ⊤ Fault → Type 0
-IsReplyPrinted left rest destination was is (Ok done) = HasPrinted left rest destination was is Good
-IsReplyPrinted left rest destination was is (Err Reported) = HasPrinted left rest destination was is Refused
-IsReplyPrinted left rest destination was is (Err ReportedInvalid) = HasPrinted left rest destination was is Invalid
-IsReplyPrinted left rest destination was is (Err Control) = is ≡ was
-IsReplyPrinted left rest destination was is (Err Memory) = is ≡ was
-IsReplyPrinted left rest destination was is (Err Output) = (reply : Reply) × HasReplied left rest reply
-IsReplyPrinted left rest destination was is (Err _) = ⊥
+-- a piece was printed; or there was no memory for it, and nothing was printed; or it could not be written
+abbrev pub IsPiecePrinted : Destination → Stream → (content : List ℕ) → (was is : Option (List ℕ)) → Result ⊤ Fault → Type 0
+IsPiecePrinted destination stream content was is (Ok done) =
+    Appends was is (shown_piece destination (record { stream = stream; content = content }))
+IsPiecePrinted destination stream content was is (Err fault) = ((fault ≡ Memory) × (is ≡ was)) ⊎ (fault ≡ Output)
+
+-- there is no whole frame, or no memory for it
+abbrev pub IsUnread : Fault → Type 0
+IsUnread fault = (fault ≡ Control) ⊎ (fault ≡ Memory)
+
+-- a frame was read: a piece, which was printed, or the end with this status; or it was not, and nothing was printed; or what
+-- the piece says could not be written
+abbrev pub IsFramePrinted : (left rest : Option (List ℕ)) → Destination → (was is : Option (List ℕ)) → Result (Option Status) Fault → Type 0
+IsFramePrinted left rest destination was is (Ok None) =
+    (piece : Piece) × IsPiece piece × Consumes left rest (piece_bytes piece) × Appends was is (shown_piece destination piece)
+IsFramePrinted left rest destination was is (Ok (Some status)) =
+    Consumes left rest (status_code status ∷ []) × (is ≡ was)
+IsFramePrinted left rest destination was is (Err fault) = (IsUnread fault × (is ≡ was)) ⊎ (fault ≡ Output)
+
+-- these pieces were read, and printed
+pub record ArePrinted (left rest : Option (List ℕ)) (destination : Destination) (was is : Option (List ℕ)) (pieces : List Piece) : Type 0 where
+  pub range : AllByRecursion IsPiece pieces
+  pub read : Consumes left rest (flat_map piece_bytes pieces)
+  pub printed : Appends was is (shown_pieces destination pieces)
+
+-- the bytes of a reply with this status were read, after these, and the pieces of its output printed
+abbrev pub HasPrinted : (before : List ℕ) → (left rest : Option (List ℕ)) → Destination → (was is : Option (List ℕ)) → Status → Type 0
+HasPrinted before left rest destination was is status =
+    (pieces : List Piece) × AllByRecursion IsPiece pieces
+    × Consumes left rest (before ++ flat_map piece_bytes pieces ++ status_code status ∷ [])
+    × Appends was is (shown_pieces destination pieces)
+
+-- what was printed is that of pieces that were read
+abbrev pub HasBegun : Destination → (was is : Option (List ℕ)) → Type 0
+HasBegun destination was is = (pieces : List Piece) × Appends was is (shown_pieces destination pieces)
+
+-- the result is the one that the reply reports, and its output was printed; or the reply does not end, or there is no memory for
+-- it, and what it says so far was printed; or what it says could not be written
+abbrev pub IsReplyPrinted : (before : List ℕ) → (left rest : Option (List ℕ)) → Destination → (was is : Option (List ℕ)) → Result ⊤ Fault → Type 0
+IsReplyPrinted before left rest destination was is (Ok done) = HasPrinted before left rest destination was is Good
+IsReplyPrinted before left rest destination was is (Err Reported) = HasPrinted before left rest destination was is Refused
+IsReplyPrinted before left rest destination was is (Err ReportedInvalid) = HasPrinted before left rest destination was is Invalid
+IsReplyPrinted before left rest destination was is (Err Version) = is ≡ was
+IsReplyPrinted before left rest destination was is (Err Control) = HasBegun destination was is
+IsReplyPrinted before left rest destination was is (Err Memory) = HasBegun destination was is
+IsReplyPrinted before left rest destination was is (Err Output) = ⊤
+IsReplyPrinted before left rest destination was is (Err _) = ⊥

@@ -4,7 +4,7 @@
 //! success, 1 for a refusal, 2 for invalid arguments. `main` passes the machine's arguments and streams.
 #![tactic(auto)]
 
-mod files;
+mod inputs;
 mod migrating;
 mod opening;
 mod operating;

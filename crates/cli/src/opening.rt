@@ -23,6 +23,9 @@ pub(crate) trait Work: Drop {
     /// The work led a store that held this world to the other store, and ended so.
     ghost leads: { Self → {S : Type 0} → Ghosts S → (old new : tables.Store S) → World → Result ⊤ Fault → Type 0 };
 
+    /// Whether the database is closed afterwards, so that its file holds it without the log.
+    fn closes(&self) -> bool;
+
     /// Does it, and prints what it has to. `Ok` means that all of that was written.
     fn run<S: Storage, K: Sink>(self, store: &mut Store<S>, output: &mut K) -> Result<(), Fault>
         ensures world { From S.Store store.old store.new (λ world.
@@ -44,7 +47,8 @@ fn make_file(rt: &HostRuntime, db: &str) {
         .open(rt, db);
 }
 
-/// Opens the database, making it if it does not exist, and does the work with it.
+/// Opens the database, making it if it does not exist, and does the work with it. If the database could not be closed
+/// then, its file and its log hold it together.
 ///
 /// # Errors
 ///
@@ -60,7 +64,12 @@ pub(crate) fn open_for<S: Start, J: Work, K: Sink>(
 {
     make_file(rt, db);
     let mut store = open_from(rt, db, start)?;
-    work.run(&mut store, output)
+    let closes = work.closes();
+    let done = work.run(&mut store, output);
+    if closes {
+        let _ = store.close();
+    }
+    done
 }
 
 /// Opens the database, making it if it does not exist, and gives it the tables of version 2, if it has those of version 1

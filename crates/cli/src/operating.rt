@@ -3,12 +3,14 @@
 ghost use Rattle.std.specs.Prelude.{◌≡◌, OnOk};
 ghost use Rattle.server.specs.Commands.{RunsAs};
 
-use crate::files::{read_input, read_policy};
+use crate::inputs::read_input;
 use crate::opening::{Work, open_for};
 use command_line::{Files, ForeseeArgs, OperatorCommand, PushArgs, TokenArgs};
 use names::{Sink, Source};
 use operator::{Destination, LONGEST_PATHS, Task, repo_at};
-use server::{Fault, message_in, moment, plain_task, push_of, read_random, token_request};
+use server::{
+    Fault, message_in, moment, plain_task, push_of, read_policy, read_random, token_request,
+};
 use service::LONGEST_MESSAGE;
 use std::alloc::Global;
 use std::io::IsTerminal;
@@ -25,6 +27,10 @@ struct OperatorTask<'a> {
 
 impl Work for OperatorTask<'_> {
     ghost leads = { λ work g old new world ended. RunsAs g old new world work.task.now ended };
+
+    fn closes(&self) -> bool {
+        false
+    }
 
     fn run<S: Storage, K: Sink>(self, store: &mut Store<S>, output: &mut K) -> Result<(), Fault> {
         self.task.run(self.alloc, store, self.destination, output)?;
@@ -153,7 +159,17 @@ pub(crate) fn operate<S: Start, R: Source, K: Sink>(
             let task = Task::Prune(moment(rt, *named)?);
             run_task(rt, files.db, &task, destination, output, start)
         }
-        // The other commands have a plain task.
+        OperatorCommand::Tokens(asked) => {
+            let task = Task::ListTokens(&asked.repo, moment(rt, asked.now)?);
+            run_task(rt, files.db, &task, destination, output, start)
+        }
+        OperatorCommand::Usage(named) => {
+            let now = moment(rt, *named)?;
+            let policy = read_policy(rt, files.policy)?;
+            let task = Task::Usage(&policy, now);
+            run_task(rt, files.db, &task, destination, output, start)
+        }
+        // The other commands have a plain task, or are for a server.
         _ => Err(Fault::Request),
     }
 }

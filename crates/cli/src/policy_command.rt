@@ -6,23 +6,14 @@ ghost use Rattle.policy.specs.Values.{decision_view, policy_view, row_view};
 ghost use Rattle.cli.specs.Answers.{covering_in, is_allowed, number_of, row_numbered};
 ghost use Rattle.command_line.specs.Asking.{asked_view};
 
-use crate::files::read_policy;
-use crate::policy_lines::{decision_line, policy_line, row_line};
+use crate::policy_lines::{decision_line, row_line};
 use command_line::{AskedQuestion, PolicyArgs, PolicyTask};
 use names::Sink;
 use operator::Lines;
-use policy::{Policy, Row, Sentence, Verdict, decide};
-use server::Fault;
+use policy::{Policy, Row, Verdict, decide};
+use server::{Fault, policy_line, read_described};
 use std::alloc::{AllocError, Global};
 use std::rt::HostRuntime;
-
-/// Reads the policy in the file. A fault of its text is described.
-fn read_described(rt: &HostRuntime, path: &str) -> Result<Policy, Fault> {
-    match read_policy(rt, path) {
-        Err(Fault::Policy(fault)) => Err(Fault::PolicyDescribed(Sentence(fault))),
-        read => read,
-    }
-}
 
 /// The policy's verdict on the question.
 fn verdict_on(policy: &Policy, asked: &AskedQuestion) -> Verdict

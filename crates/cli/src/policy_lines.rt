@@ -1,25 +1,11 @@
 //! The lines of the command `policy`.
 
 ghost use Rattle.std.specs.Prelude.{◌≡◌, IfOk, string_bytes};
-ghost use Rattle.policy.specs.Values.{decision_view, policy_view};
-ghost use Rattle.cli.specs.Answers.{counts_line, decision_line, policy_line, row_line};
+ghost use Rattle.policy.specs.Values.{decision_view};
+ghost use Rattle.cli.specs.Answers.{decision_line, row_line};
 
-use policy::{Policy, Verdict};
+use policy::Verdict;
 use std::alloc::{AllocError, Global};
-
-/// The line with the numbers of repositories and rows.
-fn counts_line(alloc: Global, repos: usize, rows: usize) -> Result<String, AllocError>
-    ensures { IfOk result (λ text. string_bytes text ≡ counts_line repos rows) }
-{
-    format!(in alloc; "policy ok: {repos} repositories, {rows} rows")
-}
-
-/// The line of a policy without a fault.
-pub(crate) fn policy_line(alloc: Global, policy: &Policy) -> Result<String, AllocError>
-    ensures { IfOk result (λ text. string_bytes text ≡ policy_line (policy_view policy.now)) }
-{
-    counts_line(alloc, policy.repos().len(), policy.rows().len())
-}
 
 /// The line with the row that decides a question.
 pub(crate) fn decision_line(alloc: Global, verdict: Verdict) -> Result<String, AllocError>

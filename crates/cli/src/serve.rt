@@ -4,19 +4,18 @@ ghost use Rattle.std.specs.Prelude.{◌≡◌, ◌≤◌, OnOk};
 ghost use Rattle.refinement.specs.Left.{From};
 ghost use Rattle.server.specs.Jobs.{ServesAll};
 
-use crate::files::read_policy;
 use crate::opening::{Work, open_for};
 use command_line::ServeArgs;
 use names::Sink;
 use operator::print;
 use policy::Policy;
-use server::{Fault, Server, Sockets, status_after};
+use server::{Fault, Server, Sockets, read_policy, status_after};
 use service::Routes;
 use sockets::{ControlSocket, Limits, Queue, listen};
 use std::alloc::Global;
 use std::io::Write;
 use std::net::TcpListener;
-use std::os::unix::net::UnixListener;
+use std::os::unix::net::{UnixListener, UnixStream};
 use std::rt::HostRuntime;
 use std::time::{Clock, Duration};
 use tables::{Start, Storage, Store};
@@ -69,16 +68,17 @@ struct ServeContext<'a, C> {
 }
 
 impl<C: Clock> ServeContext<'_, C> {
-    /// Serves those who connect at the listeners.
+    /// Serves those who connect at the listeners, first under this policy. Returns the operator who has stopped the server.
     fn serve<S: Storage, K: Sink, E: Write>(
         &self,
         store: &mut Store<S>,
+        policy: Policy,
         listeners: Listeners<'_>,
         output: &mut K,
         errors: &mut E,
-    ) -> Result<(), Fault>
+    ) -> Result<Option<UnixStream>, Fault>
         ensures world { From S.Store store.old store.new (λ world.
-            ServesAll S.Store self.now.server.now.policy.now store.old store.new world) }
+            ServesAll S.Store policy store.old store.new world) }
         ensures good { OnOk result (K.failed output.new ≡ K.failed output.old) }
     {
         let limits = Limits {
@@ -91,35 +91,58 @@ impl<C: Clock> ServeContext<'_, C> {
         let mut machine = Sockets {
             rt: self.rt,
             clock: self.server.clock,
+            policy: self.args.policy,
+            db: self.args.db,
             queue,
         };
         let alloc = self.server.alloc;
         print_start(alloc, self.args.listen, output)?;
         let most = self.args.requests.unwrap_or(u64::MAX);
-        let served = self.server.run(store, &mut machine, most, errors)?;
-        print_count(alloc, served, output)
+        let finish = self.server.run(store, &mut machine, policy, most, errors)?;
+        print_count(alloc, finish.connections, output)?;
+        Ok(finish.stopped_by)
     }
 
     /// The same with a control socket at the path, which is removed in the end.
     fn serve_controlled<S: Storage, K: Sink, E: Write>(
         &self,
         store: &mut Store<S>,
+        policy: Policy,
         clients: &TcpListener,
         path: &str,
         output: &mut K,
         errors: &mut E,
-    ) -> Result<(), Fault>
+    ) -> Result<Option<UnixStream>, Fault>
         ensures world { From S.Store store.old store.new (λ world.
-            ServesAll S.Store self.now.server.now.policy.now store.old store.new world) }
+            ServesAll S.Store policy store.old store.new world) }
         ensures good { OnOk result (K.failed output.new ≡ K.failed output.old) }
     {
         let Ok(control) = ControlSocket::bind(self.rt, path) else {
             return Err(Fault::Control);
         };
         let listeners = listeners_of(clients, control.listener());
-        let served = self.serve(store, listeners, output, errors);
+        let served = self.serve(store, policy, listeners, output, errors);
         control.remove(self.rt);
         served
+    }
+
+    /// Serves with the control socket that the arguments name, if they name one.
+    fn serve_at<S: Storage, K: Sink, E: Write>(
+        &self,
+        store: &mut Store<S>,
+        policy: Policy,
+        listeners: Listeners<'_>,
+        output: &mut K,
+        errors: &mut E,
+    ) -> Result<Option<UnixStream>, Fault>
+        ensures world { From S.Store store.old store.new (λ world.
+            ServesAll S.Store policy store.old store.new world) }
+        ensures good { OnOk result (K.failed output.new ≡ K.failed output.old) }
+    {
+        let Some(path) = self.args.control else {
+            return self.serve(store, policy, listeners, output, errors);
+        };
+        self.serve_controlled(store, policy, listeners.clients, path, output, errors)
     }
 }
 
@@ -127,23 +150,30 @@ impl<C: Clock> ServeContext<'_, C> {
 #[derive(Drop)]
 struct Serving<'a, C, E> {
     context: &'a ServeContext<'a, C>,
+    policy: Policy,
     listeners: Listeners<'a>,
     errors: &'a mut E,
+    /// The operator who has stopped the server. He waits until the database is closed.
+    stopped_by: &'a mut Option<UnixStream>,
 }
 
 impl<C: Clock, E: Write> Work for Serving<'_, C, E> {
-    ghost leads = { λ work g old new world ended. ServesAll g work.context.now.server.now.policy.now old new world };
+    ghost leads = { λ work g old new world ended. ServesAll g work.policy old new world };
+
+    fn closes(&self) -> bool {
+        true
+    }
 
     fn run<S: Storage, K: Sink>(self, store: &mut Store<S>, output: &mut K) -> Result<(), Fault> {
         let Serving {
             context,
+            policy,
             listeners,
             errors,
+            stopped_by,
         } = self;
-        let Some(path) = context.args.control else {
-            return context.serve(store, listeners, output, errors);
-        };
-        context.serve_controlled(store, listeners.clients, path, output, errors)
+        *stopped_by = context.serve_at(store, policy, listeners, output, errors)?;
+        Ok(())
     }
 }
 
@@ -152,7 +182,7 @@ fn serve_bound<C: Clock, S: Start, K: Sink, E: Write>(
     rt: &HostRuntime,
     clock: &C,
     args: &ServeArgs<'_>,
-    policy: &Policy,
+    policy: Policy,
     listeners: Listeners<'_>,
     output: &mut K,
     errors: &mut E,
@@ -163,7 +193,6 @@ fn serve_bound<C: Clock, S: Start, K: Sink, E: Write>(
     let routes = Routes::new(rt.alloc())?;
     let server = Server {
         alloc: rt.alloc(),
-        policy,
         routes: &routes,
         clock,
     };
@@ -172,10 +201,13 @@ fn serve_bound<C: Clock, S: Start, K: Sink, E: Write>(
         server: &server,
         args,
     };
+    let mut operator = None;
     let serving = Serving {
         context: &context,
+        policy,
         listeners,
         errors,
+        stopped_by: &mut operator,
     };
     open_for(rt, args.db, start, serving, output)
 }
@@ -204,7 +236,7 @@ pub(crate) fn serve<S: Start, K: Sink, E: Write>(
         clients: &listener,
         operators: None,
     };
-    serve_bound(rt, rt, args, &policy, listeners, output, errors, start)
+    serve_bound(rt, rt, args, policy, listeners, output, errors, start)
 }
 
 /// Runs the command `serve` over listeners that are bound already, at the moments of a clock, and returns the exit status.
@@ -224,7 +256,7 @@ pub fn serve_listeners<C: Clock, S: Start, K: Sink, E: Write>(
     ensures good { result ≡ 0 → K.failed output.new ≡ K.failed output.old }
 {
     let served = match read_policy(rt, args.policy) {
-        Ok(policy) => serve_bound(rt, clock, args, &policy, listeners, output, errors, start),
+        Ok(policy) => serve_bound(rt, clock, args, policy, listeners, output, errors, start),
         Err(fault) => Err(fault),
     };
     status_after(served, errors).code()

@@ -4,12 +4,11 @@ ghost use Rattle.std.specs.Prelude.{◌≡◌, OnOk};
 ghost use Rattle.desk.specs.Asking.{setting_of};
 ghost use Rattle.cli.specs.Sessions.{IsSession, session_ended};
 
-use crate::files::read_policy;
 use crate::opening::{Work, open_for};
 use command_line::SessionArgs;
 use names::{Moment, Sink, Source};
 use policy::Policy;
-use server::{Fault, is_good, moment};
+use server::{Fault, is_good, moment, read_policy};
 use service::{End, Routes, serve};
 use std::alloc::Global;
 use std::rt::HostRuntime;
@@ -45,6 +44,10 @@ struct Connection<'a, R> {
 impl<R: Source> Work for Connection<'_, R> {
     ghost leads = { λ work g old new world ended. IsSession g
         (setting_of work.context.now.policy.now work.context.now.now) (R.left work.input.now) old new world ended };
+
+    fn closes(&self) -> bool {
+        false
+    }
 
     fn run<S: Storage, K: Sink>(self, store: &mut Store<S>, output: &mut K) -> Result<(), Fault> {
         let Connection {

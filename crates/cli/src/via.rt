@@ -1,18 +1,23 @@
 //! Asks a running server to run a command.
 
-ghost use Rattle.std.specs.Prelude.{◌≡◌, IfOk, OnOk};
-ghost use Rattle.std.specs.Io.KnownBytes.{Appends};
-ghost use Rattle.control.specs.declared.status.Status.TheVariants.{Good};
-ghost use Rattle.cli.specs.Asked.{HasPrinted, IsReplyPrinted, IsRequestFor, ending, wanted_of};
+ghost use Rattle.std.specs.Prelude.{◌≡◌, ◌⊎◌, ℕ, List, Option, [], ◌∷◌, length, IfErr, IfOk, OnOk};
+ghost use Rattle.std.specs.Io.KnownBytes.{Appends, Consumes};
+ghost use Rattle.control.specs.Fields.{field};
+ghost use Rattle.control.specs.Replies.{IsPieceSize};
+ghost use Rattle.control.specs.Versions.{version};
+ghost use Rattle.cli.specs.Asked.{IsFramePrinted, IsPiecePrinted, IsReplyPrinted, IsRequestFor, IsUnread, ending, wanted_of};
 
-use crate::files::{read_input, read_to};
+use crate::inputs::{read_exactly, read_input, skip};
 use command_line::OperatorCommand;
-use control::{LONGEST_REQUEST, Status, read_reply, request_bytes};
+use control::{
+    LONGEST_REQUEST, Start, Status, Stream, VERSION, frame_start, piece_size, request_bytes,
+};
 use names::{Counted, Sink, Source};
 use operator::{Destination, LONGEST_PATHS, print, shown};
 use server::Fault;
 use std::alloc::Global;
 use std::io::{self, Write};
+use std::net::Shutdown;
 use std::os::unix::net::UnixStream;
 use std::rt::HostRuntime;
 
@@ -62,12 +67,154 @@ fn write_errors<E: Write>(errors: &mut E, text: &[u8]) -> io::Result<()> {
     errors.flush()
 }
 
-/// Reads the reply of a server, and prints what its command has printed. The result is that of the command.
+/// Reads the first byte of a reply or of a frame.
 ///
 /// # Errors
 ///
-/// `Control` if there is no reply: the command may have been run all the same. `Reported` and `ReportedInvalid` with the
-/// status that the server has reported, `Output` if the output could not be written, and `Memory`.
+/// `Control` if there is none, and `Memory`.
+fn read_byte<R: Source>(alloc: Global, source: &mut R) -> Result<u8, Fault>
+    ensures byte { IfOk result (λ byte.
+        Consumes (R.left source.old) (R.left source.new) (byte ∷ [])) }
+    ensures err { IfErr result IsUnread }
+{
+    let bytes = read_exactly(alloc, source, 1)?;
+    match bytes.as_slice() {
+        [byte] => Ok(*byte),
+        _ => Err(Fault::Control),
+    }
+}
+
+/// Reads what a piece says, after its stream.
+///
+/// # Errors
+///
+/// `Control` if it is no piece, or not whole, and `Memory`.
+fn read_content<R: Source>(alloc: Global, source: &mut R) -> Result<Vec<u8>, Fault>
+    ensures bytes { IfOk result (λ content.
+        Consumes (R.left source.old) (R.left source.new) (field content.items)) }
+    ensures size { IfOk result (λ content. IsPieceSize (length content.items)) }
+    ensures err { IfErr result IsUnread }
+{
+    let number = read_exactly(alloc, source, 4)?;
+    let [a, b, c, d] = number.as_slice() else {
+        return Err(Fault::Control);
+    };
+    let Some(size) = piece_size([*a, *b, *c, *d]) else {
+        return Err(Fault::Control);
+    };
+    read_exactly(alloc, source, size)
+}
+
+/// How the reply of a server is printed.
+#[derive(Clone, Copy)]
+struct Printing {
+    alloc: Global,
+    destination: Destination,
+}
+
+impl Printing {
+    /// Prints a piece of a stream.
+    ///
+    /// # Errors
+    ///
+    /// `Output` if it could not be written, and `Memory`.
+    fn print_piece<K: Sink, E: Write>(
+        self,
+        stream: Stream,
+        content: &[u8],
+        output: &mut K,
+        errors: &mut E,
+    ) -> Result<(), Fault>
+        ensures printed { IsPiecePrinted self.destination stream content.now
+            (K.taken output.old) (K.taken output.new) result }
+        ensures good { OnOk result (K.failed output.new ≡ K.failed output.old) }
+    {
+        match stream {
+            Stream::Output => {
+                let printed = shown(self.alloc, content, self.destination)?;
+                print(output, printed.as_slice())?;
+                Ok(())
+            }
+            Stream::Errors if write_errors(errors, content).is_err() => Err(Fault::Output),
+            Stream::Errors => Ok(()),
+        }
+    }
+
+    /// Reads a frame of a reply and prints what it says. Returns the status at the end.
+    ///
+    /// # Errors
+    ///
+    /// `Control` if there is no whole frame, `Output` if it could not be written, and `Memory`.
+    fn print_frame<R: Source, K: Sink, E: Write>(
+        self,
+        source: &mut R,
+        output: &mut K,
+        errors: &mut E,
+    ) -> Result<Option<Status>, Fault>
+        ensures frame { IsFramePrinted (R.left source.old) (R.left source.new) self.destination
+            (K.taken output.old) (K.taken output.new) result }
+        ensures good { OnOk result (K.failed output.new ≡ K.failed output.old) }
+    {
+        let Some(start) = frame_start(read_byte(self.alloc, source)?) else {
+            return Err(Fault::Control);
+        };
+        let stream = match start {
+            Start::Piece(stream) => stream,
+            Start::End(status) => return Ok(Some(status)),
+        };
+        let content = read_content(self.alloc, source)?;
+        self.print_piece(stream, content.as_slice(), output, errors)?;
+        Ok(None)
+    }
+
+    /// Reads the frames that are left of a reply, and prints what they say. The result is that of the command.
+    ///
+    /// # Errors
+    ///
+    /// Those of [`print_reply`].
+    fn print_rest<R: Source, K: Sink, E: Write>(
+        self,
+        source: &mut R,
+        output: &mut K,
+        errors: &mut E,
+    ) -> Result<(), Fault>
+        ensures reply { (before : List ℕ) (start : Option (List ℕ)) → Consumes start (R.left source.old) before
+            → IsReplyPrinted before start (R.left source.new) self.destination
+            (K.taken output.old) (K.taken output.new) result }
+        ensures good { OnOk result (K.failed output.new ≡ K.failed output.old) }
+    {
+        'frames: for _ in 0..u64::MAX {
+            if let Some(status) = self.print_frame(source, output, errors)? {
+                return ending(status);
+            }
+        }
+        Err(Fault::Control)
+    }
+}
+
+/// Reads the first byte of a reply.
+///
+/// # Errors
+///
+/// `Control` if there is none, `Version` if it is that of another version, and `Memory`.
+fn read_version<R: Source>(alloc: Global, source: &mut R) -> Result<(), Fault>
+    ensures ok { OnOk result (Consumes (R.left source.old) (R.left source.new) (version ∷ [])) }
+    ensures err { IfErr result (λ fault. IsUnread fault ⊎ (fault ≡ Fault.Version)) }
+{
+    if read_byte(alloc, source)? == VERSION {
+        Ok(())
+    } else {
+        Err(Fault::Version)
+    }
+}
+
+/// Reads the reply of a server, and prints what its command prints, as it comes. The result is that of the command.
+///
+/// # Errors
+///
+/// `Control` if the reply does not end: the command may have been run all the same. `Version` if the server has another
+/// version. `Reported` and `ReportedInvalid` with the status that the server has reported, `Output` if the output could not
+/// be written, and `Memory`.
 pub fn print_reply<R: Source, K: Sink, E: Write>(
     alloc: Global,
     source: &mut R,
@@ -75,22 +222,13 @@ pub fn print_reply<R: Source, K: Sink, E: Write>(
     output: &mut K,
     errors: &mut E,
 ) -> Result<(), Fault>
-    ensures reply { IsReplyPrinted (R.left source.old) (R.left source.new) destination
+    ensures reply { IsReplyPrinted (version ∷ []) (R.left source.old) (R.left source.new) destination
         (K.taken output.old) (K.taken output.new) result }
     ensures good { OnOk result (K.failed output.new ≡ K.failed output.old) }
 {
-    let Some(bytes) = read_to(alloc, source, usize::MAX)? else {
-        return Err(Fault::Control);
-    };
-    let Some(reply) = read_reply(bytes.as_slice()) else {
-        return Err(Fault::Control);
-    };
-    let printed = shown(alloc, reply.output, destination)?;
-    print(output, printed.as_slice())?;
-    if write_errors(errors, reply.errors).is_err() {
-        return Err(Fault::Output);
-    }
-    ending(reply.status)
+    read_version(alloc, source)?;
+    let printing = Printing { alloc, destination };
+    printing.print_rest(source, output, errors)
 }
 
 /// Writes all bytes of a request.
@@ -99,7 +237,8 @@ pub fn print_reply<R: Source, K: Sink, E: Write>(
 ///
 /// `Control` if a write failed.
 fn send<W: Sink>(to: &mut W, request: &[u8]) -> Result<(), Fault>
-    ensures { OnOk result (Appends (W.taken to.old) (W.taken to.new) request.now) }
+    ensures sent { OnOk result (Appends (W.taken to.old) (W.taken to.new) request.now) }
+    ensures err { IfErr result (λ fault. fault ≡ Fault.Control) }
 {
     match print(to, request) {
         Ok(()) => Ok(()),
@@ -132,16 +271,47 @@ impl Question<'_> {
         errors: &mut E,
     ) -> Result<(), Fault>
         ensures asked { OnOk result (Appends (W.taken to.old) (W.taken to.new) self.now.request.now) }
-        ensures reply { OnOk result (HasPrinted (R.left from.old) (R.left from.new)
-            self.now.destination (K.taken output.old) (K.taken output.new) Good) }
+        ensures reply { IsReplyPrinted (version ∷ []) (R.left from.old) (R.left from.new)
+            self.now.destination (K.taken output.old) (K.taken output.new) result }
         ensures good { OnOk result (K.failed output.new ≡ K.failed output.old) }
     {
         send(to, self.request)?;
         print_reply(self.alloc, from, self.destination, output, errors)
     }
+
+    /// The same for a server that is held: after the first piece of the reply was printed, it is held until the input
+    /// ends.
+    fn ask_holding<R: Source, K: Sink, E: Write>(
+        &self,
+        stream: &UnixStream,
+        input: &mut R,
+        output: &mut K,
+        errors: &mut E,
+    ) -> Result<(), Fault>
+        ensures { OnOk result (K.failed output.new ≡ K.failed output.old) }
+    {
+        let alloc = self.alloc;
+        let (mut to, mut from) = (Counted::new(stream), Counted::new(stream));
+        let printing = Printing {
+            alloc,
+            destination: self.destination,
+        };
+        send(&mut to, self.request)?;
+        read_version(alloc, &mut from)?;
+        if let Some(status) = printing.print_frame(&mut from, output, errors)? {
+            return ending(status);
+        }
+        // An input that cannot be read has ended too.
+        let _ = skip(input);
+        if stream.shutdown(Shutdown::Write).is_err() {
+            return Err(Fault::Control);
+        }
+        printing.print_rest(&mut from, output, errors)
+    }
 }
 
-/// Asks the server at the socket to run the command, and prints what the server has printed.
+/// Asks the server at the socket to run the command, and prints what the server prints. The command `stop` waits until the
+/// server has closed its database.
 ///
 /// # Errors
 ///
@@ -167,6 +337,13 @@ pub(crate) fn ask_at<R: Source, K: Sink, E: Write>(
         request: request.as_slice(),
         destination,
     };
+    if let OperatorCommand::Hold(_) = command {
+        return question.ask_holding(&stream, input, output, errors);
+    }
     let (mut to, mut from) = (Counted::new(&stream), Counted::new(&stream));
-    question.ask(&mut to, &mut from, output, errors)
+    let asked = question.ask(&mut to, &mut from, output, errors);
+    if let OperatorCommand::Stop = command {
+        let _ = skip(&mut from);
+    }
+    asked
 }

@@ -4,7 +4,8 @@ ghost use Rattle.std.specs.Prelude.{◌≡◌, ◌≤◌, IfOk, IfSome};
 ghost use Rattle.std.specs.Char.{is_ascii_digit};
 ghost use Rattle.std.specs.List.{list_all};
 ghost use Rattle.command_line.specs.Numbers.{number_in, number_within, moment_in};
-ghost use Rattle.command_line.specs.Ranges.{AreInRange, IsInRange};
+ghost use Rattle.command_line.specs.Ranges.{AreInRange, IsInRange, HasItsServer, NeedsNoServer};
+ghost use Rattle.command_line.specs.Words.{IsCommand, IsHold, IsMoment};
 
 use crate::commands::program;
 use crate::faults::ArgsFault;
@@ -23,6 +24,12 @@ const LONGEST_IDLE: u64 = 86_400;
 
 /// How long a client may idle if no argument says so, in seconds.
 const IDLE: u64 = 10;
+
+/// The longest time for which a server may be held, in seconds.
+pub(crate) const LONGEST_HOLD: u64 = 600;
+
+/// How long a server is held if no argument says so, in seconds.
+const HOLD: u64 = 60;
 
 /// What the arguments ask for.
 #[derive(Debug, Drop)]
@@ -48,6 +55,8 @@ pub enum Command<'a> {
 pub enum OperatorCommand<'a> {
     /// The command `authenticate`.
     Authenticate(TokenArgs<'a>),
+    /// The command `tokens`.
+    Tokens(TokensArgs),
     /// The command `prune`, with the moment that was given.
     Prune(Option<Moment>),
     /// The command `pushcheck`.
@@ -58,6 +67,8 @@ pub enum OperatorCommand<'a> {
     Locks(RepoName),
     /// The command `objects`, with its repository.
     Objects(RepoName),
+    /// The command `usage`, with the moment that was given.
+    Usage(Option<Moment>),
     /// The command `check`.
     Check,
     /// The command `repair`.
@@ -66,6 +77,14 @@ pub enum OperatorCommand<'a> {
     Sweep,
     /// The command `retire`.
     Retire(RetireArgs),
+    /// The command `status`. It is for a server, as those below.
+    Status,
+    /// The command `hold`, with its time in seconds: 1 to 600.
+    Hold(u64),
+    /// The command `reload`.
+    Reload,
+    /// The command `stop`.
+    Stop,
 }
 
 /// The files of a command. A file that the command does not read has an empty name.
@@ -120,6 +139,15 @@ pub struct TokenArgs<'a> {
     pub operation: Operation,
 }
 
+/// The arguments of `tokens`.
+#[derive(Debug, Drop)]
+pub struct TokensArgs {
+    /// The repository whose tokens are listed.
+    pub repo: RepoName,
+    /// The moment at which the tokens are valid; `None` for the clock's.
+    pub now: Option<Moment>,
+}
+
 /// The arguments of `pushcheck`.
 #[derive(Debug, Drop)]
 pub struct PushArgs {
@@ -159,7 +187,7 @@ fn are_digits(text: &[u8]) -> bool
 }
 
 /// The number that 1 to 18 decimal digits write; `None` for any other text.
-fn number_in(text: &str) -> Option<u64>
+pub(crate) fn number_in(text: &str) -> Option<u64>
     ensures { result ≡ number_in text.now }
 {
     if text.is_empty() || text.len() > 18 || !are_digits(text.as_bytes()) {
@@ -182,7 +210,7 @@ fn number_within(text: &str, least: u64, most: u64) -> Option<u64>
 }
 
 /// The moment that 1 to 18 decimal digits write; `None` for any other text.
-pub(crate) fn moment_in(text: &str) -> Option<Moment>
+fn moment_in(text: &str) -> Option<Moment>
     ensures { result ≡ moment_in text.now }
 {
     Moment::read(number_in(text)?)
@@ -212,7 +240,9 @@ pub(crate) fn ref_of(alloc: Global, matches: &ArgMatches<'_>) -> Result<RefName,
 }
 
 /// The moment given with `--now`; `None` if the option is absent.
-fn now_of(matches: &ArgMatches<'_>) -> Result<Option<Moment>, ArgsFault> {
+fn now_of(matches: &ArgMatches<'_>) -> Result<Option<Moment>, ArgsFault>
+    ensures { IfOk result IsMoment }
+{
     match matches.get_str("now") {
         None => Ok(None),
         Some(text) => moment_in(text).map(Some).ok_or(ArgsFault::Value("--now")),
@@ -267,12 +297,23 @@ fn operation_of(matches: &ArgMatches<'_>) -> Operation {
     }
 }
 
-fn token_args<'a>(alloc: Global, matches: &ArgMatches<'a>) -> Result<TokenArgs<'a>, ArgsFault> {
+fn token_args<'a>(alloc: Global, matches: &ArgMatches<'a>) -> Result<TokenArgs<'a>, ArgsFault>
+    ensures { IfOk result (λ args. IsMoment args.now) }
+{
     Ok(TokenArgs {
         user: user_of(alloc, matches)?,
         now: now_of(matches)?,
         path: value_of(matches, "path"),
         operation: operation_of(matches),
+    })
+}
+
+fn tokens_args(alloc: Global, matches: &ArgMatches<'_>) -> Result<TokensArgs, ArgsFault>
+    ensures { IfOk result (λ args. IsMoment args.now) }
+{
+    Ok(TokensArgs {
+        repo: repo_of(alloc, matches)?,
+        now: now_of(matches)?,
     })
 }
 
@@ -284,7 +325,9 @@ fn push_args(alloc: Global, matches: &ArgMatches<'_>) -> Result<PushArgs, ArgsFa
     })
 }
 
-fn foresee_args(alloc: Global, matches: &ArgMatches<'_>) -> Result<ForeseeArgs, ArgsFault> {
+fn foresee_args(alloc: Global, matches: &ArgMatches<'_>) -> Result<ForeseeArgs, ArgsFault>
+    ensures { IfOk result (λ args. IsMoment args.now) }
+{
     Ok(ForeseeArgs {
         user: user_of(alloc, matches)?,
         repo: repo_of(alloc, matches)?,
@@ -305,19 +348,47 @@ fn retire_args(alloc: Global, matches: &ArgMatches<'_>) -> Result<RetireArgs, Ar
     })
 }
 
-/// Parses the arguments of a command of an operator; `None` if the name is of another command.
+/// The time that `hold` was given with `--seconds`, or its default.
+fn hold_seconds(matches: &ArgMatches<'_>) -> Result<u64, ArgsFault>
+    ensures { IfOk result IsHold }
+{
+    Ok(count_of(matches, "seconds", "--seconds", LONGEST_HOLD)?.unwrap_or(HOLD))
+}
+
+/// Parses the arguments of a command that only a server carries out; `None` if the name is of another command.
+fn server_command_of<'a>(
+    name: &str,
+    matches: &ArgMatches<'_>,
+) -> Result<Option<OperatorCommand<'a>>, ArgsFault>
+    ensures { IfOk result (λ command. IfSome command IsCommand) }
+{
+    Ok(match name {
+        "status" => Some(OperatorCommand::Status),
+        "hold" => Some(OperatorCommand::Hold(hold_seconds(matches)?)),
+        "reload" => Some(OperatorCommand::Reload),
+        "stop" => Some(OperatorCommand::Stop),
+        _ => None,
+    })
+}
+
+/// Parses the arguments of a command that needs no server; `None` if the name is of another command.
 fn operator_command_of<'a>(
     alloc: Global,
     name: &str,
     matches: &ArgMatches<'a>,
-) -> Result<Option<OperatorCommand<'a>>, ArgsFault> {
+) -> Result<Option<OperatorCommand<'a>>, ArgsFault>
+    ensures range { IfOk result (λ command. IfSome command IsCommand) }
+    ensures local { IfOk result (λ command. IfSome command NeedsNoServer) }
+{
     Ok(match name {
         "authenticate" => Some(OperatorCommand::Authenticate(token_args(alloc, matches)?)),
+        "tokens" => Some(OperatorCommand::Tokens(tokens_args(alloc, matches)?)),
         "prune" => Some(OperatorCommand::Prune(now_of(matches)?)),
         "pushcheck" => Some(OperatorCommand::PushCheck(push_args(alloc, matches)?)),
         "foresee" => Some(OperatorCommand::Foresee(foresee_args(alloc, matches)?)),
         "locks" => Some(OperatorCommand::Locks(repo_of(alloc, matches)?)),
         "objects" => Some(OperatorCommand::Objects(repo_of(alloc, matches)?)),
+        "usage" => Some(OperatorCommand::Usage(now_of(matches)?)),
         "check" => Some(OperatorCommand::Check),
         "repair" => Some(OperatorCommand::Repair),
         "sweep" => Some(OperatorCommand::Sweep),
@@ -341,7 +412,8 @@ fn command_of<'a>(
     name: &str,
     matches: &ArgMatches<'a>,
 ) -> Result<Option<Command<'a>>, ArgsFault>
-    ensures { IfOk result (λ command. IfSome command IsInRange) }
+    ensures range { IfOk result (λ command. IfSome command IsInRange) }
+    ensures local { IfOk result (λ command. IfSome command HasItsServer) }
 {
     match name {
         "session" => return Ok(Some(Command::Session(session_args(matches)?))),
@@ -349,6 +421,9 @@ fn command_of<'a>(
         "policy" => return Ok(Some(Command::Policy(policy_args(alloc, matches)?))),
         "migrate" => return Ok(Some(Command::Migrate(value_of(matches, "db")))),
         _ => {}
+    }
+    if let Some(command) = server_command_of(name, matches)? {
+        return Ok(Some(Command::Remote(value_of(matches, "via"), command)));
     }
     let Some(command) = operator_command_of(alloc, name, matches)? else {
         return Ok(None);
@@ -370,7 +445,8 @@ fn is_text_asked_for(kind: ErrorKind) -> bool {
 ///
 /// `Rejected` if `clap` rejects them, `Value` if a value is out of range, `Memory`.
 pub fn read_args<'a>(alloc: Global, args: &'a [String]) -> Result<Command<'a>, ArgsFault>
-    ensures { IfOk result IsInRange }
+    ensures range { IfOk result IsInRange }
+    ensures local { IfOk result HasItsServer }
 {
     let mut program = program(alloc)?;
     let matches = match program.try_get_matches_from_mut(args) {

@@ -1,7 +1,8 @@
 //! The commands, as `clap` parses and documents them.
 
-use crate::operator_commands::{OPERATOR_COMMANDS, REPO_HELP};
+use crate::operator_commands::{REPO_HELP, access_commands, storage_commands};
 use crate::parameters::{CommandText, Kind, Parameter, commands_of};
+use crate::server_commands::server_commands;
 use clap::Command;
 use std::alloc::{AllocError, Global};
 
@@ -213,7 +214,9 @@ const OWN_COMMANDS: [CommandText; 4] = [SESSION, SERVE, POLICY_COMMAND, MIGRATE]
 /// The program, with its commands.
 pub(crate) fn program<'a>(alloc: Global) -> Result<Command<'a>, AllocError> {
     let own = commands_of(alloc, OWN_COMMANDS.as_slice())?;
-    let operators = commands_of(alloc, OPERATOR_COMMANDS.as_slice())?;
+    let access = access_commands(alloc)?;
+    let storage = storage_commands(alloc)?;
+    let servers = server_commands(alloc)?;
     Command::new(alloc, "custody")
         .about(ABOUT)
         .version(VERSION)
@@ -221,5 +224,7 @@ pub(crate) fn program<'a>(alloc: Global) -> Result<Command<'a>, AllocError> {
         .subcommand_required(true)
         .arg_required_else_help(true)
         .subcommands(own)?
-        .subcommands(operators)
+        .subcommands(access)?
+        .subcommands(storage)?
+        .subcommands(servers)
 }

@@ -10,11 +10,12 @@ mod faults;
 mod operator_commands;
 mod parameters;
 mod policy_args;
+mod server_commands;
 mod words;
 
 pub use args::{
     Command, Files, ForeseeArgs, OperatorCommand, PushArgs, RetireArgs, ServeArgs, SessionArgs,
-    TokenArgs, read_args,
+    TokenArgs, TokensArgs, read_args,
 };
 pub use faults::ArgsFault;
 pub use parameters::RANDOM;

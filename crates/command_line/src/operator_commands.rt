@@ -1,7 +1,9 @@
-//! The commands of an operator, as `clap` parses them.
+//! The commands of an operator that need no server, as `clap` parses them.
 
 use crate::commands::{DB_HELP, NOW, POLICY_HELP};
-use crate::parameters::{CommandText, Kind, Parameter};
+use crate::parameters::{CommandText, Kind, Parameter, commands_of};
+use clap::Command;
+use std::alloc::{AllocError, Global};
 
 const AUTHENTICATE_ABOUT: &str =
     "Issues a token to a user, and prints what a Git LFS client needs to use it";
@@ -18,6 +20,14 @@ printed line is the only copy of the token.
 
 The status is 0 if the token was issued, 1 if something was refused, and 2 if the arguments are \
 wrong. No token is stored unless the status is 0, except perhaps after a failure of the database (G2).";
+
+const TOKENS_ABOUT: &str = "Lists the valid tokens of a repository";
+
+const TOKENS_LONG_ABOUT: &str = "\
+Lists the valid tokens of a repository.
+
+For each one it prints who has it, for which operation, and until when. A token that has expired is not listed, \
+whether it is removed or not. The tokens themselves are not printed: the database keeps only their SHA-256.";
 
 const PRUNE_ABOUT: &str = "Removes the tokens that have expired, and prints their number";
 
@@ -68,6 +78,17 @@ const OBJECTS_LONG_ABOUT: &str = "\
 Lists the objects of a repository, in rising names.
 
 A line has the object's name, which is its SHA-256, and its size in bytes.";
+
+const USAGE_ABOUT: &str = "Prints what each repository stores, and how much it may store";
+
+const USAGE_LONG_ABOUT: &str = "\
+Prints what each repository stores, and how much it may store.
+
+A line has the repository, the number of its objects, their bytes, its quota, the share of it that is used, the bytes \
+of the uploads that were not completed, the number of locks, and the number of valid tokens.
+
+It reads the list of all objects, which takes about a second for 100000 objects. With --via nothing else is served \
+meanwhile.";
 
 const CHECK_ABOUT: &str = "Hashes every stored object again, and names the damaged ones";
 
@@ -213,6 +234,13 @@ const AUTHENTICATE: CommandText = CommandText {
     parameters: &[DB, VIA, POLICY, USER, NOW, RANDOM_FILE, PATH, OPERATION],
 };
 
+const TOKENS: CommandText = CommandText {
+    name: "tokens",
+    about: TOKENS_ABOUT,
+    long_about: TOKENS_LONG_ABOUT,
+    parameters: &[DB, VIA, REPO, NOW],
+};
+
 const PRUNE: CommandText = CommandText {
     name: "prune",
     about: PRUNE_ABOUT,
@@ -248,6 +276,13 @@ const OBJECTS: CommandText = CommandText {
     parameters: &[DB, VIA, REPO],
 };
 
+const USAGE: CommandText = CommandText {
+    name: "usage",
+    about: USAGE_ABOUT,
+    long_about: USAGE_LONG_ABOUT,
+    parameters: &[DB, VIA, POLICY, NOW],
+};
+
 const CHECK: CommandText = CommandText {
     name: "check",
     about: CHECK_ABOUT,
@@ -276,16 +311,18 @@ const RETIRE: CommandText = CommandText {
     parameters: &[DB, VIA, REPO, OID],
 };
 
-/// The commands of an operator.
-pub(crate) const OPERATOR_COMMANDS: [CommandText; 10] = [
-    AUTHENTICATE,
-    PRUNE,
-    PUSHCHECK,
-    FORESEE,
-    LOCKS,
-    OBJECTS,
-    CHECK,
-    REPAIR,
-    SWEEP,
-    RETIRE,
-];
+/// The commands about tokens, and about what a user may do.
+const ACCESS_COMMANDS: [CommandText; 5] = [AUTHENTICATE, TOKENS, PRUNE, PUSHCHECK, FORESEE];
+
+/// The commands about what is stored.
+const STORAGE_COMMANDS: [CommandText; 7] = [LOCKS, OBJECTS, USAGE, CHECK, REPAIR, SWEEP, RETIRE];
+
+/// The commands about tokens, and about what a user may do, as `clap` takes them.
+pub(crate) fn access_commands<'a>(alloc: Global) -> Result<Vec<Command<'a>>, AllocError> {
+    commands_of(alloc, ACCESS_COMMANDS.as_slice())
+}
+
+/// The commands about what is stored, as `clap` takes them.
+pub(crate) fn storage_commands<'a>(alloc: Global) -> Result<Vec<Command<'a>>, AllocError> {
+    commands_of(alloc, STORAGE_COMMANDS.as_slice())
+}

@@ -2,9 +2,10 @@
 //!
 //! A command has one list of words: its name, and then its arguments in a fixed order.
 
-ghost use Rattle.std.specs.Prelude.{◌≡◌, ◌≢◌, ◌<◌, ◌≤◌, ◌↔◌, ℕ, Option, [], ◌∷◌, ◌++◌, length, map, slice_index, codes, decimal, string_bytes, IsTrue, IfOk, IfErr, IfSome, IfNone};
-ghost use Rattle.command_line.specs.Words.{operation_word, moment_words, command_words, IsMoment, AreNoCommand};
+ghost use Rattle.std.specs.Prelude.{◌≡◌, ◌≢◌, ◌<◌, ◌≤◌, ◌^◌, ◌↔◌, ℕ, Option, [], ◌∷◌, ◌++◌, length, map, slice_index, codes, decimal, string_bytes, IsTrue, IfOk, IfErr, IfSome, IfNone};
+ghost use Rattle.command_line.specs.Words.{operation_word, moment_words, command_words, IsMoment, IsHold, IsCommand, AreNoCommand};
 ghost use Rattle.command_line.specs.declared.args.TokenArgs.{TokenArgs};
+ghost use Rattle.command_line.specs.declared.args.TokensArgs.{TokensArgs};
 ghost use Rattle.command_line.specs.declared.args.PushArgs.{PushArgs};
 ghost use Rattle.command_line.specs.declared.args.ForeseeArgs.{ForeseeArgs};
 ghost use Rattle.command_line.specs.declared.args.RetireArgs.{RetireArgs};
@@ -15,7 +16,10 @@ ghost use Rattle.names.specs.declared.operations.Operation.{Operation};
 ghost use Rattle.names.specs.Texts.{is_hex_64, last_moment};
 ghost use Rattle.names.specs.Names.{user_text, repo_text, ref_text};
 
-use crate::args::{ForeseeArgs, OperatorCommand, PushArgs, RetireArgs, TokenArgs, moment_in};
+use crate::args::{
+    ForeseeArgs, LONGEST_HOLD, OperatorCommand, PushArgs, RetireArgs, TokenArgs, TokensArgs,
+    number_in,
+};
 use crate::faults::ArgsFault;
 use crate::parameters::{DOWNLOAD, UPLOAD};
 use names::{Moment, Oid, Operation, RefName, RepoName, UserName};
@@ -93,21 +97,44 @@ fn has_leading_zero(text: &str) -> bool
     text.len() > 1 && text.starts_with('0')
 }
 
-/// The moment with this decimal; `None` for any other text, as one with a leading zero.
+/// The number with this decimal of at most 18 digits; `None` for any other text, as one with a leading zero.
+fn decimal_in(text: &str) -> Option<u64>
+    ensures some { IfSome result (λ number. text.now ≡ decimal number) }
+    ensures none { IfNone result ((number : ℕ) → number < 10 ^ 18 → text.now ≢ decimal number) }
+{
+    if has_leading_zero(text) {
+        return None;
+    }
+    number_in(text)
+}
+
+/// The moment with this decimal; `None` for any other text.
 fn decimal_moment(text: &str) -> Option<Moment>
     ensures some { IfSome result (λ moment. text.now ≡ decimal moment) }
     ensures none { IfNone result
         ((moment : ℕ) → moment ≤ last_moment → text.now ≢ decimal moment) }
 {
-    if has_leading_zero(text) {
-        return None;
+    Moment::read(decimal_in(text)?)
+}
+
+/// The time of `hold` with this decimal, in seconds; `None` for any other text.
+fn decimal_hold(text: &str) -> Option<u64>
+    ensures some { IfSome result (λ seconds. text.now ≡ decimal seconds) }
+    ensures range { IfSome result IsHold }
+    ensures none { IfNone result ((seconds : ℕ) → IsHold seconds → text.now ≢ decimal seconds) }
+{
+    let seconds = decimal_in(text)?;
+    if 1 <= seconds && seconds <= LONGEST_HOLD {
+        Some(seconds)
+    } else {
+        None
     }
-    moment_in(text)
 }
 
 /// The moment that these words name; `None` if there are no words.
 fn now_in(words: &[String]) -> Result<Option<Moment>, ArgsFault>
     ensures ok { IfOk result (λ now. map string_bytes words.now ≡ moment_words now) }
+    ensures range { IfOk result IsMoment }
     ensures none { IfErr result (λ fault. fault ≡ ArgsFault.NoCommand →
         (now : Option ℕ) → IsMoment now → map string_bytes words.now ≢ moment_words now) }
 {
@@ -125,6 +152,7 @@ fn now_in(words: &[String]) -> Result<Option<Moment>, ArgsFault>
 fn read_token_args<'a>(alloc: Global, words: &'a [String]) -> Result<TokenArgs<'a>, ArgsFault>
     ensures ok { IfOk result (λ args. codes "authenticate" ∷ map string_bytes words.now
         ≡ command_words (OperatorCommand.Authenticate args)) }
+    ensures range { IfOk result (λ args. IsMoment args.now) }
     ensures none { IfErr result (λ fault. fault ≡ ArgsFault.NoCommand →
         (args : TokenArgs) → IsMoment args.now → codes "authenticate" ∷ map string_bytes words.now
         ≢ command_words (OperatorCommand.Authenticate args)) }
@@ -137,6 +165,24 @@ fn read_token_args<'a>(alloc: Global, words: &'a [String]) -> Result<TokenArgs<'
         now: now_in(now)?,
         path: path.as_str(),
         operation: operation_in(operation)?,
+    })
+}
+
+/// The arguments of `tokens` with these words.
+fn read_tokens_args(alloc: Global, words: &[String]) -> Result<TokensArgs, ArgsFault>
+    ensures ok { IfOk result (λ args. codes "tokens" ∷ map string_bytes words.now
+        ≡ command_words (OperatorCommand.Tokens args)) }
+    ensures range { IfOk result (λ args. IsMoment args.now) }
+    ensures none { IfErr result (λ fault. fault ≡ ArgsFault.NoCommand →
+        (args : TokensArgs) → IsMoment args.now → codes "tokens" ∷ map string_bytes words.now
+        ≢ command_words (OperatorCommand.Tokens args)) }
+{
+    let [repo, now @ ..] = words else {
+        return Err(ArgsFault::NoCommand);
+    };
+    Ok(TokensArgs {
+        repo: repo_in(alloc, repo)?,
+        now: now_in(now)?,
     })
 }
 
@@ -162,6 +208,7 @@ fn read_push_args(alloc: Global, words: &[String]) -> Result<PushArgs, ArgsFault
 fn read_foresee_args(alloc: Global, words: &[String]) -> Result<ForeseeArgs, ArgsFault>
     ensures ok { IfOk result (λ args. codes "foresee" ∷ map string_bytes words.now
         ≡ command_words (OperatorCommand.Foresee args)) }
+    ensures range { IfOk result (λ args. IsMoment args.now) }
     ensures none { IfErr result (λ fault. fault ≡ ArgsFault.NoCommand →
         (args : ForeseeArgs) → IsMoment args.now → codes "foresee" ∷ map string_bytes words.now
         ≢ command_words (OperatorCommand.Foresee args)) }
@@ -192,6 +239,7 @@ fn read_repo(alloc: Global, words: &[String]) -> Result<RepoName, ArgsFault>
 fn read_retire_args(alloc: Global, words: &[String]) -> Result<RetireArgs, ArgsFault>
     ensures ok { IfOk result (λ args. codes "retire" ∷ map string_bytes words.now
         ≡ command_words (OperatorCommand.Retire args)) }
+    ensures range { IfOk result (λ args. IsTrue (is_hex_64 args.oid)) }
     ensures none { IfErr result (λ fault. fault ≡ ArgsFault.NoCommand →
         (args : RetireArgs) → IsTrue (is_hex_64 args.oid) → codes "retire" ∷ map string_bytes words.now
         ≢ command_words (OperatorCommand.Retire args)) }
@@ -203,6 +251,22 @@ fn read_retire_args(alloc: Global, words: &[String]) -> Result<RetireArgs, ArgsF
         repo: repo_in(alloc, repo)?,
         oid: oid_in(oid)?,
     })
+}
+
+/// The time of `hold` with this one word, in seconds.
+fn read_hold(words: &[String]) -> Result<u64, ArgsFault>
+    ensures ok { IfOk result (λ seconds. map string_bytes words.now ≡ decimal seconds ∷ []) }
+    ensures range { IfOk result IsHold }
+    ensures none { IfErr result (λ fault. fault ≡ ArgsFault.NoCommand →
+        (seconds : ℕ) → IsHold seconds → map string_bytes words.now ≢ decimal seconds ∷ []) }
+{
+    match words {
+        [word] => match decimal_hold(word) {
+            Some(seconds) => Ok(seconds),
+            None => Err(ArgsFault::NoCommand),
+        },
+        _ => Err(ArgsFault::NoCommand),
+    }
 }
 
 impl TokenArgs<'_> {
@@ -222,6 +286,45 @@ impl TokenArgs<'_> {
             Operation::Upload => UPLOAD,
         }
     }
+
+    /// The words of `authenticate` with these arguments.
+    fn words(&self, alloc: Global) -> Result<Vec<String>, AllocError>
+        ensures { IfOk result (λ words. map string_bytes words.items
+            ≡ command_words (OperatorCommand.Authenticate self.entry.now)) }
+    {
+        let texts = [
+            "authenticate",
+            self.user.as_str(),
+            self.path(),
+            self.operation_word(),
+        ];
+        words_with(alloc, &texts, self.now)
+    }
+}
+
+impl PushArgs {
+    /// The words of `pushcheck` with these arguments.
+    fn words(&self, alloc: Global) -> Result<Vec<String>, AllocError>
+        ensures { IfOk result (λ words. map string_bytes words.items
+            ≡ command_words (OperatorCommand.PushCheck self.now)) }
+    {
+        let texts = [
+            "pushcheck",
+            self.user.as_str(),
+            self.repo.as_str(),
+            self.ref_name.as_str(),
+        ];
+        words_with(alloc, &texts, None)
+    }
+}
+
+/// The words of `hold` with this time in seconds.
+fn hold_words(alloc: Global, seconds: u64) -> Result<Vec<String>, AllocError>
+    ensures { IfOk result (λ words. map string_bytes words.items
+        ≡ command_words (OperatorCommand.Hold seconds)) }
+{
+    let seconds = format!(in alloc; "{seconds}")?;
+    words_with(alloc, &["hold", seconds.as_str()], None)
 }
 
 impl<'a> OperatorCommand<'a> {
@@ -234,32 +337,19 @@ impl<'a> OperatorCommand<'a> {
         ensures { IfOk result (λ words. map string_bytes words.items ≡ command_words self.now) }
     {
         match self {
-            OperatorCommand::Authenticate(args) => {
-                let texts = [
-                    "authenticate",
-                    args.user.as_str(),
-                    args.path(),
-                    args.operation_word(),
-                ];
-                words_with(alloc, &texts, args.now)
+            OperatorCommand::Authenticate(args) => args.words(alloc),
+            OperatorCommand::Tokens(args) => {
+                words_with(alloc, &["tokens", args.repo.as_str()], args.now)
             }
             OperatorCommand::Prune(now) => words_with(alloc, &["prune"], *now),
-            OperatorCommand::PushCheck(args) => {
-                let ref_name = args.ref_name.as_str();
-                let texts = [
-                    "pushcheck",
-                    args.user.as_str(),
-                    args.repo.as_str(),
-                    ref_name,
-                ];
-                words_with(alloc, &texts, None)
-            }
+            OperatorCommand::PushCheck(args) => args.words(alloc),
             OperatorCommand::Foresee(args) => {
                 let texts = ["foresee", args.user.as_str(), args.repo.as_str()];
                 words_with(alloc, &texts, args.now)
             }
             OperatorCommand::Locks(repo) => words_with(alloc, &["locks", repo.as_str()], None),
             OperatorCommand::Objects(repo) => words_with(alloc, &["objects", repo.as_str()], None),
+            OperatorCommand::Usage(now) => words_with(alloc, &["usage"], *now),
             OperatorCommand::Check => words_with(alloc, &["check"], None),
             OperatorCommand::Repair => words_with(alloc, &["repair"], None),
             OperatorCommand::Sweep => words_with(alloc, &["sweep"], None),
@@ -267,6 +357,10 @@ impl<'a> OperatorCommand<'a> {
                 let texts = ["retire", args.repo.as_str(), args.oid.text()];
                 words_with(alloc, &texts, None)
             }
+            OperatorCommand::Status => words_with(alloc, &["status"], None),
+            OperatorCommand::Hold(seconds) => hold_words(alloc, *seconds),
+            OperatorCommand::Reload => words_with(alloc, &["reload"], None),
+            OperatorCommand::Stop => words_with(alloc, &["stop"], None),
         }
     }
 
@@ -277,6 +371,7 @@ impl<'a> OperatorCommand<'a> {
     /// `NoCommand` if the words are those of no command, `Memory`.
     pub fn read(alloc: Global, words: &'a [String]) -> Result<OperatorCommand<'a>, ArgsFault>
         ensures ok { IfOk result (λ command. map string_bytes words.now ≡ command_words command) }
+        ensures range { IfOk result IsCommand }
         ensures none { IfErr result (λ fault.
             fault ≡ ArgsFault.NoCommand → AreNoCommand (map string_bytes words.now)) }
     {
@@ -285,15 +380,21 @@ impl<'a> OperatorCommand<'a> {
         };
         match name.as_str() {
             "authenticate" => Ok(OperatorCommand::Authenticate(read_token_args(alloc, rest)?)),
+            "tokens" => Ok(OperatorCommand::Tokens(read_tokens_args(alloc, rest)?)),
             "prune" => Ok(OperatorCommand::Prune(now_in(rest)?)),
             "pushcheck" => Ok(OperatorCommand::PushCheck(read_push_args(alloc, rest)?)),
             "foresee" => Ok(OperatorCommand::Foresee(read_foresee_args(alloc, rest)?)),
             "locks" => Ok(OperatorCommand::Locks(read_repo(alloc, rest)?)),
             "objects" => Ok(OperatorCommand::Objects(read_repo(alloc, rest)?)),
+            "usage" => Ok(OperatorCommand::Usage(now_in(rest)?)),
             "check" if rest.is_empty() => Ok(OperatorCommand::Check),
             "repair" if rest.is_empty() => Ok(OperatorCommand::Repair),
             "sweep" if rest.is_empty() => Ok(OperatorCommand::Sweep),
             "retire" => Ok(OperatorCommand::Retire(read_retire_args(alloc, rest)?)),
+            "status" if rest.is_empty() => Ok(OperatorCommand::Status),
+            "hold" => Ok(OperatorCommand::Hold(read_hold(rest)?)),
+            "reload" if rest.is_empty() => Ok(OperatorCommand::Reload),
+            "stop" if rest.is_empty() => Ok(OperatorCommand::Stop),
             _ => Err(ArgsFault::NoCommand),
         }
     }

@@ -1,3 +1,4 @@
 pub mod Fields
+pub mod Versions
 pub mod Requests
 pub mod Replies

@@ -1,12 +1,15 @@
 -- A request on the control socket: a command for the running server.
-use Rattle.std.specs.Prelude.{◌≡◌, ◌≢◌, ◌≤◌, ◌<◌, ℕ, List, ◌++◌, length, map, flat_map, All, String, string_bytes}
+use Rattle.std.specs.Prelude.{◌≡◌, ◌≢◌, ◌≤◌, ◌<◌, ◌^◌, ℕ, List, ◌∷◌, ◌++◌, length, map, flat_map, All, String, string_bytes}
 use Rattle.std.specs.Str.{IsUtf8}
 use Rattle.control.specs.Fields.{number_bytes, field}
+use Rattle.control.specs.Versions.{version}
+use Rattle.control.specs.declared.request.PrefixFault.{PrefixFault}
+use Rattle.control.specs.declared.request.PrefixFault.TheVariants as prefix
 use Rattle.control.specs.declared.request.Request as declared
 use Rattle.control.specs.declared.request.RequestFault.{RequestFault}
 use Rattle.control.specs.declared.request.RequestFault.TheVariants.{TooLong, TooManyWords, Memory}
 
--- the most bytes of a request, without the number in front: 16 MiB
+-- the most bytes of a request, without the version and the number in front: 16 MiB
 abbrev pub longest_request : ℕ
 longest_request = 16777216
 
@@ -19,13 +22,17 @@ pub record Request : Type 0 where
   pub input : List ℕ
   pub words : List (List ℕ)
 
--- the bytes of a request, without the number in front: a field of the input, and a field of each word
+-- the bytes of a request, without those in front: a field of the input, and a field of each word
 abbrev pub request_body : Request → List ℕ
 request_body request = field request.input ++ flat_map field request.words
 
--- all the bytes of a request: the number of those that follow, and then those
+-- the bytes in front of a request: the version, and the number of those that follow
+abbrev pub prefix_bytes : ℕ → List ℕ
+prefix_bytes size = version ∷ number_bytes size
+
+-- all the bytes of a request: the version, the number of those that follow, and then those
 abbrev pub request_bytes : Request → List ℕ
-request_bytes request = field (request_body request)
+request_bytes request = version ∷ field (request_body request)
 
 -- the request is in range: it has few words, each is UTF-8, and all of it is short
 pub record IsRequest (request : Request) : Type 0 where
@@ -55,7 +62,23 @@ IsFaultOf TooLong request =
     (length request.words ≤ most_words) × (longest_request < length (request_body request))
 IsFaultOf Memory request = IsRequest request
 
--- these bytes, without the number in front, are those of the request, which is in range
+-- these first bytes are those of another version
+abbrev pub IsOtherVersion : List ℕ → Type 0
+IsOtherVersion front = (rest : List ℕ) → front ≢ version ∷ rest
+
+-- these first bytes say that more follow than a request may have
+pub record IsTooLong (front : List ℕ) : Type 0 where
+  pub size : ℕ
+  pub long : longest_request < size
+  pub fits : size < 2 ^ 32
+  pub is : front ≡ prefix_bytes size
+
+-- the fault says why the first bytes have no size
+abbrev pub IsPrefixFaultOf : PrefixFault → List ℕ → Type 0
+IsPrefixFaultOf prefix.OtherVersion front = IsOtherVersion front
+IsPrefixFaultOf prefix.TooLong front = IsTooLong front
+
+-- these bytes, without those in front, are those of the request, which is in range
 pub record IsReadAs (bytes : List ℕ) (request : Request) : Type 0 where
   pub range : IsRequest request
   pub is : bytes ≡ request_body request

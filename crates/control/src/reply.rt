@@ -1,88 +1,77 @@
-//! Replies: the result of a command.
+//! Replies: what a command writes while it runs, in frames, and how it ended.
 
-ghost use Rattle.std.specs.Prelude.{◌≡◌, IfSome, IfNone, IfOk, IfErr};
-ghost use Rattle.control.specs.Replies.{IsFaultOf, IsNoReply, IsReadAs, reply_of, reply_seen};
-ghost use Rattle.control.specs.declared.reply.ReplyFault.TheVariants.{Memory as no_memory};
+ghost use Rattle.std.specs.Prelude.{◌≡◌, ◌≢◌, ◌∷◌, ℕ, IfSome, IfNone};
+ghost use Rattle.control.specs.Fields.{number_bytes};
+ghost use Rattle.control.specs.Replies.{BeginsNoFrame, IsPieceSize, start_code, stream_code};
 
-use crate::fields::{front_field, push_field};
+use crate::fields::number_in;
 use crate::status::Status;
-use std::alloc::{AllocError, Global};
-use thiserror::Error;
 
-/// The result of a command.
-#[derive(Clone, Copy, Debug)]
-pub struct Reply<'a> {
-    /// How the command ended.
-    pub status: Status,
-    /// What it wrote to its output.
-    pub output: &'a [u8],
-    /// What it wrote to its error stream.
-    pub errors: &'a [u8],
+/// The most bytes of a piece. A piece has at least one.
+pub const LONGEST_PIECE: usize = 65_536;
+
+/// What a piece is written to.
+#[derive(Clone, Copy, Debug, PartialEq, Eq)]
+pub enum Stream {
+    /// The output of the command.
+    Output,
+    /// The error stream of the command.
+    Errors,
 }
 
-/// Why a reply has no bytes.
-#[derive(Clone, Copy, Debug, PartialEq, Eq, Error)]
-pub enum ReplyFault {
-    /// The output or the error stream has 4,294,967,296 bytes or more.
-    #[error("the reply is too long")]
-    TooLong,
-    /// Memory ran out.
-    #[error("no memory")]
-    Memory,
+/// What the first byte of a frame says.
+#[derive(Clone, Copy, Debug, PartialEq, Eq)]
+pub enum Start {
+    /// A piece of this stream. The number of its bytes follows, and then the bytes.
+    Piece(Stream),
+    /// The end of the reply. Nothing follows.
+    End(Status),
 }
 
-impl From<AllocError> for ReplyFault {
-    ghost from_gives = { λ _ fault. fault ≡ no_memory };
-
-    fn from(_: AllocError) -> ReplyFault {
-        ReplyFault::Memory
+impl Stream {
+    /// The byte that the frame of a piece begins with.
+    fn code(self) -> u8
+        ensures { result ≡ stream_code self }
+    {
+        match self {
+            Stream::Output => 3,
+            Stream::Errors => 4,
+        }
     }
 }
 
-/// The most bytes of a field.
-const LONGEST_FIELD: usize = u32::MAX as usize;
-
-/// Returns the bytes of a reply: the exit status in one byte, and then the fields of the output and of
-/// the error stream.
-///
-/// # Errors
-///
-/// `TooLong` exactly if one of them has 4,294,967,296 bytes or more, and else `Memory`.
-pub fn reply_bytes(
-    alloc: Global,
-    status: Status,
-    output: &[u8],
-    errors: &[u8],
-) -> Result<Vec<u8>, ReplyFault>
-    ensures ok { IfOk result (λ bytes.
-        IsReadAs bytes.items (reply_of status output.now errors.now)) }
-    ensures err { IfErr result (λ fault. IsFaultOf fault (reply_of status output.now errors.now)) }
+/// Returns the bytes in front of a piece of `size` bytes, 1 to [`LONGEST_PIECE`]: the stream in one byte,
+/// and the size in four.
+pub fn piece_head(stream: Stream, size: usize) -> [u8; 5]
+    requires { IsPieceSize size }
+    ensures { result ≡ stream_code stream ∷ number_bytes size }
 {
-    if output.len() > LONGEST_FIELD || errors.len() > LONGEST_FIELD {
-        return Err(ReplyFault::TooLong);
-    }
-    let mut bytes = Vec::with_capacity(alloc, output.len() + errors.len() + 9)?;
-    bytes.push(status.code()).map_err(|_| ReplyFault::Memory)?;
-    push_field(&mut bytes, output)?;
-    push_field(&mut bytes, errors)?;
-    Ok(bytes)
+    let [a, b, c, d] = (size as u32).to_be_bytes();
+    [stream.code(), a, b, c, d]
 }
 
-/// Returns the reply of which these are all the bytes; `None` if they are no reply.
-pub fn read_reply(bytes: &[u8]) -> Option<Reply<'_>>
-    ensures some { IfSome result (λ reply. IsReadAs bytes.now (reply_seen reply)) }
-    ensures none { IfNone result (IsNoReply bytes.now) }
+/// Returns what the first byte of a frame says; `None` if no frame begins with this byte.
+pub fn frame_start(byte: u8) -> Option<Start>
+    ensures some { IfSome result (λ start. start_code start ≡ byte) }
+    ensures none { IfNone result (BeginsNoFrame byte) }
 {
-    let (code, rest) = bytes.split_first()?;
-    let status = Status::of_code(*code)?;
-    let (output, rest) = front_field(rest)?;
-    let (errors, rest) = front_field(rest)?;
-    if !rest.is_empty() {
+    match byte {
+        3 => Some(Start::Piece(Stream::Output)),
+        4 => Some(Start::Piece(Stream::Errors)),
+        _ => Some(Start::End(Status::of_code(byte)?)),
+    }
+}
+
+/// Returns how many bytes a piece has, from the four bytes after its stream; `None` if no piece has this
+/// size: it is 0, or over [`LONGEST_PIECE`].
+pub fn piece_size(number: [u8; 4]) -> Option<usize>
+    ensures some { IfSome result (λ size. number_bytes size ≡ number) }
+    ensures within { IfSome result (λ size. IsPieceSize size) }
+    ensures none { IfNone result ((size : ℕ) → IsPieceSize size → number_bytes size ≢ number) }
+{
+    let size = number_in(&number);
+    if size == 0 || size > LONGEST_PIECE {
         return None;
     }
-    Some(Reply {
-        status,
-        output,
-        errors,
-    })
+    Some(size)
 }

@@ -1,16 +1,17 @@
 //! Requests: a command for the running server.
 
-ghost use Rattle.std.specs.Prelude.{◌≡◌, ◌≢◌, ◌++◌, ◌+◌, ◌<◌, ◌≤◌, ℕ, List, length, map, flat_map, string_bytes, IfSome, IfNone, IfOk, IfErr, OnOk};
-ghost use Rattle.control.specs.Fields.{number_bytes, field, BeginsWith, BeginsWithNoText};
-ghost use Rattle.control.specs.Requests.{AreWords, longest_request, most_words, IsReadAs, IsNoRequest, IsFaultOf, IsRequest, request_body, request_bytes, request_of, request_seen};
+ghost use Rattle.std.specs.Prelude.{◌≡◌, ◌++◌, ◌+◌, ◌<◌, ◌≤◌, ℕ, List, length, map, flat_map, string_bytes, IfSome, IfNone, IfOk, IfErr, OnOk};
+ghost use Rattle.control.specs.Fields.{field, BeginsWith, BeginsWithNoText};
+ghost use Rattle.control.specs.Requests.{AreWords, longest_request, most_words, IsReadAs, IsNoRequest, IsFaultOf, IsPrefixFaultOf, IsRequest, prefix_bytes, request_body, request_bytes, request_of, request_seen};
 ghost use Rattle.control.specs.declared.request.RequestFault.TheVariants.{Memory as no_memory};
 
 use crate::fields::{front_field, number_in, push_field, push_number};
+use crate::version::VERSION;
 use std::alloc::{AllocError, Global};
 use std::str;
 use thiserror::Error;
 
-/// The most bytes of a request, without the four in front: 16 MiB.
+/// The most bytes of a request, without the five in front: 16 MiB.
 pub const LONGEST_REQUEST: usize = 16 * 1024 * 1024;
 
 /// The most words of a request.
@@ -39,6 +40,17 @@ pub enum RequestFault {
     Memory,
 }
 
+/// Why the first bytes of a request have no size.
+#[derive(Clone, Copy, Debug, PartialEq, Eq, Error)]
+pub enum PrefixFault {
+    /// The first byte is not [`VERSION`].
+    #[error("the request has another version")]
+    OtherVersion,
+    /// It is, and more than [`LONGEST_REQUEST`] bytes follow.
+    #[error("the request is too long")]
+    TooLong,
+}
+
 impl From<AllocError> for RequestFault {
     ghost from_gives = { λ _ fault. fault ≡ no_memory };
 
@@ -61,7 +73,7 @@ fn size_with(size: usize, content: &[u8]) -> Option<usize>
     Some(total)
 }
 
-/// The number of bytes of a request, without the four in front; `None` if that is over the longest request.
+/// The number of bytes of a request, without the five in front; `None` if that is over the longest request.
 fn body_size(input: &[u8], words: &[String]) -> Option<usize>
     ensures some { IfSome result (λ size.
         size ≡ length (request_body (request_of input.now words.now))) }
@@ -88,7 +100,7 @@ fn push_words(bytes: &mut Vec<u8>, words: &[String]) -> Result<(), AllocError>
     Ok(())
 }
 
-/// The bytes of a request in range, of which `size` follow the first four.
+/// The bytes of a request in range, of which `size` follow the first five.
 fn write_request(
     alloc: Global,
     size: usize,
@@ -99,15 +111,16 @@ fn write_request(
     requires within { size ≤ longest_request }
     ensures { IfOk result (λ bytes. bytes.items ≡ request_bytes (request_of input.now words.now)) }
 {
-    let mut bytes = Vec::with_capacity(alloc, size + 4)?;
+    let mut bytes = Vec::with_capacity(alloc, size + 5)?;
+    bytes.push(VERSION)?;
     push_number(&mut bytes, size)?;
     push_field(&mut bytes, input)?;
     push_words(&mut bytes, words)?;
     Ok(bytes)
 }
 
-/// Returns the bytes of a request: the number of those that follow in four bytes, and then the fields of
-/// the input and of each word.
+/// Returns the bytes of a request: the version, the number of those that follow in four bytes, and then
+/// the fields of the input and of each word.
 ///
 /// # Errors
 ///
@@ -128,19 +141,26 @@ pub fn request_bytes(alloc: Global, input: &[u8], words: &[String]) -> Result<Ve
     Ok(write_request(alloc, size, input, words)?)
 }
 
-/// Returns how many bytes of a request follow its first four; `None` if they are more than
-/// [`LONGEST_REQUEST`], and no request begins like this.
-pub fn request_size(prefix: [u8; 4]) -> Option<usize>
-    ensures some { IfSome result (λ size. number_bytes size ≡ prefix) }
-    ensures within { IfSome result (λ size. size ≤ longest_request) }
-    ensures none { IfNone result
-        ((size : ℕ) → size ≤ longest_request → number_bytes size ≢ prefix) }
+/// Returns how many bytes of a request follow its first five, which are the version and a number.
+///
+/// # Errors
+///
+/// `OtherVersion` exactly if the first byte is not [`VERSION`], and else `TooLong` exactly if more than
+/// [`LONGEST_REQUEST`] bytes follow.
+pub fn request_size(prefix: [u8; 5]) -> Result<usize, PrefixFault>
+    ensures ok { IfOk result (λ size. prefix_bytes size ≡ prefix) }
+    ensures within { IfOk result (λ size. size ≤ longest_request) }
+    ensures err { IfErr result (λ fault. IsPrefixFaultOf fault prefix) }
 {
-    let size = number_in(&prefix);
-    if size > LONGEST_REQUEST {
-        return None;
+    let [version, a, b, c, d] = prefix;
+    if version != VERSION {
+        return Err(PrefixFault::OtherVersion);
     }
-    Some(size)
+    let size = number_in(&[a, b, c, d]);
+    if size > LONGEST_REQUEST {
+        return Err(PrefixFault::TooLong);
+    }
+    Ok(size)
 }
 
 /// The word at the front, and the bytes after it; `None` if there is no whole field, or it is not UTF-8.
@@ -178,7 +198,7 @@ fn read_words(alloc: Global, bytes: &[u8]) -> Result<Option<Vec<String>>, AllocE
     Ok(Some(words))
 }
 
-/// Returns the request of which these are all the bytes, without the four in front; `None` if they are
+/// Returns the request of which these are all the bytes, without the five in front; `None` if they are
 /// no request. The words are copied, and the input is not.
 ///
 /// # Errors

@@ -26,8 +26,8 @@ impl Status {
         }
     }
 
-    /// Returns the status of a number; `None` above 2.
-    pub fn of_code(code: u8) -> Option<Status>
+    /// The status of a number; `None` above 2.
+    pub(crate) fn of_code(code: u8) -> Option<Status>
         ensures some { IfSome result (λ status. status_code status ≡ code) }
         ensures none { IfNone result ((status : Status) → status_code status ≢ code) }
     {

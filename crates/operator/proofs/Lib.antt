@@ -11,3 +11,6 @@ mod Foretold
 mod Removed
 mod Damaged
 mod Listed
+mod Aligned
+mod Valid
+mod Counted

@@ -4,7 +4,7 @@ use Rattle.sqlite_trees.specs.declared.store.Store.{Ghosts}
 use Rattle.tables.specs.declared.Store.{Store}
 use Rattle.operator.specs.declared.faults.TaskFault.{TaskFault}
 use Rattle.operator.specs.declared.tasks.Task.{Task}
-use Rattle.operator.specs.declared.tasks.Task.TheVariants.{Issue, Prune, CheckPush, Foresee, ListLocks, ListObjects, CheckObjects, Repair, Sweep, Retire}
+use Rattle.operator.specs.declared.tasks.Task.TheVariants.{Issue, Prune, CheckPush, Foresee, ListLocks, ListObjects, ListTokens, Usage, CheckObjects, Repair, Sweep, Retire}
 use Rattle.operator.specs.Failing.{Attempts}
 use Rattle.operator.specs.Tasks.{Does, FailsAs, HasDone, HasEnded, IsStepOf, Ran, WorksAs}
 
@@ -114,6 +114,8 @@ module _ {S : Type 0} (g : Ghosts S) where
   does_as a b (Foresee asked) world d = as_still (λ steps kept. HasDone world (Foresee asked) steps) a b world d.0 (d.1, refl)
   does_as a b (ListLocks repo) world d = as_still (λ steps kept. HasDone world (ListLocks repo) steps) a b world d refl
   does_as a b (ListObjects repo) world d = as_still (λ steps kept. HasDone world (ListObjects repo) steps) a b world d refl
+  does_as a b (ListTokens repo now) world d = as_still (λ steps kept. HasDone world (ListTokens repo now) steps) a b world d refl
+  does_as a b (Usage policy now) world d = as_still (λ steps kept. HasDone world (Usage policy now) steps) a b world d refl
   does_as a b (CheckObjects terminal) world d = as_still (λ steps kept. HasDone world (CheckObjects terminal) steps) a b world d refl
   does_as a b (Repair terminal) world d = as_still (λ steps kept. HasDone world (Repair terminal) steps) a b world d.0 refl
 

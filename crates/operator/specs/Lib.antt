@@ -11,3 +11,6 @@ pub mod Works
 pub mod Reached
 pub mod Tasks
 pub mod Damage
+pub mod Tokens
+pub mod Columns
+pub mod Usage

@@ -1,6 +1,9 @@
 -- What the commands print.
-use Rattle.std.specs.Prelude.{ℕ, ◌++◌, List, Option, Some, None, codes, decimal}
+use Rattle.std.specs.Prelude.{ℕ, ◌++◌, List, take, Option, Some, None, codes, decimal}
+use Rattle.hex.specs.Hex.{encode_lower}
 use Rattle.names.specs.Rules.{row_of}
+use Rattle.names.specs.declared.operations.Operation.{Operation}
+use Rattle.names.specs.declared.operations.Operation.TheVariants.{Download, Upload}
 use Rattle.names.specs.declared.rules.Rule.{Rule}
 use Rattle.model.specs.Policy as model
 use Rattle.model.specs.Answers.{Action}
@@ -27,6 +30,16 @@ lock_line l moment =
 -- the line of an object
 abbrev pub object_line : List ℕ → ℕ → List ℕ
 object_line name size = name ++ codes " " ++ decimal size
+
+-- the word for an operation
+abbrev pub operation_word : Operation → List ℕ
+operation_word Download = codes "download"
+operation_word Upload = codes "upload"
+
+-- the line of a valid token, with the text of its moment of expiry and the first 8 digits of its digest
+abbrev pub valid_token_line : (user : List ℕ) → Operation → (moment digest : List ℕ) → List ℕ
+valid_token_line user operation moment digest =
+    user ++ codes " " ++ operation_word operation ++ codes " " ++ moment ++ codes " " ++ encode_lower (take 4 digest)
 
 -- the line of a damaged object
 abbrev pub damage_line : List ℕ → List ℕ → List ℕ

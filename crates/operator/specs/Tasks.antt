@@ -23,7 +23,7 @@ use Rattle.operator.specs.declared.faults.TaskFault.TheVariants.{NoCaller, Repor
 use Rattle.operator.specs.declared.foreseeing.Foresight.{Foresight}
 use Rattle.operator.specs.declared.pushing.Push.{Push}
 use Rattle.operator.specs.declared.tasks.Task.{Task}
-use Rattle.operator.specs.declared.tasks.Task.TheVariants.{Issue, Prune, CheckPush, Foresee, ListLocks, ListObjects, CheckObjects, Repair, Sweep, Retire}
+use Rattle.operator.specs.declared.tasks.Task.TheVariants.{Issue, Prune, CheckPush, Foresee, ListLocks, ListObjects, ListTokens, Usage, CheckObjects, Repair, Sweep, Retire}
 
 -- ---- success
 
@@ -49,6 +49,8 @@ Does g old new world (CheckPush push) = Leads g old new world (λ bound. bound) 
 Does g old new world (Foresee asked) = Leads g old new world (λ bound. bound) × HasForetold world asked
 Does g old new world (ListLocks repo) = Leads g old new world (λ bound. bound)
 Does g old new world (ListObjects repo) = Leads g old new world (λ bound. bound)
+Does g old new world (ListTokens repo now) = Leads g old new world (λ bound. bound)
+Does g old new world (Usage policy now) = Leads g old new world (λ bound. bound)
 Does g old new world (CheckObjects terminal) = Leads g old new world (λ bound. bound)
 Does g old new world (Repair terminal) = Leads g old new world (λ bound. bound) × KeepsTables g old new
 

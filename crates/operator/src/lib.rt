@@ -1,12 +1,14 @@
-//! The commands of an operator, over an open database: tokens are issued and removed, locks and objects are listed, the
-//! paths of a push are checked, replies are foreseen, objects are hashed again, and uploads that were not completed,
-//! objects that may not be kept, and objects that are damaged, are removed.
+//! The commands of an operator, over an open database: tokens are issued and removed, locks, objects, tokens and what
+//! each repository uses are listed, the paths of a push are checked, replies are foreseen, objects are hashed again, and
+//! uploads that were not completed, objects that may not be kept, and objects that are damaged, are removed.
 //!
 //! A [`Task`] is a command whose words, files and input were read. [`Task::run`] writes what the command prints. It is
 //! the same over a database that was opened for the command, and over one that a running server has open.
 #![tactic(auto)]
 
 mod checking;
+mod columns;
+mod counting;
 mod escapes;
 mod faults;
 mod foreseeing;
@@ -14,6 +16,8 @@ mod issuing;
 mod lines;
 mod listing_locks;
 mod listing_objects;
+mod listing_tokens;
+mod listing_usage;
 mod output;
 mod paths;
 mod pruning;

@@ -1,19 +1,20 @@
-//! The lines of locks, objects, verdicts and foreseen replies.
+//! The lines of locks, objects, tokens, verdicts and foreseen replies.
 
 ghost use Rattle.std.specs.Prelude.{◌≡◌, ℕ, List, IfOk, string_bytes};
-ghost use Rattle.names.specs.Names.{path_text, repo_text};
+ghost use Rattle.names.specs.Names.{path_text, repo_text, user_text};
 ghost use Rattle.names.specs.Moments.{IsMomentText};
 ghost use Rattle.pushcheck.specs.Verdicts.{verdict_view};
 ghost use Rattle.locks.specs.Finding.{lock_seen};
-ghost use Rattle.operator.specs.Lines.{content_line, damage_line, lock_line, object_line, removal_line, reply_line, verdict_line};
+ghost use Rattle.operator.specs.Lines.{content_line, damage_line, lock_line, object_line, operation_word, removal_line, reply_line, valid_token_line, verdict_line};
 ghost use Rattle.operator.specs.Escapes.{shown};
 
 use crate::escapes::{Destination, shown};
 use desk::Reply;
 use locks::Lock;
-use names::{LockPath, Oid, Size, moment_text};
+use names::{LockPath, Oid, Operation, Size, moment_text};
 use pushcheck::PushVerdict;
 use std::alloc::{AllocError, Global};
+use tables::TokenRow;
 use uploads::Stored;
 
 /// The line with the verdict on a path of a push.
@@ -77,6 +78,42 @@ pub(crate) fn object_line(alloc: Global, row: &Stored) -> Result<String, AllocEr
 {
     let (name, size) = (row.oid.text(), row.size.get());
     format!(in alloc; "{name} {size}")
+}
+
+/// The word for an operation, as `authenticate` takes it.
+fn operation_word(operation: Operation) -> &'static str
+    ensures { result.now ≡ operation_word operation }
+{
+    match operation {
+        Operation::Download => "download",
+        Operation::Upload => "upload",
+    }
+}
+
+/// The line of a valid token. It has only the first 8 digits of the digest.
+fn valid_token_line(alloc: Global, row: &TokenRow) -> Result<String, AllocError>
+    ensures { IfOk result (λ text. (moment : List ℕ) × IsMomentText row.now.expires moment
+        × (string_bytes text
+        ≡ valid_token_line (user_text row.now.user) row.now.operation moment row.now.digest)) }
+{
+    let (user, operation) = (row.user.as_str(), operation_word(row.operation));
+    let moment = moment_text(alloc, row.expires)?;
+    let digits = hex::encode(alloc, &row.digest[..4])?;
+    format!(in alloc; "{user} {operation} {moment} {digits}")
+}
+
+/// The same, as it is written.
+pub(crate) fn shown_token(
+    alloc: Global,
+    row: &TokenRow,
+    destination: Destination,
+) -> Result<Vec<u8>, AllocError>
+    ensures { IfOk result (λ bytes. (moment : List ℕ) × IsMomentText row.now.expires moment
+        × (bytes.items ≡ shown destination
+        (valid_token_line (user_text row.now.user) row.now.operation moment row.now.digest))) }
+{
+    let line = valid_token_line(alloc, row)?;
+    shown(alloc, line.as_bytes(), destination)
 }
 
 /// The line of a damaged object.

@@ -11,6 +11,8 @@ use crate::foreseeing::{Foresight, print_foreseen};
 use crate::issuing::grant;
 use crate::listing_locks::list_locks;
 use crate::listing_objects::list_objects;
+use crate::listing_tokens::list_tokens;
+use crate::listing_usage::list_usage;
 use crate::pruning::prune;
 use crate::pushing::{Push, check_push};
 use crate::repairing::repair;
@@ -38,6 +40,11 @@ pub enum Task<'a> {
     ListLocks(&'a RepoName),
     /// List the objects of the repository.
     ListObjects(&'a RepoName),
+    /// List the tokens for the repository that are valid at the moment.
+    ListTokens(&'a RepoName, Moment),
+    /// Print what each repository of the policy uses, with the tokens that are valid at the moment. Repositories that the
+    /// database has and the policy does not are not listed.
+    Usage(&'a Policy, Moment),
     /// Hash the objects of all repositories again. Shows how far it is on the terminal, if there is one.
     CheckObjects(Option<&'a Stderr>),
     /// Remove the objects of all repositories that are damaged. Shows how far it is on the terminal, if there is one.
@@ -79,6 +86,10 @@ impl Task<'_> {
             Task::Foresee(asked) => print_foreseen(alloc, store, asked, destination, output),
             Task::ListLocks(repo) => list_locks(alloc, store, repo, destination, output),
             Task::ListObjects(repo) => list_objects(alloc, store, repo, output),
+            Task::ListTokens(repo, now) => {
+                list_tokens(alloc, store, repo, *now, destination, output)
+            }
+            Task::Usage(policy, now) => list_usage(alloc, store, policy, *now, output),
             Task::CheckObjects(terminal) => check_objects(alloc, store, *terminal, output),
             Task::Repair(terminal) => repair(alloc, store, *terminal, output),
             Task::Sweep => sweep(alloc, store, output),

@@ -6,9 +6,10 @@ use crate::messages::MESSAGE;
 use crate::program::{Ran, path_of, prepare, remove, run, serve_args, words};
 use crate::transcript::{POLICY, perform};
 use cli::{Destination, Listeners, Question, request_of, serve_listeners};
-use command_line::{Command, read_args};
-use control::{Status, request_bytes};
+use command_line::{Command, OperatorCommand, read_args};
+use control::request_bytes;
 use names::{SliceSource, VecSink};
+use server::status_after;
 use std::io::{Read, Write};
 use std::net::{Shutdown, TcpListener, TcpStream};
 use std::os::unix::net::{UnixListener, UnixStream};
@@ -16,16 +17,39 @@ use std::rt::HostRuntime;
 use std::{fs, str};
 use tables::Unknown;
 
-/// Serves a client that sends no head, and an operator who sends these bytes. Returns the bytes of the reply; asserts that
-/// the server reports on its error stream if there is none.
-fn call(rt: &impl Tester, host: &HostRuntime, folder: &str, request: &[u8]) -> Vec<u8> {
+/// What an operator sends to a server, and what the server is expected to do.
+#[derive(Clone, Copy)]
+struct Asked<'a> {
+    request: &'a [u8],
+    /// Whether the operator closes his side after the request.
+    closes: bool,
+    /// How many connections are served in the end.
+    served: u8,
+    /// What the server reports on its error stream.
+    report: &'a str,
+}
+
+/// A request after which the operator closes his side, and a client is served.
+fn request(request: &[u8]) -> Asked<'_> {
+    Asked {
+        request,
+        closes: true,
+        served: 1,
+        report: "",
+    }
+}
+
+/// Serves an operator, and a client that sends no head. Returns the bytes of the reply.
+fn call(rt: &impl Tester, host: &HostRuntime, folder: &str, asked: Asked<'_>) -> Vec<u8> {
     let (db, policy) = (path_of(rt, folder, "db"), path_of(rt, folder, "policy"));
     let socket = path_of(rt, folder, "socket");
     let clients = unwrap(rt, TcpListener::bind(host, "127.0.0.1:0"));
     let operators = unwrap(rt, UnixListener::bind(host, socket.as_str()));
     let mut operator = unwrap(rt, UnixStream::connect(host, socket.as_str()));
-    unwrap(rt, operator.write_all(request));
-    unwrap(rt, operator.shutdown(Shutdown::Write));
+    unwrap(rt, operator.write_all(asked.request));
+    if asked.closes {
+        unwrap(rt, operator.shutdown(Shutdown::Write));
+    }
     let address = unwrap(rt, clients.local_addr());
     let mut client = unwrap(rt, TcpStream::connect(host, address));
     unwrap(rt, client.write_all(b"no head\r\n\r\n"));
@@ -47,16 +71,16 @@ fn call(rt: &impl Tester, host: &HostRuntime, folder: &str, request: &[u8]) -> V
         Unknown,
     );
     assert!(rt; status == 0);
-    assert!(rt; output.taken() == b"listening on here\nserved 1 connections\n".as_slice());
+    let served = asked.served;
+    let printed = unwrap(
+        rt,
+        format!(in rt.alloc(); "listening on here\nserved {served} connections\n"),
+    );
+    assert!(rt; output.taken() == printed.as_bytes());
     unwrap(rt, fs::remove_file(host, socket.as_str()));
     let mut reply = Vec::new(rt.alloc());
     unwrap(rt, operator.read_to_end(&mut reply));
-    let report: &[u8] = if reply.is_empty() {
-        b"custody: operator not answered\n"
-    } else {
-        b""
-    };
-    assert!(rt; errors.as_slice() == report);
+    assert!(rt; errors.as_slice() == asked.report.as_bytes());
     reply
 }
 
@@ -73,10 +97,7 @@ fn ran_of(rt: &impl Tester, request: &[u8], reply: &[u8]) -> Ran {
     let mut from = SliceSource::new(reply, 5);
     let ended = question.ask(&mut to, &mut from, &mut output, &mut errors);
     assert!(rt; to.taken() == request);
-    let status = match ended {
-        Ok(()) => Status::Good,
-        Err(fault) => fault.status(),
-    };
+    let status = status_after(ended, &mut errors);
     Ran {
         status: status.code(),
         output: unwrap(rt, output.taken().to_vec(rt.alloc())),
@@ -98,9 +119,13 @@ pub(crate) fn run_via(
         return run(rt, host, folder, line.as_str(), input);
     };
     let mut source = SliceSource::new(input.as_bytes(), 4_096);
-    let request = unwrap(rt, request_of(rt.alloc(), &command, &mut source));
-    let reply = call(rt, host, folder, request.as_slice());
-    ran_of(rt, request.as_slice(), reply.as_slice())
+    let bytes = unwrap(rt, request_of(rt.alloc(), &command, &mut source));
+    let mut asked = request(bytes.as_slice());
+    if let OperatorCommand::Stop = command {
+        asked.served = 0;
+    }
+    let reply = call(rt, host, folder, asked);
+    ran_of(rt, bytes.as_slice(), reply.as_slice())
 }
 
 /// Each command, at a server: what it prints is what it prints over files.
@@ -147,6 +172,13 @@ via prune --now 1463503600
 | pruned 1 tokens
 $ prune --db @/db --now 1463503600
 | pruned 0 tokens
+# the policy of the file is read again
+via reload
+| policy ok: 1 repositories, 1 rows
+# the input has ended, so the server is held for no time
+via hold
+| held
+via stop
 # what is refused
 via authenticate --user ann --now 1463500146 studio/game upload
 error custody: R1: no such repository
@@ -212,6 +244,16 @@ const REFUSED: &[&str] = &[
     "prune now",
     "pushcheck ann studio/film main",
     "foresee ann film",
+    "tokens",
+    "tokens film",
+    "usage all",
+    "hold",
+    "hold 0",
+    "hold 601",
+    "hold 060",
+    "stop now",
+    "reload policy.toml",
+    "status --all",
     "retire studio/film E3B0C44298FC1C149AFBF4C8996FB92427AE41E4649B934CA495991B7852B855",
 ];
 
@@ -221,31 +263,37 @@ fn a_server_runs_no_other_command(rt: HostRuntime) {
     for line in REFUSED {
         let words = words(&rt, "refused_words", line);
         let words = words.as_slice().get(1..).unwrap_or(&[]);
-        let request = unwrap(&rt, request_bytes(rt.alloc(), b"", words));
-        let reply = call(&rt, &rt, "refused_words", request.as_slice());
-        let ran = ran_of(&rt, request.as_slice(), reply.as_slice());
+        let bytes = unwrap(&rt, request_bytes(rt.alloc(), b"", words));
+        let reply = call(&rt, &rt, "refused_words", request(bytes.as_slice()));
+        let ran = ran_of(&rt, bytes.as_slice(), reply.as_slice());
         assert!(&rt; ran.is(2, "", "custody: bad request\n"), "{line}");
     }
     remove(&rt, "refused_words");
 }
 
-/// Bytes that are no request, and whether the server replies: it does if they have as many bytes as the first four say.
+/// Bytes that are no request, and whether the server replies: it does if they have as many bytes as the second to the fifth
+/// say.
 const MALFORMED: &[(&[u8], bool)] = &[
     (b"", false),
-    (b"\0\0\0", false),
-    (b"\0\0\0\x05\0\0\0\0", false),
-    (b"\x01\0\0\x01", false),
-    (b"\0\0\0\0", true),
-    (b"\0\0\0\x03\0\0\0", true),
-    (b"\0\0\0\x04\0\0\0\x01", true),
-    (b"\0\0\0\x09\0\0\0\0\0\0\0\x01\xff", true),
+    (b"\x03\0\0\0", false),
+    (b"\x03\0\0\0\x05\0\0\0\0", false),
+    (b"\x03\x01\0\0\x01", false),
+    (b"\x03\0\0\0\0", true),
+    (b"\x03\0\0\0\x03\0\0\0", true),
+    (b"\x03\0\0\0\x04\0\0\0\x01", true),
+    (b"\x03\0\0\0\x09\0\0\0\0\0\0\0\x01\xff", true),
 ];
+
+/// What the server reports if it has not answered an operator.
+const UNANSWERED: &str = "custody: operator not answered\n";
 
 #[test]
 fn bytes_that_are_no_request_are_refused(rt: HostRuntime) {
     prepare(&rt, &rt, "malformed_bytes", POLICY);
     for &(bytes, is_answered) in MALFORMED {
-        let reply = call(&rt, &rt, "malformed_bytes", bytes);
+        let mut asked = request(bytes);
+        asked.report = if is_answered { "" } else { UNANSWERED };
+        let reply = call(&rt, &rt, "malformed_bytes", asked);
         if is_answered {
             let ran = ran_of(&rt, bytes, reply.as_slice());
             assert!(&rt; ran.is(2, "", "custody: bad request\n"));
@@ -254,4 +302,68 @@ fn bytes_that_are_no_request_are_refused(rt: HostRuntime) {
         }
     }
     remove(&rt, "malformed_bytes");
+}
+
+/// What the first version of the program sends for `check`, and what it gets: status 2, no output, and a line that it prints.
+const FIRST_VERSION: (&[u8], &[u8]) = (
+    b"\0\0\0\x0d\0\0\0\0\0\0\0\x05check",
+    b"\x02\0\0\0\0\0\0\0\x28custody: the server has another version\n",
+);
+
+#[test]
+fn another_version_is_refused_in_words(rt: HostRuntime) {
+    prepare(&rt, &rt, "other_version", POLICY);
+    let (bytes, refusal) = FIRST_VERSION;
+    let mut asked = request(bytes);
+    asked.report = UNANSWERED;
+    let reply = call(&rt, &rt, "other_version", asked);
+    assert!(rt; reply.as_slice() == refusal);
+    // The reply of a server of the first version, or of a later one, begins with another byte than this one's.
+    for reply in [refusal, b"\x04"] {
+        let ran = ran_of(&rt, bytes, reply);
+        assert!(&rt; ran.is(1, "", "custody: the server has another version\n"));
+    }
+    remove(&rt, "other_version");
+}
+
+#[test]
+fn a_hold_ends_after_its_time(rt: HostRuntime) {
+    prepare(&rt, &rt, "hold_over", POLICY);
+    let words = words(&rt, "hold_over", "hold 1");
+    let words = words.as_slice().get(1..).unwrap_or(&[]);
+    let bytes = unwrap(&rt, request_bytes(rt.alloc(), b"", words));
+    let mut asked = request(bytes.as_slice());
+    asked.closes = false;
+    let reply = call(&rt, &rt, "hold_over", asked);
+    let ran = ran_of(&rt, bytes.as_slice(), reply.as_slice());
+    assert!(&rt; ran.is(1, "held\n", "custody: the time of the hold is over\n"));
+    remove(&rt, "hold_over");
+}
+
+/// What the program prints that has lost its server.
+const LOST: &str = "custody: control socket\n";
+
+/// The bytes of replies, whole and cut off, and of none, with the status, the output and the error stream of the program.
+const REPLIES: &[(&[u8], u8, &str, &str)] = &[
+    (
+        b"\x03\x03\0\0\0\x02a\n\x04\0\0\0\x02b\n\x03\0\0\0\x02c\n\x01",
+        1,
+        "a\nc\n",
+        "b\n",
+    ),
+    (b"\x03\0", 0, "", ""),
+    (b"\x03\x02", 2, "", ""),
+    (b"\x03\x03\0\0\0\x02a\n", 1, "a\n", LOST),
+    (b"\x03\x03\0\0\0\x02a", 1, "", LOST),
+    (b"\x03\x03\0\0\0\0\0", 1, "", LOST),
+    (b"\x03\x05", 1, "", LOST),
+    (b"", 1, "", LOST),
+];
+
+#[test]
+fn a_reply_is_printed_as_it_comes(rt: HostRuntime) {
+    for &(reply, status, output, errors) in REPLIES {
+        let ran = ran_of(&rt, b"", reply);
+        assert!(&rt; ran.is(status, output, errors), "{output}");
+    }
 }

@@ -12,8 +12,8 @@ $ --version
 | rattle-kit-13f logic dac8208d650f15bf
 $ -V
 | custody 0.1.0
-$ juggle
-error error: unrecognized subcommand 'juggle'
+$ xyzzy
+error error: unrecognized subcommand 'xyzzy'
 error
 error Usage: custody <COMMAND>
 error
@@ -280,6 +280,12 @@ const HELPS: &[(&str, &[&str])] = &[
             "sweep",
             "retire",
             "migrate",
+            "tokens",
+            "usage",
+            "status",
+            "hold",
+            "reload",
+            "stop",
         ],
     ),
     (
@@ -311,6 +317,23 @@ const HELPS: &[(&str, &[&str])] = &[
         ],
     ),
     ("prune --help", &["--db <FILE>", "--now <N>"]),
+    (
+        "tokens --help",
+        &["--db <FILE>", "--via <SOCKET>", "--repo <R>", "--now <N>"],
+    ),
+    (
+        "usage --help",
+        &[
+            "--db <FILE>",
+            "--policy <FILE>",
+            "--via <SOCKET>",
+            "--now <N>",
+        ],
+    ),
+    ("status --help", &["--via <SOCKET>"]),
+    ("hold --help", &["--via <SOCKET>", "--seconds <N>"]),
+    ("reload --help", &["--via <SOCKET>"]),
+    ("stop --help", &["--via <SOCKET>"]),
     (
         "pushcheck --help",
         &[

@@ -19,6 +19,8 @@ mod issued;
 #[cfg(test)]
 mod lock_requests;
 #[cfg(test)]
+mod machines;
+#[cfg(test)]
 mod messages;
 #[cfg(test)]
 mod migrating;

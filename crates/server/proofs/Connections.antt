@@ -1,4 +1,4 @@
--- A connection that was served, as steps of a run; for proofs in other crates too.
+-- A connection that was served, as steps of a run.
 use Rattle.std.proofs.lemmas.List.Elements.{All-from_recursion}
 use Rattle.std.proofs.Common.{◌≡◌, ◌⊎◌, inl, inr, ℕ, Option, List, [], ◌∷◌, map, refl, sym, ap, subst}
 use Rattle.sqlite_trees.specs.declared.store.Store.{Ghosts}

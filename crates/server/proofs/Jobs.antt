@@ -1,6 +1,6 @@
 -- What a server did, put together from its calls.
-use Rattle.std.specs.Prelude.{⊤, OnOk}
-use Rattle.std.proofs.Common.{None, Option, Some, Result, Ok, Err, IfOk, OnErr, ◌≡◌, ◌∙◌, ◌≤◌, ◌+◌, inl, inr, ℕ, List, [], ◌∷◌, ◌++◌, refl, sym, ap, subst, arith}
+use Rattle.std.specs.Prelude.{Bool, false, true, ⊤, OnOk}
+use Rattle.std.proofs.Common.{None, Option, Some, Result, Ok, Err, IfOk, OnErr, ◌≡◌, ◌∙◌, ◌⊎◌, ◌≤◌, ◌+◌, inl, inr, ℕ, List, [], ◌∷◌, ◌++◌, refl, sym, ap, subst, arith}
 use Rattle.std.proofs.lemmas.Grind.{flat_map-append}
 use Rattle.std.proofs.lemmas.List.{append-nil}
 use Rattle.std.proofs.lemmas.List.Sums.{sum_by-append}
@@ -9,19 +9,20 @@ use Rattle.policy.specs.declared.policies.Policy.{Policy}
 use Rattle.model.specs.World.{World}
 use Rattle.model.specs.Steps.{Event}
 use Rattle.tables.specs.declared.Store.{Store}
-use Rattle.refinement.specs.Left.{From}
-use Rattle.refinement.proofs.Leading.{from_weaker, leads_none}
+use Rattle.refinement.specs.Left.{From, Reads}
+use Rattle.refinement.proofs.Leading.{from_weaker, leads_none, reads_lead}
 use Rattle.sockets.specs.declared.queue.Caller.{Caller}
 use Rattle.operator.specs.Works.{Works, steps_of}
 use Rattle.operator.proofs.Working.{still_kept, steps_then, still_steps, then_kept, works_still, works_then}
-use Rattle.control.specs.declared.status.Status.{Status}
 use Rattle.server.specs.declared.machine.Machine as machine
+use Rattle.server.specs.declared.outcomes.Outcome.{Outcome}
+use Rattle.server.specs.declared.outcomes.Outcome.TheVariants.{Unchanged}
 use Rattle.server.specs.Observations.{Observation, called, sent, timed}
 use Rattle.server.specs.declared.faults.Fault.{Fault}
 use Rattle.std.specs.declared.net.unix.UnixStream.{UnixStream}
-use Rattle.server.specs.Commands.{AreReadings, HasStatus, IsAnswered, IsMomentOf, IsRead, IsReplied, IsReplyWith}
+use Rattle.server.specs.Commands.{AreReadings, IsAnswered, IsBegun, IsMomentOf, IsRead, IsReplied, IsRequestDone, is_stopped, made_of, policy_after}
 use Rattle.server.specs.Statuses.{status_of_end}
-use Rattle.server.specs.Jobs.{Job, seen_for, IsTurn, IsFor, AreJobs, first_turn, Call, idles, observes, seen_in, Calls, Converses, Tidies, Helps, Serves, ServesMore}
+use Rattle.server.specs.Jobs.{Job, seen_for, IsTurn, IsFor, AreJobs, AreStopped, HasFinished, connections, first_turn, policy_left, Call, idles, observes, seen_in, Calls, Converses, Tidies, Helps, Serves, ServesMore}
 
 -- ---- what is observed of a machine
 
@@ -60,11 +61,11 @@ module _ {M : Type 0} (m : machine.Ghosts M) where
   moment_untimed u v (Ok now) i = tt
   moment_untimed u v (Err e) i = (idles ∷ [], one_idle u v i, refl)
 
-  -- the reply to an operator, sent or not
+  -- bytes that were sent to an operator, or not
   pub sent_or_not : (u v : M) (r : Result ⊤ Fault) (operator : UnixStream) (bytes : List ℕ) → OnOk r (m.observed u v (sent operator bytes)) → OnErr r (m.idled u v)
-      → (calls : List Call) × Calls m u calls v × ((status : Status) → IsReplyWith status bytes → IsReplied operator status (seen_in calls))
-  sent_or_not u v (Ok done) operator bytes a i = (observes (sent operator bytes) ∷ [], one_seen u v (sent operator bytes) a, λ status reply. (refl, reply))
-  sent_or_not u v (Err e) operator bytes a i = (idles ∷ [], one_idle u v i, λ status reply. tt)
+      → (calls : List Call) × Calls m u calls v × ((seen_in calls ≡ sent operator bytes ∷ []) ⊎ (seen_in calls ≡ []))
+  sent_or_not u v (Ok done) operator bytes a i = (observes (sent operator bytes) ∷ [], one_seen u v (sent operator bytes) a, inl refl)
+  sent_or_not u v (Err e) operator bytes a i = (idles ∷ [], one_idle u v i, inr refl)
 
   module _ {S : Type 0} (g : Ghosts S) where
     -- ---- for one caller
@@ -82,6 +83,22 @@ module _ {M : Type 0} (m : machine.Ghosts M) where
             done = works_still g a a world lead;
             own = subst (λ (w : World). IsOwn world (seen_in calls) (steps_of (works_still g a a world lead).works) w) (sym (still_kept g a a world lead))
                 (subst (λ (steps : List Event). IsOwn world (seen_in calls) steps world) (sym (still_steps g a a world lead)) (own world));
+          };
+    }
+
+    -- calls of the store that only read
+    pub from_read : (IsOwn : World → List Observation → List Event → World → Type 0) (a b : Store S) (u v : M) (calls : List Call) (P : World → Type 0) → Calls m u calls v → Reads g a b P
+        → ((world : World) → IsOwn world (seen_in calls) [] world) → From g a b (λ world. Helps m g IsOwn a b u v world)
+    from_read IsOwn a b u v calls P made reads own = record {
+      honest = reads.same.was_honest;
+      each = λ honest world h.
+          let lead = reads_lead g a b P world reads h in
+          record {
+            calls = calls;
+            made = made;
+            done = works_still g a b world lead;
+            own = subst (λ (w : World). IsOwn world (seen_in calls) (steps_of (works_still g a b world lead).works) w) (sym (still_kept g a b world lead))
+                (subst (λ (steps : List Event). IsOwn world (seen_in calls) steps world) (sym (still_steps g a b world lead)) (own world));
           };
     }
 
@@ -108,26 +125,29 @@ module _ {M : Type 0} (m : machine.Ghosts M) where
         → From g a b (λ world. Helps m g P a b u v world) → From g a b (λ world. Helps m g Q a b u v world)
     from_own P Q a b u v f p = from_weaker g a b _ _ (λ world h. record { calls = h.calls; made = h.made; done = h.done; own = f world (seen_in h.calls) (steps_of h.done.works) h.done.kept h.own }) p
 
-    -- a request was received and done, and perhaps replied to
-    pub from_served : (policy : Policy) (operator : UnixStream) (body : List ℕ) (P : Status → Type 0) (a b : Store S) (u v w x : M) (before after : List Call) → Calls m u before v → IsRead operator body (seen_in before) → Calls m w after x
-        → ((status : Status) → P status → IsReplied operator status (seen_in after)) → From g a b (λ world. Helps m g (HasStatus policy body P) a b v w world)
-        → From g a b (λ world. Helps m g (IsAnswered policy operator) a b u x world)
-    from_served policy operator body P a b u v w x before after first read last replied p =
+    -- a request was received, its reply begun, it was done, and its reply perhaps ended
+    pub from_served : (policy : Policy) (operator : UnixStream) (body : List ℕ) (ended : Result Outcome Fault) (a b : Store S) (u v w x y : M) (before begin after : List Call)
+        → Calls m u before v → IsRead operator body (seen_in before) → Calls m v begin w → IsBegun operator (seen_in begin) → Calls m x after y → IsReplied operator (status_of_end ended) (seen_in after)
+        → From g a b (λ world. Helps m g (IsRequestDone policy operator body ended) a b w x world) → From g a b (λ world. Helps m g (IsAnswered policy operator (made_of ended)) a b u y world)
+    from_served policy operator body ended a b u v w x y before begin after first read started begun last replied p =
         from_weaker g a b _ _
-        (λ (world : World) (h : Helps m g (HasStatus policy body P) a b v w world). record {
-          calls = before ++ h.calls ++ after;
-          made = calls_append u w x (before ++ h.calls) after (calls_append u v w before h.calls first h.made) last;
+        (λ (world : World) (h : Helps m g (IsRequestDone policy operator body ended) a b w x world). record {
+          calls = before ++ begin ++ h.calls ++ after;
+          made = calls_append u x y (before ++ begin ++ h.calls) after (calls_append u w x (before ++ begin) h.calls (calls_append u v w before begin first started) h.made) last;
           done = h.done;
           own = inl (record {
             body = body;
-            ended = h.own.0;
+            ended = ended;
             asked = seen_in before;
+            begin = seen_in begin;
             own = seen_in h.calls;
             end = seen_in after;
-            are = seen_append (before ++ h.calls) after ∙ ap (λ (l : List Observation). l ++ seen_in after) (seen_append before h.calls);
+            are = seen_append (before ++ begin ++ h.calls) after ∙ ap (λ (l : List Observation). l ++ seen_in after) (seen_append (before ++ begin) h.calls ∙ ap (λ (l : List Observation). l ++ seen_in h.calls) (seen_append before begin));
             read = read;
-            done = h.own.1;
-            replied = replied (status_of_end h.own.0) h.own.2;
+            begun = begun;
+            done = h.own;
+            replied = replied;
+            made = refl;
           });
         })
         p
@@ -151,54 +171,75 @@ module _ {M : Type 0} (m : machine.Ghosts M) where
     pub turn_unserved : (policy : Policy) (a b : Store S) (u v : M) (calls : List Call) → From g a b (Tidies g a b) → Calls m u calls v → From g a b (λ world. Helps m g (IsTurn policy) a b u v world)
     turn_unserved policy a b u v calls p made = from_weaker g a b _ _ (λ world t. record { calls = calls; made = made; done = t.0; own = inl t.1 }) p
 
+    -- a turn leaves the server as it is
+    pub from_turn : (policy : Policy) (a b : Store S) (u v : M) → From g a b (λ world. Helps m g (IsTurn policy) a b u v world)
+        → From g a b (λ world. Helps m g (λ world seen steps kept. IsTurn policy world seen steps kept × (Unchanged ≡ Unchanged)) a b u v world)
+    from_turn policy a b u v p = from_own (IsTurn policy) _ a b u v (λ world l steps kept own. (own, refl)) p
+
     -- ---- jobs
 
-    -- jobs, and more jobs from the world to which they led
-    are_append : (policy : Policy) (world mid kept : World) (jobs more : List Job) → AreJobs policy world jobs mid → AreJobs policy mid more kept → AreJobs policy world (jobs ++ more) kept
+    -- jobs, and more jobs from the world to which they led, under the policy that they left
+    are_append : (policy : Policy) (world mid kept : World) (jobs more : List Job) → AreJobs policy world jobs mid → AreJobs (policy_left policy jobs) mid more kept → AreJobs policy world (jobs ++ more) kept
     are_append policy world mid kept [] more p q = subst (λ (w : World). AreJobs policy w more kept) p q
-    are_append policy world mid kept (job ∷ jobs) more p q = (p.0, p.1, p.2, are_append policy p.0 mid kept jobs more p.3 q)
+    are_append policy world mid kept (job ∷ jobs) more p q = (p.0, p.1, p.2, are_append (policy_after policy job.outcome) p.0 mid kept jobs more p.3 q)
+
+    left_append : (policy : Policy) (jobs more : List Job) → policy_left policy (jobs ++ more) ≡ policy_left (policy_left policy jobs) more
+    left_append policy [] more = refl
+    left_append policy (job ∷ jobs) more = left_append (policy_after policy job.outcome) jobs more
+
+    stopped_append : (stopped : Bool) (jobs more : List Job) → AreStopped false jobs → AreStopped stopped more → AreStopped stopped (jobs ++ more)
+    stopped_append stopped [] more p q = q
+    stopped_append stopped (job ∷ []) [] p q = p ∙ sym q
+    stopped_append stopped (job ∷ []) (next ∷ more) p q = (p, q)
+    stopped_append stopped (job ∷ next ∷ jobs) more p q = (p.0, stopped_append stopped (next ∷ jobs) more p.1 q)
 
     -- one job
-    pub serves_one : (policy : Policy) (caller : Caller) (a b : Store S) (u v w : M) (before after : ℕ) → m.observed u v (called caller) → after ≤ before + first_turn caller
-        → From g a b (λ world. Helps m g (IsFor policy caller) a b v w world) → From g a b (λ world. ServesMore m g policy a b u w world before after)
-    serves_one policy caller a b u v w before after call few p =
+    pub serves_one : (policy : Policy) (caller : Caller) (outcome : Outcome) (a b : Store S) (u v w : M) (before after : ℕ) → m.observed u v (called caller) → after ≤ before + first_turn caller
+        → From g a b (λ world. Helps m g (IsFor policy caller outcome) a b v w world) → From g a b (λ world. ServesMore m g policy a b u w world before after (policy_after policy outcome) (is_stopped outcome))
+    serves_one policy caller outcome a b u v w before after call few p =
         from_weaker g a b _ _
-        (λ (world : World) (h : Helps m g (IsFor policy caller) a b v w world).
-        let job : Job = record { caller = caller; seen = seen_in h.calls; steps = steps_of h.done.works } in (
-          job ∷ [],
-          record {
+        (λ (world : World) (h : Helps m g (IsFor policy caller outcome) a b v w world).
+        let job : Job = record { caller = caller; seen = seen_in h.calls; steps = steps_of h.done.works; outcome = outcome } in
+        record {
+          jobs = job ∷ [];
+          serves = record {
             calls = observes (called caller) ∷ h.calls;
             made = (v, call, h.made);
             done = h.done;
             are_jobs = (h.done.kept, h.own, h.done.run, refl);
             seen = sym (append-nil (called caller ∷ seen_in h.calls));
             steps = sym (append-nil (steps_of h.done.works));
-          },
-          omega (arith, few),
-        ))
+          };
+          few = omega (arith, few);
+          is_left = refl;
+          are_stopped = refl;
+        })
         p
 
     -- no job
-    pub serves_none : (policy : Policy) (a : Store S) (u v : M) (calls : List Call) (count : ℕ) → Calls m u calls v → seen_in calls ≡ [] → From g a a (λ world. ServesMore m g policy a a u v world count count)
+    pub serves_none : (policy : Policy) (a : Store S) (u v : M) (calls : List Call) (count : ℕ) → Calls m u calls v → seen_in calls ≡ [] → From g a a (λ world. ServesMore m g policy a a u v world count count policy false)
     serves_none policy a u v calls count made none = record {
       honest = λ k. k;
       each = λ honest world h.
-          let lead = leads_none g a world h in (
-            [],
-            record {
+          let lead = leads_none g a world h in
+          record {
+            jobs = [];
+            serves = record {
               calls = calls;
               made = made;
               done = works_still g a a world lead;
               are_jobs = still_kept g a a world lead;
               seen = none;
               steps = still_steps g a a world lead;
-            },
-            omega arith,
-          );
+            };
+            few = omega arith;
+            is_left = refl;
+            are_stopped = refl;
+          };
     }
 
     -- jobs, and more jobs
-    pub serves_then : (policy : Policy) (a b c : Store S) (u v w : M) (world : World) (jobs more : List Job) (p : Serves m g policy a b u v world jobs) → Serves m g policy b c v w p.done.kept more
+    serves_then : (policy : Policy) (a b c : Store S) (u v w : M) (world : World) (jobs more : List Job) (p : Serves m g policy a b u v world jobs) → Serves m g (policy_left policy jobs) b c v w p.done.kept more
         → Serves m g policy a c u w world (jobs ++ more)
     serves_then policy a b c u v w world jobs more p q = record {
       calls = p.calls ++ q.calls;
@@ -210,16 +251,61 @@ module _ {M : Type 0} (m : machine.Ghosts M) where
       steps = steps_then g a b c world p.done q.done ∙ rw (p.steps, q.steps) (sym (flat_map-append (λ (job : Job). job.steps) jobs more));
     }
 
-    pub from_serves : (policy : Policy) (a b c : Store S) (u v w : M) (first begun after : ℕ) → From g a b (λ world. ServesMore m g policy a b u v world first begun)
-        → From g b c (λ world. ServesMore m g policy b c v w world begun after) → From g a c (λ world. ServesMore m g policy a c u w world first after)
-    from_serves policy a b c u v w first begun after p q = record {
+    pub from_serves : (policy mid left : Policy) (stopped : Bool) (a b c : Store S) (u v w : M) (first begun after : ℕ) → From g a b (λ world. ServesMore m g policy a b u v world first begun mid false)
+        → From g b c (λ world. ServesMore m g mid b c v w world begun after left stopped) → From g a c (λ world. ServesMore m g policy a c u w world first after left stopped)
+    from_serves policy mid left stopped a b c u v w first begun after p q = record {
       honest = λ k. p.honest (q.honest k);
       each = λ honest world h.
           let before = p.each (q.honest honest) world h in
-          let more = q.each honest before.1.done.kept before.1.done.leads.holds in
-          let sum = sum_by-append (λ (job : Job). first_turn job.caller) before.0 more.0 in (
-            before.0 ++ more.0,
-            serves_then policy a b c u v w world before.0 more.0 before.1 more.1,
-            let one = before.2 in let two = more.2 in omega (arith, one, two, sum),
-          );
+          let more = q.each honest before.serves.done.kept before.serves.done.leads.holds in
+          let sum = sum_by-append (λ (job : Job). first_turn job.caller) before.jobs more.jobs in
+          record {
+            jobs = before.jobs ++ more.jobs;
+            serves = serves_then policy a b c u v w world before.jobs more.jobs before.serves
+                (subst (λ (by : Policy). Serves m g by b c v w before.serves.done.kept more.jobs) before.is_left more.serves);
+            few = let one = before.few in let two = more.few in omega (arith, one, two, sum);
+            is_left = more.is_left ∙ ap (λ (by : Policy). policy_left by more.jobs) before.is_left ∙ sym (left_append policy before.jobs more.jobs);
+            are_stopped = stopped_append stopped before.jobs more.jobs before.are_stopped more.are_stopped;
+          };
     }
+
+    -- jobs, and then calls of the machine of which nothing was observed
+    pub from_settled : (policy left : Policy) (stopped : Bool) (a b : Store S) (u v w : M) (calls : List Call) (first after : ℕ) → Calls m v calls w → seen_in calls ≡ []
+        → From g a b (λ world. ServesMore m g policy a b u v world first after left stopped) → From g a b (λ world. ServesMore m g policy a b u w world first after left stopped)
+    from_settled policy left stopped a b u v w calls first after more none p =
+        from_weaker g a b _ _
+        (λ (world : World) (s : ServesMore m g policy a b u v world first after left stopped). record {
+          jobs = s.jobs;
+          serves = record {
+            calls = s.serves.calls ++ calls;
+            made = calls_append u v w s.serves.calls calls s.serves.made more;
+            done = s.serves.done;
+            are_jobs = s.serves.are_jobs;
+            seen = seen_append s.serves.calls calls ∙ ap (λ (l : List Observation). seen_in s.serves.calls ++ l) none ∙ append-nil (seen_in s.serves.calls) ∙ s.serves.seen;
+            steps = s.serves.steps;
+          };
+          few = s.few;
+          is_left = s.is_left;
+          are_stopped = s.are_stopped;
+        })
+        p
+
+    -- ---- the end of a server
+
+    -- a server that an operator has stopped
+    pub from_stopped : (policy left : Policy) (most count : ℕ) (operator : UnixStream) (a b : Store S) (u v : M) → From g a b (λ world. ServesMore m g policy a b u v world 0 count left true)
+        → From g a b (λ world. (jobs : List Job) × Serves m g policy a b u v world jobs × HasFinished most jobs (Ok (record { connections = count; stopped_by = Some operator })))
+    from_stopped policy left most count operator a b u v p =
+        from_weaker g a b _ _ (λ (world : World) (s : ServesMore m g policy a b u v world 0 count left true). (s.jobs, s.serves, ((let few = s.few in omega (arith, few)), s.are_stopped, λ none. absurd (cc)))) p
+
+    -- a server that has served as many connections as it was to serve
+    pub from_full : (policy left : Policy) (most count : ℕ) (a b : Store S) (u v : M) → most ≤ count → From g a b (λ world. ServesMore m g policy a b u v world 0 count left false)
+        → From g a b (λ world. (jobs : List Job) × Serves m g policy a b u v world jobs × HasFinished most jobs (Ok (record { connections = most; stopped_by = None })))
+    from_full policy left most count a b u v full p =
+        from_weaker g a b _ _ (λ (world : World) (s : ServesMore m g policy a b u v world 0 count left false). (s.jobs, s.serves, ((let few = s.few in omega (arith, few, full)), s.are_stopped, λ none. refl))) p
+
+    -- a server that failed
+    pub from_failed : (policy left : Policy) (most count : ℕ) (fault : Fault) (a b : Store S) (u v : M) → From g a b (λ world. ServesMore m g policy a b u v world 0 count left false)
+        → From g a b (λ world. (jobs : List Job) × Serves m g policy a b u v world jobs × HasFinished most jobs (Err fault))
+    from_failed policy left most count fault a b u v p =
+        from_weaker g a b _ _ (λ (world : World) (s : ServesMore m g policy a b u v world 0 count left false). (s.jobs, s.serves, s.are_stopped)) p

@@ -1,5 +1,5 @@
 mod Commands
-pub mod Connections
+mod Connections
 pub mod Leading
 mod Jobs
 mod Swept

@@ -1,5 +1,5 @@
 -- What is done for an operator: the task of the command that his request names.
-use Rattle.std.specs.Prelude.{◌≡◌, ◌⊎◌, ◌++◌, ℕ, List, [], ◌∷◌, map, length, Option, Some, None, Result, Err, ⊤}
+use Rattle.std.specs.Prelude.{◌≡◌, ◌⊎◌, ◌++◌, ℕ, Bool, true, List, [], ◌∷◌, map, length, Option, Some, None, Result, Ok, Err, ⊤}
 use Rattle.std.specs.declared.net.unix.UnixStream.{UnixStream}
 use Rattle.sqlite_trees.specs.declared.store.Store.{Ghosts}
 use Rattle.tables.specs.declared.Store.{Store}
@@ -12,9 +12,9 @@ use Rattle.model.specs.Operator as model
 use Rattle.model.specs.Steps.{Event}
 use Rattle.tokens.specs.Issuing.{token_asked}
 use Rattle.tokens.specs.declared.requests.TokenRequest.{TokenRequest}
-use Rattle.control.specs.Fields.{number_bytes}
-use Rattle.control.specs.Requests.{Request, IsReadAs}
-use Rattle.control.specs.Replies as replies
+use Rattle.control.specs.Requests.{Request, IsReadAs, prefix_bytes}
+use Rattle.control.specs.Replies.{status_code}
+use Rattle.control.specs.Versions.{refusal_bytes, version}
 use Rattle.control.specs.declared.status.Status.{Status}
 use Rattle.service.specs.Messages.{IsRequestOf}
 use Rattle.command_line.specs.Words.{command_words}
@@ -31,11 +31,13 @@ use Rattle.operator.specs.declared.foreseeing.Foresight.{Foresight}
 use Rattle.operator.specs.declared.pushing.Push.{Push}
 use Rattle.operator.specs.declared.tasks.Task.{Task}
 use Rattle.operator.specs.declared.tasks.Task.TheVariants as task
-use Rattle.server.specs.Observations.{Observation, timed, drawn, received, sent}
+use Rattle.server.specs.Observations.{Observation, timed, drawn, received, sent, loaded, waited}
 use Rattle.server.specs.Given.{IsGiven}
 use Rattle.server.specs.Statuses.{ended_of, status_of_end}
 use Rattle.server.specs.declared.faults.Fault.{Fault}
 use Rattle.server.specs.declared.foreseeing.GivenMessage.{GivenMessage}
+use Rattle.server.specs.declared.outcomes.Outcome.{Outcome}
+use Rattle.server.specs.declared.outcomes.Outcome.TheVariants.{Unchanged, Stopped, Reloaded}
 
 -- ---- the task of a command
 
@@ -96,11 +98,24 @@ IsTaskOf policy command.Repair input seen (task.Repair terminal) = seen ≡ []
 IsTaskOf policy command.Sweep input seen task.Sweep = seen ≡ []
 IsTaskOf policy (command.Retire asked) input seen (task.Retire repo oid) =
     (repo.now ≡ asked.repo) × (oid.now ≡ asked.oid) × (seen ≡ [])
+IsTaskOf policy (command.Tokens asked) input seen (task.ListTokens repo now) =
+    (repo.now ≡ asked.repo) × IsMomentOf asked.now now seen
+IsTaskOf policy (command.Usage named) input seen (task.Usage by now) = (by.now ≡ policy) × IsMomentOf named now seen
 IsTaskOf policy _ input seen _ = ⊥
 
 -- a task that needs nothing but the command
 abbrev pub IsPlainTask : OperatorCommand → Task → Type 0
 IsPlainTask command task = (policy : Policy) (input : List ℕ) → IsTaskOf policy command input [] task
+
+-- the command has a moment or an input, or is for the server itself
+abbrev pub NeedsMore : OperatorCommand → Type 0
+NeedsMore (command.Locks repo) = ⊥
+NeedsMore (command.Objects repo) = ⊥
+NeedsMore command.Check = ⊥
+NeedsMore command.Repair = ⊥
+NeedsMore command.Sweep = ⊥
+NeedsMore (command.Retire asked) = ⊥
+NeedsMore _ = ⊤
 
 -- ---- what was done
 
@@ -110,19 +125,53 @@ pub record RunsAs {S : Type 0} (g : Ghosts S) (old new : Store S) (world : World
   pub is : ended ≡ ended_of tried
   pub works : WorksAs g old new world task tried
 
--- nothing was observed but moments and random bytes
+-- nothing was sent or received
 abbrev pub AreReadings : List Observation → Type 0
 AreReadings [] = ⊤
 AreReadings (timed now ∷ seen) = AreReadings seen
 AreReadings (drawn bytes ∷ seen) = AreReadings seen
+AreReadings (loaded policy ∷ seen) = AreReadings seen
+AreReadings (waited operator seconds closed ∷ seen) = AreReadings seen
 AreReadings (_ ∷ seen) = ⊥
 
--- a command ended so: as its task did; or with a fault, and nothing was done
+-- a command with a task ended so: as its task did; or with a fault, and nothing was done
 abbrev pub IsDone : Policy → OperatorCommand → (input : List ℕ) → Result ⊤ Fault → World → List Observation → List Event → (kept : World) → Type 0
 IsDone policy command input ended world seen steps kept =
     ((fault : Fault) × (ended ≡ Err fault) × (steps ≡ []) × AreReadings seen)
     ⊎ ((task : Task) × IsTaskOf policy command input seen task
     × (tried : Result ⊤ TaskFault) × (ended ≡ ended_of tried) × HasEnded world task steps kept tried)
+
+-- ---- commands for the server itself
+
+-- a command for the server itself was obeyed: it waited until the operator closed his side, and that was within the time; it is
+-- to stop; it has the policy of the file; it printed how it is
+abbrev pub IsObeyed : UnixStream → OperatorCommand → Outcome → List Observation → Type 0
+IsObeyed operator (command.Hold seconds) Unchanged seen = seen ≡ waited operator seconds true ∷ []
+IsObeyed operator command.Stop Stopped seen = seen ≡ []
+IsObeyed operator command.Reload (Reloaded policy) seen = seen ≡ loaded policy ∷ []
+IsObeyed operator command.Status Unchanged seen = seen ≡ []
+IsObeyed operator _ _ seen = ⊥
+
+-- how a command ended that has a task, which ended so
+abbrev pub outcome_of : Result ⊤ Fault → Result Outcome Fault
+outcome_of (Ok done) = Ok Unchanged
+outcome_of (Err fault) = Err fault
+
+-- a command ended so: it was obeyed, and no step was taken; or as its task did
+abbrev pub HasEndedSo : Policy → UnixStream → OperatorCommand → (input : List ℕ) → Result Outcome Fault → World → List Observation → List Event → (kept : World) → Type 0
+HasEndedSo policy operator command input ended world seen steps kept =
+    ((outcome : Outcome) × (ended ≡ Ok outcome) × IsObeyed operator command outcome seen × (steps ≡ []))
+    ⊎ ((done : Result ⊤ Fault) × (ended ≡ outcome_of done) × IsDone policy command input done world seen steps kept)
+
+-- the policy of a server after a command with this outcome
+abbrev pub policy_after : Policy → Outcome → Policy
+policy_after policy (Reloaded other) = other
+policy_after policy _ = policy
+
+-- the server is to stop
+abbrev pub is_stopped : Outcome → Bool
+is_stopped Stopped = Bool.true
+is_stopped _ = Bool.false
 
 -- ---- requests
 
@@ -131,52 +180,56 @@ abbrev pub request_for : OperatorCommand → (input : List ℕ) → Request
 request_for command input = record { input = input; words = command_words command }
 
 -- a request ended so: as the command that it is for; or with a fault, and nothing was done
-abbrev pub IsRequestDone : Policy → (body : List ℕ) → Result ⊤ Fault → World → List Observation → List Event → (kept : World) → Type 0
-IsRequestDone policy body ended world seen steps kept =
+abbrev pub IsRequestDone : Policy → UnixStream → (body : List ℕ) → Result Outcome Fault → World → List Observation → List Event → (kept : World) → Type 0
+IsRequestDone policy operator body ended world seen steps kept =
     ((fault : Fault) × (ended ≡ Err fault) × (steps ≡ []) × (seen ≡ []))
     ⊎ ((command : OperatorCommand) × (input : List ℕ) × IsReadAs body (request_for command input)
-    × IsDone policy command input ended world seen steps kept)
+    × HasEndedSo policy operator command input ended world seen steps kept)
 
--- the bytes of a request were received from the operator: their number, and then these
+-- the bytes of a request were received from the operator: the version and their number, and then these
 abbrev pub IsRead : UnixStream → (body : List ℕ) → List Observation → Type 0
-IsRead operator body seen = seen ≡ received operator (number_bytes (length body)) ∷ received operator body ∷ []
+IsRead operator body seen = seen ≡ received operator (prefix_bytes (length body)) ∷ received operator body ∷ []
 
--- nothing was observed but bytes that were received
+-- nothing was observed but bytes that were received, and at most the refusal of another version that was sent
 abbrev pub IsSilent : List Observation → Type 0
 IsSilent [] = ⊤
 IsSilent (received operator bytes ∷ seen) = IsSilent seen
+IsSilent (sent operator bytes ∷ []) = bytes ≡ refusal_bytes
 IsSilent (_ ∷ seen) = ⊥
 
 -- ---- replies
 
--- the bytes of a reply with this status
-abbrev pub IsReplyWith : Status → List ℕ → Type 0
-IsReplyWith status bytes = (reply : replies.Reply) × replies.IsReadAs bytes reply × (reply.status ≡ status)
+-- the beginning of a reply was sent to the operator
+abbrev pub IsBegun : UnixStream → List Observation → Type 0
+IsBegun operator seen = seen ≡ sent operator (version ∷ []) ∷ []
 
--- a request was done, and this holds for the status with which it ended
-abbrev pub HasStatus : Policy → (body : List ℕ) → (Status → Type 0) → World → List Observation → List Event → (kept : World) → Type 0
-HasStatus policy body P world seen steps kept =
-    (ended : Result ⊤ Fault) × IsRequestDone policy body ended world seen steps kept × P (status_of_end ended)
-
--- a reply with this status was sent to the operator; or none
+-- the end of a reply with this status was sent to the operator; or none
 abbrev pub IsReplied : UnixStream → Status → List Observation → Type 0
 IsReplied operator status [] = ⊤
-IsReplied operator status (sent to bytes ∷ []) = (to ≡ operator) × IsReplyWith status bytes
-IsReplied operator status _ = ⊥
+IsReplied operator status seen = seen ≡ sent operator (status_code status ∷ []) ∷ []
 
--- a request was received from the operator and done, and the reply has the status with which it ended
-pub record IsRequestServed (policy : Policy) (operator : UnixStream) (world : World) (seen : List Observation) (steps : List Event) (kept : World) : Type 0 where
+-- what became of the server after a request that ended so
+abbrev pub made_of : Result Outcome Fault → Outcome
+made_of (Ok outcome) = outcome
+made_of (Err fault) = Unchanged
+
+-- a request was received from the operator and done, and the reply ends with the status with which it ended
+pub record IsRequestServed (policy : Policy) (operator : UnixStream) (outcome : Outcome) (world : World) (seen : List Observation) (steps : List Event) (kept : World) : Type 0 where
   pub body : List ℕ
-  pub ended : Result ⊤ Fault
+  pub ended : Result Outcome Fault
   pub asked : List Observation
+  pub begin : List Observation
   pub own : List Observation
   pub end : List Observation
-  pub are : seen ≡ asked ++ own ++ end
+  pub are : seen ≡ asked ++ begin ++ own ++ end
   pub read : IsRead operator body asked
-  pub done : IsRequestDone policy body ended world own steps kept
+  pub begun : IsBegun operator begin
+  pub done : IsRequestDone policy operator body ended world own steps kept
   pub replied : IsReplied operator (status_of_end ended) end
+  pub made : outcome ≡ made_of ended
 
 -- an operator's request was served; or nothing was done
-abbrev pub IsAnswered : Policy → UnixStream → World → List Observation → List Event → (kept : World) → Type 0
-IsAnswered policy operator world seen steps kept =
-    IsRequestServed policy operator world seen steps kept ⊎ ((steps ≡ []) × IsSilent seen)
+abbrev pub IsAnswered : Policy → UnixStream → Outcome → World → List Observation → List Event → (kept : World) → Type 0
+IsAnswered policy operator outcome world seen steps kept =
+    IsRequestServed policy operator outcome world seen steps kept
+    ⊎ ((outcome ≡ Unchanged) × (steps ≡ []) × IsSilent seen)

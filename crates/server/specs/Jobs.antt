@@ -1,5 +1,6 @@
 -- What a server does: a list of jobs, each for somebody who called it.
-use Rattle.std.specs.Prelude.{◌≡◌, ◌⊎◌, ℕ, ◌≤◌, ◌+◌, flat_map, is_none, sum_by, List, [], ◌∷◌, map, if◌then◌else◌}
+use Rattle.std.specs.Prelude.{◌≡◌, ◌⊎◌, ℕ, ◌≤◌, ◌+◌, Bool, false, flat_map, is_none, is_some, sum_by, List, [], ◌∷◌, map, Option, None, Result, Ok, Err, if◌then◌else◌}
+use Rattle.std.specs.declared.net.unix.UnixStream.{UnixStream}
 use Rattle.sqlite_trees.specs.declared.store.Store.{Ghosts}
 use Rattle.policy.specs.declared.policies.Policy.{Policy}
 use Rattle.model.specs.World.{World}
@@ -12,15 +13,21 @@ use Rattle.sockets.specs.declared.queue.Caller.TheVariants.{Client, Operator}
 use Rattle.operator.specs.Works.{Works, steps_of}
 use Rattle.server.specs.declared.machine.Machine as machine
 use Rattle.server.specs.Observations.{Observation, called, timed}
-use Rattle.server.specs.Commands.{IsAnswered}
+use Rattle.server.specs.Commands.{IsAnswered, is_stopped, policy_after}
+use Rattle.server.specs.declared.faults.Fault.{Fault}
+use Rattle.server.specs.declared.outcomes.Outcome.{Outcome}
+use Rattle.server.specs.declared.outcomes.Outcome.TheVariants.{Unchanged}
+use Rattle.server.specs.declared.server.Finish.{Finish}
 
 -- ---- jobs
 
--- a caller, what was observed of the machine while it was served, and the steps that were taken for it
+-- a caller, what was observed of the machine while it was served, the steps that were taken for it, and what became of the
+-- server
 pub record Job : Type 0 where
   pub caller : Caller
   pub seen : List Observation
   pub steps : List Event
+  pub outcome : Outcome
 
 -- what was observed for a job: the call, and then the rest
 abbrev pub seen_for : Job → List Observation
@@ -33,16 +40,33 @@ IsTurn policy world seen steps kept =
     × AreUnder (setting_of policy now) exchanges × (steps ≡ map exchanged exchanges))
 
 -- the steps are those that the caller asked for, with what was observed
-abbrev pub IsFor : Policy → Caller → World → List Observation → List Event → (kept : World) → Type 0
-IsFor policy (Client client) world seen steps kept = IsTurn policy world seen steps kept
-IsFor policy (Operator stream) world seen steps kept = IsAnswered policy stream world seen steps kept
+abbrev pub IsFor : Policy → Caller → Outcome → World → List Observation → List Event → (kept : World) → Type 0
+IsFor policy (Client client) outcome world seen steps kept =
+    IsTurn policy world seen steps kept × (outcome ≡ Unchanged)
+IsFor policy (Operator stream) outcome world seen steps kept = IsAnswered policy stream outcome world seen steps kept
 
--- each job is done for its caller, in the world that the jobs before it have left
+-- each job is done for its caller, in the world that the jobs before it have left, and under the policy that was read last
 abbrev pub AreJobs : Policy → World → List Job → World → Type 0
 AreJobs policy world [] kept = kept ≡ world
 AreJobs policy world (job ∷ jobs) kept =
-    (after : World) × IsFor policy job.caller world job.seen job.steps after × Run world job.steps after
-    × AreJobs policy after jobs kept
+    (after : World) × IsFor policy job.caller job.outcome world job.seen job.steps after × Run world job.steps after
+    × AreJobs (policy_after policy job.outcome) after jobs kept
+
+-- the policy after the jobs
+abbrev pub policy_left : Policy → List Job → Policy
+policy_left policy [] = policy
+policy_left policy (job ∷ jobs) = policy_left (policy_after policy job.outcome) jobs
+
+-- whether the server is to stop after the last job; it is not to stop after an earlier one
+abbrev pub AreStopped : Bool → List Job → Type 0
+AreStopped stopped [] = stopped ≡ false
+AreStopped stopped (job ∷ []) = is_stopped job.outcome ≡ stopped
+AreStopped stopped (job ∷ jobs) = (is_stopped job.outcome ≡ false) × AreStopped stopped jobs
+
+-- whether a caller has stopped the server
+abbrev pub has_stopped : Result (Option UnixStream) Fault → Bool
+has_stopped (Ok operator) = is_some operator
+has_stopped (Err fault) = false
 
 -- 1 for the first turn of a connection
 abbrev pub first_turn : Caller → ℕ
@@ -52,6 +76,14 @@ first_turn (Operator stream) = 0
 -- how many connections had a turn
 abbrev pub connections : List Job → ℕ
 connections jobs = sum_by (λ job. first_turn job.caller) jobs
+
+-- how a server ended after the jobs: the last one stopped it, or as many connections had a turn as were to be served; or with a
+-- fault
+abbrev pub HasFinished : (most : ℕ) → List Job → Result Finish Fault → Type 0
+HasFinished most jobs (Ok finish) =
+    (finish.connections ≤ connections jobs) × AreStopped (is_some finish.stopped_by) jobs
+    × (finish.stopped_by ≡ None → finish.connections ≡ most)
+HasFinished most jobs (Err fault) = AreStopped false jobs
 
 -- ---- calls of the store
 
@@ -114,6 +146,11 @@ module _ {M : Type 0} (m : machine.Ghosts M) where
       pub seen : seen_in calls ≡ flat_map seen_for jobs
       pub steps : steps_of done.works ≡ flat_map (λ job. job.steps) jobs
 
-    -- jobs were done, and no more connections had a turn than before, and had their first one in these jobs
-    abbrev pub ServesMore : Policy → (old new : Store S) → (was is : M) → World → (before after : ℕ) → Type 0
-    ServesMore policy old new was is world before after = (jobs : List Job) × Serves policy old new was is world jobs × (after ≤ before + connections jobs)
+    -- jobs were done, and no more connections had a turn than before, and had their first one in these jobs; this is the policy
+    -- that they left, and whether the last one stopped the server
+    pub record ServesMore (policy : Policy) (old new : Store S) (was is : M) (world : World) (before after : ℕ) (left : Policy) (stopped : Bool) : Type 0 where
+      pub jobs : List Job
+      pub serves : Serves policy old new was is world jobs
+      pub few : after ≤ before + connections jobs
+      pub is_left : left ≡ policy_left policy jobs
+      pub are_stopped : AreStopped stopped jobs

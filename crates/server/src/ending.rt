@@ -23,7 +23,7 @@ pub fn print_fault<E: Write>(fault: &Fault, errors: &mut E) -> io::Result<()> {
 }
 
 /// Prints the fault and returns its exit status; a failed print does not change the status.
-fn refuse<E: Write>(fault: &Fault, errors: &mut E) -> Status
+pub(crate) fn refuse<E: Write>(fault: &Fault, errors: &mut E) -> Status
     ensures { result ≡ status_of fault.now }
 {
     let _ = print_fault(fault, errors);

@@ -86,6 +86,12 @@ pub enum Fault {
     /// An operator's request did not arrive in time, or is too long; or the reply could not be written.
     #[error("custody: operator not answered")]
     Operator,
+    /// The server is of another version than the program that asks it.
+    #[error("custody: the server has another version")]
+    Version,
+    /// The time was over for which a server was held.
+    #[error("custody: the time of the hold is over")]
+    HoldOver,
     /// The server was asked for something that is not a command, or a command that it does not do.
     #[error("custody: bad request")]
     Request,
@@ -122,6 +128,8 @@ impl Fault {
             Fault::Session(_) => Status::Refused,
             Fault::Control => Status::Refused,
             Fault::Operator => Status::Refused,
+            Fault::Version => Status::Refused,
+            Fault::HoldOver => Status::Refused,
             Fault::Reported => Status::Refused,
             Fault::ReportedInvalid => Status::Invalid,
         }

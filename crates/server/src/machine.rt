@@ -1,16 +1,20 @@
 //! The machine that a server runs on.
 
 ghost use Rattle.std.specs.Prelude.{⊤, IfNone, IfOk, IfSome, OnErr, OnOk};
-ghost use Rattle.server.specs.Observations.{Observation, called, drawn, received, sent, timed};
+ghost use Rattle.server.specs.Observations.{Observation, called, drawn, loaded, received, sent, timed, waited};
 
 use crate::faults::Fault;
 use crate::framing::Messages;
 use crate::moments::moment;
+use crate::policies::read_described;
 use crate::random::read_random;
+use crate::status::Gauges;
 use command_line::RANDOM;
 use names::Moment;
+use policy::Policy;
 use service::End;
 use sockets::{Caller, Client, Ended, Front, Queue};
+use std::fs;
 use std::io::{self, ErrorKind, Read, Write};
 use std::os::unix::net::UnixStream;
 use std::rt::HostRuntime;
@@ -18,6 +22,15 @@ use std::time::{Clock, Duration, Instant};
 
 /// How long an operator may take to send a command, and to take each part of a reply, in seconds.
 const PATIENCE: u64 = 2;
+
+/// How long an operator pauses whose request has arrived, in milliseconds.
+const PAUSE: u64 = 50;
+
+/// The most pieces of 16 KiB that are read and dropped of a request: more than the longest one has.
+const DROPPED: u32 = 2_048;
+
+/// The bytes of a page of memory.
+const PAGE: u64 = 4_096;
 
 /// A machine that a server runs on: it returns who calls, the time, random bytes, and what an operator sends.
 ///
@@ -82,6 +95,28 @@ pub trait Machine {
         ensures ok { OnOk result (observed self.old self.new (sent operator.now bytes.now)) }
         ensures err { OnErr result (idled self.old self.new) };
 
+    /// Drops what an operator still sends, for a moment: a close with unread bytes would reset the connection, and the
+    /// operator could lose what was sent to him.
+    fn drop_rest(&mut self, operator: &UnixStream)
+        ensures { idled self.old self.new };
+
+    /// Reads the policy file again.
+    ///
+    /// # Errors
+    ///
+    /// `PolicyFile`, `PolicyDescribed` and `Memory`.
+    fn policy(&mut self) -> Result<Policy, Fault>
+        ensures ok { IfOk result (λ policy. observed self.old self.new (loaded policy)) }
+        ensures err { OnErr result (idled self.old self.new) };
+
+    /// Waits until an operator closes his side of the connection, for at most this many seconds. Returns whether he did.
+    fn wait_for(&mut self, operator: &UnixStream, seconds: u64) -> bool
+        ensures { observed self.old self.new (waited operator.now seconds result) };
+
+    /// Returns what the machine knows of the server.
+    fn gauges(&mut self) -> Gauges
+        ensures { idled self.old self.new };
+
     /// Returns a connection that had a turn, and ended while it waited for the next.
     fn ended(&mut self) -> Option<Ended>
         ensures { idled self.old self.new };
@@ -103,22 +138,28 @@ pub trait Machine {
     fn shut(&mut self)
         ensures { idled self.old self.new };
 
+    /// Accepts no further client, and closes the connections that wait for a turn.
+    fn shut_at_once(&mut self)
+        ensures { idled self.old self.new };
+
     /// Waits until each client whose connection was closed has closed its side, for at most two seconds.
     fn settle(&mut self)
         ensures { idled self.old self.new };
 }
 
-/// Reads from an operator until a moment.
+/// Reads from an operator for a time.
 #[derive(Drop)]
 struct TimedReader<'a, C: Clock> {
     clock: &'a C,
     stream: &'a UnixStream,
     start: Instant,
+    /// How long, in seconds.
+    time: u64,
 }
 
 impl<C: Clock> Read for TimedReader<'_, C> {
     fn read(&mut self, piece: &mut [u8]) -> io::Result<usize> {
-        let whole = Duration::from_secs(PATIENCE);
+        let whole = Duration::from_secs(self.time);
         let left = whole.saturating_sub(self.start.elapsed(self.clock)?);
         if left.is_zero() {
             return Err(ErrorKind::TimedOut.into());
@@ -129,11 +170,68 @@ impl<C: Clock> Read for TimedReader<'_, C> {
     }
 }
 
+impl<C: Clock> TimedReader<'_, C> {
+    /// Reads on and drops what is read. Returns whether the operator's side was closed in time.
+    fn has_ended(&mut self) -> bool {
+        let mut piece = [0; 512];
+        'pieces: for _ in 0..u64::MAX {
+            match self.read(&mut piece) {
+                Ok(0) => return true,
+                Ok(_) => {}
+                Err(error) if error.kind() == ErrorKind::Interrupted => {}
+                Err(_) => return false,
+            }
+        }
+        false
+    }
+}
+
+/// Reads and drops what an operator has sent, until he pauses.
+fn drop_rest(stream: &UnixStream) -> io::Result<()> {
+    stream.set_read_timeout(Some(Duration::from_millis(PAUSE)))?;
+    let mut stream = stream;
+    let mut piece = [0; 16_384];
+    'pieces: for _ in 0..DROPPED {
+        if stream.read(&mut piece)? == 0 {
+            break;
+        }
+    }
+    Ok(())
+}
+
 /// Writes all bytes to an operator.
 fn write_to(stream: &UnixStream, bytes: &[u8]) -> io::Result<()> {
     stream.set_write_timeout(Some(Duration::from_secs(PATIENCE)))?;
     let mut stream = stream;
     stream.write_all(bytes)
+}
+
+/// The size of a file, in bytes; 0 if there is none.
+fn size_of_file(rt: &HostRuntime, path: &str) -> u64 {
+    match fs::metadata(rt, path) {
+        Ok(found) => found.len(),
+        Err(_) => 0,
+    }
+}
+
+/// The size of the log of a database, in bytes; 0 if there is none.
+fn size_of_log(rt: &HostRuntime, db: &str) -> u64 {
+    match format!(in rt.alloc(); "{db}-wal") {
+        Ok(path) => size_of_file(rt, path.as_str()),
+        Err(_) => 0,
+    }
+}
+
+/// The resident memory of the process, in bytes; 0 if the system does not say it.
+fn resident_memory(rt: &HostRuntime) -> u64 {
+    let Ok(text) = fs::read_to_string(rt, "/proc/self/statm") else {
+        return 0;
+    };
+    let pages = text
+        .split(' ')
+        .nth(1)
+        .and_then(|word| word.parse::<u64>().ok());
+    pages.unwrap_or(0).saturating_mul(PAGE)
 }
 
 /// A machine with sockets.
@@ -143,6 +241,10 @@ pub struct Sockets<'a, C> {
     pub rt: &'a HostRuntime,
     /// For moments, and for how long clients and operators are waited for.
     pub clock: &'a C,
+    /// The path of the policy file.
+    pub policy: &'a str,
+    /// The path of the database's file.
+    pub db: &'a str,
     /// Those who wait at the sockets.
     pub queue: Queue<'a>,
 }
@@ -177,12 +279,46 @@ impl<C: Clock> Machine for Sockets<'_, C> {
             clock: self.clock,
             stream: operator,
             start,
+            time: PATIENCE,
         };
         reader.read_exact(piece).map_err(|_| Fault::Operator)
     }
 
     fn send(&mut self, operator: &UnixStream, bytes: &[u8]) -> Result<(), Fault> {
         write_to(operator, bytes).map_err(|_| Fault::Operator)
+    }
+
+    fn drop_rest(&mut self, operator: &UnixStream) {
+        // The connection ends in any case.
+        let _ = drop_rest(operator);
+    }
+
+    fn policy(&mut self) -> Result<Policy, Fault> {
+        read_described(self.rt, self.policy)
+    }
+
+    fn wait_for(&mut self, operator: &UnixStream, seconds: u64) -> bool {
+        let Ok(start) = Instant::now(self.clock) else {
+            return false;
+        };
+        let mut reader = TimedReader {
+            clock: self.clock,
+            stream: operator,
+            start,
+            time: seconds,
+        };
+        reader.has_ended()
+    }
+
+    fn gauges(&mut self) -> Gauges {
+        Gauges {
+            waiting: self.queue.waiting(),
+            longest_wait: self.queue.longest_wait(),
+            database: size_of_file(self.rt, self.db),
+            log: size_of_log(self.rt, self.db),
+            memory: resident_memory(self.rt),
+            now: Instant::now(self.clock).ok(),
+        }
     }
 
     fn ended(&mut self) -> Option<Ended> {
@@ -213,6 +349,10 @@ impl<C: Clock> Machine for Sockets<'_, C> {
 
     fn shut(&mut self) {
         self.queue.shut();
+    }
+
+    fn shut_at_once(&mut self) {
+        self.queue.shut_at_once();
     }
 
     fn settle(&mut self) {

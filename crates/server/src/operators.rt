@@ -1,40 +1,58 @@
 //! Answers operators, who call a server on its control socket.
 
-ghost use Rattle.std.specs.Prelude.{◌≡◌, [], ℕ, List, IfOk, OnErr};
-ghost use Rattle.command_line.specs.declared.args.OperatorCommand.TheVariants.{Authenticate, Foresee};
-ghost use Rattle.refinement.specs.Left.{From};
-ghost use Rattle.control.specs.Replies.{IsReadAs, reply_of};
-ghost use Rattle.server.specs.Commands.{HasStatus, IsAnswered, IsDone, IsMomentOf, IsRead, IsReplyWith, IsRequestDone, IsSilent, RunsAs};
+ghost use Rattle.std.specs.Prelude.{◌≡◌, [], ℕ, List, IfOk, OnErr, ⊤};
+ghost use Rattle.command_line.specs.declared.args.OperatorCommand.TheVariants.{Authenticate, Foresee, Hold, Reload, Status as GetStatus};
+ghost use Rattle.refinement.specs.Left.{From, Reads};
+ghost use Rattle.server.specs.Commands.{AreReadings, HasEndedSo, IsAnswered, IsDone, IsMomentOf, IsObeyed, IsRead, IsReplied, IsRequestDone, IsSilent, RunsAs, made_of};
 ghost use Rattle.server.specs.Jobs.{Call, Calls, Helps, seen_in};
 ghost use Rattle.server.specs.Statuses.{status_of_end};
+ghost use Rattle.server.specs.Stored.{IsStored};
+ghost use Rattle.policy.specs.Values.{repo_view};
 
-use crate::ending::status_after;
+use crate::ending::{print_fault, refuse};
 use crate::faults::Fault;
 use crate::foreseeing::message_in;
 use crate::machine::Machine;
+use crate::outcomes::Outcome;
+use crate::pieces::Pieces;
+use crate::policies::policy_line;
 use crate::requests::{plain_task, push_of, token_request};
+use crate::status::{Counts, Stored, status_text};
 use command_line::{ForeseeArgs, OperatorCommand, TokenArgs};
-use control::{Request, Status, read_request, reply_bytes, request_size};
-use names::{Moment, Sink, VecSink};
-use operator::{Destination, Task, repo_at};
-use policy::Policy;
+use control::{PrefixFault, Request, Status, VERSION, read_request, refusal_bytes, request_size};
+use names::{Counted, Moment, Sink};
+use operator::{Destination, Task, print, repo_at};
+use policy::{Policy, Repo};
 use std::alloc::Global;
+use std::io::Write;
 use std::os::unix::net::UnixStream;
 use std::time::{Clock, Instant};
-use tables::{Alter, Store};
+use tables::{Alter, Store, StoreFault};
 
-/// What the commands of operators are run with.
+/// What the command of an operator is run with.
 #[derive(Clone, Copy)]
 pub(crate) struct OperatorContext<'a> {
     pub alloc: Global,
     pub policy: &'a Policy,
+    pub counts: &'a Counts,
+    /// Where the operator is.
+    pub stream: &'a UnixStream,
 }
 
-/// Reads the bytes of a request; their number is received before them.
+/// Sends to a program of another version that it is one. That program may be gone. What it still sends is dropped.
+fn refuse_version<M: Machine>(machine: &mut M, stream: &UnixStream)
+    ensures { (calls : List Call) × Calls M.Machine machine.old calls machine.new
+        × IsSilent (seen_in calls) }
+{
+    let _ = machine.send(stream, refusal_bytes());
+    machine.drop_rest(stream);
+}
+
+/// Reads the bytes of a request; their number is received before them. A request of another version is refused.
 ///
 /// # Errors
 ///
-/// `Operator` if they did not arrive in time or are too many, and `Memory`.
+/// `Operator` if they did not arrive in time, are too many, or are of another version; and `Memory`.
 fn read_body<M: Machine>(
     alloc: Global,
     machine: &mut M,
@@ -46,10 +64,15 @@ fn read_body<M: Machine>(
     ensures err { OnErr result ((calls : List Call)
         × Calls M.Machine machine.old calls machine.new × IsSilent (seen_in calls)) }
 {
-    let mut number = [0; 4];
-    machine.receive(stream, start, &mut number)?;
-    let Some(size) = request_size(number) else {
-        return Err(Fault::Operator);
+    let mut prefix = [0; 5];
+    machine.receive(stream, start, &mut prefix)?;
+    let size = match request_size(prefix) {
+        Ok(size) => size,
+        Err(PrefixFault::OtherVersion) => {
+            refuse_version(machine, stream);
+            return Err(Fault::Operator);
+        }
+        Err(PrefixFault::TooLong) => return Err(Fault::Operator),
     };
     let mut body = vec![in alloc; 0; size]?;
     machine.receive(stream, start, &mut body)?;
@@ -73,13 +96,27 @@ fn moment_of<M: Machine>(machine: &mut M, given: Option<Moment>) -> Result<Momen
     }
 }
 
+/// What the repository stores.
+fn stored_in<'r, S: Alter>(store: &mut Store<S>, repo: &'r Repo) -> Result<Stored<'r>, StoreFault>
+    ensures { Reads S.Store store.old store.new (λ world.
+        IfOk result (IsStored world (repo_view repo.entry.now).name)) }
+{
+    let used = uploads::used(store, repo.name())?;
+    let locks_made = locks::made(store, repo.name())?;
+    Ok(Stored {
+        repo,
+        used,
+        locks_made,
+    })
+}
+
 impl OperatorContext<'_> {
     /// Runs a task over the server's store. The program that prints the reply escapes what it prints on a terminal.
-    fn work<S: Alter>(
+    fn work<S: Alter, K: Sink>(
         &self,
         store: &mut Store<S>,
         task: &Task<'_>,
-        output: &mut VecSink,
+        output: &mut K,
     ) -> Result<(), Fault>
         ensures { From S.Store store.old store.new (λ world.
             RunsAs S.Store store.old store.new world task.now result) }
@@ -89,12 +126,12 @@ impl OperatorContext<'_> {
     }
 
     /// Issues a token by the server's policy.
-    fn issue<S: Alter, M: Machine>(
+    fn issue<S: Alter, M: Machine, K: Sink>(
         &self,
         store: &mut Store<S>,
         machine: &mut M,
         asked: &TokenArgs<'_>,
-        output: &mut VecSink,
+        output: &mut K,
     ) -> Result<(), Fault>
         ensures { (input : List ℕ) → From S.Store store.old store.new (λ world.
             Helps M.Machine S.Store (IsDone self.now.policy.now (Authenticate asked.entry.now) input result)
@@ -110,13 +147,13 @@ impl OperatorContext<'_> {
     }
 
     /// Foresees a reply by the server's policy.
-    fn foresee<S: Alter, M: Machine>(
+    fn foresee<S: Alter, M: Machine, K: Sink>(
         &self,
         store: &mut Store<S>,
         machine: &mut M,
         asked: &ForeseeArgs,
         input: &[u8],
-        output: &mut VecSink,
+        output: &mut K,
     ) -> Result<(), Fault>
         ensures { From S.Store store.old store.new (λ world.
             Helps M.Machine S.Store (IsDone self.now.policy.now (Foresee asked.entry.now) input.now result)
@@ -128,13 +165,13 @@ impl OperatorContext<'_> {
     }
 
     /// Runs a command over the server's store.
-    fn run<S: Alter, M: Machine>(
+    fn run<S: Alter, M: Machine, K: Sink>(
         &self,
         store: &mut Store<S>,
         machine: &mut M,
         command: &OperatorCommand<'_>,
         input: &[u8],
-        output: &mut VecSink,
+        output: &mut K,
     ) -> Result<(), Fault>
         ensures { From S.Store store.old store.new (λ world.
             Helps M.Machine S.Store (IsDone self.now.policy.now command.now input.now result)
@@ -154,21 +191,133 @@ impl OperatorContext<'_> {
                 let push = push_of(self.alloc, self.policy, asked, input)?;
                 self.work(store, &Task::CheckPush(push), output)
             }
-            // The other commands have a plain task.
+            OperatorCommand::Tokens(asked) => {
+                let now = moment_of(machine, asked.now)?;
+                self.work(store, &Task::ListTokens(&asked.repo, now), output)
+            }
+            OperatorCommand::Usage(named) => {
+                let now = moment_of(machine, *named)?;
+                self.work(store, &Task::Usage(self.policy, now), output)
+            }
+            // The other commands have a plain task, or none.
             _ => Err(Fault::Request),
         }
     }
 
+    /// Holds the store still until the operator closes his side, for at most this many seconds. Nobody is served
+    /// meanwhile, and the store is not used: its files stay what a stop at that moment leaves.
+    ///
+    /// # Errors
+    ///
+    /// `HoldOver` if the time was over before, and `Output`.
+    fn hold<M: Machine, K: Sink>(
+        &self,
+        machine: &mut M,
+        seconds: u64,
+        output: &mut K,
+    ) -> Result<Outcome, Fault>
+        ensures ok { IfOk result (λ outcome. (calls : List Call) × Calls M.Machine machine.old calls machine.new
+            × IsObeyed self.now.stream.now (Hold seconds) outcome (seen_in calls)) }
+        ensures err { OnErr result ((calls : List Call)
+            × Calls M.Machine machine.old calls machine.new × AreReadings (seen_in calls)) }
+    {
+        print(output, b"held\n")?;
+        if machine.wait_for(self.stream, seconds) {
+            Ok(Outcome::Unchanged)
+        } else {
+            Err(Fault::HoldOver)
+        }
+    }
+
+    /// Reads the policy file again.
+    ///
+    /// # Errors
+    ///
+    /// `PolicyFile`, `PolicyDescribed` and `Memory`; `Output` if what was read could not be reported. The policy stays as
+    /// it was then.
+    fn reload<M: Machine, K: Sink>(&self, machine: &mut M, output: &mut K) -> Result<Outcome, Fault>
+        ensures ok { IfOk result (λ outcome. (calls : List Call) × Calls M.Machine machine.old calls machine.new
+            × IsObeyed self.now.stream.now Reload outcome (seen_in calls)) }
+        ensures err { OnErr result ((calls : List Call)
+            × Calls M.Machine machine.old calls machine.new × AreReadings (seen_in calls)) }
+    {
+        let policy = machine.policy()?;
+        let mut line = policy_line(self.alloc, &policy)?;
+        line.push('\n')?;
+        print(output, line.as_bytes())?;
+        Ok(Outcome::Reloaded(policy))
+    }
+
+    /// What the repositories of the policy store.
+    fn stored<S: Alter>(&self, store: &mut Store<S>) -> Result<Vec<Stored<'_>>, Fault>
+        ensures { Reads S.Store store.old store.new (λ _. ⊤) }
+    {
+        let mut all = Vec::new(self.alloc);
+        for repo in self.policy.repos() {
+            if all.push(stored_in(store, repo)?).is_err() {
+                return Err(Fault::Memory);
+            }
+        }
+        Ok(all)
+    }
+
+    /// Prints how the server is, in the text format that Prometheus reads.
+    ///
+    /// # Errors
+    ///
+    /// `Store`, `Memory` and `Output`.
+    fn print_status<S: Alter, M: Machine, K: Sink>(
+        &self,
+        store: &mut Store<S>,
+        machine: &mut M,
+        output: &mut K,
+    ) -> Result<Outcome, Fault>
+        ensures { (input : List ℕ) → From S.Store store.old store.new (λ world.
+            Helps M.Machine S.Store (HasEndedSo self.now.policy.now self.now.stream.now GetStatus input result)
+            store.old store.new machine.old machine.new world) }
+    {
+        let gauges = machine.gauges();
+        let stored = self.stored(store)?;
+        let text = status_text(self.alloc, self.counts, &gauges, stored.as_slice())?;
+        print(output, text.as_bytes())?;
+        Ok(Outcome::Unchanged)
+    }
+
+    /// Obeys a command for the server itself, or runs a command over the server's store.
+    fn obey<S: Alter, M: Machine, K: Sink>(
+        &self,
+        store: &mut Store<S>,
+        machine: &mut M,
+        command: &OperatorCommand<'_>,
+        input: &[u8],
+        output: &mut K,
+    ) -> Result<Outcome, Fault>
+        ensures { From S.Store store.old store.new (λ world.
+            Helps M.Machine S.Store (HasEndedSo self.now.policy.now self.now.stream.now command.now input.now result)
+            store.old store.new machine.old machine.new world) }
+    {
+        match command {
+            OperatorCommand::Hold(seconds) => self.hold(machine, *seconds, output),
+            OperatorCommand::Stop => Ok(Outcome::Stopped),
+            OperatorCommand::Reload => self.reload(machine, output),
+            OperatorCommand::Status => self.print_status(store, machine, output),
+            _ => {
+                self.run(store, machine, command, input, output)?;
+                Ok(Outcome::Unchanged)
+            }
+        }
+    }
+
     /// Runs the command of a request.
-    fn answer<S: Alter, M: Machine>(
+    fn answer<S: Alter, M: Machine, K: Sink>(
         &self,
         store: &mut Store<S>,
         machine: &mut M,
         body: &[u8],
-        output: &mut VecSink,
-    ) -> Result<(), Fault>
+        output: &mut K,
+    ) -> Result<Outcome, Fault>
         ensures { From S.Store store.old store.new (λ world.
-            Helps M.Machine S.Store (IsRequestDone self.now.policy.now body.now result)
+            Helps M.Machine S.Store (IsRequestDone self.now.policy.now self.now.stream.now body.now result)
             store.old store.new machine.old machine.new world) }
     {
         let alloc = self.alloc;
@@ -176,70 +325,74 @@ impl OperatorContext<'_> {
             return Err(Fault::Request);
         };
         let command = OperatorCommand::read(alloc, words.as_slice())?;
-        self.run(store, machine, &command, input, output)
+        self.obey(store, machine, &command, input, output)
     }
 
-    /// The bytes of the reply to a request, after its command was run.
-    fn reply<S: Alter, M: Machine>(
-        &self,
-        store: &mut Store<S>,
-        machine: &mut M,
-        body: &[u8],
-    ) -> Result<Vec<u8>, Fault>
-        ensures { From S.Store store.old store.new (λ world.
-            Helps M.Machine S.Store (HasStatus self.now.policy.now body.now
-            (λ status. IfOk result (λ bytes. IsReplyWith status bytes.items)))
-            store.old store.new machine.old machine.new world) }
-    {
-        let alloc = self.alloc;
-        let mut output = VecSink::new(alloc, usize::MAX);
-        let mut errors = Vec::new(alloc);
-        let ended = self.answer(store, machine, body, &mut output);
-        let status = status_after(without_memory(ended, &output), &mut errors);
-        reply_with(alloc, status, output.taken(), errors.as_slice())
-    }
-
-    /// Answers one request of an operator over the server's store: what the command prints and its status are those that
-    /// it has over files.
+    /// Sends what a command wrote to its error stream, and then the end of the reply.
     ///
     /// # Errors
     ///
-    /// `Operator` if the request did not arrive in time or is too long, which leaves the store; or if the reply could not
-    /// be sent, after the command was run. `Memory`, in either case.
-    pub fn serve<S: Alter, M: Machine, C: Clock>(
+    /// `Operator` if not all was sent.
+    fn send_end<M: Machine, W: Sink>(
+        &self,
+        machine: &mut M,
+        status: Status,
+        text: &[u8],
+        pieces: &mut Pieces<W>,
+    ) -> Result<(), Fault>
+        ensures { (calls : List Call) × Calls M.Machine machine.old calls machine.new
+            × IsReplied self.now.stream.now status (seen_in calls) }
+    {
+        pieces.send_errors(text)?;
+        machine.send(self.stream, &[status.code()])
+    }
+
+    /// Ends the reply to a request whose command ended so, and reports if that failed. Returns what becomes of the server.
+    fn end<M: Machine, W: Sink, E: Write>(
+        &self,
+        machine: &mut M,
+        ended: Result<Outcome, Fault>,
+        pieces: &mut Pieces<W>,
+        errors: &mut E,
+    ) -> Outcome
+        ensures made { result ≡ made_of ended }
+        ensures replied { (calls : List Call) × Calls M.Machine machine.old calls machine.new
+            × IsReplied self.now.stream.now (status_of_end ended) (seen_in calls) }
+    {
+        let mut text = Vec::new(self.alloc);
+        let (outcome, status) = match ended {
+            Ok(outcome) => (outcome, Status::Good),
+            Err(fault) => (Outcome::Unchanged, refuse(&fault, &mut text)),
+        };
+        if let Err(fault) = self.send_end(machine, status, text.as_slice(), pieces) {
+            let _ = print_fault(&fault, errors);
+        }
+        outcome
+    }
+
+    /// Answers one request of an operator over the server's store: what the command prints and its status are those that
+    /// it has over files. Returns what becomes of the server.
+    ///
+    /// # Errors
+    ///
+    /// `Operator` if the request did not arrive in time or is too long, or the reply could not be begun, and `Memory`.
+    /// They leave the store. A reply that could not be ended is reported.
+    pub fn serve<S: Alter, M: Machine, C: Clock, E: Write>(
         &self,
         store: &mut Store<S>,
         machine: &mut M,
         clock: &C,
-        stream: &UnixStream,
-    ) -> Result<(), Fault>
+        errors: &mut E,
+    ) -> Result<Outcome, Fault>
         ensures { From S.Store store.old store.new (λ world.
-            Helps M.Machine S.Store (IsAnswered self.now.policy.now stream.now)
+            Helps M.Machine S.Store (IsAnswered self.now.policy.now self.now.stream.now (made_of result))
             store.old store.new machine.old machine.new world) }
     {
         let start = Instant::now(clock).map_err(|_| Fault::Operator)?;
-        let body = read_body(self.alloc, machine, stream, start)?;
-        let reply = self.reply(store, machine, body.as_slice())?;
-        machine.send(stream, reply.as_slice())
-    }
-}
-
-/// The bytes of a reply.
-fn reply_with(alloc: Global, status: Status, output: &[u8], errors: &[u8]) -> Result<Vec<u8>, Fault>
-    ensures { IfOk result (λ bytes. IsReadAs bytes.items (reply_of status output.now errors.now)) }
-{
-    match reply_bytes(alloc, status, output, errors) {
-        Ok(bytes) => Ok(bytes),
-        Err(_) => Err(Fault::Memory),
-    }
-}
-
-/// How a command ended: an output in memory fails only if memory ran out.
-fn without_memory(ended: Result<(), Fault>, output: &VecSink) -> Result<(), Fault>
-    ensures { status_of_end result ≡ status_of_end ended }
-{
-    match ended {
-        Err(Fault::Output) if output.failures() > 0 => Err(Fault::Memory),
-        ended => ended,
+        let body = read_body(self.alloc, machine, self.stream, start)?;
+        machine.send(self.stream, &[VERSION])?;
+        let mut pieces = Pieces::new(Counted::new(self.stream));
+        let ended = self.answer(store, machine, body.as_slice(), &mut pieces);
+        Ok(self.end(machine, ended, &mut pieces, errors))
     }
 }

@@ -1,9 +1,9 @@
 //! What a command asks of a task.
 
-ghost use Rattle.std.specs.Prelude.{◌≡◌, IfOk, IfSome};
+ghost use Rattle.std.specs.Prelude.{◌≡◌, IfNone, IfOk, IfSome};
 ghost use Rattle.names.specs.Names.{repo_text};
 ghost use Rattle.tokens.specs.Issuing.{token_asked};
-ghost use Rattle.server.specs.Commands.{IsPlainTask, IsPushOf, token_of};
+ghost use Rattle.server.specs.Commands.{IsPlainTask, IsPushOf, NeedsMore, token_of};
 
 use crate::faults::Fault;
 use command_line::{OperatorCommand, PushArgs, TokenArgs};
@@ -35,13 +35,15 @@ pub fn token_request<'a>(
     }
 }
 
-/// Returns the task of a command that needs nothing else; `None` for a command that has a moment or an input. A task over
+/// Returns the task of a command that needs nothing else; `None` for a command that has a moment or an input, or is for the
+/// server itself. A task over
 /// all objects shows how far it is on the terminal, if there is one.
 pub fn plain_task<'a>(
     command: &'a OperatorCommand<'_>,
     terminal: Option<&'a Stderr>,
 ) -> Option<Task<'a>>
-    ensures { IfSome result (IsPlainTask command.entry.now) }
+    ensures some { IfSome result (IsPlainTask command.entry.now) }
+    ensures none { IfNone result (NeedsMore command.entry.now) }
 {
     match command {
         OperatorCommand::Locks(repo) => Some(Task::ListLocks(repo)),

@@ -1,16 +1,19 @@
 //! A server over an open store: it does what those who call it ask for, one after the other.
 
-ghost use Rattle.std.specs.Prelude.{◌≡◌, ◌≤◌, ◌+◌, [], List, Some, IfOk, OnOk};
+ghost use Rattle.std.specs.Prelude.{◌≡◌, ◌≤◌, ◌+◌, [], List, Some, is_some};
 ghost use Rattle.std.specs.Bool.{OnTrue};
 ghost use Rattle.refinement.specs.Left.{From};
 ghost use Rattle.server.specs.Commands.{IsAnswered};
-ghost use Rattle.server.specs.Jobs.{Call, Calls, Converses, Helps, IsTurn, Job, Serves, ServesMore, Tidies, seen_in, connections, first_turn};
+ghost use Rattle.server.specs.Jobs.{Call, Calls, Converses, HasFinished, Helps, IsTurn, Job, Serves, ServesMore, Tidies, seen_in, first_turn, has_stopped};
 ghost use Rattle.server.specs.Statuses.{is_reported};
 
 use crate::ending::{is_good, print_fault};
 use crate::faults::Fault;
 use crate::machine::Machine;
 use crate::operators::OperatorContext;
+use crate::outcomes::Outcome;
+use crate::status::{Counts, Turn};
+use crate::traffic::Metered;
 use names::{Counted, Moment};
 use policy::Policy;
 use service::{End, Routes};
@@ -19,7 +22,7 @@ use std::alloc::Global;
 use std::cell::Cell;
 use std::io::{self, Write};
 use std::os::unix::net::UnixStream;
-use std::time::Clock;
+use std::time::{Clock, Duration, Instant};
 use tables::{Storage, Store};
 
 /// What a server serves with.
@@ -27,25 +30,42 @@ use tables::{Storage, Store};
 pub struct Server<'a, C> {
     /// The memory for messages and replies.
     pub alloc: Global,
-    /// The policy by which all are served.
-    pub policy: &'a Policy,
     /// The routes of requests.
     pub routes: &'a Routes,
     /// The clock that says how long a client within a message is waited for.
     pub clock: &'a C,
 }
 
-/// What a server counts.
+/// How a server ended.
+#[derive(Debug, Drop)]
+pub struct Finish {
+    /// How many connections were served.
+    pub connections: u64,
+    /// The operator who stopped the server; `None` if it has served as many connections as it was to serve. He waits until
+    /// this is dropped.
+    pub stopped_by: Option<UnixStream>,
+}
+
+/// What a server notes of its turns.
+#[derive(Drop)]
+struct Tally {
+    /// Whether failed uploads may have left something in the store.
+    unswept: bool,
+    counts: Counts,
+}
+
+/// What a server goes by, and what it counts.
 #[derive(Drop)]
 struct State<'a, E> {
+    /// The policy by which all are served.
+    policy: Policy,
     /// After how many connections it ends.
     most: u64,
     /// How many connections had a turn.
     begun: u64,
     /// How many of these ended.
     ended: u64,
-    /// Whether failed uploads may have left something in the store.
-    unswept: bool,
+    tally: Tally,
     errors: &'a mut E,
 }
 
@@ -54,6 +74,7 @@ impl<E: Write> State<'_, E> {
     fn number_of(&mut self, client: &mut Client) -> u64
         ensures begun { self.new.begun ≤ self.old.begun + first_turn (Caller.Client client.old) }
         ensures most { self.new.most ≡ self.old.most }
+        ensures policy { self.new.policy ≡ self.old.policy }
         ensures number { client.new.number ≡ Some result }
     {
         if let Some(number) = client.number {
@@ -75,11 +96,13 @@ impl<E: Write> State<'_, E> {
     fn note(&mut self, number: u64, end: Option<End>)
         ensures begun { self.new.begun ≡ self.old.begun }
         ensures most { self.new.most ≡ self.old.most }
+        ensures policy { self.new.policy ≡ self.old.policy }
     {
         let Some(end) = end else {
             return;
         };
         self.ended = self.ended.saturating_add(1);
+        self.tally.counts.count_end(end);
         if is_reported(end) {
             let _ = write_end(self.errors, number, end);
         }
@@ -123,6 +146,7 @@ fn note_ended<M: Machine, E: Write>(machine: &mut M, state: &mut State<'_, E>)
     ensures machine { M.Machine.idled machine.old machine.new }
     ensures begun { state.new.begun ≡ state.old.begun }
     ensures most { state.new.most ≡ state.old.most }
+    ensures policy { state.new.policy ≡ state.old.policy }
 {
     if let Some(ended) = machine.ended() {
         state.note(ended.number, Some(end_of(ended)));
@@ -130,41 +154,54 @@ fn note_ended<M: Machine, E: Write>(machine: &mut M, state: &mut State<'_, E>)
 }
 
 impl<C: Clock> Server<'_, C> {
-    /// Serves the message of a turn at a moment, and returns how the turn ended.
+    /// The time; `None` if the clock failed.
+    fn instant(&self) -> Option<Instant> {
+        Instant::now(self.clock).ok()
+    }
+
+    /// How long ago this was; none if the clock failed.
+    fn since(&self, start: Option<Instant>) -> Duration {
+        match (start, self.instant()) {
+            (Some(start), Some(now)) => now.duration_since(start),
+            _ => Duration::ZERO,
+        }
+    }
+
+    /// Serves the message of a turn at a moment.
     fn converse<S: Storage>(
         &self,
         store: &mut Store<S>,
+        policy: &Policy,
         now: Moment,
         client: &Client,
         front: &mut Front,
-    ) -> End
+    ) -> Turn
         ensures { From S.Store store.old store.new (λ world.
-            Converses S.Store self.now.policy.now now store.old store.new world) }
+            Converses S.Store policy.now now store.old store.new world) }
     {
         let course = Cell::new(Course::new());
+        let (received, sent) = (Cell::new(0), Cell::new(0));
         let stream = client.stream();
-        let mut source = Counted::new(PatientReader {
+        let reader = PatientReader {
             clock: self.clock,
             stream,
             course: &course,
             front,
-        });
-        let mut sink = Counted::new(PatientWriter {
+        };
+        let writer = PatientWriter {
             clock: self.clock,
             stream,
             course: &course,
-        });
-        let (policy, routes) = (self.policy, self.routes);
-        service::serve(
-            self.alloc,
-            store,
-            policy,
-            routes,
-            now,
-            &mut source,
-            &mut sink,
-        )
-        .end
+        };
+        let mut source = Counted::new(Metered::new(reader, &received));
+        let mut sink = Counted::new(Metered::new(writer, &sent));
+        let (alloc, routes) = (self.alloc, self.routes);
+        let served = service::serve(alloc, store, policy, routes, now, &mut source, &mut sink);
+        Turn {
+            served,
+            received: received.get(),
+            sent: sent.get(),
+        }
     }
 
     /// Removes what failed uploads left in the store, if there may be any. Returns whether there still may be: the store
@@ -186,21 +223,25 @@ impl<C: Clock> Server<'_, C> {
         &self,
         store: &mut Store<S>,
         machine: &mut M,
+        policy: &Policy,
         mut client: Client,
-        unswept: &mut bool,
+        tally: &mut Tally,
     ) -> Result<Option<End>, Fault>
         ensures { From S.Store store.old store.new (λ world.
-            Helps M.Machine S.Store (IsTurn self.now.policy.now)
+            Helps M.Machine S.Store (IsTurn policy.now)
             store.old store.new machine.old machine.new world) }
     {
-        *unswept = self.sweep_if(store, *unswept);
+        tally.unswept = self.sweep_if(store, tally.unswept);
         let now = machine.moment()?;
+        let start = self.instant();
         let Ok(mut front) = client.begin(self.alloc) else {
             machine.close(client);
             return Ok(Some(End::ReadFailed));
         };
-        let end = self.converse(store, now, &client, &mut front);
-        *unswept = *unswept || end == End::StoreRefused;
+        let turn = self.converse(store, policy, now, &client, &mut front);
+        let end = turn.served.end;
+        tally.unswept = tally.unswept || end == End::StoreRefused;
+        tally.counts.count_turn(turn, self.since(start));
         machine.end_turn(client, &front, end)
     }
 
@@ -218,41 +259,54 @@ impl<C: Clock> Server<'_, C> {
         state: &mut State<'_, E>,
     ) -> Result<(), Fault>
         ensures world { From S.Store store.old store.new (λ world.
-            Helps M.Machine S.Store (IsTurn self.now.policy.now)
+            Helps M.Machine S.Store (IsTurn state.old.policy)
             store.old store.new machine.old machine.new world) }
         ensures begun { state.new.begun ≤ state.old.begun + first_turn (Caller.Client client) }
         ensures most { state.new.most ≡ state.old.most }
+        ensures policy { state.new.policy ≡ state.old.policy }
     {
         let number = state.number_of(&mut client);
         shut_if(machine, state.is_full());
-        let end = self.serve_turn(store, machine, client, &mut state.unswept)?;
+        let policy = &state.policy;
+        let end = self.serve_turn(store, machine, policy, client, &mut state.tally)?;
         state.note(number, end);
         Ok(())
     }
 
-    /// Answers an operator, and reports if that failed.
+    /// Answers an operator, and reports if that failed. Returns what becomes of the server.
     fn serve_operator<S: Storage, M: Machine, E: Write>(
         &self,
         store: &mut Store<S>,
         machine: &mut M,
         stream: &UnixStream,
-        errors: &mut E,
-    )
-        ensures { From S.Store store.old store.new (λ world.
-            Helps M.Machine S.Store (IsAnswered self.now.policy.now stream.now)
+        state: &mut State<'_, E>,
+    ) -> Outcome
+        ensures world { From S.Store store.old store.new (λ world.
+            Helps M.Machine S.Store (IsAnswered state.old.policy stream.now result)
             store.old store.new machine.old machine.new world) }
+        ensures begun { state.new.begun ≡ state.old.begun }
+        ensures most { state.new.most ≡ state.old.most }
+        ensures policy { state.new.policy ≡ state.old.policy }
     {
         let context = OperatorContext {
             alloc: self.alloc,
-            policy: self.policy,
+            policy: &state.policy,
+            counts: &state.tally.counts,
+            stream,
         };
-        if let Err(fault) = context.serve(store, machine, self.clock, stream) {
-            let _ = print_fault(&fault, errors);
+        let answered = context.serve(store, machine, self.clock, state.errors);
+        state.tally.counts.count_operator(answered.is_ok());
+        match answered {
+            Ok(outcome) => outcome,
+            Err(fault) => {
+                let _ = print_fault(&fault, state.errors);
+                Outcome::Unchanged
+            }
         }
     }
 
     /// Waits for the next caller and does what he asks for: a turn of a client, or a command of an operator; or takes note
-    /// of a connection that ended between two turns.
+    /// of a connection that ended between two turns. Returns the operator who has stopped the server.
     ///
     /// # Errors
     ///
@@ -262,28 +316,75 @@ impl<C: Clock> Server<'_, C> {
         store: &mut Store<S>,
         machine: &mut M,
         state: &mut State<'_, E>,
-    ) -> Result<(), Fault>
+    ) -> Result<Option<UnixStream>, Fault>
         ensures world { From S.Store store.old store.new (λ world.
-            ServesMore M.Machine S.Store self.now.policy.now
-            store.old store.new machine.old machine.new world state.old.begun state.new.begun) }
+            ServesMore M.Machine S.Store state.old.policy store.old store.new machine.old machine.new world
+            state.old.begun state.new.begun state.new.policy (has_stopped result)) }
         ensures most { state.new.most ≡ state.old.most }
     {
         match machine.next()? {
-            Some(Caller::Client(client)) => self.serve_client(store, machine, client, state),
+            Some(Caller::Client(client)) => {
+                self.serve_client(store, machine, client, state)?;
+                Ok(None)
+            }
             Some(Caller::Operator(stream)) => {
-                self.serve_operator(store, machine, &stream, state.errors);
-                Ok(())
+                match self.serve_operator(store, machine, &stream, state) {
+                    Outcome::Unchanged => Ok(None),
+                    Outcome::Stopped => Ok(Some(stream)),
+                    Outcome::Reloaded(policy) => {
+                        state.policy = policy;
+                        state.tally.counts.read_policy = self.instant();
+                        Ok(None)
+                    }
+                }
             }
             None => {
                 note_ended(machine, state);
-                Ok(())
+                Ok(None)
             }
         }
     }
 
-    /// Serves this many connections, and reports those that failed on the error stream. Operators are answered between
-    /// their turns. What failed uploads left, also those of a server that was killed, is removed before the next turn, as
-    /// soon as the store allows it. Returns how many connections were served.
+    /// Serves whoever calls, until as many connections were served as are to be, or an operator stops the server.
+    ///
+    /// # Errors
+    ///
+    /// Those of [`run`](Server::run).
+    fn serve_all<S: Storage, M: Machine, E: Write>(
+        &self,
+        store: &mut Store<S>,
+        machine: &mut M,
+        state: &mut State<'_, E>,
+    ) -> Result<Finish, Fault>
+        requires { state.now.begun ≡ 0 }
+        ensures { From S.Store store.old store.new (λ world. (jobs : List Job)
+            × Serves M.Machine S.Store state.old.policy store.old store.new machine.old machine.new world jobs
+            × HasFinished state.old.most jobs result) }
+    {
+        'callers: for _ in 0..u64::MAX {
+            if state.ended >= state.most && state.is_full() {
+                machine.settle();
+                return Ok(Finish {
+                    connections: state.most,
+                    stopped_by: None,
+                });
+            }
+            if let Some(operator) = self.serve_next(store, machine, state)? {
+                machine.shut_at_once();
+                machine.settle();
+                return Ok(Finish {
+                    connections: state.begun,
+                    stopped_by: Some(operator),
+                });
+            }
+        }
+        Err(Fault::Network)
+    }
+
+    /// Serves this many connections, first under this policy, and reports those that failed on the error stream. Operators
+    /// are answered between their turns. What failed uploads left, also those of a server that was killed, is removed
+    /// before the next turn, as soon as the store allows it. Ends when as many connections were served, or when an operator
+    /// stops it.
     ///
     /// # Errors
     ///
@@ -292,29 +393,25 @@ impl<C: Clock> Server<'_, C> {
         &self,
         store: &mut Store<S>,
         machine: &mut M,
+        policy: Policy,
         most: u64,
         errors: &mut E,
-    ) -> Result<u64, Fault>
-        ensures count { IfOk result (λ served. served ≡ most) }
-        ensures jobs { From S.Store store.old store.new (λ world. (jobs : List Job)
-            × Serves M.Machine S.Store self.now.policy.now
-            store.old store.new machine.old machine.new world jobs
-            × OnOk result (most ≤ connections jobs)) }
+    ) -> Result<Finish, Fault>
+        ensures { From S.Store store.old store.new (λ world. (jobs : List Job)
+            × Serves M.Machine S.Store policy store.old store.new machine.old machine.new world jobs
+            × HasFinished most jobs result) }
     {
         let mut state = State {
+            policy,
             most,
             begun: 0,
             ended: 0,
-            unswept: true,
+            tally: Tally {
+                unswept: true,
+                counts: Counts::new(self.instant()),
+            },
             errors,
         };
-        'callers: for _ in 0..u64::MAX {
-            if state.ended >= most && state.is_full() {
-                machine.settle();
-                return Ok(most);
-            }
-            self.serve_next(store, machine, &mut state)?;
-        }
-        Err(Fault::Network)
+        self.serve_all(store, machine, &mut state)
     }
 }

@@ -80,6 +80,8 @@ pub struct Queue<'a> {
     /// Whether a connection may wait at the listener of the clients, and at that of the operators.
     clients_wait: bool,
     operators_wait: bool,
+    /// The longest time that a client's message has waited for its turn.
+    longest_wait: Duration,
     poll: Poll,
     events: Events,
 }
@@ -125,6 +127,7 @@ impl<'a> Queue<'a> {
             is_open: true,
             clients_wait: false,
             operators_wait: false,
+            longest_wait: Duration::ZERO,
             poll,
             events: Events::with_capacity(rt.alloc(), NEWS)?,
         })
@@ -220,8 +223,8 @@ impl<'a> Queue<'a> {
         Ok(found)
     }
 
-    /// Looks at those of whom the system has news, and waits for some if there is nothing to do.
-    fn look(&mut self, clock: &impl Clock, framing: &impl Framing) -> io::Result<()> {
+    /// Looks at those of whom the system has news, and waits for some if there is nothing to do. Returns when it looked.
+    fn look(&mut self, clock: &impl Clock, framing: &impl Framing) -> io::Result<Instant> {
         let is_busy = self.room.has_ready() || self.room.has_ended() || self.operators_wait;
         let longest = if is_busy {
             Some(Duration::ZERO)
@@ -241,7 +244,25 @@ impl<'a> Queue<'a> {
         }
         self.admit(now, framing)?;
         self.room.expire(now);
-        Ok(())
+        Ok(now)
+    }
+
+    /// Notes how long the caller has waited for his turn.
+    fn note_wait(&mut self, caller: &Caller, now: Instant) {
+        if let Caller::Client(client) = caller {
+            let wait = now.duration_since(client.since());
+            self.longest_wait = self.longest_wait.max(wait);
+        }
+    }
+
+    /// How many clients wait for a turn, since their message has arrived.
+    pub fn waiting(&self) -> usize {
+        self.room.waiting()
+    }
+
+    /// The longest time that a message of a client has waited for its turn.
+    pub fn longest_wait(&self) -> Duration {
+        self.longest_wait
     }
 
     /// The next one to answer. Waits if nobody is ready; `None` if a connection ended that had a turn.
@@ -255,11 +276,12 @@ impl<'a> Queue<'a> {
         framing: &impl Framing,
     ) -> io::Result<Option<Caller>> {
         'looks: for _ in 0..u64::MAX {
-            self.look(clock, framing)?;
+            let now = self.look(clock, framing)?;
             if self.room.has_ended() {
                 return Ok(None);
             }
             if let Some(caller) = self.next()? {
+                self.note_wait(&caller, now);
                 return Ok(Some(caller));
             }
         }
@@ -275,6 +297,12 @@ impl<'a> Queue<'a> {
     pub fn shut(&mut self) {
         self.is_open = false;
         self.room.send_away();
+    }
+
+    /// Accepts no further client, and closes the connections that wait for a turn.
+    pub fn shut_at_once(&mut self) {
+        self.is_open = false;
+        self.room.send_all_away();
     }
 
     /// Waits until each client whose connection was closed has closed its side, for at most two seconds.

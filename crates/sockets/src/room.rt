@@ -99,6 +99,11 @@ impl Room {
         !self.ready.is_empty()
     }
 
+    /// How many clients are ready.
+    pub(crate) fn waiting(&self) -> usize {
+        self.ready.len()
+    }
+
     /// Takes in a connection that was accepted now. It is closed if the system refuses to watch it, or if there is no memory.
     pub(crate) fn enter(
         &mut self,
@@ -296,6 +301,16 @@ impl Room {
                 self.remove(key, false);
             }
         }
+    }
+
+    /// Closes the connections that wait for a turn.
+    pub(crate) fn send_all_away(&mut self) {
+        for key in 0..self.limits.connections {
+            if let Some(Place::Waiting(_)) = self.places.get(key) {
+                self.places.try_remove(key);
+            }
+        }
+        self.ready.clear();
     }
 
     /// Closes the connections that had no turn.

@@ -1,4 +1,4 @@
-use Rattle.std.proofs.Common.{rules, arith, ◌≡◌, ◌++◌, ◌∙◌, ap, length, map, take, get_or, flat_map, string_bytes, length-append}
+use Rattle.std.proofs.Common.{arith, ◌≡◌, ◌∙◌, ap, length, map, take, get_or, flat_map, string_bytes, length-append}
 use Rattle.control.specs.Fields.{field}
 use Rattle.control.proofs.Words.{words-within}
 use Rattle.control.proofs.request.body_size.Goals as goal

@@ -1,4 +1,4 @@
-use Rattle.std.proofs.Common.{rules, arith, ◌≡◌, ◌∙◌, ap, length, get_or, string_bytes}
+use Rattle.std.proofs.Common.{arith, ◌≡◌, ◌∙◌, ap, length, get_or, string_bytes}
 use Rattle.control.proofs.Words.{words-within}
 use Rattle.control.proofs.request.push_words.Goals as goal
 

@@ -15,8 +15,11 @@ returns-in_err-receive-clause-err g c =
     let p = err_from_is_err_and c.from_residual.result c.from_residual.ensures.1 in
     rw p.1 (idles ∷ [], one_idle g.M.Machine c.args.machine.now c.receive.new.self c.in_err-receive.ensures.err, tt)
 
-pub returns-in_default-clause-err : goal.returns-in_default-clause-err
-returns-in_default-clause-err g c = (observes (received c.args.stream.now c.receive.new.piece) ∷ [], one_seen g.M.Machine c.args.machine.now c.receive.new.self (received c.args.stream.now c.receive.new.piece) c.in_ok-receive.ensures.ok, tt)
+pub returns-in-Err-OtherVersion-clause-err : goal.returns-in-Err-OtherVersion-clause-err
+returns-in-Err-OtherVersion-clause-err g c = (observes (received c.args.stream.now c.receive.new.piece) ∷ c.refuse_version.ensures.0, (c.receive.new.self, c.in_ok-receive.ensures.ok, c.refuse_version.ensures.1), c.refuse_version.ensures.2)
+
+pub returns-in-Err-TooLong-clause-err : goal.returns-in-Err-TooLong-clause-err
+returns-in-Err-TooLong-clause-err g c = (observes (received c.args.stream.now c.receive.new.piece) ∷ [], one_seen g.M.Machine c.args.machine.now c.receive.new.self (received c.args.stream.now c.receive.new.piece) c.in_ok-receive.ensures.ok, tt)
 
 pub returns-in_err-body-clause-err : goal.returns-in_err-body-clause-err
 returns-in_err-body-clause-err g c =

@@ -25,6 +25,12 @@ returns-in-ListLocks-clause-world g c = rw c.in-ListLocks.is (ran_still g.S.Stor
 pub returns-in-ListObjects-clause-world : goal.returns-in-ListObjects-clause-world
 returns-in-ListObjects-clause-world g c = rw c.in-ListObjects.is (ran_still g.S.Store _ c.args.store.now c.list_objects.new.store c.list_objects.result c.list_objects.ensures.err c.list_objects.ensures.reads)
 
+pub returns-in-ListTokens-clause-world : goal.returns-in-ListTokens-clause-world
+returns-in-ListTokens-clause-world g c = rw c.in-ListTokens.is (ran_still g.S.Store _ c.args.store.now c.list_tokens.new.store c.list_tokens.result c.list_tokens.ensures.err c.list_tokens.ensures.reads)
+
+pub returns-in-Usage-clause-world : goal.returns-in-Usage-clause-world
+returns-in-Usage-clause-world g c = rw c.in-Usage.is (ran_still g.S.Store _ c.args.store.now c.list_usage.new.store c.list_usage.result c.list_usage.ensures.err c.list_usage.ensures.reads)
+
 pub returns-in-CheckObjects-clause-world : goal.returns-in-CheckObjects-clause-world
 returns-in-CheckObjects-clause-world g c = rw c.in-CheckObjects.is (ran_found g.S.Store _ c.args.store.now c.check_objects.new.store c.check_objects.result c.check_objects.ensures.reads)
 

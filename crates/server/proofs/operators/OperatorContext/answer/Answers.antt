@@ -21,4 +21,4 @@ pub returns : goal.returns
 returns g c =
     let named = rw c.as_slice.ensures.value at c.in_ok-command.ensures.ok in
     let read = subst (λ (words : List (List ℕ)). IsReadAs c.args.body.now (record { input = c.in-Some.field-0.input.now; words = words })) named (rw c.in-Some.is at c.in_ok-input.ensures.some) in
-    from_own g.M.Machine g.S.Store _ _ c.args.store.now c.run.new.store c.args.machine.now c.run.new.machine (λ world l steps kept own. inr (c.in_ok-command.command, c.in-Some.field-0.input.now, read, own)) c.run.ensures
+    from_own g.M.Machine g.S.Store _ _ c.args.store.now c.obey.new.store c.args.machine.now c.obey.new.machine (λ world l steps kept own. inr (c.in_ok-command.command, c.in-Some.field-0.input.now, read, own)) c.obey.ensures

@@ -1,21 +1,39 @@
-use Rattle.std.proofs.Common.{inr, IfOk, [], refl}
-use Rattle.server.specs.Commands.{IsReplyWith}
-use Rattle.server.proofs.Jobs.{from_idle, from_served, sent_or_not}
+use Rattle.std.proofs.Common.{◌∙◌, ◌++◌, inl, inr, [], ◌∷◌, refl, subst, sym}
+use Rattle.std.proofs.lemmas.List.{append-nil}
+use Rattle.std.proofs.lemmas.Result.{err_from_is_err_and}
+use Rattle.control.specs.Versions.{version}
+use Rattle.server.specs.Commands.{IsSilent}
+use Rattle.server.specs.Observations.{sent}
+use Rattle.server.specs.Jobs.{idles, observes, seen_in}
+use Rattle.server.proofs.Jobs.{calls_append, from_idle, from_served, one_idle, one_seen, seen_append}
 use Rattle.server.proofs.operators.OperatorContext.serve.Goals as goal
 
 pub returns-in_err-start : goal.returns-in_err-start
-returns-in_err-start g c = from_idle g.M.Machine g.S.Store _ c.args.store.now c.args.machine.now c.args.machine.now [] refl (λ world. inr (refl, tt))
+returns-in_err-start g c =
+    let p = err_from_is_err_and c.from_residual.result c.from_residual.ensures.1 in
+    rw p.1 (from_idle g.M.Machine g.S.Store _ c.args.store.now c.args.machine.now c.args.machine.now [] refl (λ world. inr (refl, refl, tt)))
 
 pub returns-in_err-body : goal.returns-in_err-body
-returns-in_err-body g c = from_idle g.M.Machine g.S.Store _ c.args.store.now c.args.machine.now c.read_body.new.machine _ c.in_err-body.ensures.err.1 (λ world. inr (refl, c.in_err-body.ensures.err.2))
+returns-in_err-body g c =
+    let p = err_from_is_err_and c.from_residual-in_err-body.result c.from_residual-in_err-body.ensures.1 in
+    rw p.1
+    (from_idle g.M.Machine g.S.Store _ c.args.store.now c.args.machine.now c.read_body.new.machine c.in_err-body.ensures.err.0 c.in_err-body.ensures.err.1 (λ world. inr (refl, refl, c.in_err-body.ensures.err.2)))
 
-pub returns-in_err-reply : goal.returns-in_err-reply
-returns-in_err-reply g c =
-    from_served g.M.Machine g.S.Store c.args.self.now.policy.now c.args.stream.now c.as_slice.result.now (λ status. IfOk c.reply.result (λ bytes. IsReplyWith status bytes.items)) c.args.store.now c.reply.new.store c.args.machine.now c.read_body.new.machine c.reply.new.machine c.reply.new.machine _ [] c.in_ok-body.ensures.ok.1 (rw c.as_slice.ensures.value c.in_ok-body.ensures.ok.2) refl
-    (λ status made. tt) c.reply.ensures
+pub returns-in_err-send : goal.returns-in_err-send
+returns-in_err-send g c =
+    let p = err_from_is_err_and c.from_residual-in_err-send.result c.from_residual-in_err-send.ensures.1 in
+    let read = c.in_ok-body.ensures.ok in
+    rw p.1
+    (from_idle g.M.Machine g.S.Store _ c.args.store.now c.args.machine.now c.send.new.self (read.0 ++ idles ∷ [])
+    (calls_append g.M.Machine c.args.machine.now c.read_body.new.machine c.send.new.self read.0 (idles ∷ []) read.1 (one_idle g.M.Machine c.read_body.new.machine c.send.new.self c.in_err-send.ensures.err))
+    (λ world. inr (refl, refl, subst IsSilent (sym (seen_append read.0 (idles ∷ []) ∙ append-nil (seen_in read.0) ∙ read.2)) tt)))
 
 pub returns : goal.returns
 returns g c =
-    let last = sent_or_not g.M.Machine c.reply.new.machine c.send.new.self c.send.result c.args.stream.now _ c.send.ensures.ok c.send.ensures.err in
-    from_served g.M.Machine g.S.Store c.args.self.now.policy.now c.args.stream.now c.as_slice.result.now (λ status. IfOk c.reply.result (λ bytes. IsReplyWith status bytes.items)) c.args.store.now c.reply.new.store c.args.machine.now c.read_body.new.machine c.reply.new.machine c.send.new.self _ last.0 c.in_ok-body.ensures.ok.1 (rw c.as_slice.ensures.value c.in_ok-body.ensures.ok.2) last.1
-    (λ status made. last.2 status (rw c.as_slice-2.ensures.value (rw c.in_ok-reply.was at made))) c.reply.ensures
+    let operator = c.args.self.now.stream.now in
+    let begins = sent operator (version ∷ []) in
+    let read = c.in_ok-body.ensures.ok in
+    let last = c.end.ensures.replied in
+    rw c.end.ensures.made
+    (from_served g.M.Machine g.S.Store c.args.self.now.policy.now operator c.as_slice.result.now c.answer-ended.result c.args.store.now c.answer-ended.new.store c.args.machine.now c.read_body.new.machine c.send.new.self c.answer-ended.new.machine c.end.new.machine
+    read.0 (observes begins ∷ []) last.0 read.1 (rw c.as_slice.ensures.value read.2) (one_seen g.M.Machine c.read_body.new.machine c.send.new.self begins c.in_ok-send.ensures.ok) refl last.1 last.2 c.answer-ended.ensures)

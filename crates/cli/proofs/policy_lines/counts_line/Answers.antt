@@ -1,7 +1,0 @@
-use Rattle.std.proofs.Common.{◌∙◌, refl, append_assoc}
-use Rattle.std.proofs.lemmas.Result.{IfOk-weaker}
-use Rattle.cli.proofs.policy_lines.counts_line.Goals as goal
-
-pub returns : goal.returns
-returns c =
-    IfOk-weaker c.format.result _ _ (λ text is. is ∙ simp (append_assoc) refl) c.format.ensures.ok

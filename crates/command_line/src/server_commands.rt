@@ -1,0 +1,84 @@
+//! The commands of an operator that only a running server carries out, as `clap` parses them.
+
+use crate::parameters::{CommandText, Kind, Parameter, commands_of};
+use clap::Command;
+use std::alloc::{AllocError, Global};
+
+const STATUS_ABOUT: &str = "Prints counts and sizes of a running server, as Prometheus reads them";
+
+const STATUS_LONG_ABOUT: &str = "\
+Prints counts and sizes of a running server, as Prometheus reads them.
+
+They are printed in the text format of Prometheus. Nothing is changed.";
+
+const HOLD_ABOUT: &str = "Holds a running server, so that the database's files can be copied";
+
+const HOLD_LONG_ABOUT: &str = "\
+Holds a running server, so that the database's files can be copied.
+
+The server finishes the request in hand, and serves nobody until the standard input of this command ends, or until \
+the time is over. It is held as soon as \"held\" is printed: copy the database and its log then.";
+
+const RELOAD_ABOUT: &str = "Makes a running server read its policy file again";
+
+const RELOAD_LONG_ABOUT: &str = "\
+Makes a running server read its policy file again.
+
+The requests that follow are decided by the new policy. If the file has a fault, the policy stays as it was.";
+
+const STOP_ABOUT: &str = "Ends a running server";
+
+const STOP_LONG_ABOUT: &str = "\
+Ends a running server.
+
+The server finishes the request in hand, and ends.";
+
+const VIA: Parameter = Parameter {
+    name: "via",
+    value_name: "SOCKET",
+    help: "The control socket of the running server",
+    kind: Kind::Required,
+};
+
+const SECONDS: Parameter = Parameter {
+    name: "seconds",
+    value_name: "N",
+    help: "How long the server is held at most, in seconds: 1 to 600 [default: 60]",
+    kind: Kind::Optional,
+};
+
+const STATUS: CommandText = CommandText {
+    name: "status",
+    about: STATUS_ABOUT,
+    long_about: STATUS_LONG_ABOUT,
+    parameters: &[VIA],
+};
+
+const HOLD: CommandText = CommandText {
+    name: "hold",
+    about: HOLD_ABOUT,
+    long_about: HOLD_LONG_ABOUT,
+    parameters: &[VIA, SECONDS],
+};
+
+const RELOAD: CommandText = CommandText {
+    name: "reload",
+    about: RELOAD_ABOUT,
+    long_about: RELOAD_LONG_ABOUT,
+    parameters: &[VIA],
+};
+
+const STOP: CommandText = CommandText {
+    name: "stop",
+    about: STOP_ABOUT,
+    long_about: STOP_LONG_ABOUT,
+    parameters: &[VIA],
+};
+
+/// The commands that only a server carries out.
+const SERVER_COMMANDS: [CommandText; 4] = [STATUS, HOLD, RELOAD, STOP];
+
+/// These commands, as `clap` takes them.
+pub(crate) fn server_commands<'a>(alloc: Global) -> Result<Vec<Command<'a>>, AllocError> {
+    commands_of(alloc, SERVER_COMMANDS.as_slice())
+}

@@ -1,0 +1,61 @@
+-- What a repository uses.
+use Rattle.std.specs.Prelude.{◌≡◌, ℕ, ℤ, pos, ◌*◌, ◌/◌, ◌==◌, ◌++◌, List, [], ◌∷◌, length, find, Option, Some, None, option_map, if◌then◌else◌, codes, decimal}
+use Rattle.sqlite_trees.specs.declared.store.Store.{Ghosts}
+use Rattle.names.specs.Names.{repo_text}
+use Rattle.policy.specs.declared.repos.Repo.{Repo}
+use Rattle.model.specs.World.{World, total}
+use Rattle.model.specs.RepoState.{locks_of, objects_of}
+use Rattle.tables.specs.Rows.{Tables}
+use Rattle.tables.specs.Shown.{IsHonest, IsOpen, shown}
+use Rattle.tables.specs.Statements.{is_staged_in}
+use Rattle.tables.specs.declared.Store.{Store}
+use Rattle.operator.specs.Tokens.{valid_in}
+use Rattle.operator.specs.declared.counting.Usage.{Usage}
+
+-- ---- the numbers
+
+-- the size of the upload that the repository has staged, if one is
+abbrev pub staged_size : List ℕ → Tables → Option ℤ
+staged_size repo t = option_map (λ u. u.size) (find (is_staged_in repo) t.uploads)
+
+module _ {S : Type 0} (g : Ghosts S) where
+  -- while the disk is honest and the store open, it shows a staged upload of this size, or none
+  abbrev pub HasStaged : Store S → List ℕ → Option ℕ → Type 0
+  HasStaged s repo size = IsHonest g s → IsOpen g s → option_map pos size ≡ staged_size repo (shown g s)
+
+  -- the number of the repository's objects, their sizes added up, the size of its staged upload, and the numbers of its locks
+  -- and of its tokens that are valid at the moment
+  pub record Uses (world : World) (s : Store S) (repo : List ℕ) (now : ℕ) (u : Usage) : Type 0 where
+    pub objects : u.objects ≡ length (objects_of repo world)
+    pub bytes : u.bytes ≡ total repo world
+    pub staged : HasStaged s repo u.staged
+    pub locks : u.locks ≡ length (locks_of repo world)
+    pub tokens : u.tokens ≡ length (valid_in repo now world)
+
+-- ---- the table
+
+-- how much of the quota the bytes are, in whole percent, rounded down; none for a quota of 0
+abbrev pub share : (bytes quota : ℕ) → Option ℕ
+share bytes quota = if quota == 0 then None else Some (bytes * 100 / quota)
+
+-- the text of a share
+abbrev pub share_text : Option ℕ → List ℕ
+share_text (Some percent) = decimal percent ++ codes "%"
+share_text None = codes "-"
+
+-- the text of the size of an upload, if there is one
+abbrev pub size_text : Option ℕ → List ℕ
+size_text (Some size) = decimal size
+size_text None = codes "-"
+
+-- the texts in the line of a repository
+abbrev pub usage_cells : (repo : List ℕ) (quota : ℕ) → Usage → List (List ℕ)
+usage_cells repo quota u =
+    repo ∷ decimal u.objects ∷ decimal u.bytes ∷ decimal quota ∷ share_text (share u.bytes quota) ∷ size_text u.staged
+    ∷ decimal u.locks ∷ decimal u.tokens ∷ []
+
+-- the texts are those in the line of the repository, by what it uses
+abbrev pub IsLineOf : {S : Type 0} (g : Ghosts S) → World → Store S → (now : ℕ) → Repo → List (List ℕ) → Type 0
+IsLineOf g world s now repo texts =
+    (usage : Usage) × Uses g world s (repo_text repo.name) now usage
+    × (texts ≡ usage_cells (repo_text repo.name) repo.quota usage)

@@ -1,0 +1,258 @@
+//! A server on a machine that a test makes: who calls, and which policies the file has, one after the other.
+
+use crate::harness::{Tester, unwrap};
+use crate::transcript::POLICY;
+use control::request_bytes;
+use names::Moment;
+use policy::Policy;
+use server::{Fault, Finish, Gauges, Machine, Server};
+use service::{End, Routes};
+use sockets::{Caller, Client, Ended, Front};
+use std::io::{Read, Write};
+use std::net::Shutdown;
+use std::os::unix::net::UnixStream;
+use std::rt::HostRuntime;
+use std::str;
+use std::time::{Duration, Instant};
+use tables::Store;
+
+/// A machine whose operators are known.
+#[derive(Drop)]
+struct Script {
+    operators: Vec<UnixStream>,
+    policies: Vec<Result<Policy, Fault>>,
+}
+
+impl Machine for Script {
+    ghost use Rattle.std.specs.Prelude.{⊤};
+
+    ghost observed = { λ _ _ _. ⊤ };
+
+    ghost idled = { λ _ _. ⊤ };
+
+    fn next(&mut self) -> Result<Option<Caller>, Fault> {
+        if self.operators.is_empty() {
+            return Err(Fault::Network);
+        }
+        Ok(Some(Caller::Operator(self.operators.remove(0))))
+    }
+
+    fn moment(&mut self) -> Result<Moment, Fault> {
+        Moment::read(1_463_500_146).ok_or(Fault::Clock)
+    }
+
+    fn random(&mut self) -> Result<[u8; 32], Fault> {
+        Ok([0xcc; 32])
+    }
+
+    fn receive(
+        &mut self,
+        operator: &UnixStream,
+        _: Instant,
+        piece: &mut [u8],
+    ) -> Result<(), Fault> {
+        let mut stream = operator;
+        stream.read_exact(piece).map_err(|_| Fault::Operator)
+    }
+
+    fn send(&mut self, operator: &UnixStream, bytes: &[u8]) -> Result<(), Fault> {
+        let mut stream = operator;
+        stream.write_all(bytes).map_err(|_| Fault::Operator)
+    }
+
+    fn policy(&mut self) -> Result<Policy, Fault> {
+        if self.policies.is_empty() {
+            return Err(Fault::PolicyFile);
+        }
+        self.policies.remove(0)
+    }
+
+    fn drop_rest(&mut self, _: &UnixStream) {}
+
+    fn wait_for(&mut self, _: &UnixStream, _: u64) -> bool {
+        true
+    }
+
+    fn gauges(&mut self) -> Gauges {
+        Gauges {
+            waiting: 1,
+            longest_wait: Duration::from_millis(1_500),
+            database: 4_096,
+            log: 8_192,
+            memory: 12_288,
+            now: None,
+        }
+    }
+
+    fn ended(&mut self) -> Option<Ended> {
+        None
+    }
+
+    fn end_turn(&mut self, _: Client, _: &Front, end: End) -> Result<Option<End>, Fault> {
+        Ok(Some(end))
+    }
+
+    fn close(&mut self, _: Client) {}
+
+    fn shut(&mut self) {}
+
+    fn shut_at_once(&mut self) {}
+
+    fn settle(&mut self) {}
+}
+
+/// The operators of a test: the sides that call the server, and those from which their replies are read.
+#[derive(Drop)]
+struct Operators {
+    callers: Vec<UnixStream>,
+    readers: Vec<UnixStream>,
+}
+
+/// Adds an operator who sends these words, which spaces separate, and this input.
+fn add(rt: &impl Tester, host: &HostRuntime, all: &mut Operators, line: &str, input: &str) {
+    let mut words = Vec::new(rt.alloc());
+    for word in line.split(' ') {
+        let word = unwrap(rt, String::from_str(rt.alloc(), word));
+        unwrap(rt, words.push(word));
+    }
+    let request = request_bytes(rt.alloc(), input.as_bytes(), words.as_slice());
+    let (caller, mut reader) = unwrap(rt, UnixStream::pair(host));
+    unwrap(rt, reader.write_all(unwrap(rt, request).as_slice()));
+    unwrap(rt, reader.shutdown(Shutdown::Write));
+    unwrap(rt, all.callers.push(caller));
+    unwrap(rt, all.readers.push(reader));
+}
+
+/// Operators who send these words and inputs.
+fn operators_of(rt: &impl Tester, host: &HostRuntime, calls: &[(&str, &str)]) -> Operators {
+    let mut all = Operators {
+        callers: Vec::new(rt.alloc()),
+        readers: Vec::new(rt.alloc()),
+    };
+    for (line, input) in calls {
+        add(rt, host, &mut all, line, input);
+    }
+    all
+}
+
+/// Serves the operators of a machine over an empty database. Asserts that nothing is reported.
+fn serve(rt: &impl Tester, host: &HostRuntime, mut machine: Script) -> Result<Finish, Fault> {
+    let mut store = unwrap(rt, Store::open_memory(rt.alloc()));
+    unwrap(rt, store.create_or_check(rt.alloc()));
+    let routes = unwrap(rt, Routes::new(rt.alloc()));
+    let server = Server {
+        alloc: rt.alloc(),
+        routes: &routes,
+        clock: host,
+    };
+    let policy = unwrap(rt, Policy::read(rt.alloc(), POLICY));
+    let mut errors = Vec::new(rt.alloc());
+    let served = server.run(&mut store, &mut machine, policy, 1, &mut errors);
+    assert!(rt; errors.is_empty());
+    served
+}
+
+/// What an operator has got. One who was not served sees that the server has gone.
+fn reply_to(rt: &impl Tester, reader: &mut UnixStream) -> Vec<u8> {
+    let mut bytes = Vec::new(rt.alloc());
+    let read = reader.read_to_end(&mut bytes);
+    assert!(rt; read.is_ok() || bytes.is_empty());
+    bytes
+}
+
+/// Asserts what the operators have got.
+fn expect_replies(rt: &impl Tester, mut readers: Vec<UnixStream>, replies: &[&[u8]]) {
+    assert!(rt; readers.len() == replies.len());
+    for (reader, reply) in readers.iter_mut().zip(replies) {
+        assert!(rt; reply_to(rt, reader).as_slice() == *reply);
+    }
+}
+
+const PUSH: &str = "pushcheck ann studio/film refs/heads/main";
+
+#[test]
+fn the_next_command_has_the_policy_that_was_read(rt: HostRuntime) {
+    let calls = [
+        (PUSH, "a.txt"),
+        ("reload", ""),
+        (PUSH, "a.txt"),
+        ("reload", ""),
+        (PUSH, "a.txt"),
+    ];
+    let Operators { callers, readers } = operators_of(&rt, &rt, &calls);
+    let other = unwrap(&rt, POLICY.replace(rt.alloc(), "ann", "zoe"));
+    let mut policies = Vec::new(rt.alloc());
+    let read = unwrap(&rt, Policy::read(rt.alloc(), other.as_str()));
+    unwrap(&rt, policies.push(Ok(read)));
+    let script = Script {
+        operators: callers,
+        policies,
+    };
+    assert!(rt; serve(&rt, &rt, script).is_err());
+    let denied = b"\x03\x03\0\0\0\x17denied by row 0: a.txt\n\x01";
+    expect_replies(
+        &rt,
+        readers,
+        &[
+            b"\x03\x03\0\0\0\x0aok: a.txt\n\0",
+            b"\x03\x03\0\0\0\x22policy ok: 1 repositories, 1 rows\n\0",
+            denied,
+            b"\x03\x04\0\0\0\x19custody: policy not read\n\x01",
+            denied,
+        ],
+    );
+}
+
+#[test]
+fn nothing_is_done_after_a_stop(rt: HostRuntime) {
+    let calls = [("sweep", ""), ("stop", ""), ("sweep", "")];
+    let Operators { callers, readers } = operators_of(&rt, &rt, &calls);
+    let script = Script {
+        operators: callers,
+        policies: Vec::new(rt.alloc()),
+    };
+    match serve(&rt, &rt, script) {
+        Ok(finish) => assert!(rt; finish.connections == 0 && finish.stopped_by.is_some()),
+        Err(_) => panic!(rt; "the server was not stopped"),
+    }
+    expect_replies(
+        &rt,
+        readers,
+        &[b"\x03\x03\0\0\0\x10swept 0 uploads\n\0", b"\x03\0", b""],
+    );
+}
+
+/// Lines of a status.
+const STATUS: &[&str] = &[
+    "custody_longest_wait_seconds 1.500",
+    "custody_waiting_connections 1",
+    "custody_database_bytes{file=\"database\"} 4096",
+    "custody_database_bytes{file=\"log\"} 8192",
+    "process_resident_memory_bytes 12288",
+    "custody_repository_stored_bytes{repository=\"studio/film\"} 0",
+    "custody_repository_quota_bytes{repository=\"studio/film\"} 1000000",
+    "custody_repository_locks_made_total{repository=\"studio/film\"} 0",
+    "custody_operators_total{result=\"answered\"} 1",
+    "custody_operators_total{result=\"refused\"} 0",
+];
+
+#[test]
+fn a_status_has_what_the_machine_knows(rt: HostRuntime) {
+    let Operators {
+        callers,
+        mut readers,
+    } = operators_of(&rt, &rt, &[("sweep", ""), ("status", "")]);
+    let script = Script {
+        operators: callers,
+        policies: Vec::new(rt.alloc()),
+    };
+    assert!(rt; serve(&rt, &rt, script).is_err());
+    let Some(reader) = readers.get_mut(1) else {
+        panic!(&rt; "there is no second operator");
+    };
+    let reply = reply_to(&rt, reader);
+    let text = str::from_utf8(reply.as_slice().get(6..).unwrap_or(&[])).unwrap_or("");
+    for line in STATUS {
+        assert!(rt; text.lines().any(|found| found == *line), "{line}");
+    }
+}

@@ -1,0 +1,7 @@
+use Rattle.std.proofs.Common.{◌∙◌, refl, append_assoc}
+use Rattle.std.proofs.lemmas.Result.{IfOk-weaker}
+use Rattle.server.proofs.policies.counts_line.Goals as goal
+
+pub returns : goal.returns
+returns c =
+    IfOk-weaker c.format.result _ _ (λ text is. is ∙ simp (append_assoc) refl) c.format.ensures.ok
