@@ -11,8 +11,8 @@ use Rattle.control.specs.declared.status.Status.TheVariants.{Good, Refused, Inva
 use Rattle.operator.specs.Escapes.{escaped, shown}
 use Rattle.operator.specs.declared.escapes.Destination.{Destination}
 use Rattle.operator.specs.declared.escapes.Destination.TheVariants.{Terminal, Other}
-use Rattle.server.specs.declared.faults.Fault.{Fault}
-use Rattle.server.specs.declared.faults.Fault.TheVariants.{Output, Version}
+use Rattle.faults.specs.declared.faults.Fault.{Fault}
+use Rattle.faults.specs.declared.faults.Fault.TheVariants.{Output, Version}
 use Rattle.cli.specs.Asked.{ArePrinted, HasPrinted, IsReplyPrinted, IsUnread, ending, shown_piece, shown_pieces}
 
 -- nothing is printed of no text

@@ -12,8 +12,8 @@ use Rattle.command_line.specs.declared.args.OperatorCommand.TheVariants.{PushChe
 use Rattle.operator.specs.Escapes.{shown}
 use Rattle.operator.specs.declared.escapes.Destination.{Destination}
 use Rattle.server.specs.Commands.{request_for}
-use Rattle.server.specs.declared.faults.Fault.{Fault}
-use Rattle.server.specs.declared.faults.Fault.TheVariants.{Control, Memory, Output, Reported, ReportedInvalid, Version}
+use Rattle.faults.specs.declared.faults.Fault.{Fault}
+use Rattle.faults.specs.declared.faults.Fault.TheVariants.{Control, Memory, Output, Reported, ReportedInvalid, Version}
 use Rattle.cli.specs.Reading.{IsReadTo}
 
 -- how many bytes of its input a command may want: one more than it takes

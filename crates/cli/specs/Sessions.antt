@@ -7,9 +7,9 @@ use Rattle.tables.specs.declared.Store.{Store}
 use Rattle.service.specs.Served.{Call, Serves}
 use Rattle.service.specs.declared.ends.End.{End}
 use Rattle.service.specs.declared.ends.Served.{Served}
-use Rattle.server.specs.Statuses.{is_good}
-use Rattle.server.specs.declared.faults.Fault.{Fault}
-use Rattle.server.specs.declared.faults.Fault.TheVariants.{Session}
+use Rattle.faults.specs.Statuses.{is_good}
+use Rattle.faults.specs.declared.faults.Fault.{Fault}
+use Rattle.faults.specs.declared.faults.Fault.TheVariants.{Session}
 
 -- how the command ends after its connection ended so
 abbrev pub session_ended : End → Result ⊤ Fault

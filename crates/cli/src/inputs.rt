@@ -5,8 +5,8 @@ ghost use Rattle.std.specs.Io.KnownBytes.{Consumes};
 ghost use Rattle.cli.specs.Asked.{IsUnread};
 ghost use Rattle.cli.specs.Reading.{IsReadTo};
 
+use faults::Fault;
 use names::{DeviceFault, Source};
-use server::Fault;
 use std::alloc::{AllocError, Global};
 
 /// Reads a source until it ends, or this many bytes or more were read. `None` if a read failed.

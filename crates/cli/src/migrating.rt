@@ -4,9 +4,9 @@ ghost use Rattle.std.specs.Prelude.{◌≡◌, OnOk};
 ghost use Rattle.cli.specs.Answers.{migrated_line};
 
 use crate::opening::migrate_at;
+use faults::Fault;
 use names::Sink;
 use operator::print;
-use server::Fault;
 use std::io::{IsTerminal, Stderr, Write};
 use std::rt::HostRuntime;
 use tables::{Migrated, Start};

@@ -5,11 +5,11 @@ ghost use Rattle.sqlite_trees.specs.declared.store.Store.{Ghosts};
 ghost use Rattle.model.specs.World.{World};
 ghost use Rattle.tables.specs.declared.Store as tables;
 ghost use Rattle.refinement.specs.Left.{From};
-ghost use Rattle.server.specs.declared.faults.Fault.{Fault};
+ghost use Rattle.faults.specs.declared.faults.Fault.{Fault};
 
+use faults::Fault;
 use names::Sink;
 use refinement::open_from;
-use server::Fault;
 use std::fs::OpenOptions;
 use std::os::unix::fs::OpenOptionsExt;
 use std::rt::HostRuntime;

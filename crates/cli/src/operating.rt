@@ -6,11 +6,11 @@ ghost use Rattle.server.specs.Commands.{RunsAs};
 use crate::inputs::read_input;
 use crate::opening::{Work, open_for};
 use command_line::{Files, ForeseeArgs, OperatorCommand, PushArgs, TokenArgs};
+use faults::Fault;
+use machine::{moment, read_policy, read_random};
 use names::{Sink, Source};
 use operator::{Destination, LONGEST_PATHS, Task, repo_at};
-use server::{
-    Fault, message_in, moment, plain_task, push_of, read_policy, read_random, token_request,
-};
+use server::{message_in, plain_task, push_of, token_request};
 use service::LONGEST_MESSAGE;
 use std::alloc::Global;
 use std::io::IsTerminal;

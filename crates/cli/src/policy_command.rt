@@ -8,10 +8,11 @@ ghost use Rattle.command_line.specs.Asking.{asked_view};
 
 use crate::policy_lines::{decision_line, row_line};
 use command_line::{AskedQuestion, PolicyArgs, PolicyTask};
+use faults::Fault;
+use machine::{policy_line, read_described};
 use names::Sink;
 use operator::Lines;
 use policy::{Policy, Row, Verdict, decide};
-use server::{Fault, policy_line, read_described};
 use std::alloc::{AllocError, Global};
 use std::rt::HostRuntime;
 

@@ -6,10 +6,12 @@ ghost use Rattle.server.specs.Jobs.{ServesAll};
 
 use crate::opening::{Work, open_for};
 use command_line::ServeArgs;
+use faults::{Fault, status_after};
+use machine::{Sockets, read_policy};
 use names::Sink;
 use operator::print;
 use policy::Policy;
-use server::{Fault, Server, Sockets, read_policy, status_after};
+use server::Server;
 use service::Routes;
 use sockets::{ControlSocket, Limits, Queue, listen};
 use std::alloc::Global;

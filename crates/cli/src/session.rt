@@ -6,9 +6,10 @@ ghost use Rattle.cli.specs.Sessions.{IsSession, session_ended};
 
 use crate::opening::{Work, open_for};
 use command_line::SessionArgs;
+use faults::{Fault, is_good};
+use machine::{moment, read_policy};
 use names::{Moment, Sink, Source};
 use policy::Policy;
-use server::{Fault, is_good, moment, read_policy};
 use service::{End, Routes, serve};
 use std::alloc::Global;
 use std::rt::HostRuntime;

@@ -12,9 +12,9 @@ use command_line::OperatorCommand;
 use control::{
     LONGEST_REQUEST, Start, Status, Stream, VERSION, frame_start, piece_size, request_bytes,
 };
+use faults::Fault;
 use names::{Counted, Sink, Source};
 use operator::{Destination, LONGEST_PATHS, print, shown};
-use server::Fault;
 use std::alloc::Global;
 use std::io::{self, Write};
 use std::net::Shutdown;

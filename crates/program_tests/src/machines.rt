@@ -3,9 +3,12 @@
 use crate::harness::{Tester, unwrap};
 use crate::transcript::POLICY;
 use control::request_bytes;
+use faults::Fault;
+use machine::Machine;
+use metrics::Gauges;
 use names::Moment;
 use policy::Policy;
-use server::{Fault, Finish, Gauges, Machine, Server};
+use server::{Finish, Server};
 use service::{End, Routes};
 use sockets::{Caller, Client, Ended, Front};
 use std::io::{Read, Write};

@@ -8,8 +8,8 @@ use Rattle.tables.specs.declared.Store.{Store}
 use Rattle.refinement.specs.Left.{From}
 use Rattle.command_line.specs.declared.args.OperatorCommand.{OperatorCommand}
 use Rattle.operator.specs.declared.tasks.Task.{Task}
-use Rattle.server.specs.declared.faults.Fault.{Fault}
-use Rattle.server.specs.declared.machine.Machine as machine
+use Rattle.faults.specs.declared.faults.Fault.{Fault}
+use Rattle.machine.specs.declared.machine.Machine as machine
 use Rattle.server.specs.declared.outcomes.Outcome.{Outcome}
 use Rattle.server.specs.Commands.{AreReadings, HasEndedSo, IsDone, IsObeyed, IsTaskOf, RunsAs, outcome_of}
 use Rattle.server.specs.Jobs.{seen_in, Call, Calls, Helps}

@@ -14,14 +14,14 @@ use Rattle.refinement.proofs.Leading.{from_weaker, leads_none, reads_lead}
 use Rattle.sockets.specs.declared.queue.Caller.{Caller}
 use Rattle.operator.specs.Works.{Works, steps_of}
 use Rattle.operator.proofs.Working.{still_kept, steps_then, still_steps, then_kept, works_still, works_then}
-use Rattle.server.specs.declared.machine.Machine as machine
+use Rattle.machine.specs.declared.machine.Machine as machine
 use Rattle.server.specs.declared.outcomes.Outcome.{Outcome}
 use Rattle.server.specs.declared.outcomes.Outcome.TheVariants.{Unchanged}
-use Rattle.server.specs.Observations.{Observation, called, sent, timed}
-use Rattle.server.specs.declared.faults.Fault.{Fault}
+use Rattle.machine.specs.Observations.{Observation, called, sent, timed}
+use Rattle.faults.specs.declared.faults.Fault.{Fault}
 use Rattle.std.specs.declared.net.unix.UnixStream.{UnixStream}
 use Rattle.server.specs.Commands.{AreReadings, IsAnswered, IsBegun, IsMomentOf, IsRead, IsReplied, IsRequestDone, is_stopped, made_of, policy_after}
-use Rattle.server.specs.Statuses.{status_of_end}
+use Rattle.faults.specs.Statuses.{status_of_end}
 use Rattle.server.specs.Jobs.{Job, seen_for, IsTurn, IsFor, AreJobs, AreStopped, HasFinished, connections, first_turn, policy_left, Call, idles, observes, seen_in, Calls, Converses, Tidies, Helps, Serves, ServesMore}
 
 -- ---- what is observed of a machine

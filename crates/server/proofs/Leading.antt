@@ -7,7 +7,7 @@ use Rattle.tables.specs.declared.Store.{Store}
 use Rattle.refinement.specs.Left.{From}
 use Rattle.refinement.proofs.Leading.{leads_none}
 use Rattle.operator.proofs.Working.{still_kept, still_steps, works_still}
-use Rattle.server.specs.declared.machine.Machine as machine
+use Rattle.machine.specs.declared.machine.Machine as machine
 use Rattle.server.specs.Jobs.{Job, Serves, ServesAll}
 
 module _ {S : Type 0} (g : Ghosts S) where

@@ -31,10 +31,10 @@ use Rattle.operator.specs.declared.foreseeing.Foresight.{Foresight}
 use Rattle.operator.specs.declared.pushing.Push.{Push}
 use Rattle.operator.specs.declared.tasks.Task.{Task}
 use Rattle.operator.specs.declared.tasks.Task.TheVariants as task
-use Rattle.server.specs.Observations.{Observation, timed, drawn, received, sent, loaded, waited}
+use Rattle.machine.specs.Observations.{Observation, timed, drawn, received, sent, loaded, waited}
 use Rattle.server.specs.Given.{IsGiven}
-use Rattle.server.specs.Statuses.{ended_of, status_of_end}
-use Rattle.server.specs.declared.faults.Fault.{Fault}
+use Rattle.faults.specs.Statuses.{ended_of, status_of_end}
+use Rattle.faults.specs.declared.faults.Fault.{Fault}
 use Rattle.server.specs.declared.foreseeing.GivenMessage.{GivenMessage}
 use Rattle.server.specs.declared.outcomes.Outcome.{Outcome}
 use Rattle.server.specs.declared.outcomes.Outcome.TheVariants.{Unchanged, Stopped, Reloaded}

@@ -11,10 +11,10 @@ use Rattle.tables.specs.declared.Store.{Store}
 use Rattle.sockets.specs.declared.queue.Caller.{Caller}
 use Rattle.sockets.specs.declared.queue.Caller.TheVariants.{Client, Operator}
 use Rattle.operator.specs.Works.{Works, steps_of}
-use Rattle.server.specs.declared.machine.Machine as machine
-use Rattle.server.specs.Observations.{Observation, called, timed}
+use Rattle.machine.specs.declared.machine.Machine as machine
+use Rattle.machine.specs.Observations.{Observation, called, timed}
 use Rattle.server.specs.Commands.{IsAnswered, is_stopped, policy_after}
-use Rattle.server.specs.declared.faults.Fault.{Fault}
+use Rattle.faults.specs.declared.faults.Fault.{Fault}
 use Rattle.server.specs.declared.outcomes.Outcome.{Outcome}
 use Rattle.server.specs.declared.outcomes.Outcome.TheVariants.{Unchanged}
 use Rattle.server.specs.declared.server.Finish.{Finish}

@@ -1,9 +1,3 @@
-pub mod Clocks
-pub mod Framing
 pub mod Given
-pub mod Observations
-pub mod Policies
 pub mod Commands
 pub mod Jobs
-pub mod Statuses
-pub mod Stored

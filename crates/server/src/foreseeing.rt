@@ -5,8 +5,8 @@ ghost use Rattle.server.specs.Commands.{IsForesightOf};
 ghost use Rattle.operator.specs.declared.foreseeing.Foresight.{Foresight};
 ghost use Rattle.server.specs.Given.{IsGiven};
 
-use crate::faults::Fault;
 use command_line::ForeseeArgs;
+use faults::Fault;
 use forms::Request;
 use names::{Moment, RepoName, Rule};
 use operator::{Foresight, Task};

@@ -5,21 +5,19 @@ ghost use Rattle.command_line.specs.declared.args.OperatorCommand.TheVariants.{A
 ghost use Rattle.refinement.specs.Left.{From, Reads};
 ghost use Rattle.server.specs.Commands.{AreReadings, HasEndedSo, IsAnswered, IsDone, IsMomentOf, IsObeyed, IsRead, IsReplied, IsRequestDone, IsSilent, RunsAs, made_of};
 ghost use Rattle.server.specs.Jobs.{Call, Calls, Helps, seen_in};
-ghost use Rattle.server.specs.Statuses.{status_of_end};
-ghost use Rattle.server.specs.Stored.{IsStored};
+ghost use Rattle.faults.specs.Statuses.{status_of_end};
+ghost use Rattle.metrics.specs.Stored.{IsStored};
 ghost use Rattle.policy.specs.Values.{repo_view};
 
-use crate::ending::{print_fault, refuse};
-use crate::faults::Fault;
 use crate::foreseeing::message_in;
-use crate::machine::Machine;
 use crate::outcomes::Outcome;
 use crate::pieces::Pieces;
-use crate::policies::policy_line;
 use crate::requests::{plain_task, push_of, token_request};
-use crate::status::{Counts, Stored, status_text};
 use command_line::{ForeseeArgs, OperatorCommand, TokenArgs};
 use control::{PrefixFault, Request, Status, VERSION, read_request, refusal_bytes, request_size};
+use faults::{Fault, print_fault, refuse};
+use machine::{Machine, policy_line};
+use metrics::{Counts, Stored, status_text};
 use names::{Counted, Moment, Sink};
 use operator::{Destination, Task, print, repo_at};
 use policy::{Policy, Repo};
@@ -216,7 +214,8 @@ impl OperatorContext<'_> {
         seconds: u64,
         output: &mut K,
     ) -> Result<Outcome, Fault>
-        ensures ok { IfOk result (λ outcome. (calls : List Call) × Calls M.Machine machine.old calls machine.new
+        ensures ok { IfOk result (λ outcome. (calls : List Call)
+            × Calls M.Machine machine.old calls machine.new
             × IsObeyed self.now.stream.now (Hold seconds) outcome (seen_in calls)) }
         ensures err { OnErr result ((calls : List Call)
             × Calls M.Machine machine.old calls machine.new × AreReadings (seen_in calls)) }
@@ -236,7 +235,8 @@ impl OperatorContext<'_> {
     /// `PolicyFile`, `PolicyDescribed` and `Memory`; `Output` if what was read could not be reported. The policy stays as
     /// it was then.
     fn reload<M: Machine, K: Sink>(&self, machine: &mut M, output: &mut K) -> Result<Outcome, Fault>
-        ensures ok { IfOk result (λ outcome. (calls : List Call) × Calls M.Machine machine.old calls machine.new
+        ensures ok { IfOk result (λ outcome. (calls : List Call)
+            × Calls M.Machine machine.old calls machine.new
             × IsObeyed self.now.stream.now Reload outcome (seen_in calls)) }
         ensures err { OnErr result ((calls : List Call)
             × Calls M.Machine machine.old calls machine.new × AreReadings (seen_in calls)) }

@@ -4,8 +4,8 @@ ghost use Rattle.std.specs.Prelude.{◌≡◌, ◌<◌, ◌≤◌, length, None,
 ghost use Rattle.std.specs.Io.KnownBytes.{Appends};
 ghost use Rattle.control.specs.Replies.{IsPieceSize, longest_piece, piece_bytes};
 
-use crate::faults::Fault;
 use control::{LONGEST_PIECE, Stream, piece_head};
+use faults::Fault;
 use memchr::memrchr;
 use names::{DeviceFault, Sink};
 use operator::print;

@@ -5,8 +5,8 @@ ghost use Rattle.names.specs.Names.{repo_text};
 ghost use Rattle.tokens.specs.Issuing.{token_asked};
 ghost use Rattle.server.specs.Commands.{IsPlainTask, IsPushOf, NeedsMore, token_of};
 
-use crate::faults::Fault;
 use command_line::{OperatorCommand, PushArgs, TokenArgs};
+use faults::Fault;
 use names::{Moment, RepoName};
 use operator::{Push, Task, paths_in};
 use policy::Policy;

@@ -1,7 +1,7 @@
 use Rattle.std.proofs.Common.{◌≡◌, ◌++◌, [], ◌∷◌, ℕ, List, length, drop, take, subst, rules}
 use Rattle.std.proofs.Math.Seq.{take-append_seam}
 use Rattle.std.proofs.lemmas.Result.{err_from_is_err_and}
-use Rattle.server.specs.Observations.{received}
+use Rattle.machine.specs.Observations.{received}
 use Rattle.server.specs.Jobs.{idles, observes}
 use Rattle.server.proofs.Jobs.{calls_append, one_seen, one_idle}
 use Rattle.server.proofs.operators.read_body.Goals as goal

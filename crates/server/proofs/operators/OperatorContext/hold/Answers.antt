@@ -1,6 +1,6 @@
 use Rattle.std.specs.Prelude.{true, false}
 use Rattle.std.proofs.Common.{[], ◌∷◌, refl}
-use Rattle.server.specs.Observations.{waited}
+use Rattle.machine.specs.Observations.{waited}
 use Rattle.server.specs.Jobs.{observes}
 use Rattle.server.proofs.Jobs.{one_seen}
 use Rattle.server.proofs.operators.OperatorContext.hold.Goals as goal

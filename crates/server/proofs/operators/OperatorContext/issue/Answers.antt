@@ -4,7 +4,7 @@ use Rattle.server.specs.Commands.{AreReadings}
 use Rattle.std.proofs.lemmas.Result.{err_from_is_err_and}
 use Rattle.command_line.specs.declared.args.OperatorCommand.TheVariants.{Authenticate}
 use Rattle.operator.specs.declared.tasks.Task.TheVariants.{Issue}
-use Rattle.server.specs.Observations.{drawn}
+use Rattle.machine.specs.Observations.{drawn}
 use Rattle.server.specs.Jobs.{idles, observes, seen_in}
 use Rattle.server.proofs.Jobs.{seen_append, calls_append, moment_read, none_read, one_seen, one_idle}
 use Rattle.server.proofs.Commands.{fault_helps, task_helps}

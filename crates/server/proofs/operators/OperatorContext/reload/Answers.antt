@@ -1,6 +1,6 @@
 use Rattle.std.proofs.Common.{[], ◌∷◌, refl}
 use Rattle.std.proofs.lemmas.Result.{err_from_is_err_and}
-use Rattle.server.specs.Observations.{loaded}
+use Rattle.machine.specs.Observations.{loaded}
 use Rattle.server.specs.Jobs.{idles, observes}
 use Rattle.server.proofs.Jobs.{one_idle, one_seen}
 use Rattle.server.proofs.operators.OperatorContext.reload.Goals as goal

@@ -3,7 +3,7 @@ use Rattle.std.proofs.lemmas.List.{append-nil}
 use Rattle.std.proofs.lemmas.Result.{err_from_is_err_and}
 use Rattle.control.specs.Versions.{version}
 use Rattle.server.specs.Commands.{IsSilent}
-use Rattle.server.specs.Observations.{sent}
+use Rattle.machine.specs.Observations.{sent}
 use Rattle.server.specs.Jobs.{idles, observes, seen_in}
 use Rattle.server.proofs.Jobs.{calls_append, from_idle, from_served, one_idle, one_seen, seen_append}
 use Rattle.server.proofs.operators.OperatorContext.serve.Goals as goal

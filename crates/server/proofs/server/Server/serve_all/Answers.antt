@@ -1,7 +1,7 @@
 use Rattle.std.specs.Prelude.{false, true}
 use Rattle.std.proofs.Common.{◌∙◌, [], ◌∷◌, refl}
 use Rattle.std.proofs.lemmas.Result.{err_from_is_err_and}
-use Rattle.server.specs.declared.faults.Fault.TheVariants.{Network}
+use Rattle.faults.specs.declared.faults.Fault.TheVariants.{Network}
 use Rattle.server.specs.Jobs.{idles}
 use Rattle.server.proofs.Jobs.{calls_append, from_failed, from_full, from_serves, from_settled, from_stopped, one_idle, serves_none}
 use Rattle.server.proofs.server.Server.serve_all.Goals as goal

@@ -1,5 +1,5 @@
 use Rattle.std.proofs.Common.{refl, [], ◌∷◌}
-use Rattle.server.specs.Observations.{timed}
+use Rattle.machine.specs.Observations.{timed}
 use Rattle.server.specs.Jobs.{idles, observes}
 use Rattle.server.proofs.Jobs.{calls_append, one_seen, one_idle, turn_served, turn_unserved}
 use Rattle.server.proofs.server.Server.serve_turn.Goals as goal

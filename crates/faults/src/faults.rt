@@ -1,7 +1,7 @@
 //! Why the program ends with a status other than 0, and what it then prints.
 
 ghost use Rattle.std.specs.Prelude.{◌≡◌};
-ghost use Rattle.server.specs.Statuses.{status_of};
+ghost use Rattle.faults.specs.Statuses.{status_of};
 
 use command_line::ArgsFault;
 use control::{RequestFault, Status};
@@ -137,7 +137,7 @@ impl Fault {
 }
 
 impl From<ArgsFault> for Fault {
-    ghost use Rattle.server.specs.Statuses.{of_args};
+    ghost use Rattle.faults.specs.Statuses.{of_args};
 
     ghost from_gives = { λ fault gives. gives ≡ of_args fault };
 
@@ -152,7 +152,7 @@ impl From<ArgsFault> for Fault {
 }
 
 impl From<PolicyFault> for Fault {
-    ghost use Rattle.server.specs.Statuses.{of_policy};
+    ghost use Rattle.faults.specs.Statuses.{of_policy};
 
     ghost from_gives = { λ fault gives. gives ≡ of_policy fault };
 
@@ -165,7 +165,7 @@ impl From<PolicyFault> for Fault {
 }
 
 impl From<StoreFault> for Fault {
-    ghost use Rattle.server.specs.Statuses.{of_store};
+    ghost use Rattle.faults.specs.Statuses.{of_store};
 
     ghost from_gives = { λ fault gives. gives ≡ of_store fault };
 
@@ -178,7 +178,7 @@ impl From<StoreFault> for Fault {
 }
 
 impl From<OpenFault> for Fault {
-    ghost use Rattle.server.specs.Statuses.{of_open};
+    ghost use Rattle.faults.specs.Statuses.{of_open};
 
     ghost from_gives = { λ fault gives. gives ≡ of_open fault };
 
@@ -191,7 +191,7 @@ impl From<OpenFault> for Fault {
 }
 
 impl From<TaskFault> for Fault {
-    ghost use Rattle.server.specs.Statuses.{of_task};
+    ghost use Rattle.faults.specs.Statuses.{of_task};
 
     ghost from_gives = { λ fault gives. gives ≡ of_task fault };
 
@@ -209,7 +209,7 @@ impl From<TaskFault> for Fault {
 }
 
 impl From<PathsFault> for Fault {
-    ghost use Rattle.server.specs.Statuses.{of_paths};
+    ghost use Rattle.faults.specs.Statuses.{of_paths};
 
     ghost from_gives = { λ fault gives. gives ≡ of_paths fault };
 
@@ -223,7 +223,7 @@ impl From<PathsFault> for Fault {
 }
 
 impl From<MessageFault> for Fault {
-    ghost use Rattle.server.specs.Statuses.{of_message};
+    ghost use Rattle.faults.specs.Statuses.{of_message};
 
     ghost from_gives = { λ fault gives. gives ≡ of_message fault };
 
@@ -236,7 +236,7 @@ impl From<MessageFault> for Fault {
 }
 
 impl From<RequestFault> for Fault {
-    ghost use Rattle.server.specs.Statuses.{of_request};
+    ghost use Rattle.faults.specs.Statuses.{of_request};
 
     ghost from_gives = { λ fault gives. gives ≡ of_request fault };
 
@@ -250,7 +250,7 @@ impl From<RequestFault> for Fault {
 }
 
 impl From<AllocError> for Fault {
-    ghost use Rattle.server.specs.declared.faults.Fault.TheVariants.{Memory};
+    ghost use Rattle.faults.specs.declared.faults.Fault.TheVariants.{Memory};
 
     ghost from_gives = { λ _ gives. gives ≡ Memory };
 

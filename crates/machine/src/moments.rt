@@ -2,9 +2,9 @@
 
 ghost use Rattle.std.specs.Prelude.{◌≡◌, IfSome, Ok};
 ghost use Rattle.std.specs.Time.{system_time_nanos};
-ghost use Rattle.server.specs.Clocks.{moment_at};
+ghost use Rattle.machine.specs.Clocks.{moment_at};
 
-use crate::faults::Fault;
+use faults::Fault;
 use names::Moment;
 use std::rt::Clock;
 use std::time::{SystemTime, UNIX_EPOCH};

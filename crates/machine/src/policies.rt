@@ -2,9 +2,9 @@
 
 ghost use Rattle.std.specs.Prelude.{◌≡◌, IfOk, string_bytes};
 ghost use Rattle.policy.specs.Values.{policy_view};
-ghost use Rattle.server.specs.Policies.{counts_line, policy_line};
+ghost use Rattle.machine.specs.Policies.{counts_line, policy_line};
 
-use crate::faults::Fault;
+use faults::Fault;
 use policy::{LONGEST_FILE, Policy, Sentence};
 use std::alloc::{AllocError, Global};
 use std::fs::File;

@@ -1,6 +1,6 @@
 use Rattle.std.proofs.Common.{◌∙◌, refl, append_assoc}
 use Rattle.std.proofs.lemmas.Result.{IfOk-weaker}
-use Rattle.server.proofs.policies.counts_line.Goals as goal
+use Rattle.machine.proofs.policies.counts_line.Goals as goal
 
 pub returns : goal.returns
 returns c =

@@ -1,7 +1,7 @@
 //! How a command or a connection ends, and what is then printed.
 
 ghost use Rattle.std.specs.Prelude.{◌≡◌};
-ghost use Rattle.server.specs.Statuses.{is_good, status_of, status_of_end};
+ghost use Rattle.faults.specs.Statuses.{is_good, status_of, status_of_end};
 
 use crate::faults::Fault;
 use control::Status;
@@ -22,8 +22,8 @@ pub fn print_fault<E: Write>(fault: &Fault, errors: &mut E) -> io::Result<()> {
     errors.flush()
 }
 
-/// Prints the fault and returns its exit status; a failed print does not change the status.
-pub(crate) fn refuse<E: Write>(fault: &Fault, errors: &mut E) -> Status
+/// Prints the fault, and returns its exit status. A failed print does not change the status.
+pub fn refuse<E: Write>(fault: &Fault, errors: &mut E) -> Status
     ensures { result ≡ status_of fault.now }
 {
     let _ = print_fault(fault, errors);

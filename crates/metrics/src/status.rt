@@ -24,10 +24,12 @@ pub struct Gauges {
 
 /// A turn of a client.
 #[derive(Clone, Copy)]
-pub(crate) struct Turn {
+pub struct Turn {
+    /// How many replies were written, and how the turn ended.
     pub served: Served,
-    /// How many bytes were received and sent.
+    /// How many bytes were received.
     pub received: u64,
+    /// How many bytes were sent.
     pub sent: u64,
 }
 
@@ -44,9 +46,10 @@ struct Ends {
 
 /// What a server has counted since it began.
 #[derive(Clone, Copy)]
-pub(crate) struct Counts {
-    /// When it began, and when it read its policy.
+pub struct Counts {
+    /// When it began; `None` if the clock failed.
     pub began: Option<Instant>,
+    /// When it read its policy; `None` if the clock failed.
     pub read_policy: Option<Instant>,
     ends: Ends,
     replies: u64,
@@ -59,7 +62,8 @@ pub(crate) struct Counts {
 
 /// What a repository stores, without a look at its objects.
 #[derive(Clone, Copy)]
-pub(crate) struct Stored<'a> {
+pub struct Stored<'a> {
+    /// The repository.
     pub repo: &'a Repo,
     /// The bytes of its objects.
     pub used: u64,
@@ -119,8 +123,8 @@ impl Gauges {
 }
 
 impl Counts {
-    /// Nothing is counted yet.
-    pub(crate) fn new(now: Option<Instant>) -> Counts {
+    /// The counts of a server that begins now, and has read its policy: nothing is counted yet.
+    pub fn new(now: Option<Instant>) -> Counts {
         Counts {
             began: now,
             read_policy: now,
@@ -142,7 +146,7 @@ impl Counts {
     }
 
     /// Counts an operator, whose command was run or not.
-    pub(crate) fn count_operator(&mut self, is_answered: bool) {
+    pub fn count_operator(&mut self, is_answered: bool) {
         let count = if is_answered {
             &mut self.answered
         } else {
@@ -152,7 +156,7 @@ impl Counts {
     }
 
     /// Counts a connection that ended.
-    pub(crate) fn count_end(&mut self, end: End) {
+    pub fn count_end(&mut self, end: End) {
         let count = match end {
             End::InputEnded => &mut self.ends.input_ended,
             End::Closed => &mut self.ends.closed,
@@ -165,7 +169,7 @@ impl Counts {
     }
 
     /// Counts a turn.
-    pub(crate) fn count_turn(&mut self, turn: Turn, time: Duration) {
+    pub fn count_turn(&mut self, turn: Turn, time: Duration) {
         self.replies = self.replies.saturating_add(turn.served.answered as u64);
         self.received = self.received.saturating_add(turn.received);
         self.sent = self.sent.saturating_add(turn.sent);
@@ -327,7 +331,7 @@ impl Metrics {
 /// # Errors
 ///
 /// Memory ran out.
-pub(crate) fn status_text(
+pub fn status_text(
     alloc: Global,
     counts: &Counts,
     gauges: &Gauges,

@@ -1,6 +1,6 @@
 //! How long the messages of a connection are.
 
-ghost use Rattle.server.specs.Framing.{IsExtent};
+ghost use Rattle.machine.specs.Framing.{IsExtent};
 
 use httparse::spans::EMPTY_HEADER_SPAN;
 use sockets::{Extent, Framing};

@@ -1,6 +1,6 @@
 //! Reads random bytes.
 
-use crate::faults::Fault;
+use faults::Fault;
 use std::fs::File;
 use std::io::Read;
 use std::rt::HostRuntime;

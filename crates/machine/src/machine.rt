@@ -1,15 +1,15 @@
 //! The machine that a server runs on.
 
 ghost use Rattle.std.specs.Prelude.{⊤, IfNone, IfOk, IfSome, OnErr, OnOk};
-ghost use Rattle.server.specs.Observations.{Observation, called, drawn, loaded, received, sent, timed, waited};
+ghost use Rattle.machine.specs.Observations.{Observation, called, drawn, loaded, received, sent, timed, waited};
 
-use crate::faults::Fault;
 use crate::framing::Messages;
 use crate::moments::moment;
 use crate::policies::read_described;
 use crate::random::read_random;
-use crate::status::Gauges;
 use command_line::RANDOM;
+use faults::Fault;
+use metrics::Gauges;
 use names::Moment;
 use policy::Policy;
 use service::End;

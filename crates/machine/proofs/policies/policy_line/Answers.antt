@@ -2,8 +2,8 @@ use Rattle.std.proofs.Common.{◌≡◌, ◌∙◌, sym, ap, length}
 use Rattle.std.proofs.lemmas.List.{length-map}
 use Rattle.std.proofs.lemmas.Result.{IfOk-weaker}
 use Rattle.policy.specs.Values.{policy_view, repo_view, row_view}
-use Rattle.server.specs.Policies.{counts_line, policy_line}
-use Rattle.server.proofs.policies.policy_line.Goals as goal
+use Rattle.machine.specs.Policies.{counts_line, policy_line}
+use Rattle.machine.proofs.policies.policy_line.Goals as goal
 
 pub returns : goal.returns
 returns c =

@@ -1,0 +1,4 @@
+pub mod Clocks
+pub mod Framing
+pub mod Observations
+pub mod Policies
