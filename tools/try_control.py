@@ -181,6 +181,22 @@ def printed_on_terminal(words):
         os.close(theirs)
 
 
+def errors_on_terminal(words):
+    """What a command prints on its error stream if that is a terminal."""
+    ours, theirs = pty.openpty()
+    tty.setraw(theirs)
+    printed = b""
+    with subprocess.Popen(words, stdout=subprocess.DEVNULL, stderr=theirs) as child:
+        os.close(theirs)
+        # The end of a terminal that nobody has open is an error.
+        with contextlib.suppress(OSError):
+            while piece := os.read(ours, 65_536):
+                printed += piece
+        require(child.wait() == 0, "the command failed")
+    os.close(ours)
+    return printed
+
+
 def check_terminal(server, _):
     """On a terminal the control characters of a path are escapes, by the socket and over the files; else they are not."""
     path = "art/\u009b31m\u0085\u00a0.psd"
@@ -334,6 +350,51 @@ def check_hold_over(server, _):
         gone = server.time_of_lock("art/two")
     require(gone <= 0.5, f"a client waited {gone:.2f} s for an operator who is gone")
     return f"a client waited {waited:.2f} s (about 1 s), and {gone:.2f} s for an operator who is gone (at most 0.5 s)"
+
+
+def put(client, data):
+    """Stores an object."""
+    head = message("PUT", content(hashlib.sha256(data).hexdigest()), more=f"Content-Length: {len(data)}\r\n")
+    client.send(head + data)
+    status, _ = client.reply()
+    require(status == 200, f"an upload got {status}")
+
+
+def check_gives_way(server, _):
+    """While all objects are hashed, others are served: a lock waits for no more than a part, and a token is issued. A second
+    check is refused. An object that is removed meanwhile is passed over, and the check shows on a terminal how far it is."""
+    large, small = [os.urandom(150_000_000) for _ in range(2)], 300
+    with server.client() as client:
+        for data in (*large, *(os.urandom(5_000) for _ in range(small))):
+            put(client, data)
+    first, last = sorted(hashlib.sha256(data).hexdigest() for data in large)
+    begun = time.monotonic()
+    alone = via(server, "check")
+    whole = time.monotonic() - begun
+    require(alone == (0, f"checked {small + 2} objects\n", ""), f"alone: {alone}")
+    command = [server.program, "check", "--via", socket_of(server)]
+    with subprocess.Popen(command, stdout=subprocess.PIPE, stderr=subprocess.PIPE) as check:
+        waits, refused, tokens = [], 0, 0
+        while check.poll() is None:
+            waits.append(server.time_of_lock(f"art/{len(waits)}"))
+            if len(waits) == 5:
+                refused = via(server, "repair")
+                require(refused == (1, "", "custody: another check or repair runs\n"), f"a repair meanwhile: {refused}")
+                require(via(server, "retire", "--repo", "studio/film", last)[0] == 0, "an object was not removed")
+            if len(waits) % 10 == 0:
+                issue(server)
+                tokens += 1
+        ended = (check.returncode, check.stdout.read().decode(), check.stderr.read().decode())
+    require(ended == (0, f"checked {small + 2} objects\n", ""), f"beside others: {ended}")
+    require(len(waits) > 20 and tokens > 0, f"{len(waits)} locks and {tokens} tokens meanwhile")
+    require(max(waits) <= 0.3, f"a lock took {max(waits):.2f} s")
+    shown = errors_on_terminal(command)
+    require(shown.count(b"\rchecked ") > 5, f"shown: {shown[:200]!r}")
+    require(shown.endswith(b"\r\x1b[K"), f"shown at last: {shown[-50:]!r}")
+    return (
+        f"{whole:.1f} s alone; beside it {len(waits)} locks, the slowest in {max(waits) * 1000:.0f} ms (at most 300), "
+        f"and {tokens} tokens"
+    )
 
 
 def check_stop(server, _):
@@ -499,6 +560,7 @@ CHECKS = {
     "terminal": controlled(check_terminal),
     "idle-client": controlled(check_idle_client),
     "under-load": controlled(check_under_load),
+    "gives-way": controlled(check_gives_way),
     "hold": controlled(check_hold),
     "hold-over": controlled(check_hold_over),
     "stop": controlled(check_stop),

@@ -1,13 +1,15 @@
 #!/usr/bin/env python3
 """Measures what a server keeps of memory after it has opened a large database, by the environment of its allocator.
 
-A database with objects of 64 MiB is made; then, for each environment, in turns: a server is started over it, its resident
-memory is read as it says that it listens, and again after some seconds; and an object of 64 MiB is sent to it and
-fetched. It prints the medians of several rounds, and the ratios to the plain environment. No bar: the table in
-docs/OPERATING.md says what the unit takes by it.
+A database with objects of 64 MiB is made; then, for each environment, in turns: a server is started over it, and its
+resident memory is read as it says that it listens, 15 seconds later, and after 100 locks; then an object of 64 MiB is
+sent to it and fetched four times. It prints the medians of several rounds: the highest memory until the server
+listens, the memory after it, the time that a processor worked for the start, and the times of the transfers by a
+clock and by the processor's work, relative to the environment without settings. The second says more on a busy
+machine. No bar: docs/OPERATING.md has the table, and says what the unit takes by it.
 
 It needs Linux, python3, a program that bin/custody has built, and 2 GB of memory; jemalloc is tried if Debian's
-libjemalloc2 is there. It takes some minutes.
+libjemalloc2 is there. It takes 25 seconds for each environment and round, and longer on a busy machine.
 
     bench/serve/memory.py [--mb N] [--rounds N] [PROGRAM]
 """
@@ -20,19 +22,24 @@ import tempfile
 import time
 from pathlib import Path
 
-from large import Content, get, put, restart, words_of
+from large import Content, get, highest, put, restart, words_of
 from run import TOP, start_custody
 
 JEMALLOC = "/usr/lib/x86_64-linux-gnu/libjemalloc.so.2"
 SIZE = 64 << 20
-SETTLE = 5
+SETTLE, LOCKS, DOWNLOADS = 15, 100, 4
+# By default only the first 65,536 pieces get a mapping.
+MAPPINGS = {"MALLOC_MMAP_MAX_": "16777216"}
 ENVIRONMENTS = {
-    "as it is": {},
-    "MALLOC_MMAP_THRESHOLD_=65536": {"MALLOC_MMAP_THRESHOLD_": "65536"},
-    "MALLOC_TRIM_THRESHOLD_=131072": {"MALLOC_TRIM_THRESHOLD_": "131072"},
-    "MALLOC_TOP_PAD_=0": {"MALLOC_TOP_PAD_": "0", "MALLOC_TRIM_THRESHOLD_": "131072"},
+    "none": {},
+    "MALLOC_MMAP_THRESHOLD_=65536": {"MALLOC_MMAP_THRESHOLD_": "65536", **MAPPINGS},
+    "MALLOC_MMAP_THRESHOLD_=8192": {"MALLOC_MMAP_THRESHOLD_": "8192", **MAPPINGS},
+    "MALLOC_TRIM_THRESHOLD_=65536": {"MALLOC_TRIM_THRESHOLD_": "65536"},
+    "MALLOC_TOP_PAD_=0, ARENA_MAX=1": {"MALLOC_TOP_PAD_": "0", "MALLOC_ARENA_MAX": "1"},
     "jemalloc": {"LD_PRELOAD": JEMALLOC},
     "jemalloc, background_thread": {"LD_PRELOAD": JEMALLOC, "MALLOC_CONF": "background_thread:true"},
+    "jemalloc, both decays 0": {"LD_PRELOAD": JEMALLOC, "MALLOC_CONF": "dirty_decay_ms:0,muzzy_decay_ms:0"},
+    "jemalloc, dirty_decay_ms:1000": {"LD_PRELOAD": JEMALLOC, "MALLOC_CONF": "dirty_decay_ms:1000"},
 }
 
 
@@ -42,22 +49,35 @@ def copy_files(server, one, other):
         shutil.copyfile(f"{server.room}/{one}{end}", f"{server.room}/{other}{end}")
 
 
+def worked(server):
+    """The seconds that a processor has worked for the server."""
+    fields = Path(f"/proc/{server.child.pid}/stat").read_text().rsplit(")", 1)[1].split()
+    return (int(fields[11]) + int(fields[12])) / os.sysconf("SC_CLK_TCK")
+
+
 def measure(server, words, environment):
-    """Memory in KiB at the start and later, and the seconds of a start, an upload and a download. The database is the same
-    for each."""
+    """Memory in KiB: the highest, and that at the start, later and after some locks; the work of the start; the seconds
+    and the work of an upload, and of a download. The database is the same for each."""
     server.stop()
     copy_files(server, "kept.db", "custody.db")
     os.environ.update(environment)
     try:
-        start = restart(server, words)
+        restart(server, words)
     finally:
         for name in environment:
             del os.environ[name]
-    at_start = server.memory()
+    memory, start = [highest(server), server.memory()], worked(server)
     time.sleep(SETTLE)
-    later = server.memory()
-    content = Content(SIZE)
-    return at_start, later, start, put(server, content), get(server, content)
+    memory.append(server.memory())
+    with server.connect() as client:
+        for _ in range(LOCKS):
+            server.lock(client)
+    memory.append(server.memory())
+    content, before = Content(SIZE), worked(server)
+    up = put(server, content)
+    between = worked(server)
+    down = statistics.median(get(server, content) for _ in range(DOWNLOADS))
+    return *memory, start, up, down, between - before, (worked(server) - between) / DOWNLOADS
 
 
 def main():
@@ -82,15 +102,15 @@ def main():
                     rows[name].append(measure(server, words, environment))
         finally:
             server.stop()
-    print(f"{'environment':32} {'at start':>9} {'later':>9} {'start':>8} {'PUT':>8} {'GET':>8}")
+    print(f"{'settings':32} {'highest':>8} {'at start':>8} {'later':>8} {'locks':>8} {'work':>8}   PUT and GET, by clock and by work")
     plain = None
     for name, found in rows.items():
-        at_start, later, start, up, down = (statistics.median(column) for column in zip(*found))
-        plain = plain or (up, down)
-        print(
-            f"{name:32} {at_start / 1000:6.0f} MB {later / 1000:6.0f} MB {start:6.2f} s {up:6.2f} s {down:6.2f} s"
-            f"  PUT {up / plain[0]:.2f}, GET {down / plain[1]:.2f} times"
-        )
+        *memory, start = (statistics.median(column) for column in list(zip(*found))[:5])
+        times = [statistics.median(column) for column in list(zip(*found))[5:]]
+        plain = plain or times
+        up, down, up_work, down_work = (it / base for it, base in zip(times, plain))
+        megabytes = " ".join(f"{it * 1024 / 1e6:5.0f} MB" for it in memory)
+        print(f"{name:32} {megabytes} {start:6.2f} s   {up:.2f} and {down:.2f}, {up_work:.2f} and {down_work:.2f}")
     return 0
 
 

@@ -2,3 +2,4 @@ pub mod Asked
 pub mod Reading
 pub mod Sessions
 pub mod Answers
+pub mod Sizes

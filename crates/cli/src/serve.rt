@@ -5,6 +5,7 @@ ghost use Rattle.refinement.specs.Left.{From};
 ghost use Rattle.server.specs.Jobs.{ServesAll};
 
 use crate::opening::{Work, open_for};
+use crate::reading::show_reading;
 use command_line::ServeArgs;
 use faults::{Fault, status_after};
 use machine::{Sockets, read_policy};
@@ -214,7 +215,7 @@ fn serve_bound<C: Clock, S: Start, K: Sink, E: Write>(
     open_for(rt, args.db, start, serving, output)
 }
 
-/// Serves connections to the address, one message after the other.
+/// Serves connections to the address, one message after the other. Shows on a terminal that it reads the database.
 ///
 /// # Errors
 ///
@@ -238,6 +239,7 @@ pub(crate) fn serve<S: Start, K: Sink, E: Write>(
         clients: &listener,
         operators: None,
     };
+    show_reading(rt, args.db);
     serve_bound(rt, rt, args, policy, listeners, output, errors, start)
 }
 

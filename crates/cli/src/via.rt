@@ -8,6 +8,7 @@ ghost use Rattle.control.specs.Versions.{version};
 ghost use Rattle.cli.specs.Asked.{IsFramePrinted, IsPiecePrinted, IsReplyPrinted, IsRequestFor, IsUnread, ending, wanted_of};
 
 use crate::inputs::{read_exactly, read_input, skip};
+use crate::progress::ProgressLine;
 use command_line::OperatorCommand;
 use control::{
     LONGEST_REQUEST, Start, Status, Stream, VERSION, frame_start, piece_size, request_bytes,
@@ -16,7 +17,7 @@ use faults::Fault;
 use names::{Counted, Sink, Source};
 use operator::{Destination, LONGEST_PATHS, print, shown};
 use std::alloc::Global;
-use std::io::{self, Write};
+use std::io::{self, IsTerminal, Stderr, Write};
 use std::net::Shutdown;
 use std::os::unix::net::UnixStream;
 use std::rt::HostRuntime;
@@ -113,7 +114,7 @@ struct Printing {
 }
 
 impl Printing {
-    /// Prints a piece of a stream.
+    /// Prints a piece of a stream, or shows it if it is about progress.
     ///
     /// # Errors
     ///
@@ -122,6 +123,7 @@ impl Printing {
         self,
         stream: Stream,
         content: &[u8],
+        progress: &mut ProgressLine<'_>,
         output: &mut K,
         errors: &mut E,
     ) -> Result<(), Fault>
@@ -129,6 +131,9 @@ impl Printing {
             (K.taken output.old) (K.taken output.new) result }
         ensures good { OnOk result (K.failed output.new ≡ K.failed output.old) }
     {
+        if stream != Stream::Progress {
+            progress.clear();
+        }
         match stream {
             Stream::Output => {
                 let printed = shown(self.alloc, content, self.destination)?;
@@ -137,6 +142,10 @@ impl Printing {
             }
             Stream::Errors if write_errors(errors, content).is_err() => Err(Fault::Output),
             Stream::Errors => Ok(()),
+            Stream::Progress => {
+                progress.show(content);
+                Ok(())
+            }
         }
     }
 
@@ -148,6 +157,7 @@ impl Printing {
     fn print_frame<R: Source, K: Sink, E: Write>(
         self,
         source: &mut R,
+        progress: &mut ProgressLine<'_>,
         output: &mut K,
         errors: &mut E,
     ) -> Result<Option<Status>, Fault>
@@ -163,7 +173,7 @@ impl Printing {
             Start::End(status) => return Ok(Some(status)),
         };
         let content = read_content(self.alloc, source)?;
-        self.print_piece(stream, content.as_slice(), output, errors)?;
+        self.print_piece(stream, content.as_slice(), progress, output, errors)?;
         Ok(None)
     }
 
@@ -175,6 +185,7 @@ impl Printing {
     fn print_rest<R: Source, K: Sink, E: Write>(
         self,
         source: &mut R,
+        progress: &mut ProgressLine<'_>,
         output: &mut K,
         errors: &mut E,
     ) -> Result<(), Fault>
@@ -184,7 +195,7 @@ impl Printing {
         ensures good { OnOk result (K.failed output.new ≡ K.failed output.old) }
     {
         'frames: for _ in 0..u64::MAX {
-            if let Some(status) = self.print_frame(source, output, errors)? {
+            if let Some(status) = self.print_frame(source, progress, output, errors)? {
                 return ending(status);
             }
         }
@@ -208,7 +219,8 @@ fn read_version<R: Source>(alloc: Global, source: &mut R) -> Result<(), Fault>
     }
 }
 
-/// Reads the reply of a server, and prints what its command prints, as it comes. The result is that of the command.
+/// Reads the reply of a server, and prints what its command prints, as it comes. The result is that of the command. Shows
+/// its progress on the terminal, if there is one.
 ///
 /// # Errors
 ///
@@ -219,6 +231,7 @@ pub fn print_reply<R: Source, K: Sink, E: Write>(
     alloc: Global,
     source: &mut R,
     destination: Destination,
+    terminal: Option<&Stderr>,
     output: &mut K,
     errors: &mut E,
 ) -> Result<(), Fault>
@@ -227,8 +240,11 @@ pub fn print_reply<R: Source, K: Sink, E: Write>(
     ensures good { OnOk result (K.failed output.new ≡ K.failed output.old) }
 {
     read_version(alloc, source)?;
+    let mut progress = ProgressLine::new(terminal);
     let printing = Printing { alloc, destination };
-    printing.print_rest(source, output, errors)
+    let printed = printing.print_rest(source, &mut progress, output, errors);
+    progress.clear();
+    printed
 }
 
 /// Writes all bytes of a request.
@@ -255,6 +271,23 @@ pub struct Question<'a> {
     pub request: &'a [u8],
     /// Where the output is written to.
     pub destination: Destination,
+    /// Where the progress of the command is shown; `None` if nowhere.
+    pub terminal: Option<&'a Stderr>,
+}
+
+/// The question of a request, whose progress is shown on the terminal, if there is one.
+fn question_of<'x>(
+    alloc: Global,
+    request: &'x [u8],
+    destination: Destination,
+    terminal: Option<&'x Stderr>,
+) -> Question<'x> {
+    Question {
+        alloc,
+        request,
+        destination,
+        terminal,
+    }
 }
 
 impl Question<'_> {
@@ -276,7 +309,14 @@ impl Question<'_> {
         ensures good { OnOk result (K.failed output.new ≡ K.failed output.old) }
     {
         send(to, self.request)?;
-        print_reply(self.alloc, from, self.destination, output, errors)
+        print_reply(
+            self.alloc,
+            from,
+            self.destination,
+            self.terminal,
+            output,
+            errors,
+        )
     }
 
     /// The same for a server that is held: after the first piece of the reply was printed, it is held until the input
@@ -292,13 +332,15 @@ impl Question<'_> {
     {
         let alloc = self.alloc;
         let (mut to, mut from) = (Counted::new(stream), Counted::new(stream));
+        // A hold has no progress.
+        let mut progress = ProgressLine::new(None);
         let printing = Printing {
             alloc,
             destination: self.destination,
         };
         send(&mut to, self.request)?;
         read_version(alloc, &mut from)?;
-        if let Some(status) = printing.print_frame(&mut from, output, errors)? {
+        if let Some(status) = printing.print_frame(&mut from, &mut progress, output, errors)? {
             return ending(status);
         }
         // An input that cannot be read has ended too.
@@ -306,7 +348,7 @@ impl Question<'_> {
         if stream.shutdown(Shutdown::Write).is_err() {
             return Err(Fault::Control);
         }
-        printing.print_rest(&mut from, output, errors)
+        printing.print_rest(&mut from, &mut progress, output, errors)
     }
 }
 
@@ -332,11 +374,9 @@ pub(crate) fn ask_at<R: Source, K: Sink, E: Write>(
     let Ok(stream) = UnixStream::connect(rt, socket) else {
         return Err(Fault::Control);
     };
-    let question = Question {
-        alloc,
-        request: request.as_slice(),
-        destination,
-    };
+    let error_stream = rt.stderr();
+    let terminal = error_stream.is_terminal().then_some(&error_stream);
+    let question = question_of(alloc, request.as_slice(), destination, terminal);
     if let OperatorCommand::Hold(_) = command {
         return question.ask_holding(&stream, input, output, errors);
     }

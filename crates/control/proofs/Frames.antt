@@ -7,7 +7,7 @@ use Rattle.control.specs.Replies.{End, FramesDiffer, IsPiece, Part, Piece, Refus
 use Rattle.control.specs.declared.status.Status.{Status}
 use Rattle.control.specs.declared.status.Status.TheVariants.{Good, Refused, Invalid}
 use Rattle.control.specs.declared.reply.Stream.{Stream}
-use Rattle.control.specs.declared.reply.Stream.TheVariants.{Output, Errors}
+use Rattle.control.specs.declared.reply.Stream.TheVariants.{Output, Errors, Progress}
 use Rattle.control.proofs.Fronts.{field-unique}
 
 -- a status has its own number
@@ -26,8 +26,13 @@ status-unique Invalid Invalid e = refl
 stream-unique : (one other : Stream) → stream_code one ≡ stream_code other → one ≡ other
 stream-unique Output Output e = refl
 stream-unique Output Errors e = cc
+stream-unique Output Progress e = cc
 stream-unique Errors Output e = cc
 stream-unique Errors Errors e = refl
+stream-unique Errors Progress e = cc
+stream-unique Progress Output e = cc
+stream-unique Progress Errors e = cc
+stream-unique Progress Progress e = refl
 
 -- no stream has the byte of a status
 stream-other : (stream : Stream) (status : Status) → stream_code stream ≢ status_code status
@@ -37,6 +42,9 @@ stream-other Output Invalid e = cc
 stream-other Errors Good e = cc
 stream-other Errors Refused e = cc
 stream-other Errors Invalid e = cc
+stream-other Progress Good e = cc
+stream-other Progress Refused e = cc
+stream-other Progress Invalid e = cc
 
 -- a piece at the front has one stream and content, and one rest
 piece-unique : (one other : Piece) (rest more : List ℕ) → IsPiece one → IsPiece other → piece_bytes one ++ rest ≡ piece_bytes other ++ more → (one ≡ other) × (rest ≡ more)

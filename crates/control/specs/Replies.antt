@@ -5,7 +5,7 @@ use Rattle.control.specs.Versions.{version, refusal_bytes}
 use Rattle.control.specs.declared.status.Status.{Status}
 use Rattle.control.specs.declared.status.Status.TheVariants.{Good, Refused, Invalid}
 use Rattle.control.specs.declared.reply.Stream.{Stream}
-use Rattle.control.specs.declared.reply.Stream.TheVariants.{Output, Errors}
+use Rattle.control.specs.declared.reply.Stream.TheVariants.{Output, Errors, Progress}
 use Rattle.control.specs.declared.reply.Start as declared
 use Rattle.control.specs.declared.reply.Start.TheVariants as start
 
@@ -19,12 +19,13 @@ status_code Invalid = 2
 abbrev pub stream_code : Stream → ℕ
 stream_code Output = 3
 stream_code Errors = 4
+stream_code Progress = 5
 
 -- the most bytes of a piece
 abbrev pub longest_piece : ℕ
 longest_piece = 65536
 
--- some bytes that a command writes to a stream
+-- some bytes that a command writes to a stream, or a text about its progress
 pub record Piece : Type 0 where
   pub stream : Stream
   pub content : List ℕ
@@ -92,11 +93,13 @@ pub record IsReadAs (bytes : List ℕ) (reply : Reply) : Type 0 where
 abbrev pub output_in : Stream → List ℕ → List ℕ
 output_in Output content = content
 output_in Errors content = []
+output_in Progress content = []
 
 -- the bytes of a piece of the error stream, and none of another piece
 abbrev pub errors_in : Stream → List ℕ → List ℕ
 errors_in Output content = []
 errors_in Errors content = content
+errors_in Progress content = []
 
 -- all that the pieces write to the output
 abbrev pub output_of : List Piece → List ℕ

@@ -17,6 +17,8 @@ pub enum Stream {
     Output,
     /// The error stream of the command.
     Errors,
+    /// How far the command is: a text that replaces the one before it. A program shows it only on a terminal.
+    Progress,
 }
 
 /// What the first byte of a frame says.
@@ -36,6 +38,7 @@ impl Stream {
         match self {
             Stream::Output => 3,
             Stream::Errors => 4,
+            Stream::Progress => 5,
         }
     }
 }
@@ -58,6 +61,7 @@ pub fn frame_start(byte: u8) -> Option<Start>
     match byte {
         3 => Some(Start::Piece(Stream::Output)),
         4 => Some(Start::Piece(Stream::Errors)),
+        5 => Some(Start::Piece(Stream::Progress)),
         _ => Some(Start::End(Status::of_code(byte)?)),
     }
 }

@@ -21,7 +21,7 @@ use Rattle.control.specs.declared.request.RequestFault.TheVariants as request
 use Rattle.control.specs.declared.status.Status.{Status}
 use Rattle.control.specs.declared.status.Status.TheVariants.{Good, Refused, Invalid}
 use Rattle.faults.specs.declared.faults.Fault.{Fault}
-use Rattle.faults.specs.declared.faults.Fault.TheVariants.{Arguments, Value, BadPath, TooManyPaths, InputTooLong, NoMessage, NoCaller, NoObject, Clock, PolicyFile, Policy, PolicyDescribed, Repository, Random, Network, UnknownSchema, Store, Token, Memory, Output, Session, Control, Operator, Version, HoldOver, Request, Reported, ReportedInvalid}
+use Rattle.faults.specs.declared.faults.Fault.TheVariants.{Arguments, Value, BadPath, TooManyPaths, InputTooLong, NoMessage, NoCaller, NoObject, Clock, PolicyFile, Policy, PolicyDescribed, Repository, Random, Network, UnknownSchema, Store, Token, Memory, Output, Session, Control, Operator, Version, HoldOver, Busy, Request, Reported, ReportedInvalid}
 
 -- invalid for a fault of the arguments, of the paths, of a request or of its size, the status that was reported, else refused
 abbrev pub status_of : Fault → Status
@@ -51,6 +51,7 @@ status_of Control = Refused
 status_of Operator = Refused
 status_of Version = Refused
 status_of HoldOver = Refused
+status_of Busy = Refused
 status_of Reported = Refused
 status_of ReportedInvalid = Invalid
 

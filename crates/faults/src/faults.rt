@@ -92,6 +92,9 @@ pub enum Fault {
     /// The time was over for which a server was held.
     #[error("custody: the time of the hold is over")]
     HoldOver,
+    /// The server goes on with a check or a repair of another operator.
+    #[error("custody: another check or repair runs")]
+    Busy,
     /// The server was asked for something that is not a command, or a command that it does not do.
     #[error("custody: bad request")]
     Request,
@@ -130,6 +133,7 @@ impl Fault {
             Fault::Operator => Status::Refused,
             Fault::Version => Status::Refused,
             Fault::HoldOver => Status::Refused,
+            Fault::Busy => Status::Refused,
             Fault::Reported => Status::Refused,
             Fault::ReportedInvalid => Status::Invalid,
         }

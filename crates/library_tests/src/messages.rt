@@ -241,6 +241,18 @@ const REPLIES: &[(&[(Stream, &[u8])], Status, &[u8], &[u8], &[u8])] = &[
         b"a\x04\0\0b",
         b"\x03\x03\0\0\0\x02\0\xff\x04\0\0\0\x01a\x03\0\0\0\x01\x03\x04\0\0\0\x03\x04\0\0\x04\0\0\0\x01b\x02",
     ),
+    (
+        &[
+            (Stream::Progress, b"1 of 2"),
+            (Stream::Output, b"a\n"),
+            (Stream::Progress, b"2 of 2"),
+            (Stream::Errors, b"b\n"),
+        ],
+        Status::Good,
+        b"a\n",
+        b"b\n",
+        b"\x03\x05\0\0\0\x061 of 2\x03\0\0\0\x02a\n\x05\0\0\0\x062 of 2\x04\0\0\0\x02b\n\0",
+    ),
 ];
 
 /// Appends a piece.
@@ -287,6 +299,7 @@ fn read_reply(rt: &impl Tester, bytes: &[u8]) -> Option<Told> {
         match start {
             Start::Piece(Stream::Output) => unwrap(rt, output.extend_from_slice(content)),
             Start::Piece(Stream::Errors) => unwrap(rt, errors.extend_from_slice(content)),
+            Start::Piece(Stream::Progress) => {}
             Start::End(status) if after.is_empty() => {
                 return Some(Told {
                     status,
@@ -336,9 +349,9 @@ const NO_REPLIES: &[&[u8]] = &[
     b"\x04\0",
     b"\0\0\0\0\0\0\0\0\0",
     // frames with another first byte
-    b"\x03\x05",
+    b"\x03\x06",
     b"\x03\xff\0\0\0\x01a\0",
-    b"\x03\x03\0\0\0\x01a\x05\0",
+    b"\x03\x03\0\0\0\x01a\x06\0",
     // bytes after the end
     b"\x03\0\0",
     b"\x03\0\x03\0\0\0\x01a\0",
@@ -346,6 +359,7 @@ const NO_REPLIES: &[&[u8]] = &[
     b"\x03\x03\0\0\0\0\0",
     b"\x03\x04\0\x01\0\x01a\0",
     b"\x03\x04\x01\0\0\0a\0",
+    b"\x03\x05\0\0\0\0\0",
     // pieces that are longer than the bytes that are left
     b"\x03\x03\0\0\0\x03ab\0",
     b"\x03\x03\0\0\0\x02a\0",
@@ -397,17 +411,18 @@ const STARTS: &[(u8, Start)] = &[
     (2, Start::End(Status::Invalid)),
     (3, Start::Piece(Stream::Output)),
     (4, Start::Piece(Stream::Errors)),
+    (5, Start::Piece(Stream::Progress)),
 ];
 
 #[test]
-fn frames_begin_with_0_to_4(rt: HostRuntime) {
+fn frames_begin_with_0_to_5(rt: HostRuntime) {
     for &(byte, start) in STARTS {
         expect(&rt, &byte, frame_start(byte), Some(start));
         if let Start::End(status) = start {
             expect(&rt, &status, status.code(), byte);
         }
     }
-    for byte in 5..=u8::MAX {
+    for byte in 6..=u8::MAX {
         expect(&rt, &byte, frame_start(byte), None);
     }
 }

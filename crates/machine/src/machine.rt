@@ -54,6 +54,17 @@ pub trait Machine {
         ensures none { IfOk result (λ found. IfNone found (idled self.old self.new)) }
         ensures err { OnErr result (idled self.old self.new) };
 
+    /// Returns who is served next, and does not wait; `None` if nobody is ready, or a connection ended that had a turn.
+    ///
+    /// # Errors
+    ///
+    /// `Network` if no connection could be accepted.
+    fn next_ready(&mut self) -> Result<Option<Caller>, Fault>
+        ensures some { IfOk result (λ found. IfSome found
+            (λ caller. observed self.old self.new (called caller))) }
+        ensures none { IfOk result (λ found. IfNone found (idled self.old self.new)) }
+        ensures err { OnErr result (idled self.old self.new) };
+
     /// Returns the time.
     ///
     /// # Errors
@@ -258,6 +269,12 @@ impl<C: Clock> Machine for Sockets<'_, C> {
     fn next(&mut self) -> Result<Option<Caller>, Fault> {
         self.queue
             .take(self.clock, &Messages)
+            .map_err(|_| Fault::Network)
+    }
+
+    fn next_ready(&mut self) -> Result<Option<Caller>, Fault> {
+        self.queue
+            .take_ready(self.clock, &Messages)
             .map_err(|_| Fault::Network)
     }
 

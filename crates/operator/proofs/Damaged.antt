@@ -1,36 +1,56 @@
--- Objects of a world are whole, and a repair leaves those that are.
-use Rattle.operator.proofs.Prelude.{⊤, ◌≡◌, ℕ, ◌∷◌, List, [], Result, Ok, Err, IfOk, refl, sym, ◌∙◌, subst, false, true, rules, World, IsWorld, From, Reads, reads_none, reads_then, reads_lead}
-use Rattle.std.specs.Prelude.{Bool, not, None, length}
-use Rattle.std.specs.List.{AllByRecursion, AllZip}
-use Rattle.std.proofs.lemmas.List.Elements.{All-filter, recursion_from_All}
-use Rattle.std.proofs.lemmas.List.Sorted.{All-permutation, IsPermutation-sym}
+-- Objects of a world are whole, so an inspection finds none of them damaged.
+use Rattle.operator.proofs.Prelude.{⊤, ◌≡◌, ℕ, ◌∷◌, List, [], Result, Ok, Err, IfOk, IfErr, refl, sym, ◌∙◌, subst, false, true, rules, World, IsWorld, From, Reads, reads_none, reads_then, reads_lead, from_weaker}
+use Rattle.std.specs.Prelude.{Bool, not, Option, Some, IfSome, find, length, bytes_eq, ◌&&◌}
+use Rattle.std.proofs.lemmas.Bool.{cond_both}
+use Rattle.std.proofs.lemmas.List.Elements.{recursion_from_All}
+use Rattle.std.proofs.lemmas.Slice.Eq.{bytes_eq-Decides}
 use Rattle.sqlite_trees.specs.declared.store.Store.{Ghosts}
-use Rattle.model.specs.World.{Object, IsObject, name_of}
-use Rattle.tables.specs.Shown.{IsHonest, HasTables}
+use Rattle.model.proofs.Checks.{find_ok}
+use Rattle.model.specs.World.{Object, IsObject, name_of, object_named}
+use Rattle.names.specs.Names.{repo_text}
+use Rattle.tables.specs.Shown.{AddsNothing, HasTables, IsHonest, Moves}
 use Rattle.tables.specs.Staging.{upload_number}
 use Rattle.tables.specs.declared.Store.{Store}
 use Rattle.tables.specs.declared.fault.StoreFault.{StoreFault}
+use Rattle.tables.specs.declared.rows.ObjectRow.{ObjectRow}
 use Rattle.tables.specs.declared.rows.UploadRow.{UploadRow}
-use Rattle.refinement.specs.Left.{KeepsTables}
-use Rattle.refinement.specs.Objects.{IsStored}
+use Rattle.refinement.specs.Staging.{Stores}
 use Rattle.chunks.specs.Pouring.{OfBytes}
-use Rattle.uploads.specs.Listing.{is_listed, IsRowOf, Lists}
+use Rattle.uploads.specs.Finding.{Finds}
 use Rattle.operator.specs.Damage.{has_bytes, IsWhole}
+use Rattle.operator.specs.Failing.{IsPlain}
+use Rattle.operator.specs.Inspections.{Spares}
+use Rattle.operator.specs.declared.faults.TaskFault.{TaskFault}
+use Rattle.operator.specs.declared.inspecting.Inspection.{Inspection}
 
 bytes_are : (row : UploadRow) (bytes : List ℕ) → row.size ≡ length bytes → row.oid ≡ name_of bytes → has_bytes row bytes ≡ true
 bytes_are row bytes size name = rw (size, name) (search rules)
 
-module _ {S : Type 0} (g : Ghosts S) where
-  rows_whole : (s : Store S) (rows : List UploadRow) (objects : List Object) → AllByRecursion IsObject objects → AllZip (IsRowOf g s) rows objects → AllByRecursion (IsWhole g s) rows
-  rows_whole s [] objects laws zip = tt
-  rows_whole s (r ∷ rs) [] laws zip = absurd zip
-  rows_whole s (r ∷ rs) (o ∷ os) laws zip = ((o.bytes, zip.0.bytes, bytes_are r o.bytes zip.0.size (subst (λ n. r.oid ≡ n) laws.0.name zip.0.name)), rows_whole s rs os laws.1 zip.1)
+found_passes : {A : Type 0} (test : A → Bool) (xs : List A) → IfSome (find test xs) (λ x. test x ≡ true)
+found_passes test [] = tt
+found_passes test (x ∷ xs) = cond_both (test x) (Some x) (find test xs) (λ o. IfSome o (λ y. test y ≡ true)) (λ yes. yes) (λ _. found_passes test xs)
 
-  -- each object that is listed of a world is whole
-  pub listed_whole : (world : World) (s : Store S) (rows : List UploadRow) → IsWorld world → Lists g world s None rows → AllByRecursion (IsWhole g s) rows
-  listed_whole world s rows laws l =
-      let listed = All-filter (is_listed None) IsObject world.objects laws.objects in
-      rows_whole s rows l.objects (recursion_from_All IsObject l.objects (All-permutation IsObject _ l.objects (IsPermutation-sym l.objects _ l.same) listed)) l.each
+second_true : (a b : Bool) → (a && b) ≡ true → b ≡ true
+second_true true b e = e
+second_true false b e = search (rules, e)
+
+-- an object of a world that has this name is one, and has the bytes of the name
+named_whole : (world : World) (repo name : List ℕ) (o : Object) → IsWorld world → object_named repo name world ≡ Some o → name ≡ name_of o.bytes
+named_whole world repo name o laws is =
+    let P : Object → Bool = λ p. bytes_eq p.repo repo && bytes_eq p.name name in
+    let passes : (bytes_eq o.repo repo && bytes_eq o.name name) ≡ true = subst (λ (found : Option Object). IfSome found (λ x. P x ≡ true)) is (found_passes P world.objects) in
+    let own : IsObject o = subst (λ (found : Option Object). IfSome found IsObject) is (find_ok IsObject P world.objects (recursion_from_All IsObject world.objects laws.objects)) in
+    sym ((bytes_eq-Decides o.name name).0 (second_true (bytes_eq o.repo repo) (bytes_eq o.name name) passes)) ∙ own.name
+
+module _ {S : Type 0} (g : Ghosts S) where
+  -- an object that is found as it was listed is whole
+  pub found_whole : (world : World) (s : Store S) (row : UploadRow) (found : ObjectRow) → IsWorld world → Finds g world s (repo_text row.repo) row.oid (Some found)
+      → found.id ≡ row.id → found.size ≡ row.size → IsWhole g s row
+  found_whole world s row found laws f id size = (
+    f.0.bytes,
+    subst (λ id. Stores g s (upload_number id) f.0.bytes) id f.3,
+    bytes_are row f.0.bytes (sym size ∙ f.2) (named_whole world (repo_text row.repo) row.oid f.0 laws f.1),
+  )
 
   -- a whole object is not found damaged
   whole_passes : (a b : Store S) (row : UploadRow) (r : Result Bool StoreFault) → OfBytes g a b (upload_number row.id) (λ bytes. IfOk r (λ damaged. damaged ≡ not (has_bytes row bytes)))
@@ -38,102 +58,60 @@ module _ {S : Type 0} (g : Ghosts S) where
   whole_passes a b row (Ok damaged) exact honest ready w = subst (λ (x : Bool). damaged ≡ not x) w.2 (exact honest ready w.0 w.1)
   whole_passes a b row (Err e) exact honest ready w = tt
 
-  -- an object whose rows are as before is as whole as before
-  still_whole : (a b : Store S) (row : UploadRow) → IsHonest g b → HasTables g a → KeepsTables g a b → IsWhole g a row → IsWhole g b row
-  still_whole a b row honest ready m w = (
-    w.0,
-    (λ k opened. subst (λ t. IsStored (upload_number row.id) w.0 t.chunks) (sym (m.shows k ready opened)) (w.1 (m.was_honest k) (m.was_open k opened))),
-    w.2,
-  )
-
-  -- a row that is found damaged was not whole
-  pub found_damaged : (a b c : Store S) (row : UploadRow) (damaged : Bool) → Reads g a b (λ _. ⊤) → Reads g b c (λ _. ⊤)
-      → OfBytes g b c (upload_number row.id) (λ bytes. IfOk {E = StoreFault} (Ok damaged) (λ x. x ≡ not (has_bytes row bytes))) → damaged ≡ true → IsHonest g c → HasTables g a → IsWhole g a row → ⊥
-  found_damaged a b c row damaged p q exact found honest ready w =
-      let here = q.same.was_honest honest in
-      let no : damaged ≡ false = whole_passes b c row (Ok damaged) exact honest (p.same.ready ready) (still_whole a b row here ready p.same w) in
-      let e : true ≡ false = sym found ∙ no in
-      cc
-
-  -- calls that only read, and found as many damaged rows, none if each was whole
-  pub record Finds (rows : List UploadRow) (a b : Store S) (damaged : ℕ) : Type 0 where
-    pub reads : Reads g a b (λ _. ⊤)
-    pub none : IsHonest g b → HasTables g a → AllByRecursion (IsWhole g a) rows → damaged ≡ 0
-
-  -- no call
-  pub finds_none : (rows : List UploadRow) (a : Store S) → Finds rows a a 0
-  finds_none rows a = record { reads = reads_none g a (λ _. ⊤) (λ honest world h. tt); none = λ honest ready all. refl }
-
-  -- one more call that only reads
-  pub finds_then : (rows : List UploadRow) (a b c : Store S) (damaged : ℕ) → Finds rows a b damaged → Reads g b c (λ _. ⊤) → Finds rows a c damaged
-  finds_then rows a b c damaged p q = record {
-    reads = reads_then g a b c _ _ (λ _. ⊤) (λ world laws x y. tt) p.reads q;
-    none = λ honest ready all. p.none (q.same.was_honest honest) ready all;
-  }
-
-  -- one more row that is damaged
-  pub finds_more : (rows : List UploadRow) (a b c : Store S) (row : UploadRow) (damaged : Bool) (count more : ℕ) → Finds rows a b count → (AllByRecursion (IsWhole g a) rows → IsWhole g a row)
-      → Reads g b c (λ _. ⊤) → OfBytes g b c (upload_number row.id) (λ bytes. IfOk {E = StoreFault} (Ok damaged) (λ x. x ≡ not (has_bytes row bytes))) → damaged ≡ true → Finds rows a c more
-  finds_more rows a b c row damaged count more p among q exact found = record {
-    reads = reads_then g a b c _ _ (λ _. ⊤) (λ world laws x y. tt) p.reads q;
-    none = λ honest ready all. absurd (found_damaged a b c row damaged p.reads q exact found honest ready (among all));
-  }
-
-  -- what was found is nothing, if each row was whole
-  pub finds_from : (rows : List UploadRow) (a b : Store S) (damaged : ℕ) → Finds rows a b damaged → From g a b (λ _. AllByRecursion (IsWhole g a) rows → damaged ≡ 0)
-  finds_from rows a b damaged p = record { honest = p.reads.same.was_honest; each = λ honest world h all. p.none honest h.ready all }
-
-  -- calls that failed have found nothing
-  pub finds_failed : {E : Type 0} (rows : List UploadRow) (a b : Store S) (r : Result ℕ E) (e : E) → r ≡ Err e → Reads g a b (λ _. ⊤)
-      → From g a b (λ _. AllByRecursion (IsWhole g a) rows → IfOk r (λ damaged. damaged ≡ 0))
-  finds_failed rows a b r e is p = rw is (record { honest = p.same.was_honest; each = λ honest world h all. tt })
-
-  -- what is so if the objects of a world are damaged
-  pub reads_sound : (a b c : Store S) (rows : List UploadRow) (damaged : ℕ) (P : World → Type 0) → Reads g a b (λ world. Lists g world b None rows) → Reads g b c (λ _. ⊤)
-      → From g b c (λ _. AllByRecursion (IsWhole g b) rows → damaged ≡ 0) → (damaged ≡ 0 → ⊥) → Reads g a c P
-  reads_sound a b c rows damaged P p q sound found =
-      let r = reads_then g a b c _ _ (λ _. ⊤) (λ world laws x y. tt) p q in
+  -- an object that is stored as it was listed, and is then looked at
+  pub reads_damaged : (a b c : Store S) (row : UploadRow) (r : Result Bool StoreFault) → Reads g a b (λ world. IsWhole g b row) → Reads g b c (λ _. ⊤)
+      → OfBytes g b c (upload_number row.id) (λ bytes. IfOk r (λ damaged. damaged ≡ not (has_bytes row bytes))) → Reads g a c (λ world. IfOk r (λ damaged. damaged ≡ false))
+  reads_damaged a b c row r p q exact =
+      let both = reads_then g a b c _ _ (λ _. ⊤) (λ world laws x y. tt) p q in
       record {
-        same = r.same;
-        adds = r.adds;
-        each = λ honest world h.
-            let held = (reads_lead g a b _ world p h).holds in
-            absurd (found (sound.each honest world held (listed_whole world b rows h.laws (p.each (q.same.was_honest honest) world h))));
+        same = both.same;
+        adds = both.adds;
+        each = λ honest world h. whole_passes b c row r exact honest (p.same.ready h.ready) (p.each (q.same.was_honest honest) world h);
       }
 
-  -- calls between two stores: if each of the rows was whole, nothing is changed
-  pub record Spares (rows : List UploadRow) (a b : Store S) : Type 0 where
-    pub honest : IsHonest g b → IsHonest g a
-    pub still : IsHonest g b → HasTables g a → AllByRecursion (IsWhole g a) rows → Reads g a b (λ _. ⊤)
+  -- one more call that only reads
+  pub reads_on : (a b c : Store S) → Reads g a b (λ _. ⊤) → Moves g (λ t. t) b c → AddsNothing g b c → Reads g a c (λ _. ⊤)
+  reads_on a b c p same adds =
+      let q : Reads g b c (λ _. ⊤) = record { same = same; adds = adds; each = λ honest world h. tt } in
+      reads_then g a b c _ _ (λ _. ⊤) (λ world laws x y. tt) p q
 
-  pub spares_reads : (rows : List UploadRow) (a b c : Store S) → Spares rows a b → Reads g b c (λ _. ⊤) → Spares rows a c
-  spares_reads rows a b c p q = record {
+  -- ---- an inspection
+
+  -- nothing was done
+  pub spares_none : (a : Store S) (was : Inspection) → From g a a (λ _. Spares g a a was was)
+  spares_none a was = record { honest = λ k. k; each = λ honest world h. record { reads = reads_none g a (λ _. ⊤) (λ _ _ _. tt); none = refl } }
+
+  -- and then calls that only read
+  pub spares_read : (a b c : Store S) (P : World → Type 0) (was mid is : Inspection) → From g a b (λ _. Spares g a b was mid) → Reads g b c P → is.damaged ≡ mid.damaged → From g a c (λ _. Spares g a c was is)
+  spares_read a b c P was mid is p q same = record {
     honest = λ k. p.honest (q.same.was_honest k);
-    still = λ k ready all. reads_then g a b c _ _ (λ _. ⊤) (λ world laws x y. tt) (p.still (q.same.was_honest k) ready all) q;
-  }
-
-  -- what is done to an object that is found damaged is not done, if each object was whole
-  pub spares_damaged : (rows : List UploadRow) (a b c d : Store S) (row : UploadRow) (damaged : Bool) → Spares rows a b → (AllByRecursion (IsWhole g a) rows → IsWhole g a row) → Reads g b c (λ _. ⊤)
-      → OfBytes g b c (upload_number row.id) (λ bytes. IfOk {E = StoreFault} (Ok damaged) (λ x. x ≡ not (has_bytes row bytes))) → damaged ≡ true → (IsHonest g d → IsHonest g c) → Spares rows a d
-  spares_damaged rows a b c d row damaged p among q exact found honest = record {
-    honest = λ k. p.honest (q.same.was_honest (honest k));
-    still = λ k ready all.
-        let here = q.same.was_honest (honest k) in
-        let before = p.still here ready all in
-        let no : damaged ≡ false = whole_passes b c row (Ok damaged) exact (honest k) (before.same.ready ready) (still_whole a b row here ready before.same (among all)) in
-        absurd (let e : true ≡ false = sym found ∙ no in cc);
-  }
-
-  pub from_spares : (rows : List UploadRow) (a b : Store S) → Spares rows a b → From g a b (λ _. AllByRecursion (IsWhole g a) rows → Reads g a b (λ _. ⊤))
-  from_spares rows a b p = record { honest = p.honest; each = λ honest world h all. p.still honest h.ready all }
-
-  -- the objects of a world are listed, and then repaired
-  pub from_repair : (a b c : Store S) (rows : List UploadRow) → Reads g a b (λ world. Lists g world b None rows)
-      → From g b c (λ _. AllByRecursion (IsWhole g b) rows → Reads g b c (λ _. ⊤)) → From g a c (λ _. Reads g a c (λ _. ⊤))
-  from_repair a b c rows p q = record {
-    honest = λ k. p.same.was_honest (q.honest k);
     each = λ honest world h.
-        let listed = p.each (q.honest honest) world h in
-        let held = (reads_lead g a b _ world p h).holds in
-        reads_then g a b c _ _ (λ _. ⊤) (λ world laws x y. tt) p (q.each honest world held (listed_whole world b rows h.laws listed));
+        let before = p.each (q.same.was_honest honest) world h in
+        record { reads = reads_then g a b c _ _ (λ _. ⊤) (λ world laws x y. tt) before.reads q; none = same ∙ before.none };
   }
+
+  -- what is done to a damaged object is not done in a world
+  pub spares_damaged : (a b c d : Store S) (was mid is : Inspection) → From g a b (λ _. Spares g a b was mid) → Reads g b c (λ _. true ≡ false) → (IsHonest g d → IsHonest g c) → From g a d (λ _. Spares g a d was is)
+  spares_damaged a b c d was mid is p q honest = record {
+    honest = λ k. p.honest (q.same.was_honest (honest k));
+    each = λ k world h.
+        let here = q.same.was_honest (honest k) in
+        let before = p.each here world h in
+        let no : true ≡ false = q.each (honest k) world (reads_lead g a b _ world before.reads h).holds in
+        cc;
+  }
+
+  -- an inspection that went on, with nothing found damaged before
+  pub inspected_on : (a b c : Store S) (mid is : Inspection) → From g a b (λ _. Reads g a b (λ _. ⊤) × (mid.damaged ≡ 0)) → From g b c (λ _. Spares g b c mid is) → From g a c (λ _. Reads g a c (λ _. ⊤) × (is.damaged ≡ 0))
+  inspected_on a b c mid is p q = record {
+    honest = λ k. p.honest (q.honest k);
+    each = λ honest world h.
+        let before = p.each (q.honest honest) world h in
+        let more = q.each honest world (reads_lead g a b _ world before.0 h).holds in
+        (reads_then g a b c _ _ (λ _. ⊤) (λ world laws x y. tt) before.0 more.reads, more.none ∙ before.1);
+  }
+
+  -- an inspection that ended, for a plain reason if nothing was found damaged
+  pub inspected_so : {A : Type 0} (a b : Store S) (is : Inspection) (r : Result A TaskFault) → From g a b (λ _. Reads g a b (λ _. ⊤) × (is.damaged ≡ 0)) → (is.damaged ≡ 0 → IfErr r IsPlain)
+      → From g a b (λ _. Reads g a b (λ _. ⊤) × IfErr r IsPlain)
+  inspected_so a b is r p why = from_weaker g a b _ _ (λ world d. (d.0, why d.1)) p

@@ -14,22 +14,23 @@ module _ {S : Type 0} (g : Ghosts S) where
   ran_reads IsOwn a b P Q (Ok u) p = record { honest = p.same.was_honest; each = λ honest world h. (reads_lead g a b _ world p h, p.each honest world h) }
   ran_reads IsOwn a b P Q (Err e) p = record { honest = p.same.was_honest; each = λ honest world h. (fails_still g IsOwn ⊥ a b world (reads_lead g a b _ world p h), p.each honest world h) }
 
-  -- a call that only reads, and finds nothing that matters
-  pub ran_found : (IsOwn : Event → Type 0) (a b : Store S) (r : Result ⊤ TaskFault) → Reads g a b (λ world. IfErr r IsPlain)
+  -- a check of a world changes nothing
+  pub ran_checked : (IsOwn : Event → Type 0) (a b : Store S) (r : Result ⊤ TaskFault) → From g a b (λ _. Reads g a b (λ _. ⊤) × IfErr r IsPlain)
       → From g a b (λ world. MatchResult r (λ _. Leads g a b world (λ bound. bound)) (λ e. Fails g IsOwn ⊥ a b world × IsPlain e))
-  ran_found IsOwn a b (Ok u) p = record { honest = p.same.was_honest; each = λ honest world h. reads_lead g a b _ world p h }
-  ran_found IsOwn a b (Err e) p = record { honest = p.same.was_honest; each = λ honest world h. (fails_still g IsOwn ⊥ a b world (reads_lead g a b _ world p h), p.each honest world h) }
+  ran_checked IsOwn a b (Ok u) p = record { honest = p.honest; each = λ honest world h. reads_lead g a b _ world (p.each honest world h).0 h }
+  ran_checked IsOwn a b (Err e) p = record { honest = p.honest; each = λ honest world h. let it = p.each honest world h in (fails_still g IsOwn ⊥ a b world (reads_lead g a b _ world it.0 h), it.1) }
 
+  -- a call that only reads, and finds nothing that matters
   pub ran_still : (IsOwn : Event → Type 0) (a b : Store S) (r : Result ⊤ TaskFault) → IfErr r IsPlain → Reads g a b (λ world. ⊤)
       → From g a b (λ world. MatchResult r (λ _. Leads g a b world (λ bound. bound)) (λ e. Fails g IsOwn ⊥ a b world × IsPlain e))
   ran_still IsOwn a b (Ok u) why p = record { honest = p.same.was_honest; each = λ honest world h. reads_lead g a b _ world p h }
   ran_still IsOwn a b (Err e) why p = record { honest = p.same.was_honest; each = λ honest world h. (fails_still g IsOwn ⊥ a b world (reads_lead g a b _ world p h), why) }
 
   -- a repair of a world changes nothing
-  pub ran_repair : (IsOwn : Event → Type 0) (a b : Store S) (r : Result ⊤ TaskFault) → IfErr r IsPlain → From g a b (λ _. Reads g a b (λ _. ⊤))
+  pub ran_repaired : (IsOwn : Event → Type 0) (a b : Store S) (r : Result ⊤ TaskFault) → From g a b (λ _. Reads g a b (λ _. ⊤) × IfErr r IsPlain)
       → From g a b (λ world. MatchResult r (λ _. Leads g a b world (λ bound. bound) × KeepsTables g a b) (λ e. Fails g IsOwn ⊥ a b world × IsPlain e))
-  ran_repair IsOwn a b (Ok u) why p = record { honest = p.honest; each = λ honest world h. let it = p.each honest world h in (reads_lead g a b _ world it h, it.same) }
-  ran_repair IsOwn a b (Err e) why p = record { honest = p.honest; each = λ honest world h. (fails_still g IsOwn ⊥ a b world (reads_lead g a b _ world (p.each honest world h) h), why) }
+  ran_repaired IsOwn a b (Ok u) p = record { honest = p.honest; each = λ honest world h. let it = (p.each honest world h).0 in (reads_lead g a b _ world it h, it.same) }
+  ran_repaired IsOwn a b (Err e) p = record { honest = p.honest; each = λ honest world h. let it = p.each honest world h in (fails_still g IsOwn ⊥ a b world (reads_lead g a b _ world it.0 h), it.1) }
 
   -- staged uploads are removed
   pub ran_sweep : (IsOwn : Event → Type 0) (a b : Store S) (r : Result ⊤ TaskFault)

@@ -14,3 +14,4 @@ pub mod Damage
 pub mod Tokens
 pub mod Columns
 pub mod Usage
+pub mod Inspections

@@ -4,10 +4,10 @@ ghost use Rattle.std.specs.Prelude.{◌≡◌, OnOk};
 ghost use Rattle.refinement.specs.Left.{From};
 ghost use Rattle.operator.specs.Tasks.{Ran};
 
-use crate::checking::check_objects;
 use crate::escapes::Destination;
 use crate::faults::TaskFault;
 use crate::foreseeing::{Foresight, print_foreseen};
+use crate::inspecting::{Purpose, inspect_all};
 use crate::issuing::grant;
 use crate::listing_locks::list_locks;
 use crate::listing_objects::list_objects;
@@ -15,7 +15,6 @@ use crate::listing_tokens::list_tokens;
 use crate::listing_usage::list_usage;
 use crate::pruning::prune;
 use crate::pushing::{Push, check_push};
-use crate::repairing::repair;
 use crate::retiring::retire;
 use crate::sweeping::sweep;
 use names::{Moment, Oid, RepoName, Sink};
@@ -90,8 +89,10 @@ impl Task<'_> {
                 list_tokens(alloc, store, repo, *now, destination, output)
             }
             Task::Usage(policy, now) => list_usage(alloc, store, policy, *now, output),
-            Task::CheckObjects(terminal) => check_objects(alloc, store, *terminal, output),
-            Task::Repair(terminal) => repair(alloc, store, *terminal, output),
+            Task::CheckObjects(terminal) => {
+                inspect_all(alloc, store, Purpose::Check, *terminal, output)
+            }
+            Task::Repair(terminal) => inspect_all(alloc, store, Purpose::Repair, *terminal, output),
             Task::Sweep => sweep(alloc, store, output),
             Task::Retire(repo, oid) => retire(alloc, store, repo, oid, output),
         }

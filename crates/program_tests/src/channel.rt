@@ -92,6 +92,7 @@ fn ran_of(rt: &impl Tester, request: &[u8], reply: &[u8]) -> Ran {
         alloc: rt.alloc(),
         request,
         destination: Destination::Other,
+        terminal: None,
     };
     let mut to = VecSink::new(rt.alloc(), 3);
     let mut from = SliceSource::new(reply, 5);
@@ -356,6 +357,17 @@ const REPLIES: &[(&[u8], u8, &str, &str)] = &[
     (b"\x03\x03\0\0\0\x02a\n", 1, "a\n", LOST),
     (b"\x03\x03\0\0\0\x02a", 1, "", LOST),
     (b"\x03\x03\0\0\0\0\0", 1, "", LOST),
+    (b"\x03\x06", 1, "", LOST),
+    // Without a terminal nothing of a piece about progress is printed.
+    (
+        b"\x03\x05\0\0\0\x061 of 2\x03\0\0\0\x02a\n\x05\0\0\0\x062 of 2\x04\0\0\0\x02b\n\0",
+        0,
+        "a\n",
+        "b\n",
+    ),
+    (b"\x03\x05\0\0\0\x03\x1b[K\x05\0\0\0\x01\x80\x02", 2, "", ""),
+    (b"\x03\x05\0\0\0\x061 of 2", 1, "", LOST),
+    (b"\x03\x05\0\0\0\x061 of", 1, "", LOST),
     (b"\x03\x05", 1, "", LOST),
     (b"", 1, "", LOST),
 ];

@@ -3,6 +3,7 @@
 use crate::harness::{Tester, unwrap};
 use crate::program::{prepare, read, remove, run, write};
 use crate::transcript::{POLICY, perform, play};
+use cli::size_text;
 
 /// The version; arguments that are not a command, and values out of range. They create no database.
 const WORDS: &str = r#"
@@ -390,4 +391,25 @@ fn no_words_are_answered_by_help(rt: HostRuntime) {
         ran.errors.as_slice(),
         &["session", "serve", "authenticate", "prune"],
     );
+}
+
+/// Sizes of files, and how each is printed.
+const SIZES: &[(u64, &str)] = &[
+    (4_096, "4 KB"),
+    (840_999, "840 KB"),
+    (999_999, "999 KB"),
+    (1_000_000, "1.0 MB"),
+    (4_254_720, "4.2 MB"),
+    (9_999_999, "9.9 MB"),
+    (10_000_000, "10 MB"),
+    (336_785_408, "336 MB"),
+    (4_831_838_208, "4831 MB"),
+];
+
+#[test]
+fn sizes_are_printed_in_decimal_units(rt: HostRuntime) {
+    for &(bytes, want) in SIZES {
+        let text = unwrap(&rt, size_text(rt.alloc(), bytes));
+        assert!(rt; text.as_str() == want, "{bytes}");
+    }
 }

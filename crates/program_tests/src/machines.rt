@@ -6,7 +6,7 @@ use control::request_bytes;
 use faults::Fault;
 use machine::Machine;
 use metrics::Gauges;
-use names::Moment;
+use names::{Moment, Oid, RepoName, Size};
 use policy::Policy;
 use server::{Finish, Server};
 use service::{End, Routes};
@@ -17,7 +17,7 @@ use std::os::unix::net::UnixStream;
 use std::rt::HostRuntime;
 use std::str;
 use std::time::{Duration, Instant};
-use tables::Store;
+use tables::{Alter, LastChunk, NewUpload, Store};
 
 /// A machine whose operators are known.
 #[derive(Drop)]
@@ -38,6 +38,13 @@ impl Machine for Script {
             return Err(Fault::Network);
         }
         Ok(Some(Caller::Operator(self.operators.remove(0))))
+    }
+
+    fn next_ready(&mut self) -> Result<Option<Caller>, Fault> {
+        if self.operators.is_empty() {
+            return Ok(None);
+        }
+        self.next()
     }
 
     fn moment(&mut self) -> Result<Moment, Fault> {
@@ -138,10 +145,41 @@ fn operators_of(rt: &impl Tester, host: &HostRuntime, calls: &[(&str, &str)]) ->
     all
 }
 
-/// Serves the operators of a machine over an empty database. Asserts that nothing is reported.
-fn serve(rt: &impl Tester, host: &HostRuntime, mut machine: Script) -> Result<Finish, Fault> {
+/// Stores objects without bytes under these names, which are not theirs.
+fn store_damaged<S: Alter>(rt: &impl Tester, store: &mut Store<S>, names: &[&[u8; 64]]) {
+    let name = unwrap(rt, String::from_str(rt.alloc(), "studio/film"));
+    let Some((repo, size)) = RepoName::read(name).zip(Size::read(0)) else {
+        panic!(rt; "out of range");
+    };
+    for name in names {
+        let Some(oid) = Oid::read(*name) else {
+            panic!(rt; "no name");
+        };
+        let upload = NewUpload {
+            repo: &repo,
+            oid: &oid,
+            size,
+        };
+        let id = unwrap(rt, store.begin_upload(rt.alloc(), &upload));
+        let last = LastChunk {
+            n: 0,
+            bytes: Vec::new(rt.alloc()),
+        };
+        unwrap(rt, store.complete_upload(id, &last, &oid, size));
+    }
+}
+
+/// Serves the operators of a machine over a database with these objects, which are damaged. Asserts that nothing is
+/// reported.
+fn serve(
+    rt: &impl Tester,
+    host: &HostRuntime,
+    mut machine: Script,
+    damaged: &[&[u8; 64]],
+) -> Result<Finish, Fault> {
     let mut store = unwrap(rt, Store::open_memory(rt.alloc()));
     unwrap(rt, store.create_or_check(rt.alloc()));
+    store_damaged(rt, &mut store, damaged);
     let routes = unwrap(rt, Routes::new(rt.alloc()));
     let server = Server {
         alloc: rt.alloc(),
@@ -191,7 +229,7 @@ fn the_next_command_has_the_policy_that_was_read(rt: HostRuntime) {
         operators: callers,
         policies,
     };
-    assert!(rt; serve(&rt, &rt, script).is_err());
+    assert!(rt; serve(&rt, &rt, script, &[]).is_err());
     let denied = b"\x03\x03\0\0\0\x17denied by row 0: a.txt\n\x01";
     expect_replies(
         &rt,
@@ -214,7 +252,7 @@ fn nothing_is_done_after_a_stop(rt: HostRuntime) {
         operators: callers,
         policies: Vec::new(rt.alloc()),
     };
-    match serve(&rt, &rt, script) {
+    match serve(&rt, &rt, script, &[]) {
         Ok(finish) => assert!(rt; finish.connections == 0 && finish.stopped_by.is_some()),
         Err(_) => panic!(rt; "the server was not stopped"),
     }
@@ -223,6 +261,33 @@ fn nothing_is_done_after_a_stop(rt: HostRuntime) {
         readers,
         &[b"\x03\x03\0\0\0\x10swept 0 uploads\n\0", b"\x03\0", b""],
     );
+}
+
+/// The names of two objects.
+const NAMES: [&[u8; 64]; 2] = [&[b'a'; 64], &[b'b'; 64]];
+
+/// What the first of these operators gets, whose check finds the two objects damaged, one in each part; meanwhile a second
+/// check is refused, and another command is done.
+const CHECKED: &[&[u8]] = &[
+    b"\x03\x03\0\0\0\x55damaged studio/film aaaaaaaaaaaaaaaaaaaaaaaaaaaaaaaaaaaaaaaaaaaaaaaaaaaaaaaaaaaaaaaa\n\
+      \x05\0\0\0\x16checked 1 of 2 objects\
+      \x03\0\0\0\x55damaged studio/film bbbbbbbbbbbbbbbbbbbbbbbbbbbbbbbbbbbbbbbbbbbbbbbbbbbbbbbbbbbbbbbb\n\
+      \x05\0\0\0\x16checked 2 of 2 objects\
+      \x03\0\0\0\x12checked 2 objects\n\x01",
+    b"\x03\x04\0\0\0\x26custody: another check or repair runs\n\x01",
+    b"\x03\x03\0\0\0\x10swept 0 uploads\n\0",
+];
+
+#[test]
+fn a_check_gives_way(rt: HostRuntime) {
+    let calls = [("check", ""), ("repair", ""), ("sweep", "")];
+    let Operators { callers, readers } = operators_of(&rt, &rt, &calls);
+    let script = Script {
+        operators: callers,
+        policies: Vec::new(rt.alloc()),
+    };
+    assert!(rt; serve(&rt, &rt, script, &NAMES).is_err());
+    expect_replies(&rt, readers, CHECKED);
 }
 
 /// Lines of a status.
@@ -249,7 +314,7 @@ fn a_status_has_what_the_machine_knows(rt: HostRuntime) {
         operators: callers,
         policies: Vec::new(rt.alloc()),
     };
-    assert!(rt; serve(&rt, &rt, script).is_err());
+    assert!(rt; serve(&rt, &rt, script, &[]).is_err());
     let Some(reader) = readers.get_mut(1) else {
         panic!(&rt; "there is no second operator");
     };

@@ -82,9 +82,14 @@ fn serve(
     Ok((message.first().copied().unwrap_or(b'?'), size as u64))
 }
 
-/// Answers the next caller. Returns the letter of its message and its size; a minus sign for a connection that ended.
-fn take(host: &HostRuntime, queue: &mut Queue<'_>) -> io::Result<(u8, u64)> {
-    match queue.take(host, &Letters)? {
+/// Answers a caller. Returns the letter of its message and its size; a minus sign for a connection that ended, and a question
+/// mark for nobody.
+fn answer(
+    host: &HostRuntime,
+    queue: &mut Queue<'_>,
+    caller: Option<Caller>,
+) -> io::Result<(u8, u64)> {
+    match caller {
         Some(Caller::Client(client)) => serve(host, host, queue, client),
         Some(Caller::Operator(mut stream)) => {
             let mut letter = [0];
@@ -98,8 +103,20 @@ fn take(host: &HostRuntime, queue: &mut Queue<'_>) -> io::Result<(u8, u64)> {
     }
 }
 
+/// Answers the next caller.
+fn take(host: &HostRuntime, queue: &mut Queue<'_>) -> io::Result<(u8, u64)> {
+    let caller = queue.take(host, &Letters)?;
+    answer(host, queue, caller)
+}
+
+/// Answers the next caller, if one is ready now.
+fn take_ready(host: &HostRuntime, queue: &mut Queue<'_>) -> io::Result<(u8, u64)> {
+    let caller = queue.take_ready(host, &Letters)?;
+    answer(host, queue, caller)
+}
+
 /// What happens at the listeners, and what is recorded. A capital letter is an operator who connects, a small one a client
-/// that sends a message; `!` answers the next caller, whose letter is recorded.
+/// that sends a message; `!` answers the next caller, whose letter is recorded, and `?` does so if one is ready now.
 const CASES: &[(&str, &str)] = &[
     ("ABCabc!!!!!!", "AaBbCc"),
     ("abcABC!!!!!!", "AaBbCc"),
@@ -111,6 +128,8 @@ const CASES: &[(&str, &str)] = &[
     // After a client who was alone an operator comes first, and after an operator a client.
     ("a!bcB!!!", "aBbc"),
     ("A!BCb!!!", "AbBC"),
+    // With nobody there, and in turn.
+    ("?A??abB????", "?A?aBb?"),
 ];
 
 /// Connects a client.
@@ -133,6 +152,8 @@ fn play(rt: &impl Tester, host: &HostRuntime, listeners: Listeners<'_>, case: (&
     for letter in happens.bytes() {
         if letter == b'!' {
             unwrap(rt, record.push(unwrap(rt, take(host, &mut queue)).0));
+        } else if letter == b'?' {
+            unwrap(rt, record.push(unwrap(rt, take_ready(host, &mut queue)).0));
         } else if letter.is_ascii_uppercase() {
             let mut operator = unwrap(rt, UnixStream::connect(host, SOCKET));
             unwrap(rt, operator.write_all(&[letter]));
@@ -163,8 +184,8 @@ fn operators_and_clients_are_answered_in_turn(rt: HostRuntime) {
 /// What clients do, one letter each, in a queue of three connections; and which messages are served, or that a connection
 /// ended.
 ///
-/// `+x` connects the client `x`, `x=TEXT;` sends the text, with `/` for the end of a line, `x.` ends its side, and `!`
-/// answers the next caller.
+/// `+x` connects the client `x`, `x=TEXT;` sends the text, with `/` for the end of a line, `x.` ends its side, `!` answers the
+/// next caller, and `?` does so if one is ready now.
 const STEPS: &[(&str, &str)] = &[
     // A second message in halves, beside another client.
     ("+a+ba=a0/a;!b=b0/;!a=0/;!", "aba"),
@@ -176,6 +197,8 @@ const STEPS: &[(&str, &str)] = &[
     ("+aa=a3/xy;+bb=b0/;!a=z;!", "ba"),
     // A fourth connection: the client that was silent for longest gives way.
     ("+a+b+c+db=b0/;!d=d0/;!c=c0/;!", "bdc"),
+    // Nobody, half a head, its end, and a connection that ends after its turn.
+    ("?+a?a=a0;?a=/;??a.??", "???a?-?"),
 ];
 
 /// The client of this letter, among those in alphabetical order.
@@ -210,6 +233,7 @@ fn follow(rt: &impl Tester, host: &HostRuntime, listeners: Listeners<'_>, steps:
         rest = rest.get(1..).unwrap_or("");
         match letter {
             b'!' => unwrap(rt, record.push(unwrap(rt, take(host, &mut queue)).0)),
+            b'?' => unwrap(rt, record.push(unwrap(rt, take_ready(host, &mut queue)).0)),
             b'+' => {
                 unwrap(rt, clients.push(connect(rt, host, listeners.clients)));
                 rest = rest.get(1..).unwrap_or("");

@@ -1,6 +1,6 @@
 -- What was done for an operator, by the calls that his command makes.
-use Rattle.std.proofs.Common.{◌≡◌, inl, inr, ℕ, List, [], Result, Ok, Err, IfOk, OnErr, refl}
-use Rattle.std.specs.Prelude.{⊤}
+use Rattle.std.proofs.Common.{◌≡◌, inl, inr, ℕ, List, Result, Ok, Err, IfOk, OnErr, refl}
+use Rattle.std.specs.Prelude.{Bool, ⊤}
 use Rattle.std.specs.declared.net.unix.UnixStream.{UnixStream}
 use Rattle.sqlite_trees.specs.declared.store.Store.{Ghosts}
 use Rattle.policy.specs.declared.policies.Policy.{Policy}
@@ -28,13 +28,13 @@ module _ {M : Type 0} (m : machine.Ghosts M) {S : Type 0} (g : Ghosts S) where
   fault_helps policy command input ended a u v calls made readings fault failed = from_idle m g (IsDone policy command input ended) a u v calls made (λ world. inl (fault, failed, refl, readings))
 
   -- a command with a task ended as that did
-  pub outcome_helps : (policy : Policy) (operator : UnixStream) (command : OperatorCommand) (input : List ℕ) (done : Result ⊤ Fault) (a b : Store S) (u v : M)
-      → From g a b (λ world. Helps m g (IsDone policy command input done) a b u v world) → From g a b (λ world. Helps m g (HasEndedSo policy operator command input (outcome_of done)) a b u v world)
-  outcome_helps policy operator command input done a b u v p = from_own m g (IsDone policy command input done) _ a b u v (λ world l steps kept own. inr (done, refl, own)) p
+  pub outcome_helps : (policy : Policy) (busy : Bool) (operator : UnixStream) (command : OperatorCommand) (input : List ℕ) (done : Result ⊤ Fault) (a b : Store S) (u v : M)
+      → From g a b (λ world. Helps m g (IsDone policy command input done) a b u v world) → From g a b (λ world. Helps m g (HasEndedSo policy busy operator command input (outcome_of done)) a b u v world)
+  outcome_helps policy busy operator command input done a b u v p = from_own m g (IsDone policy command input done) _ a b u v (λ world l steps kept own. inr (done, refl, own)) p
 
   -- a command for the server itself, whether it was obeyed or not
-  pub order_helps : (policy : Policy) (operator : UnixStream) (command : OperatorCommand) (input : List ℕ) (ended : Result Outcome Fault) (a : Store S) (u v : M)
-      → IfOk ended (λ outcome. (calls : List Call) × Calls m u calls v × IsObeyed operator command outcome (seen_in calls)) → OnErr ended ((calls : List Call) × Calls m u calls v × AreReadings (seen_in calls))
-      → From g a a (λ world. Helps m g (HasEndedSo policy operator command input ended) a a u v world)
-  order_helps policy operator command input (Ok outcome) a u v obeyed failed = from_idle m g _ a u v obeyed.0 obeyed.1 (λ world. inl (outcome, refl, obeyed.2, refl))
-  order_helps policy operator command input (Err fault) a u v obeyed failed = from_idle m g _ a u v failed.0 failed.1 (λ world. inr (Err fault, refl, inl (fault, refl, refl, failed.2)))
+  pub order_helps : (policy : Policy) (busy : Bool) (operator : UnixStream) (command : OperatorCommand) (input : List ℕ) (ended : Result Outcome Fault) (a : Store S) (u v : M)
+      → IfOk ended (λ outcome. (calls : List Call) × Calls m u calls v × IsObeyed busy operator command outcome (seen_in calls)) → OnErr ended ((calls : List Call) × Calls m u calls v × AreReadings (seen_in calls))
+      → From g a a (λ world. Helps m g (HasEndedSo policy busy operator command input ended) a a u v world)
+  order_helps policy busy operator command input (Ok outcome) a u v obeyed failed = from_idle m g _ a u v obeyed.0 obeyed.1 (λ world. inl (outcome, refl, obeyed.2, refl))
+  order_helps policy busy operator command input (Err fault) a u v obeyed failed = from_idle m g _ a u v failed.0 failed.1 (λ world. inr (Err fault, refl, inl (fault, refl, refl, failed.2)))

@@ -10,6 +10,7 @@ use Rattle.model.specs.World.{World}
 use Rattle.model.specs.Steps.{Event}
 use Rattle.tables.specs.declared.Store.{Store}
 use Rattle.refinement.specs.Left.{From, Reads}
+use Rattle.refinement.specs.Representation.{Holds}
 use Rattle.refinement.proofs.Leading.{from_weaker, leads_none, reads_lead}
 use Rattle.sockets.specs.declared.queue.Caller.{Caller}
 use Rattle.operator.specs.Works.{Works, steps_of}
@@ -20,9 +21,9 @@ use Rattle.server.specs.declared.outcomes.Outcome.TheVariants.{Unchanged}
 use Rattle.machine.specs.Observations.{Observation, called, sent, timed}
 use Rattle.faults.specs.declared.faults.Fault.{Fault}
 use Rattle.std.specs.declared.net.unix.UnixStream.{UnixStream}
-use Rattle.server.specs.Commands.{AreReadings, IsAnswered, IsBegun, IsMomentOf, IsRead, IsReplied, IsRequestDone, is_stopped, made_of, policy_after}
-use Rattle.faults.specs.Statuses.{status_of_end}
-use Rattle.server.specs.Jobs.{Job, seen_for, IsTurn, IsFor, AreJobs, AreStopped, HasFinished, connections, first_turn, policy_left, Call, idles, observes, seen_in, Calls, Converses, Tidies, Helps, Serves, ServesMore}
+use Rattle.server.specs.Commands.{AreReadings, IsAnswered, IsBegun, IsMomentOf, IsRead, IsClean, IsEnded, IsGoneOn, IsRequestDone, is_stopped, made_of, operator_in, policy_after}
+use Rattle.server.specs.declared.waiting.Waiting.{Waiting}
+use Rattle.server.specs.Jobs.{Reason, for_caller, goes_on, ends, Job, seen_before, seen_for, IsTurn, IsFor, AreJobs, AreStopped, HasFinished, first_turn, turn_in, policy_left, waiting_after, waiting_left, Call, idles, observes, seen_in, Calls, Converses, Tidies, Helps, Serves, ServesMore, ServesClean}
 
 -- ---- what is observed of a machine
 
@@ -86,21 +87,23 @@ module _ {M : Type 0} (m : machine.Ghosts M) where
           };
     }
 
+    -- calls of the store that only read, of one that held this world
+    pub helps_read : (IsOwn : World → List Observation → List Event → World → Type 0) (a b : Store S) (u v : M) (calls : List Call) (P : World → Type 0) (world : World) → Holds g a world → Calls m u calls v → Reads g a b P
+        → IsOwn world (seen_in calls) [] world → Helps m g IsOwn a b u v world
+    helps_read IsOwn a b u v calls P world h made reads own =
+        let lead = reads_lead g a b P world reads h in
+        record {
+          calls = calls;
+          made = made;
+          done = works_still g a b world lead;
+          own = subst (λ (w : World). IsOwn world (seen_in calls) (steps_of (works_still g a b world lead).works) w) (sym (still_kept g a b world lead))
+              (subst (λ (steps : List Event). IsOwn world (seen_in calls) steps world) (sym (still_steps g a b world lead)) own);
+        }
+
     -- calls of the store that only read
     pub from_read : (IsOwn : World → List Observation → List Event → World → Type 0) (a b : Store S) (u v : M) (calls : List Call) (P : World → Type 0) → Calls m u calls v → Reads g a b P
         → ((world : World) → IsOwn world (seen_in calls) [] world) → From g a b (λ world. Helps m g IsOwn a b u v world)
-    from_read IsOwn a b u v calls P made reads own = record {
-      honest = reads.same.was_honest;
-      each = λ honest world h.
-          let lead = reads_lead g a b P world reads h in
-          record {
-            calls = calls;
-            made = made;
-            done = works_still g a b world lead;
-            own = subst (λ (w : World). IsOwn world (seen_in calls) (steps_of (works_still g a b world lead).works) w) (sym (still_kept g a b world lead))
-                (subst (λ (steps : List Event). IsOwn world (seen_in calls) steps world) (sym (still_steps g a b world lead)) (own world));
-          };
-    }
+    from_read IsOwn a b u v calls P made reads own = record { honest = reads.same.was_honest; each = λ honest world h. helps_read IsOwn a b u v calls P world h made reads (own world) }
 
     -- calls of the store, whose steps are the caller's
     pub from_done : (IsOwn : World → List Observation → List Event → World → Type 0) (a b : Store S) (u v : M) (calls : List Call) (P : World → Type 0) → Calls m u calls v
@@ -126,12 +129,12 @@ module _ {M : Type 0} (m : machine.Ghosts M) where
     from_own P Q a b u v f p = from_weaker g a b _ _ (λ world h. record { calls = h.calls; made = h.made; done = h.done; own = f world (seen_in h.calls) (steps_of h.done.works) h.done.kept h.own }) p
 
     -- a request was received, its reply begun, it was done, and its reply perhaps ended
-    pub from_served : (policy : Policy) (operator : UnixStream) (body : List ℕ) (ended : Result Outcome Fault) (a b : Store S) (u v w x y : M) (before begin after : List Call)
-        → Calls m u before v → IsRead operator body (seen_in before) → Calls m v begin w → IsBegun operator (seen_in begin) → Calls m x after y → IsReplied operator (status_of_end ended) (seen_in after)
-        → From g a b (λ world. Helps m g (IsRequestDone policy operator body ended) a b w x world) → From g a b (λ world. Helps m g (IsAnswered policy operator (made_of ended)) a b u y world)
-    from_served policy operator body ended a b u v w x y before begin after first read started begun last replied p =
+    pub from_served : (policy : Policy) (busy : Bool) (operator : UnixStream) (body : List ℕ) (ended : Result Outcome Fault) (a b : Store S) (u v w x y : M) (before begin after : List Call)
+        → Calls m u before v → IsRead operator body (seen_in before) → Calls m v begin w → IsBegun operator (seen_in begin) → Calls m x after y → IsEnded operator ended (seen_in after)
+        → From g a b (λ world. Helps m g (IsRequestDone policy busy operator body ended) a b w x world) → From g a b (λ world. Helps m g (IsAnswered policy busy operator (made_of ended)) a b u y world)
+    from_served policy busy operator body ended a b u v w x y before begin after first read started begun last replied p =
         from_weaker g a b _ _
-        (λ (world : World) (h : Helps m g (IsRequestDone policy operator body ended) a b w x world). record {
+        (λ (world : World) (h : Helps m g (IsRequestDone policy busy operator body ended) a b w x world). record {
           calls = before ++ begin ++ h.calls ++ after;
           made = calls_append u x y (before ++ begin ++ h.calls) after (calls_append u w x (before ++ begin) h.calls (calls_append u v w before begin first started) h.made) last;
           done = h.done;
@@ -179,13 +182,19 @@ module _ {M : Type 0} (m : machine.Ghosts M) where
     -- ---- jobs
 
     -- jobs, and more jobs from the world to which they led, under the policy that they left
-    are_append : (policy : Policy) (world mid kept : World) (jobs more : List Job) → AreJobs policy world jobs mid → AreJobs (policy_left policy jobs) mid more kept → AreJobs policy world (jobs ++ more) kept
-    are_append policy world mid kept [] more p q = subst (λ (w : World). AreJobs policy w more kept) p q
-    are_append policy world mid kept (job ∷ jobs) more p q = (p.0, p.1, p.2, are_append (policy_after policy job.outcome) p.0 mid kept jobs more p.3 q)
+    are_append : (policy : Policy) (waiting : Option UnixStream) (world mid kept : World) (jobs more : List Job) → AreJobs policy waiting world jobs mid
+        → AreJobs (policy_left policy jobs) (waiting_left waiting jobs) mid more kept → AreJobs policy waiting world (jobs ++ more) kept
+    are_append policy waiting world mid kept [] more p q = subst (λ (w : World). AreJobs policy waiting w more kept) p q
+    are_append policy waiting world mid kept (job ∷ jobs) more p q =
+        (p.0, p.1, p.2, are_append (policy_after policy job.outcome) (waiting_after waiting job.reason job.outcome) p.0 mid kept jobs more p.3 q)
 
     left_append : (policy : Policy) (jobs more : List Job) → policy_left policy (jobs ++ more) ≡ policy_left (policy_left policy jobs) more
     left_append policy [] more = refl
     left_append policy (job ∷ jobs) more = left_append (policy_after policy job.outcome) jobs more
+
+    waits_append : (waiting : Option UnixStream) (jobs more : List Job) → waiting_left waiting (jobs ++ more) ≡ waiting_left (waiting_left waiting jobs) more
+    waits_append waiting [] more = refl
+    waits_append waiting (job ∷ jobs) more = waits_append (waiting_after waiting job.reason job.outcome) jobs more
 
     stopped_append : (stopped : Bool) (jobs more : List Job) → AreStopped false jobs → AreStopped stopped more → AreStopped stopped (jobs ++ more)
     stopped_append stopped [] more p q = q
@@ -193,32 +202,42 @@ module _ {M : Type 0} (m : machine.Ghosts M) where
     stopped_append stopped (job ∷ []) (next ∷ more) p q = (p, q)
     stopped_append stopped (job ∷ next ∷ jobs) more p q = (p.0, stopped_append stopped (next ∷ jobs) more p.1 q)
 
-    -- one job
-    pub serves_one : (policy : Policy) (caller : Caller) (outcome : Outcome) (a b : Store S) (u v w : M) (before after : ℕ) → m.observed u v (called caller) → after ≤ before + first_turn caller
-        → From g a b (λ world. Helps m g (IsFor policy caller outcome) a b v w world) → From g a b (λ world. ServesMore m g policy a b u w world before after (policy_after policy outcome) (is_stopped outcome))
-    serves_one policy caller outcome a b u v w before after call few p =
+    -- one job, after what was observed before it
+    job_served : (policy : Policy) (waiting : Option UnixStream) (reason : Reason) (outcome : Outcome) (a b : Store S) (u v w : M) (first : List Call) (before after : ℕ) → Calls m u first v → seen_in first ≡ seen_before reason
+        → after ≤ before + turn_in reason → From g a b (λ world. Helps m g (IsFor policy waiting reason outcome) a b v w world)
+        → From g a b (λ world. ServesMore m g policy waiting a b u w world before after (policy_after policy outcome) (waiting_after waiting reason outcome) (is_stopped outcome))
+    job_served policy waiting reason outcome a b u v w first before after made seen few p =
         from_weaker g a b _ _
-        (λ (world : World) (h : Helps m g (IsFor policy caller outcome) a b v w world).
-        let job : Job = record { caller = caller; seen = seen_in h.calls; steps = steps_of h.done.works; outcome = outcome } in
+        (λ (world : World) (h : Helps m g (IsFor policy waiting reason outcome) a b v w world).
+        let job : Job = record { reason = reason; seen = seen_in h.calls; steps = steps_of h.done.works; outcome = outcome } in
         record {
           jobs = job ∷ [];
           serves = record {
-            calls = observes (called caller) ∷ h.calls;
-            made = (v, call, h.made);
+            calls = first ++ h.calls;
+            made = calls_append u v w first h.calls made h.made;
             done = h.done;
             are_jobs = (h.done.kept, h.own, h.done.run, refl);
-            seen = sym (append-nil (called caller ∷ seen_in h.calls));
+            seen = seen_append first h.calls ∙ ap (λ (l : List Observation). l ++ seen_in h.calls) seen ∙ sym (append-nil (seen_for job));
             steps = sym (append-nil (steps_of h.done.works));
           };
           few = omega (arith, few);
           is_left = refl;
+          is_waiting = refl;
           are_stopped = refl;
         })
         p
 
+    -- a caller's job
+    pub serves_one : (policy : Policy) (waiting : Option UnixStream) (caller : Caller) (outcome : Outcome) (a b : Store S) (u v w : M) (before after : ℕ) → m.observed u v (called caller) → after ≤ before + first_turn caller
+        → From g a b (λ world. Helps m g (IsFor policy waiting (for_caller caller) outcome) a b v w world)
+        → From g a b (λ world. ServesMore m g policy waiting a b u w world before after (policy_after policy outcome) (waiting_after waiting (for_caller caller) outcome) (is_stopped outcome))
+    serves_one policy waiting caller outcome a b u v w before after call few p =
+        job_served policy waiting (for_caller caller) outcome a b u v w (observes (called caller) ∷ []) before after (one_seen u v (called caller) call) refl few p
+
     -- no job
-    pub serves_none : (policy : Policy) (a : Store S) (u v : M) (calls : List Call) (count : ℕ) → Calls m u calls v → seen_in calls ≡ [] → From g a a (λ world. ServesMore m g policy a a u v world count count policy false)
-    serves_none policy a u v calls count made none = record {
+    pub serves_none : (policy : Policy) (waiting : Option UnixStream) (a : Store S) (u v : M) (calls : List Call) (count : ℕ) → Calls m u calls v → seen_in calls ≡ []
+        → From g a a (λ world. ServesMore m g policy waiting a a u v world count count policy waiting false)
+    serves_none policy waiting a u v calls count made none = record {
       honest = λ k. k;
       each = λ honest world h.
           let lead = leads_none g a world h in
@@ -234,78 +253,144 @@ module _ {M : Type 0} (m : machine.Ghosts M) where
             };
             few = omega arith;
             is_left = refl;
+            is_waiting = refl;
             are_stopped = refl;
           };
     }
 
     -- jobs, and more jobs
-    serves_then : (policy : Policy) (a b c : Store S) (u v w : M) (world : World) (jobs more : List Job) (p : Serves m g policy a b u v world jobs) → Serves m g (policy_left policy jobs) b c v w p.done.kept more
-        → Serves m g policy a c u w world (jobs ++ more)
-    serves_then policy a b c u v w world jobs more p q = record {
+    serves_then : (policy : Policy) (waiting : Option UnixStream) (a b c : Store S) (u v w : M) (world : World) (jobs more : List Job) (p : Serves m g policy waiting a b u v world jobs)
+        → Serves m g (policy_left policy jobs) (waiting_left waiting jobs) b c v w p.done.kept more → Serves m g policy waiting a c u w world (jobs ++ more)
+    serves_then policy waiting a b c u v w world jobs more p q = record {
       calls = p.calls ++ q.calls;
       made = calls_append u v w p.calls q.calls p.made q.made;
       done = works_then g a b c world p.done q.done;
-      are_jobs = subst (λ (w : World). AreJobs policy world (jobs ++ more) w) (sym (then_kept g a b c world p.done q.done))
-          (are_append policy world p.done.kept q.done.kept jobs more p.are_jobs q.are_jobs);
+      are_jobs = subst (λ (w : World). AreJobs policy waiting world (jobs ++ more) w) (sym (then_kept g a b c world p.done q.done))
+          (are_append policy waiting world p.done.kept q.done.kept jobs more p.are_jobs q.are_jobs);
       seen = seen_append p.calls q.calls ∙ rw (p.seen, q.seen) (sym (flat_map-append seen_for jobs more));
       steps = steps_then g a b c world p.done q.done ∙ rw (p.steps, q.steps) (sym (flat_map-append (λ (job : Job). job.steps) jobs more));
     }
 
-    pub from_serves : (policy mid left : Policy) (stopped : Bool) (a b c : Store S) (u v w : M) (first begun after : ℕ) → From g a b (λ world. ServesMore m g policy a b u v world first begun mid false)
-        → From g b c (λ world. ServesMore m g mid b c v w world begun after left stopped) → From g a c (λ world. ServesMore m g policy a c u w world first after left stopped)
-    from_serves policy mid left stopped a b c u v w first begun after p q = record {
-      honest = λ k. p.honest (q.honest k);
-      each = λ honest world h.
-          let before = p.each (q.honest honest) world h in
-          let more = q.each honest before.serves.done.kept before.serves.done.leads.holds in
-          let sum = sum_by-append (λ (job : Job). first_turn job.caller) before.jobs more.jobs in
-          record {
-            jobs = before.jobs ++ more.jobs;
-            serves = serves_then policy a b c u v w world before.jobs more.jobs before.serves
-                (subst (λ (by : Policy). Serves m g by b c v w before.serves.done.kept more.jobs) before.is_left more.serves);
-            few = let one = before.few in let two = more.few in omega (arith, one, two, sum);
-            is_left = more.is_left ∙ ap (λ (by : Policy). policy_left by more.jobs) before.is_left ∙ sym (left_append policy before.jobs more.jobs);
-            are_stopped = stopped_append stopped before.jobs more.jobs before.are_stopped more.are_stopped;
+    more_then : (policy mid left : Policy) (one two three : Option UnixStream) (stopped : Bool) (a b c : Store S) (u v w : M) (world : World) (first begun after : ℕ) (p : ServesMore m g policy one a b u v world first begun mid two false)
+        → ServesMore m g mid two b c v w p.serves.done.kept begun after left three stopped → ServesMore m g policy one a c u w world first after left three stopped
+    more_then policy mid left one two three stopped a b c u v w world first begun after p q =
+        let sum = sum_by-append (λ (job : Job). turn_in job.reason) p.jobs q.jobs in
+        record {
+          jobs = p.jobs ++ q.jobs;
+          serves = serves_then policy one a b c u v w world p.jobs q.jobs p.serves
+              (subst (λ (by : Policy). Serves m g by (waiting_left one p.jobs) b c v w p.serves.done.kept q.jobs) p.is_left
+              (subst (λ (who : Option UnixStream). Serves m g mid who b c v w p.serves.done.kept q.jobs) p.is_waiting q.serves));
+          few = let fewer = p.few in let fewest = q.few in omega (arith, fewer, fewest, sum);
+          is_left = q.is_left ∙ ap (λ (by : Policy). policy_left by q.jobs) p.is_left ∙ sym (left_append policy p.jobs q.jobs);
+          is_waiting = q.is_waiting ∙ ap (λ (who : Option UnixStream). waiting_left who q.jobs) p.is_waiting ∙ sym (waits_append one p.jobs q.jobs);
+          are_stopped = stopped_append stopped p.jobs q.jobs p.are_stopped q.are_stopped;
+        }
+
+    -- the job of an operator who waits
+    gone_on : (policy : Policy) (waiting : Option UnixStream) (reason : Reason) (a b : Store S) (u v : M) (world : World) (count : ℕ) {IsOwn : World → List Observation → List Event → World → Type 0} (h : Helps m g IsOwn a b u v world)
+        → seen_before reason ≡ [] → turn_in reason ≡ 0 → IsFor policy waiting reason Unchanged world (seen_in h.calls) (steps_of h.done.works) h.done.kept
+        → ServesMore m g policy waiting a b u v world count count policy (waiting_after waiting reason Unchanged) false
+    gone_on policy waiting reason a b u v world count h none turn own =
+        let job : Job = record { reason = reason; seen = seen_in h.calls; steps = steps_of h.done.works; outcome = Unchanged } in
+        record {
+          jobs = job ∷ [];
+          serves = record {
+            calls = h.calls;
+            made = h.made;
+            done = h.done;
+            are_jobs = (h.done.kept, own, h.done.run, refl);
+            seen = sym (append-nil (seen_for job) ∙ ap (λ (l : List Observation). l ++ seen_in h.calls) none);
+            steps = sym (append-nil (steps_of h.done.works));
           };
+          few = omega (arith, turn);
+          is_left = refl;
+          is_waiting = refl;
+          are_stopped = refl;
+        }
+
+    -- ---- jobs, while the inspection that somebody waits for finds nothing damaged
+
+    -- jobs after which the same one waits, or nobody
+    pub clean_still : (policy left : Policy) (was : Option Waiting) (stopped : Bool) (a b : Store S) (u v : M) (before after : ℕ)
+        → From g a b (λ world. ServesMore m g policy (operator_in was) a b u v world before after left (operator_in was) stopped) → From g a b (λ world. ServesClean m g policy was was a b u v world before after left stopped)
+    clean_still policy left was stopped a b u v before after p = from_weaker g a b _ _ (λ world s clean. (s, clean)) p
+
+    -- jobs, and more jobs
+    pub from_serves : (policy mid left : Policy) (one two three : Option Waiting) (stopped : Bool) (a b c : Store S) (u v w : M) (first begun after : ℕ)
+        → From g a b (λ world. ServesClean m g policy one two a b u v world first begun mid false) → From g b c (λ world. ServesClean m g mid two three b c v w world begun after left stopped)
+        → From g a c (λ world. ServesClean m g policy one three a c u w world first after left stopped)
+    from_serves policy mid left one two three stopped a b c u v w first begun after p q = record {
+      honest = λ k. p.honest (q.honest k);
+      each = λ honest world h clean.
+          let before = p.each (q.honest honest) world h clean in
+          let more = q.each honest before.0.serves.done.kept before.0.serves.done.leads.holds before.1 in
+          (more_then policy mid left (operator_in one) (operator_in two) (operator_in three) stopped a b c u v w world first begun after before.0 more.0, more.1);
     }
 
     -- jobs, and then calls of the machine of which nothing was observed
-    pub from_settled : (policy left : Policy) (stopped : Bool) (a b : Store S) (u v w : M) (calls : List Call) (first after : ℕ) → Calls m v calls w → seen_in calls ≡ []
-        → From g a b (λ world. ServesMore m g policy a b u v world first after left stopped) → From g a b (λ world. ServesMore m g policy a b u w world first after left stopped)
-    from_settled policy left stopped a b u v w calls first after more none p =
+    pub from_settled : (policy left : Policy) (one two : Option Waiting) (stopped : Bool) (a b : Store S) (u v w : M) (calls : List Call) (first after : ℕ) → Calls m v calls w → seen_in calls ≡ []
+        → From g a b (λ world. ServesClean m g policy one two a b u v world first after left stopped) → From g a b (λ world. ServesClean m g policy one two a b u w world first after left stopped)
+    from_settled policy left one two stopped a b u v w calls first after more none p =
         from_weaker g a b _ _
-        (λ (world : World) (s : ServesMore m g policy a b u v world first after left stopped). record {
-          jobs = s.jobs;
-          serves = record {
-            calls = s.serves.calls ++ calls;
-            made = calls_append u v w s.serves.calls calls s.serves.made more;
-            done = s.serves.done;
-            are_jobs = s.serves.are_jobs;
-            seen = seen_append s.serves.calls calls ∙ ap (λ (l : List Observation). seen_in s.serves.calls ++ l) none ∙ append-nil (seen_in s.serves.calls) ∙ s.serves.seen;
-            steps = s.serves.steps;
-          };
-          few = s.few;
-          is_left = s.is_left;
-          are_stopped = s.are_stopped;
-        })
+        (λ world served clean.
+        let both : ServesMore m g policy (operator_in one) a b u v world first after left (operator_in two) stopped × IsClean two = served clean in
+        let s = both.0 in (
+          record {
+            jobs = s.jobs;
+            serves = record {
+              calls = s.serves.calls ++ calls;
+              made = calls_append u v w s.serves.calls calls s.serves.made more;
+              done = s.serves.done;
+              are_jobs = s.serves.are_jobs;
+              seen = seen_append s.serves.calls calls ∙ ap (λ (l : List Observation). seen_in s.serves.calls ++ l) none ∙ append-nil (seen_in s.serves.calls) ∙ s.serves.seen;
+              steps = s.serves.steps;
+            };
+            few = s.few;
+            is_left = s.is_left;
+            is_waiting = s.is_waiting;
+            are_stopped = s.are_stopped;
+          },
+          both.1,
+        ))
         p
+
+    -- an inspection that nobody waits for any more, or that goes on
+    pub from_gone_on : (policy : Policy) (was : Waiting) (is : Option Waiting) (a b : Store S) (u v : M) (count : ℕ)
+        → From g a b (λ world. was.inspection.damaged ≡ 0 → Helps m g (IsGoneOn was.stream (operator_in is)) a b u v world × IsClean is)
+        → From g a b (λ world. ServesClean m g policy (Some was) is a b u v world count count policy false)
+    from_gone_on policy was None a b u v count p = record {
+      honest = p.honest;
+      each = λ honest world h clean.
+          let did = p.each honest world h clean in
+          let own = did.0.own in
+          (gone_on policy (Some was.stream) ends a b u v world count did.0 refl refl ((own.1), own.0, refl), tt);
+    }
+    from_gone_on policy was (Some is) a b u v count p = record {
+      honest = p.honest;
+      each = λ honest world h clean.
+          let did = p.each honest world h clean in
+          let own = did.0.own in
+          (subst (λ (who : UnixStream). ServesMore m g policy (Some was.stream) a b u v world count count policy (Some who) false) (sym own.0) (gone_on policy (Some was.stream) goes_on a b u v world count did.0 refl refl (refl, own.1, refl, own.2)), did.1);
+    }
 
     -- ---- the end of a server
 
     -- a server that an operator has stopped
-    pub from_stopped : (policy left : Policy) (most count : ℕ) (operator : UnixStream) (a b : Store S) (u v : M) → From g a b (λ world. ServesMore m g policy a b u v world 0 count left true)
-        → From g a b (λ world. (jobs : List Job) × Serves m g policy a b u v world jobs × HasFinished most jobs (Ok (record { connections = count; stopped_by = Some operator })))
-    from_stopped policy left most count operator a b u v p =
-        from_weaker g a b _ _ (λ (world : World) (s : ServesMore m g policy a b u v world 0 count left true). (s.jobs, s.serves, ((let few = s.few in omega (arith, few)), s.are_stopped, λ none. absurd (cc)))) p
+    pub from_stopped : (policy left : Policy) (waits : Option Waiting) (most count : ℕ) (operator : UnixStream) (a b : Store S) (u v : M) → From g a b (λ world. ServesClean m g policy None waits a b u v world 0 count left true)
+        → From g a b (λ world. (jobs : List Job) × Serves m g policy None a b u v world jobs × HasFinished most jobs (Ok (record { connections = count; stopped_by = Some operator })))
+    from_stopped policy left waits most count operator a b u v p =
+        from_weaker g a b _ _
+        (λ world served. let s : ServesMore m g policy None a b u v world 0 count left (operator_in waits) true = (served tt).0 in (s.jobs, s.serves, ((let few = s.few in omega (arith, few)), s.are_stopped, λ none. absurd (cc)))) p
 
     -- a server that has served as many connections as it was to serve
-    pub from_full : (policy left : Policy) (most count : ℕ) (a b : Store S) (u v : M) → most ≤ count → From g a b (λ world. ServesMore m g policy a b u v world 0 count left false)
-        → From g a b (λ world. (jobs : List Job) × Serves m g policy a b u v world jobs × HasFinished most jobs (Ok (record { connections = most; stopped_by = None })))
-    from_full policy left most count a b u v full p =
-        from_weaker g a b _ _ (λ (world : World) (s : ServesMore m g policy a b u v world 0 count left false). (s.jobs, s.serves, ((let few = s.few in omega (arith, few, full)), s.are_stopped, λ none. refl))) p
+    pub from_full : (policy left : Policy) (waits : Option Waiting) (most count : ℕ) (a b : Store S) (u v : M) → most ≤ count → From g a b (λ world. ServesClean m g policy None waits a b u v world 0 count left false)
+        → From g a b (λ world. (jobs : List Job) × Serves m g policy None a b u v world jobs × HasFinished most jobs (Ok (record { connections = most; stopped_by = None })))
+    from_full policy left waits most count a b u v full p =
+        from_weaker g a b _ _
+        (λ world served. let s : ServesMore m g policy None a b u v world 0 count left (operator_in waits) false = (served tt).0 in (s.jobs, s.serves, ((let few = s.few in omega (arith, few, full)), s.are_stopped, λ none. refl))) p
 
     -- a server that failed
-    pub from_failed : (policy left : Policy) (most count : ℕ) (fault : Fault) (a b : Store S) (u v : M) → From g a b (λ world. ServesMore m g policy a b u v world 0 count left false)
-        → From g a b (λ world. (jobs : List Job) × Serves m g policy a b u v world jobs × HasFinished most jobs (Err fault))
-    from_failed policy left most count fault a b u v p =
-        from_weaker g a b _ _ (λ (world : World) (s : ServesMore m g policy a b u v world 0 count left false). (s.jobs, s.serves, s.are_stopped)) p
+    pub from_failed : (policy left : Policy) (waits : Option Waiting) (most count : ℕ) (fault : Fault) (a b : Store S) (u v : M) → From g a b (λ world. ServesClean m g policy None waits a b u v world 0 count left false)
+        → From g a b (λ world. (jobs : List Job) × Serves m g policy None a b u v world jobs × HasFinished most jobs (Err fault))
+    from_failed policy left waits most count fault a b u v p =
+        from_weaker g a b _ _ (λ world served. let s : ServesMore m g policy None a b u v world 0 count left (operator_in waits) false = (served tt).0 in (s.jobs, s.serves, s.are_stopped)) p

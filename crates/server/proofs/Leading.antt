@@ -1,5 +1,5 @@
 -- To what a server leads its store; for proofs in other crates too.
-use Rattle.std.proofs.Common.{List, []}
+use Rattle.std.proofs.Common.{List, [], None}
 use Rattle.sqlite_trees.specs.declared.store.Store.{Ghosts}
 use Rattle.policy.specs.declared.policies.Policy.{Policy}
 use Rattle.model.specs.World.{World}
@@ -21,5 +21,5 @@ module _ {S : Type 0} (g : Ghosts S) where
   }
 
   -- the jobs of a server on a machine
-  pub all_jobs : {M : Type 0} (m : machine.Ghosts M) (policy : Policy) (a b : Store S) (u v : M) (world : World) (jobs : List Job) → Serves m g policy a b u v world jobs → ServesAll g policy a b world
+  pub all_jobs : {M : Type 0} (m : machine.Ghosts M) (policy : Policy) (a b : Store S) (u v : M) (world : World) (jobs : List Job) → Serves m g policy None a b u v world jobs → ServesAll g policy a b world
   all_jobs m policy a b u v world jobs s = record { jobs = jobs; done = s.done; are_jobs = s.are_jobs; steps = s.steps }

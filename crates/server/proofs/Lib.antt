@@ -3,3 +3,4 @@ mod Connections
 pub mod Leading
 mod Jobs
 mod Swept
+mod Inspected

@@ -1,5 +1,5 @@
 -- What is done for an operator: the task of the command that his request names.
-use Rattle.std.specs.Prelude.{◌≡◌, ◌⊎◌, ◌++◌, ℕ, Bool, true, List, [], ◌∷◌, map, length, Option, Some, None, Result, Ok, Err, ⊤}
+use Rattle.std.specs.Prelude.{◌≡◌, ◌⊎◌, ◌++◌, ℕ, Bool, true, false, List, [], ◌∷◌, map, length, option_map, Option, Some, None, Result, Ok, Err, IfErr, ⊤}
 use Rattle.std.specs.declared.net.unix.UnixStream.{UnixStream}
 use Rattle.sqlite_trees.specs.declared.store.Store.{Ghosts}
 use Rattle.tables.specs.declared.Store.{Store}
@@ -16,6 +16,7 @@ use Rattle.control.specs.Requests.{Request, IsReadAs, prefix_bytes}
 use Rattle.control.specs.Replies.{status_code}
 use Rattle.control.specs.Versions.{refusal_bytes, version}
 use Rattle.control.specs.declared.status.Status.{Status}
+use Rattle.control.specs.declared.status.Status.TheVariants.{Good}
 use Rattle.service.specs.Messages.{IsRequestOf}
 use Rattle.command_line.specs.Words.{command_words}
 use Rattle.command_line.specs.declared.args.OperatorCommand.{OperatorCommand}
@@ -28,16 +29,21 @@ use Rattle.operator.specs.Paths.{HasRepo, IsRepoAt}
 use Rattle.operator.specs.Tasks.{HasEnded, WorksAs}
 use Rattle.operator.specs.declared.faults.TaskFault.{TaskFault}
 use Rattle.operator.specs.declared.foreseeing.Foresight.{Foresight}
+use Rattle.operator.specs.declared.inspecting.Inspection.{Inspection}
+use Rattle.operator.specs.declared.inspecting.Purpose.{Purpose}
+use Rattle.operator.specs.declared.inspecting.Purpose.TheVariants.{Check, Repair}
 use Rattle.operator.specs.declared.pushing.Push.{Push}
 use Rattle.operator.specs.declared.tasks.Task.{Task}
 use Rattle.operator.specs.declared.tasks.Task.TheVariants as task
 use Rattle.machine.specs.Observations.{Observation, timed, drawn, received, sent, loaded, waited}
 use Rattle.server.specs.Given.{IsGiven}
-use Rattle.faults.specs.Statuses.{ended_of, status_of_end}
+use Rattle.faults.specs.Statuses.{ended_of, status_of, status_of_end}
 use Rattle.faults.specs.declared.faults.Fault.{Fault}
+use Rattle.faults.specs.declared.faults.Fault.TheVariants.{Reported, ReportedInvalid}
 use Rattle.server.specs.declared.foreseeing.GivenMessage.{GivenMessage}
 use Rattle.server.specs.declared.outcomes.Outcome.{Outcome}
-use Rattle.server.specs.declared.outcomes.Outcome.TheVariants.{Unchanged, Stopped, Reloaded}
+use Rattle.server.specs.declared.outcomes.Outcome.TheVariants.{Unchanged, Stopped, Reloaded, Began}
+use Rattle.server.specs.declared.waiting.Waiting.{Waiting}
 
 -- ---- the task of a command
 
@@ -143,14 +149,28 @@ IsDone policy command input ended world seen steps kept =
 
 -- ---- commands for the server itself
 
+-- an inspection for this purpose was begun while no other one went on, and no object is found damaged yet
+pub record Inspects (purpose : Purpose) (busy : Bool) (inspection : Inspection) : Type 0 where
+  pub free : busy ≡ false
+  pub same : inspection.purpose ≡ purpose
+  pub none : inspection.damaged ≡ 0
+
+-- such an inspection was begun
+abbrev pub IsInspection : Purpose → (busy : Bool) → Outcome → Type 0
+IsInspection purpose busy (Began inspection) = Inspects purpose busy inspection
+IsInspection purpose busy _ = ⊥
+
 -- a command for the server itself was obeyed: it waited until the operator closed his side, and that was within the time; it is
--- to stop; it has the policy of the file; it printed how it is
-abbrev pub IsObeyed : UnixStream → OperatorCommand → Outcome → List Observation → Type 0
-IsObeyed operator (command.Hold seconds) Unchanged seen = seen ≡ waited operator seconds true ∷ []
-IsObeyed operator command.Stop Stopped seen = seen ≡ []
-IsObeyed operator command.Reload (Reloaded policy) seen = seen ≡ loaded policy ∷ []
-IsObeyed operator command.Status Unchanged seen = seen ≡ []
-IsObeyed operator _ _ seen = ⊥
+-- to stop; it has the policy of the file; it printed how it is; or it goes on with a check or a repair that was begun while it was
+-- not busy with another one
+abbrev pub IsObeyed : (busy : Bool) → UnixStream → OperatorCommand → Outcome → List Observation → Type 0
+IsObeyed busy operator command.Check (Began inspection) seen = Inspects Check busy inspection × (seen ≡ [])
+IsObeyed busy operator command.Repair (Began inspection) seen = Inspects Repair busy inspection × (seen ≡ [])
+IsObeyed busy operator (command.Hold seconds) Unchanged seen = seen ≡ waited operator seconds true ∷ []
+IsObeyed busy operator command.Stop Stopped seen = seen ≡ []
+IsObeyed busy operator command.Reload (Reloaded policy) seen = seen ≡ loaded policy ∷ []
+IsObeyed busy operator command.Status Unchanged seen = seen ≡ []
+IsObeyed busy operator _ _ seen = ⊥
 
 -- how a command ended that has a task, which ended so
 abbrev pub outcome_of : Result ⊤ Fault → Result Outcome Fault
@@ -158,9 +178,9 @@ outcome_of (Ok done) = Ok Unchanged
 outcome_of (Err fault) = Err fault
 
 -- a command ended so: it was obeyed, and no step was taken; or as its task did
-abbrev pub HasEndedSo : Policy → UnixStream → OperatorCommand → (input : List ℕ) → Result Outcome Fault → World → List Observation → List Event → (kept : World) → Type 0
-HasEndedSo policy operator command input ended world seen steps kept =
-    ((outcome : Outcome) × (ended ≡ Ok outcome) × IsObeyed operator command outcome seen × (steps ≡ []))
+abbrev pub HasEndedSo : Policy → (busy : Bool) → UnixStream → OperatorCommand → (input : List ℕ) → Result Outcome Fault → World → List Observation → List Event → (kept : World) → Type 0
+HasEndedSo policy busy operator command input ended world seen steps kept =
+    ((outcome : Outcome) × (ended ≡ Ok outcome) × IsObeyed busy operator command outcome seen × (steps ≡ []))
     ⊎ ((done : Result ⊤ Fault) × (ended ≡ outcome_of done) × IsDone policy command input done world seen steps kept)
 
 -- the policy of a server after a command with this outcome
@@ -180,11 +200,11 @@ abbrev pub request_for : OperatorCommand → (input : List ℕ) → Request
 request_for command input = record { input = input; words = command_words command }
 
 -- a request ended so: as the command that it is for; or with a fault, and nothing was done
-abbrev pub IsRequestDone : Policy → UnixStream → (body : List ℕ) → Result Outcome Fault → World → List Observation → List Event → (kept : World) → Type 0
-IsRequestDone policy operator body ended world seen steps kept =
+abbrev pub IsRequestDone : Policy → (busy : Bool) → UnixStream → (body : List ℕ) → Result Outcome Fault → World → List Observation → List Event → (kept : World) → Type 0
+IsRequestDone policy busy operator body ended world seen steps kept =
     ((fault : Fault) × (ended ≡ Err fault) × (steps ≡ []) × (seen ≡ []))
     ⊎ ((command : OperatorCommand) × (input : List ℕ) × IsReadAs body (request_for command input)
-    × HasEndedSo policy operator command input ended world seen steps kept)
+    × HasEndedSo policy busy operator command input ended world seen steps kept)
 
 -- the bytes of a request were received from the operator: the version and their number, and then these
 abbrev pub IsRead : UnixStream → (body : List ℕ) → List Observation → Type 0
@@ -208,13 +228,25 @@ abbrev pub IsReplied : UnixStream → Status → List Observation → Type 0
 IsReplied operator status [] = ⊤
 IsReplied operator status seen = seen ≡ sent operator (status_code status ∷ []) ∷ []
 
+-- an inspection was begun
+abbrev pub is_begun : Outcome → Bool
+is_begun (Began inspection) = true
+is_begun _ = false
+
+-- the end of a reply to a request that ended so was sent to the operator, or none; none if an inspection was begun
+abbrev pub IsEnded : UnixStream → Result Outcome Fault → List Observation → Type 0
+IsEnded operator (Ok outcome) seen =
+    (is_begun outcome ≡ true → seen ≡ []) × (is_begun outcome ≡ false → IsReplied operator Good seen)
+IsEnded operator (Err fault) seen = IsReplied operator (status_of fault) seen
+
 -- what became of the server after a request that ended so
 abbrev pub made_of : Result Outcome Fault → Outcome
 made_of (Ok outcome) = outcome
 made_of (Err fault) = Unchanged
 
--- a request was received from the operator and done, and the reply ends with the status with which it ended
-pub record IsRequestServed (policy : Policy) (operator : UnixStream) (outcome : Outcome) (world : World) (seen : List Observation) (steps : List Event) (kept : World) : Type 0 where
+-- a request was received from the operator and done, and the reply ends with the status with which it ended; or an inspection was
+-- begun, and the reply goes on
+pub record IsRequestServed (policy : Policy) (busy : Bool) (operator : UnixStream) (outcome : Outcome) (world : World) (seen : List Observation) (steps : List Event) (kept : World) : Type 0 where
   pub body : List ℕ
   pub ended : Result Outcome Fault
   pub asked : List Observation
@@ -224,12 +256,38 @@ pub record IsRequestServed (policy : Policy) (operator : UnixStream) (outcome : 
   pub are : seen ≡ asked ++ begin ++ own ++ end
   pub read : IsRead operator body asked
   pub begun : IsBegun operator begin
-  pub done : IsRequestDone policy operator body ended world own steps kept
-  pub replied : IsReplied operator (status_of_end ended) end
+  pub done : IsRequestDone policy busy operator body ended world own steps kept
+  pub replied : IsEnded operator ended end
   pub made : outcome ≡ made_of ended
 
 -- an operator's request was served; or nothing was done
-abbrev pub IsAnswered : Policy → UnixStream → Outcome → World → List Observation → List Event → (kept : World) → Type 0
-IsAnswered policy operator outcome world seen steps kept =
-    IsRequestServed policy operator outcome world seen steps kept
+abbrev pub IsAnswered : Policy → (busy : Bool) → UnixStream → Outcome → World → List Observation → List Event → (kept : World) → Type 0
+IsAnswered policy busy operator outcome world seen steps kept =
+    IsRequestServed policy busy operator outcome world seen steps kept
     ⊎ ((outcome ≡ Unchanged) × (steps ≡ []) × IsSilent seen)
+
+-- ---- inspections
+
+-- the fault does not say that an object is damaged
+abbrev pub IsNoDamage : Fault → Type 0
+IsNoDamage Reported = ⊥
+IsNoDamage ReportedInvalid = ⊥
+IsNoDamage _ = ⊤
+
+-- the operator's inspection has ended: its reply ends with the status with which it ended, and no damage is reported
+abbrev pub HasInspected : UnixStream → List Observation → Type 0
+HasInspected operator seen = (ended : Result ⊤ Fault) × IfErr ended IsNoDamage × IsReplied operator (status_of_end ended) seen
+
+-- an operator's inspection went on, and he is sent nothing that is observed; or it has ended, and nobody waits
+abbrev pub IsGoneOn : UnixStream → (waiting : Option UnixStream) → World → List Observation → List Event → (kept : World) → Type 0
+IsGoneOn operator (Some stream) world seen steps kept = (stream ≡ operator) × (steps ≡ []) × (seen ≡ [])
+IsGoneOn operator None world seen steps kept = (steps ≡ []) × HasInspected operator seen
+
+-- no object was found damaged
+abbrev pub IsClean : Option Waiting → Type 0
+IsClean None = ⊤
+IsClean (Some waiting) = waiting.inspection.damaged ≡ 0
+
+-- the operator who waits, if there is one
+abbrev pub operator_in : Option Waiting → Option UnixStream
+operator_in waiting = option_map (λ w. w.stream) waiting

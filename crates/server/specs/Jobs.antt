@@ -1,5 +1,5 @@
 -- What a server does: a list of jobs, each for somebody who called it.
-use Rattle.std.specs.Prelude.{◌≡◌, ◌⊎◌, ℕ, ◌≤◌, ◌+◌, Bool, false, flat_map, is_none, is_some, sum_by, List, [], ◌∷◌, map, Option, None, Result, Ok, Err, if◌then◌else◌}
+use Rattle.std.specs.Prelude.{◌≡◌, ◌⊎◌, ◌++◌, ℕ, ◌≤◌, ◌+◌, Bool, true, false, flat_map, is_none, is_some, sum_by, List, [], ◌∷◌, map, Option, Some, None, MatchOption, Result, Ok, Err, if◌then◌else◌}
 use Rattle.std.specs.declared.net.unix.UnixStream.{UnixStream}
 use Rattle.sqlite_trees.specs.declared.store.Store.{Ghosts}
 use Rattle.policy.specs.declared.policies.Policy.{Policy}
@@ -13,25 +13,36 @@ use Rattle.sockets.specs.declared.queue.Caller.TheVariants.{Client, Operator}
 use Rattle.operator.specs.Works.{Works, steps_of}
 use Rattle.machine.specs.declared.machine.Machine as machine
 use Rattle.machine.specs.Observations.{Observation, called, timed}
-use Rattle.server.specs.Commands.{IsAnswered, is_stopped, policy_after}
+use Rattle.server.specs.Commands.{HasInspected, IsAnswered, IsClean, is_stopped, operator_in, policy_after}
 use Rattle.faults.specs.declared.faults.Fault.{Fault}
 use Rattle.server.specs.declared.outcomes.Outcome.{Outcome}
-use Rattle.server.specs.declared.outcomes.Outcome.TheVariants.{Unchanged}
+use Rattle.server.specs.declared.outcomes.Outcome.TheVariants.{Unchanged, Began}
 use Rattle.server.specs.declared.server.Finish.{Finish}
+use Rattle.server.specs.declared.waiting.Waiting.{Waiting}
 
 -- ---- jobs
 
--- a caller, what was observed of the machine while it was served, the steps that were taken for it, and what became of the
--- server
+-- why a job is done: somebody called; or an operator waits for the rest of an inspection, which goes on, or ends
+pub data Reason : Type 0 where
+  for_caller : Caller → Reason
+  goes_on : Reason
+  ends : Reason
+
+-- why it is done, what was observed of the machine meanwhile, the steps that were taken, and what became of the server
 pub record Job : Type 0 where
-  pub caller : Caller
+  pub reason : Reason
   pub seen : List Observation
   pub steps : List Event
   pub outcome : Outcome
 
--- what was observed for a job: the call, and then the rest
+-- what was observed before a job: the call
+abbrev pub seen_before : Reason → List Observation
+seen_before (for_caller caller) = called caller ∷ []
+seen_before _ = []
+
+-- what was observed for a job
 abbrev pub seen_for : Job → List Observation
-seen_for job = called job.caller ∷ job.seen
+seen_for job = seen_before job.reason ++ job.seen
 
 -- a turn of a client: the exchanges of a connection, under the policy and at the machine's moment; or no step
 abbrev pub IsTurn : Policy → World → List Observation → List Event → (kept : World) → Type 0
@@ -39,23 +50,41 @@ IsTurn policy world seen steps kept =
     (steps ≡ []) ⊎ ((now : ℕ) × (seen ≡ timed now ∷ []) × (exchanges : List Exchange)
     × AreUnder (setting_of policy now) exchanges × (steps ≡ map exchanged exchanges))
 
--- the steps are those that the caller asked for, with what was observed
-abbrev pub IsFor : Policy → Caller → Outcome → World → List Observation → List Event → (kept : World) → Type 0
-IsFor policy (Client client) outcome world seen steps kept =
+-- the steps are those that the caller asked for, with what was observed; none for an operator who waits, who is sent nothing but
+-- the end of his reply
+abbrev pub IsFor : Policy → (waiting : Option UnixStream) → Reason → Outcome → World → List Observation → List Event → (kept : World) → Type 0
+IsFor policy waiting (for_caller (Client client)) outcome world seen steps kept =
     IsTurn policy world seen steps kept × (outcome ≡ Unchanged)
-IsFor policy (Operator stream) outcome world seen steps kept = IsAnswered policy stream outcome world seen steps kept
+IsFor policy waiting (for_caller (Operator stream)) outcome world seen steps kept =
+    IsAnswered policy (is_some waiting) stream outcome world seen steps kept
+IsFor policy waiting goes_on outcome world seen steps kept =
+    (is_some waiting ≡ true) × (steps ≡ []) × (outcome ≡ Unchanged) × (seen ≡ [])
+IsFor policy waiting ends outcome world seen steps kept =
+    MatchOption waiting ⊥ (λ operator. HasInspected operator seen) × (steps ≡ []) × (outcome ≡ Unchanged)
 
--- each job is done for its caller, in the world that the jobs before it have left, and under the policy that was read last
-abbrev pub AreJobs : Policy → World → List Job → World → Type 0
-AreJobs policy world [] kept = kept ≡ world
-AreJobs policy world (job ∷ jobs) kept =
-    (after : World) × IsFor policy job.caller job.outcome world job.seen job.steps after × Run world job.steps after
-    × AreJobs (policy_after policy job.outcome) after jobs kept
+-- who waits for the rest of an inspection after a job
+abbrev pub waiting_after : Option UnixStream → Reason → Outcome → Option UnixStream
+waiting_after waiting (for_caller (Operator stream)) (Began inspection) = Some stream
+waiting_after waiting ends outcome = None
+waiting_after waiting _ _ = waiting
+
+-- each job is done for its caller or for the operator who waits, in the world that the jobs before it have left, and under the
+-- policy that was read last
+abbrev pub AreJobs : Policy → (waiting : Option UnixStream) → World → List Job → World → Type 0
+AreJobs policy waiting world [] kept = kept ≡ world
+AreJobs policy waiting world (job ∷ jobs) kept =
+    (after : World) × IsFor policy waiting job.reason job.outcome world job.seen job.steps after × Run world job.steps after
+    × AreJobs (policy_after policy job.outcome) (waiting_after waiting job.reason job.outcome) after jobs kept
 
 -- the policy after the jobs
 abbrev pub policy_left : Policy → List Job → Policy
 policy_left policy [] = policy
 policy_left policy (job ∷ jobs) = policy_left (policy_after policy job.outcome) jobs
+
+-- who waits after the jobs
+abbrev pub waiting_left : Option UnixStream → List Job → Option UnixStream
+waiting_left waiting [] = waiting
+waiting_left waiting (job ∷ jobs) = waiting_left (waiting_after waiting job.reason job.outcome) jobs
 
 -- whether the server is to stop after the last job; it is not to stop after an earlier one
 abbrev pub AreStopped : Bool → List Job → Type 0
@@ -73,9 +102,14 @@ abbrev pub first_turn : Caller → ℕ
 first_turn (Client client) = if is_none client.number then 1 else 0
 first_turn (Operator stream) = 0
 
+-- 1 for a job that is the first turn of a connection
+abbrev pub turn_in : Reason → ℕ
+turn_in (for_caller caller) = first_turn caller
+turn_in _ = 0
+
 -- how many connections had a turn
 abbrev pub connections : List Job → ℕ
-connections jobs = sum_by (λ job. first_turn job.caller) jobs
+connections jobs = sum_by (λ job. turn_in job.reason) jobs
 
 -- how a server ended after the jobs: the last one stopped it, or as many connections had a turn as were to be served; or with a
 -- fault
@@ -103,7 +137,7 @@ module _ {S : Type 0} (g : Ghosts S) where
   pub record ServesAll (policy : Policy) (old new : Store S) (world : World) : Type 0 where
     pub jobs : List Job
     pub done : Works g old new world
-    pub are_jobs : AreJobs policy world jobs done.kept
+    pub are_jobs : AreJobs policy None world jobs done.kept
     pub steps : steps_of done.works ≡ flat_map (λ job. job.steps) jobs
 
 -- ---- a machine
@@ -138,19 +172,25 @@ module _ {M : Type 0} (m : machine.Ghosts M) where
 
     -- jobs, one after the other: what was observed of the machine is what was observed for each of them, in this order, and
     -- the steps by which the store was led are theirs
-    pub record Serves (policy : Policy) (old new : Store S) (was is : M) (world : World) (jobs : List Job) : Type 0 where
+    pub record Serves (policy : Policy) (waiting : Option UnixStream) (old new : Store S) (was is : M) (world : World) (jobs : List Job) : Type 0 where
       pub calls : List Call
       pub made : Calls was calls is
       pub done : Works g old new world
-      pub are_jobs : AreJobs policy world jobs done.kept
+      pub are_jobs : AreJobs policy waiting world jobs done.kept
       pub seen : seen_in calls ≡ flat_map seen_for jobs
       pub steps : steps_of done.works ≡ flat_map (λ job. job.steps) jobs
 
     -- jobs were done, and no more connections had a turn than before, and had their first one in these jobs; this is the policy
-    -- that they left, and whether the last one stopped the server
-    pub record ServesMore (policy : Policy) (old new : Store S) (was is : M) (world : World) (before after : ℕ) (left : Policy) (stopped : Bool) : Type 0 where
+    -- that they left, who waits after them, and whether the last one stopped the server
+    pub record ServesMore (policy : Policy) (waiting : Option UnixStream) (old new : Store S) (was is : M) (world : World) (before after : ℕ) (left : Policy) (waits : Option UnixStream) (stopped : Bool) : Type 0 where
       pub jobs : List Job
-      pub serves : Serves policy old new was is world jobs
+      pub serves : Serves policy waiting old new was is world jobs
       pub few : after ≤ before + connections jobs
       pub is_left : left ≡ policy_left policy jobs
+      pub is_waiting : waits ≡ waiting_left waiting jobs
       pub are_stopped : AreStopped stopped jobs
+
+    -- the same, if nothing was found damaged before by the inspection that somebody waits for; and nothing was since
+    abbrev pub ServesClean : Policy → (was is : Option Waiting) → (old new : Store S) → (u v : M) → World → (before after : ℕ) → (left : Policy) → Bool → Type 0
+    ServesClean policy was is old new u v world before after left stopped =
+        IsClean was → ServesMore policy (operator_in was) old new u v world before after left (operator_in is) stopped × IsClean is

@@ -8,9 +8,11 @@ mod foreseeing;
 mod operators;
 mod outcomes;
 mod pieces;
+mod reply;
 mod requests;
 mod server;
 mod traffic;
+mod waiting;
 
 pub use foreseeing::{GivenMessage, message_in};
 pub use requests::{plain_task, push_of, token_request};

@@ -3,23 +3,23 @@
 ghost use Rattle.std.specs.Prelude.{◌≡◌, [], ℕ, List, IfOk, OnErr, ⊤};
 ghost use Rattle.command_line.specs.declared.args.OperatorCommand.TheVariants.{Authenticate, Foresee, Hold, Reload, Status as GetStatus};
 ghost use Rattle.refinement.specs.Left.{From, Reads};
-ghost use Rattle.server.specs.Commands.{AreReadings, HasEndedSo, IsAnswered, IsDone, IsMomentOf, IsObeyed, IsRead, IsReplied, IsRequestDone, IsSilent, RunsAs, made_of};
+ghost use Rattle.server.specs.Commands.{AreReadings, HasEndedSo, IsAnswered, IsDone, IsMomentOf, IsObeyed, IsRead, IsEnded, IsInspection, IsRequestDone, IsSilent, RunsAs, made_of};
 ghost use Rattle.server.specs.Jobs.{Call, Calls, Helps, seen_in};
-ghost use Rattle.faults.specs.Statuses.{status_of_end};
 ghost use Rattle.metrics.specs.Stored.{IsStored};
 ghost use Rattle.policy.specs.Values.{repo_view};
 
 use crate::foreseeing::message_in;
 use crate::outcomes::Outcome;
 use crate::pieces::Pieces;
+use crate::reply::Reply;
 use crate::requests::{plain_task, push_of, token_request};
 use command_line::{ForeseeArgs, OperatorCommand, TokenArgs};
-use control::{PrefixFault, Request, Status, VERSION, read_request, refusal_bytes, request_size};
-use faults::{Fault, print_fault, refuse};
+use control::{PrefixFault, Request, VERSION, read_request, refusal_bytes, request_size};
+use faults::Fault;
 use machine::{Machine, policy_line};
 use metrics::{Counts, Stored, status_text};
 use names::{Counted, Moment, Sink};
-use operator::{Destination, Task, print, repo_at};
+use operator::{Destination, Inspection, Purpose, Task, print, repo_at};
 use policy::{Policy, Repo};
 use std::alloc::Global;
 use std::io::Write;
@@ -33,6 +33,8 @@ pub(crate) struct OperatorContext<'a> {
     pub alloc: Global,
     pub policy: &'a Policy,
     pub counts: &'a Counts,
+    /// Whether an operator waits for the rest of an inspection.
+    pub is_busy: bool,
     /// Where the operator is.
     pub stream: &'a UnixStream,
 }
@@ -216,7 +218,7 @@ impl OperatorContext<'_> {
     ) -> Result<Outcome, Fault>
         ensures ok { IfOk result (λ outcome. (calls : List Call)
             × Calls M.Machine machine.old calls machine.new
-            × IsObeyed self.now.stream.now (Hold seconds) outcome (seen_in calls)) }
+            × IsObeyed self.now.is_busy self.now.stream.now (Hold seconds) outcome (seen_in calls)) }
         ensures err { OnErr result ((calls : List Call)
             × Calls M.Machine machine.old calls machine.new × AreReadings (seen_in calls)) }
     {
@@ -237,7 +239,7 @@ impl OperatorContext<'_> {
     fn reload<M: Machine, K: Sink>(&self, machine: &mut M, output: &mut K) -> Result<Outcome, Fault>
         ensures ok { IfOk result (λ outcome. (calls : List Call)
             × Calls M.Machine machine.old calls machine.new
-            × IsObeyed self.now.stream.now Reload outcome (seen_in calls)) }
+            × IsObeyed self.now.is_busy self.now.stream.now Reload outcome (seen_in calls)) }
         ensures err { OnErr result ((calls : List Call)
             × Calls M.Machine machine.old calls machine.new × AreReadings (seen_in calls)) }
     {
@@ -273,7 +275,8 @@ impl OperatorContext<'_> {
         output: &mut K,
     ) -> Result<Outcome, Fault>
         ensures { (input : List ℕ) → From S.Store store.old store.new (λ world.
-            Helps M.Machine S.Store (HasEndedSo self.now.policy.now self.now.stream.now GetStatus input result)
+            Helps M.Machine S.Store (HasEndedSo self.now.policy.now self.now.is_busy
+            self.now.stream.now GetStatus input result)
             store.old store.new machine.old machine.new world) }
     {
         let gauges = machine.gauges();
@@ -281,6 +284,22 @@ impl OperatorContext<'_> {
         let text = status_text(self.alloc, self.counts, &gauges, stored.as_slice())?;
         print(output, text.as_bytes())?;
         Ok(Outcome::Unchanged)
+    }
+
+    /// Begins a check or a repair of all objects. The server goes on with it between the turns of others.
+    ///
+    /// # Errors
+    ///
+    /// `Busy` if an operator waits for another one; `Store` and `Memory`.
+    fn inspect<S: Alter>(&self, store: &mut Store<S>, purpose: Purpose) -> Result<Outcome, Fault>
+        ensures reads { Reads S.Store store.old store.new (λ _. ⊤) }
+        ensures ok { IfOk result (λ outcome. IsInspection purpose self.now.is_busy outcome) }
+    {
+        if self.is_busy {
+            return Err(Fault::Busy);
+        }
+        let inspection = Inspection::begin(self.alloc, store, purpose, true)?;
+        Ok(Outcome::Began(inspection))
     }
 
     /// Obeys a command for the server itself, or runs a command over the server's store.
@@ -293,10 +312,13 @@ impl OperatorContext<'_> {
         output: &mut K,
     ) -> Result<Outcome, Fault>
         ensures { From S.Store store.old store.new (λ world.
-            Helps M.Machine S.Store (HasEndedSo self.now.policy.now self.now.stream.now command.now input.now result)
+            Helps M.Machine S.Store (HasEndedSo self.now.policy.now self.now.is_busy
+            self.now.stream.now command.now input.now result)
             store.old store.new machine.old machine.new world) }
     {
         match command {
+            OperatorCommand::Check => self.inspect(store, Purpose::Check),
+            OperatorCommand::Repair => self.inspect(store, Purpose::Repair),
             OperatorCommand::Hold(seconds) => self.hold(machine, *seconds, output),
             OperatorCommand::Stop => Ok(Outcome::Stopped),
             OperatorCommand::Reload => self.reload(machine, output),
@@ -317,7 +339,8 @@ impl OperatorContext<'_> {
         output: &mut K,
     ) -> Result<Outcome, Fault>
         ensures { From S.Store store.old store.new (λ world.
-            Helps M.Machine S.Store (IsRequestDone self.now.policy.now self.now.stream.now body.now result)
+            Helps M.Machine S.Store (IsRequestDone self.now.policy.now self.now.is_busy
+            self.now.stream.now body.now result)
             store.old store.new machine.old machine.new world) }
     {
         let alloc = self.alloc;
@@ -328,26 +351,8 @@ impl OperatorContext<'_> {
         self.obey(store, machine, &command, input, output)
     }
 
-    /// Sends what a command wrote to its error stream, and then the end of the reply.
-    ///
-    /// # Errors
-    ///
-    /// `Operator` if not all was sent.
-    fn send_end<M: Machine, W: Sink>(
-        &self,
-        machine: &mut M,
-        status: Status,
-        text: &[u8],
-        pieces: &mut Pieces<W>,
-    ) -> Result<(), Fault>
-        ensures { (calls : List Call) × Calls M.Machine machine.old calls machine.new
-            × IsReplied self.now.stream.now status (seen_in calls) }
-    {
-        pieces.send_errors(text)?;
-        machine.send(self.stream, &[status.code()])
-    }
-
-    /// Ends the reply to a request whose command ended so, and reports if that failed. Returns what becomes of the server.
+    /// Ends the reply to a request that ended so, unless an inspection was begun, and reports if that failed. Returns what
+    /// becomes of the server.
     fn end<M: Machine, W: Sink, E: Write>(
         &self,
         machine: &mut M,
@@ -356,16 +361,22 @@ impl OperatorContext<'_> {
         errors: &mut E,
     ) -> Outcome
         ensures made { result ≡ made_of ended }
-        ensures replied { (calls : List Call) × Calls M.Machine machine.old calls machine.new
-            × IsReplied self.now.stream.now (status_of_end ended) (seen_in calls) }
+        ensures ended { (calls : List Call) × Calls M.Machine machine.old calls machine.new
+            × IsEnded self.now.stream.now ended (seen_in calls) }
     {
-        let mut text = Vec::new(self.alloc);
-        let (outcome, status) = match ended {
-            Ok(outcome) => (outcome, Status::Good),
-            Err(fault) => (Outcome::Unchanged, refuse(&fault, &mut text)),
+        let reply = Reply {
+            alloc: self.alloc,
+            stream: self.stream,
         };
-        if let Err(fault) = self.send_end(machine, status, text.as_slice(), pieces) {
-            let _ = print_fault(&fault, errors);
+        let outcome = match ended {
+            Ok(outcome) => outcome,
+            Err(fault) => {
+                reply.end(machine, Err(fault), pieces, errors);
+                return Outcome::Unchanged;
+            }
+        };
+        if !outcome.is_begun() {
+            reply.end(machine, Ok(()), pieces, errors);
         }
         outcome
     }
@@ -385,7 +396,8 @@ impl OperatorContext<'_> {
         errors: &mut E,
     ) -> Result<Outcome, Fault>
         ensures { From S.Store store.old store.new (λ world.
-            Helps M.Machine S.Store (IsAnswered self.now.policy.now self.now.stream.now (made_of result))
+            Helps M.Machine S.Store (IsAnswered self.now.policy.now self.now.is_busy
+            self.now.stream.now (made_of result))
             store.old store.new machine.old machine.new world) }
     {
         let start = Instant::now(clock).map_err(|_| Fault::Operator)?;

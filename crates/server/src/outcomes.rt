@@ -1,5 +1,9 @@
 //! What a command makes of the server that runs it.
 
+ghost use Rattle.std.specs.Prelude.{◌≡◌};
+ghost use Rattle.server.specs.Commands.{is_begun};
+
+use operator::Inspection;
 use policy::Policy;
 
 /// What a command of an operator makes of the server.
@@ -11,4 +15,15 @@ pub enum Outcome {
     Stopped,
     /// It goes on with another policy.
     Reloaded(Policy),
+    /// It goes on with an inspection, whose end the operator waits for.
+    Began(Inspection),
+}
+
+impl Outcome {
+    /// Whether an inspection was begun.
+    pub(crate) fn is_begun(&self) -> bool
+        ensures { result ≡ is_begun self.now }
+    {
+        matches!(self, Outcome::Began(_))
+    }
 }

@@ -1,6 +1,6 @@
 //! The pieces in which an operator gets what his command prints.
 
-ghost use Rattle.std.specs.Prelude.{◌≡◌, ◌<◌, ◌≤◌, length, None, OnOk};
+ghost use Rattle.std.specs.Prelude.{◌≡◌, ◌<◌, ◌≤◌, length, None, IfErr, OnOk};
 ghost use Rattle.std.specs.Io.KnownBytes.{Appends};
 ghost use Rattle.control.specs.Replies.{IsPieceSize, longest_piece, piece_bytes};
 
@@ -50,6 +50,7 @@ impl<W: Sink> Pieces<W> {
         ensures sent { OnOk result (Appends (W.taken self.old.to) (W.taken self.new.to)
             (piece_bytes (record { stream = stream; content = content.now }))) }
         ensures failures { self.new.failures ≡ self.old.failures }
+        ensures err { IfErr result (λ fault. fault ≡ Fault.Operator) }
     {
         let head = piece_head(stream, content.len());
         if print(&mut self.to, &head).is_err() || print(&mut self.to, content).is_err() {
@@ -68,6 +69,20 @@ impl<W: Sink> Pieces<W> {
             return Ok(());
         }
         self.send(Stream::Errors, &text[..text.len().min(LONGEST_PIECE)])
+    }
+
+    /// Sends how far the command is, in a text of at most 65,536 bytes.
+    ///
+    /// # Errors
+    ///
+    /// `Operator` if not all of it was sent.
+    pub(crate) fn send_progress(&mut self, text: &[u8]) -> Result<(), Fault>
+        ensures { IfErr result (λ fault. fault ≡ Fault.Operator) }
+    {
+        if text.is_empty() {
+            return Ok(());
+        }
+        self.send(Stream::Progress, &text[..text.len().min(LONGEST_PIECE)])
     }
 }
 

@@ -1,15 +1,17 @@
 //! A server over an open store: it does what those who call it ask for, one after the other.
 
-ghost use Rattle.std.specs.Prelude.{◌≡◌, ◌≤◌, ◌+◌, [], List, Some, is_some};
+ghost use Rattle.std.specs.Prelude.{◌≡◌, ◌≤◌, ◌+◌, [], List, None, Some, false, IfNone, IfOk, IfSome, OnErr};
 ghost use Rattle.std.specs.Bool.{OnTrue};
 ghost use Rattle.refinement.specs.Left.{From};
 ghost use Rattle.server.specs.Commands.{IsAnswered};
-ghost use Rattle.server.specs.Jobs.{Call, Calls, Converses, HasFinished, Helps, IsTurn, Job, Serves, ServesMore, Tidies, seen_in, first_turn, has_stopped};
+ghost use Rattle.server.specs.Jobs.{Call, Calls, Converses, HasFinished, Helps, IsTurn, Job, Serves, ServesClean, Tidies, seen_in, first_turn, has_stopped};
 ghost use Rattle.faults.specs.Statuses.{is_reported};
+ghost use Rattle.machine.specs.Observations.{called};
 
 use crate::operators::OperatorContext;
 use crate::outcomes::Outcome;
 use crate::traffic::Metered;
+use crate::waiting::Waiting;
 use faults::{Fault, is_good, print_fault};
 use machine::Machine;
 use metrics::{Counts, Turn};
@@ -152,6 +154,24 @@ fn note_ended<M: Machine, E: Write>(machine: &mut M, state: &mut State<'_, E>)
     }
 }
 
+/// Who is served next. While somebody waits for the rest of an inspection, only who is ready: nobody is waited for.
+///
+/// # Errors
+///
+/// `Network` if no connection could be accepted.
+fn next_of<M: Machine>(machine: &mut M, is_busy: bool) -> Result<Option<Caller>, Fault>
+    ensures some { IfOk result (λ found. IfSome found
+        (λ caller. M.Machine.observed machine.old machine.new (called caller))) }
+    ensures none { IfOk result (λ found. IfNone found (M.Machine.idled machine.old machine.new)) }
+    ensures err { OnErr result (M.Machine.idled machine.old machine.new) }
+{
+    if is_busy {
+        machine.next_ready()
+    } else {
+        machine.next()
+    }
+}
+
 impl<C: Clock> Server<'_, C> {
     /// The time; `None` if the clock failed.
     fn instant(&self) -> Option<Instant> {
@@ -279,9 +299,10 @@ impl<C: Clock> Server<'_, C> {
         machine: &mut M,
         stream: &UnixStream,
         state: &mut State<'_, E>,
+        is_busy: bool,
     ) -> Outcome
         ensures world { From S.Store store.old store.new (λ world.
-            Helps M.Machine S.Store (IsAnswered state.old.policy stream.now result)
+            Helps M.Machine S.Store (IsAnswered state.old.policy is_busy stream.now result)
             store.old store.new machine.old machine.new world) }
         ensures begun { state.new.begun ≡ state.old.begun }
         ensures most { state.new.most ≡ state.old.most }
@@ -291,6 +312,7 @@ impl<C: Clock> Server<'_, C> {
             alloc: self.alloc,
             policy: &state.policy,
             counts: &state.tally.counts,
+            is_busy,
             stream,
         };
         let answered = context.serve(store, machine, self.clock, state.errors);
@@ -305,7 +327,8 @@ impl<C: Clock> Server<'_, C> {
     }
 
     /// Waits for the next caller and does what he asks for: a turn of a client, or a command of an operator; or takes note
-    /// of a connection that ended between two turns. Returns the operator who has stopped the server.
+    /// of a connection that ended between two turns. While an operator waits for the rest of an inspection, only those are
+    /// served who are ready. Returns the operator who has stopped the server.
     ///
     /// # Errors
     ///
@@ -315,24 +338,30 @@ impl<C: Clock> Server<'_, C> {
         store: &mut Store<S>,
         machine: &mut M,
         state: &mut State<'_, E>,
+        waiting: &mut Option<Waiting>,
     ) -> Result<Option<UnixStream>, Fault>
         ensures world { From S.Store store.old store.new (λ world.
-            ServesMore M.Machine S.Store state.old.policy store.old store.new machine.old machine.new world
+            ServesClean M.Machine S.Store state.old.policy waiting.old waiting.new
+            store.old store.new machine.old machine.new world
             state.old.begun state.new.begun state.new.policy (has_stopped result)) }
         ensures most { state.new.most ≡ state.old.most }
     {
-        match machine.next()? {
+        match next_of(machine, waiting.is_some())? {
             Some(Caller::Client(client)) => {
                 self.serve_client(store, machine, client, state)?;
                 Ok(None)
             }
             Some(Caller::Operator(stream)) => {
-                match self.serve_operator(store, machine, &stream, state) {
+                match self.serve_operator(store, machine, &stream, state, waiting.is_some()) {
                     Outcome::Unchanged => Ok(None),
                     Outcome::Stopped => Ok(Some(stream)),
                     Outcome::Reloaded(policy) => {
                         state.policy = policy;
                         state.tally.counts.read_policy = self.instant();
+                        Ok(None)
+                    }
+                    Outcome::Began(inspection) => {
+                        *waiting = Some(Waiting { stream, inspection });
                         Ok(None)
                     }
                 }
@@ -344,7 +373,27 @@ impl<C: Clock> Server<'_, C> {
         }
     }
 
-    /// Serves whoever calls, until as many connections were served as are to be, or an operator stops the server.
+    /// Goes on with the inspection that an operator waits for, if there is one.
+    fn go_on<S: Storage, M: Machine, E: Write>(
+        &self,
+        store: &mut Store<S>,
+        machine: &mut M,
+        state: &mut State<'_, E>,
+        waiting: &mut Option<Waiting>,
+    )
+        ensures world { From S.Store store.old store.new (λ world.
+            ServesClean M.Machine S.Store state.old.policy waiting.old waiting.new
+            store.old store.new machine.old machine.new world
+            state.old.begun state.new.begun state.new.policy false) }
+        ensures most { state.new.most ≡ state.old.most }
+    {
+        if let Some(begun) = waiting.take() {
+            *waiting = begun.go_on(self.alloc, store, machine, state.errors);
+        }
+    }
+
+    /// Serves whoever calls, until as many connections were served as are to be, or an operator stops the server. Between
+    /// two callers it goes on with an inspection that was begun.
     ///
     /// # Errors
     ///
@@ -357,18 +406,19 @@ impl<C: Clock> Server<'_, C> {
     ) -> Result<Finish, Fault>
         requires { state.now.begun ≡ 0 }
         ensures { From S.Store store.old store.new (λ world. (jobs : List Job)
-            × Serves M.Machine S.Store state.old.policy store.old store.new machine.old machine.new world jobs
+            × Serves M.Machine S.Store state.old.policy None store.old store.new machine.old machine.new world jobs
             × HasFinished state.old.most jobs result) }
     {
+        let mut waiting = None;
         'callers: for _ in 0..u64::MAX {
-            if state.ended >= state.most && state.is_full() {
+            if waiting.is_none() && state.ended >= state.most && state.is_full() {
                 machine.settle();
                 return Ok(Finish {
                     connections: state.most,
                     stopped_by: None,
                 });
             }
-            if let Some(operator) = self.serve_next(store, machine, state)? {
+            if let Some(operator) = self.serve_next(store, machine, state, &mut waiting)? {
                 machine.shut_at_once();
                 machine.settle();
                 return Ok(Finish {
@@ -376,6 +426,7 @@ impl<C: Clock> Server<'_, C> {
                     stopped_by: Some(operator),
                 });
             }
+            self.go_on(store, machine, state, &mut waiting);
         }
         Err(Fault::Network)
     }
@@ -397,7 +448,7 @@ impl<C: Clock> Server<'_, C> {
         errors: &mut E,
     ) -> Result<Finish, Fault>
         ensures { From S.Store store.old store.new (λ world. (jobs : List Job)
-            × Serves M.Machine S.Store policy store.old store.new machine.old machine.new world jobs
+            × Serves M.Machine S.Store policy None store.old store.new machine.old machine.new world jobs
             × HasFinished most jobs result) }
     {
         let mut state = State {

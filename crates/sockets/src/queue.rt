@@ -223,16 +223,25 @@ impl<'a> Queue<'a> {
         Ok(found)
     }
 
-    /// Looks at those of whom the system has news, and waits for some if there is nothing to do. Returns when it looked.
-    fn look(&mut self, clock: &impl Clock, framing: &impl Framing) -> io::Result<Instant> {
-        let is_busy = self.room.has_ready() || self.room.has_ended() || self.operators_wait;
-        let longest = if is_busy {
+    /// How long a look for the next one to answer may wait: not at all if there is something to do, and until a connection
+    /// may have waited for too long if there are any. `None` is without a limit.
+    fn patience(&self) -> Option<Duration> {
+        if self.room.has_ready() || self.room.has_ended() || self.operators_wait {
             Some(Duration::ZERO)
         } else if self.room.is_empty() && !self.clients_wait {
             None
         } else {
             Some(Duration::from_millis(ROUND))
-        };
+        }
+    }
+
+    /// Looks at those of whom the system has news, and waits for some for at most this long. Returns when it looked.
+    fn look(
+        &mut self,
+        longest: Option<Duration>,
+        clock: &impl Clock,
+        framing: &impl Framing,
+    ) -> io::Result<Instant> {
         self.poll.poll(&mut self.events, longest)?;
         let now = Instant::now(clock)?;
         for event in self.events.iter() {
@@ -265,6 +274,25 @@ impl<'a> Queue<'a> {
         self.longest_wait
     }
 
+    /// Looks once, and waits for at most this long. Returns the next one to answer, if one is ready; `None` if nobody is, or
+    /// if a connection ended that had a turn.
+    fn take_within(
+        &mut self,
+        longest: Option<Duration>,
+        clock: &impl Clock,
+        framing: &impl Framing,
+    ) -> io::Result<Option<Caller>> {
+        let now = self.look(longest, clock, framing)?;
+        if self.room.has_ended() {
+            return Ok(None);
+        }
+        let found = self.next()?;
+        if let Some(caller) = &found {
+            self.note_wait(caller, now);
+        }
+        Ok(found)
+    }
+
     /// The next one to answer. Waits if nobody is ready; `None` if a connection ended that had a turn.
     ///
     /// # Errors
@@ -276,16 +304,26 @@ impl<'a> Queue<'a> {
         framing: &impl Framing,
     ) -> io::Result<Option<Caller>> {
         'looks: for _ in 0..u64::MAX {
-            let now = self.look(clock, framing)?;
-            if self.room.has_ended() {
-                return Ok(None);
-            }
-            if let Some(caller) = self.next()? {
-                self.note_wait(&caller, now);
-                return Ok(Some(caller));
+            let longest = self.patience();
+            let found = self.take_within(longest, clock, framing)?;
+            if found.is_some() || self.room.has_ended() {
+                return Ok(found);
             }
         }
         Err(ErrorKind::TimedOut.into())
+    }
+
+    /// The next one to answer, if one is ready now; `None` if nobody is, or if a connection ended that had a turn.
+    ///
+    /// # Errors
+    ///
+    /// Fails if a listener failed, and if the clock did.
+    pub fn take_ready(
+        &mut self,
+        clock: &impl Clock,
+        framing: &impl Framing,
+    ) -> io::Result<Option<Caller>> {
+        self.take_within(Some(Duration::ZERO), clock, framing)
     }
 
     /// A connection that had a turn, and ended while it waited for the next.
@@ -315,7 +353,8 @@ impl<'a> Queue<'a> {
             if self.room.is_empty() {
                 break;
             }
-            self.look(clock, framing)?;
+            let longest = self.patience();
+            self.look(longest, clock, framing)?;
         }
         Ok(())
     }

@@ -1,4 +1,4 @@
-use Rattle.operator.proofs.Ran.{ran_found, ran_reads, ran_repair, ran_still, ran_sweep}
+use Rattle.operator.proofs.Ran.{ran_checked, ran_reads, ran_repaired, ran_still, ran_sweep}
 use Rattle.operator.proofs.tasks.Task.run.Goals as goal
 
 pub returns-in-Issue-clause-world : goal.returns-in-Issue-clause-world
@@ -32,7 +32,7 @@ pub returns-in-Usage-clause-world : goal.returns-in-Usage-clause-world
 returns-in-Usage-clause-world g c = rw c.in-Usage.is (ran_still g.S.Store _ c.args.store.now c.list_usage.new.store c.list_usage.result c.list_usage.ensures.err c.list_usage.ensures.reads)
 
 pub returns-in-CheckObjects-clause-world : goal.returns-in-CheckObjects-clause-world
-returns-in-CheckObjects-clause-world g c = rw c.in-CheckObjects.is (ran_found g.S.Store _ c.args.store.now c.check_objects.new.store c.check_objects.result c.check_objects.ensures.reads)
+returns-in-CheckObjects-clause-world g c = rw c.in-CheckObjects.is (ran_checked g.S.Store _ c.args.store.now c.inspect_all.new.store c.inspect_all.result c.inspect_all.ensures.world)
 
 pub returns-in-Repair-clause-world : goal.returns-in-Repair-clause-world
-returns-in-Repair-clause-world g c = rw c.in-Repair.is (ran_repair g.S.Store _ c.args.store.now c.repair.new.store c.repair.result c.repair.ensures.err c.repair.ensures.world)
+returns-in-Repair-clause-world g c = rw c.in-Repair.is (ran_repaired g.S.Store _ c.args.store.now c.inspect_all-in-Repair.new.store c.inspect_all-in-Repair.result c.inspect_all-in-Repair.ensures.world)

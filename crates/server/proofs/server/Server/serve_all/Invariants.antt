@@ -1,12 +1,12 @@
-use Rattle.std.specs.Prelude.{false}
+use Rattle.std.specs.Prelude.{None, false}
 use Rattle.std.proofs.Common.{◌≡◌}
 use Rattle.refinement.specs.Left.{From}
-use Rattle.server.specs.Jobs.{ServesMore}
+use Rattle.server.specs.Jobs.{ServesClean}
 use Rattle.server.proofs.server.Server.serve_all.Given as goal
 
 abbrev pub invariant-callers : goal.invariant-callers
 invariant-callers g l = record {
   jobs : From g.S.Store l.fn.store l.store (λ world.
-      ServesMore g.M.Machine g.S.Store l.fn.state.policy l.fn.store l.store l.fn.machine l.machine world 0 l.state.begun l.state.policy false);
+      ServesClean g.M.Machine g.S.Store l.fn.state.policy None l.waiting l.fn.store l.store l.fn.machine l.machine world 0 l.state.begun l.state.policy false);
   most : l.state.most ≡ l.fn.state.most;
 }

@@ -1,8 +1,7 @@
 use Rattle.std.proofs.Common.{[], ◌∷◌, inl, inr, refl, subst, sym}
-use Rattle.control.specs.Replies.{status_code}
 use Rattle.server.specs.Commands.{IsReplied}
 use Rattle.server.proofs.Jobs.{sent_or_not}
-use Rattle.server.proofs.operators.OperatorContext.send_end.Goals as goal
+use Rattle.server.proofs.reply.Reply.send_end.Goals as goal
 
 pub returns-in_err-send_errors : goal.returns-in_err-send_errors
 returns-in_err-send_errors g c = ([], refl, tt)

@@ -1,0 +1,11 @@
+use Rattle.operator.proofs.Prelude.{⊤, ◌≡◌, From, Reads}
+use Rattle.operator.specs.declared.inspecting.Purpose.TheVariants.{Check}
+use Rattle.operator.proofs.inspecting.inspect_all.Given as goal
+
+abbrev pub invariant-steps : goal.invariant-steps
+invariant-steps g l = record {
+  world : From g.S.Store l.fn.store l.store (λ _. Reads g.S.Store l.fn.store l.store (λ _. ⊤) × (l.inspection.damaged ≡ 0));
+  reads : l.fn.purpose ≡ Check → Reads g.S.Store l.fn.store l.store (λ _. ⊤);
+  purpose : l.inspection.purpose ≡ l.fn.purpose;
+  good : g.K.Sink.failed l.output ≡ g.K.Sink.failed l.fn.output;
+}

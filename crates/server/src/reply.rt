@@ -1,0 +1,65 @@
+//! The end of a reply to an operator.
+
+ghost use Rattle.std.specs.Prelude.{List};
+ghost use Rattle.server.specs.Commands.{IsReplied};
+ghost use Rattle.server.specs.Jobs.{Call, Calls, seen_in};
+ghost use Rattle.faults.specs.Statuses.{status_of_end};
+
+use crate::pieces::Pieces;
+use control::Status;
+use faults::{Fault, print_fault, refuse};
+use machine::Machine;
+use names::Sink;
+use std::alloc::Global;
+use std::io::Write;
+use std::os::unix::net::UnixStream;
+
+/// A reply to an operator, which was begun.
+#[derive(Clone, Copy)]
+pub(crate) struct Reply<'a> {
+    pub alloc: Global,
+    /// Where the operator is.
+    pub stream: &'a UnixStream,
+}
+
+impl Reply<'_> {
+    /// Sends what a command wrote to its error stream, and then the end of the reply.
+    ///
+    /// # Errors
+    ///
+    /// `Operator` if not all was sent.
+    fn send_end<M: Machine, W: Sink>(
+        &self,
+        machine: &mut M,
+        status: Status,
+        text: &[u8],
+        pieces: &mut Pieces<W>,
+    ) -> Result<(), Fault>
+        ensures { (calls : List Call) × Calls M.Machine machine.old calls machine.new
+            × IsReplied self.now.stream.now status (seen_in calls) }
+    {
+        pieces.send_errors(text)?;
+        machine.send(self.stream, &[status.code()])
+    }
+
+    /// Ends the reply to a request that ended so, and reports if that failed.
+    pub(crate) fn end<M: Machine, W: Sink, E: Write>(
+        &self,
+        machine: &mut M,
+        ended: Result<(), Fault>,
+        pieces: &mut Pieces<W>,
+        errors: &mut E,
+    )
+        ensures { (calls : List Call) × Calls M.Machine machine.old calls machine.new
+            × IsReplied self.now.stream.now (status_of_end ended) (seen_in calls) }
+    {
+        let mut text = Vec::new(self.alloc);
+        let status = match ended {
+            Ok(()) => Status::Good,
+            Err(fault) => refuse(&fault, &mut text),
+        };
+        if let Err(fault) = self.send_end(machine, status, text.as_slice(), pieces) {
+            let _ = print_fault(&fault, errors);
+        }
+    }
+}
