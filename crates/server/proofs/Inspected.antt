@@ -25,19 +25,19 @@ use Rattle.machine.specs.Observations.{Observation, called}
 use Rattle.server.specs.declared.outcomes.Outcome.{Outcome}
 use Rattle.server.specs.declared.outcomes.Outcome.TheVariants.{Unchanged, Stopped, Reloaded, Began}
 use Rattle.server.specs.declared.waiting.Waiting.{Waiting}
-use Rattle.server.specs.Commands.{HasEndedSo, IsAnswered, IsGoneOn, IsInspection, IsNoDamage, IsObeyed, IsReplied, IsRequestDone, is_stopped, made_of, operator_in, policy_after}
+use Rattle.server.specs.Commands.{HasEndedSo, IsAnswered, IsGoneOn, IsInspection, IsInspectionFault, IsObeyed, IsReplied, IsRequestDone, is_stopped, made_of, operator_in, policy_after}
 use Rattle.server.specs.Jobs.{Call, Calls, Helps, IsFor, IsTurn, ServesClean, ServesMore, first_turn, for_caller, seen_in, waiting_after}
 use Rattle.server.proofs.Jobs.{clean_still, from_read, from_turn, helps_read, serves_one}
 use Rattle.sockets.specs.declared.client.Client.{Client}
 use Rattle.sockets.specs.declared.queue.Caller.TheVariants.{Operator}
 use Rattle.sockets.specs.declared.queue.Caller.TheVariants as from
 
--- a plain fault does not say that an object is damaged
-pub plain_fault : (fault : TaskFault) → IsPlain fault → IsNoDamage (of_task fault)
+-- a plain fault is one of an inspection
+pub plain_fault : (fault : TaskFault) → IsPlain fault → IsInspectionFault (of_task fault)
 plain_fault (task.Store fault) plain = tt
-plain_fault (task.Token fault) plain = tt
-plain_fault task.NoCaller plain = tt
-plain_fault task.NoObject plain = tt
+plain_fault (task.Token fault) plain = absurd plain
+plain_fault task.NoCaller plain = absurd plain
+plain_fault task.NoObject plain = absurd plain
 plain_fault task.Memory plain = tt
 plain_fault task.Output plain = tt
 plain_fault task.Reported plain = absurd plain
@@ -75,8 +75,8 @@ busy_is (Some waiting) = refl
 
 module _ {S : Type 0} (g : Ghosts S) where
   -- the inspection went on, and why its command ended if it did
-  pub advanced : (a b : Store S) (was is : Inspection) (r : Result Bool Fault) → From g a b (λ _. Spares g a b was is) → (is.damaged ≡ 0 → IfErr r IsNoDamage)
-      → From g a b (λ _. Reads g a b (λ _. ⊤) × (was.damaged ≡ 0 → (is.damaged ≡ 0) × IfErr r IsNoDamage))
+  pub advanced : (a b : Store S) (was is : Inspection) (r : Result Bool Fault) → From g a b (λ _. Spares g a b was is) → (is.damaged ≡ 0 → IfErr r IsInspectionFault)
+      → From g a b (λ _. Reads g a b (λ _. ⊤) × (was.damaged ≡ 0 → (is.damaged ≡ 0) × IfErr r IsInspectionFault))
   advanced a b was is r p why = from_weaker g a b _ _ (λ world s. (s.reads, λ none. let clean = s.none ∙ none in (clean, why clean))) p
 
 module _ {M : Type 0} (m : machine.Ghosts M) {S : Type 0} (g : Ghosts S) where
@@ -115,7 +115,7 @@ module _ {M : Type 0} (m : machine.Ghosts M) {S : Type 0} (g : Ghosts S) where
       }
 
   -- it goes on
-  pub goes_still : (a b : Store S) (u : M) (operator : UnixStream) (was is : Inspection) (r : Result Bool Fault) → From g a b (λ _. Reads g a b (λ _. ⊤) × (was.damaged ≡ 0 → (is.damaged ≡ 0) × IfErr r IsNoDamage))
+  pub goes_still : (a b : Store S) (u : M) (operator : UnixStream) (was is : Inspection) (r : Result Bool Fault) → From g a b (λ _. Reads g a b (λ _. ⊤) × (was.damaged ≡ 0 → (is.damaged ≡ 0) × IfErr r IsInspectionFault))
       → From g a b (λ world. was.damaged ≡ 0 → Helps m g (IsGoneOn operator (Some operator)) a b u u world × (is.damaged ≡ 0))
   goes_still a b u operator was is r p = record {
     honest = p.honest;
@@ -125,8 +125,8 @@ module _ {M : Type 0} (m : machine.Ghosts M) {S : Type 0} (g : Ghosts S) where
   }
 
   -- it has ended, and so has the reply
-  pub goes_no_more : (a b : Store S) (u v : M) (operator : UnixStream) (was is : Inspection) (r : Result Bool Fault) (ended : Result ⊤ Fault) (calls : List Call) → (IfErr r IsNoDamage → IfErr ended IsNoDamage)
-      → Calls m u calls v → IsReplied operator (status_of_end ended) (seen_in calls) → From g a b (λ _. Reads g a b (λ _. ⊤) × (was.damaged ≡ 0 → (is.damaged ≡ 0) × IfErr r IsNoDamage))
+  pub goes_no_more : (a b : Store S) (u v : M) (operator : UnixStream) (was is : Inspection) (r : Result Bool Fault) (ended : Result ⊤ Fault) (calls : List Call) → (IfErr r IsInspectionFault → IfErr ended IsInspectionFault)
+      → Calls m u calls v → IsReplied operator (status_of_end ended) (seen_in calls) → From g a b (λ _. Reads g a b (λ _. ⊤) × (was.damaged ≡ 0 → (is.damaged ≡ 0) × IfErr r IsInspectionFault))
       → From g a b (λ world. was.damaged ≡ 0 → Helps m g (IsGoneOn operator None) a b u v world × ⊤)
   goes_no_more a b u v operator was is r ended calls same made replied p = record {
     honest = p.honest;

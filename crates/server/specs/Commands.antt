@@ -39,7 +39,7 @@ use Rattle.machine.specs.Observations.{Observation, timed, drawn, received, sent
 use Rattle.server.specs.Given.{IsGiven}
 use Rattle.faults.specs.Statuses.{ended_of, status_of, status_of_end}
 use Rattle.faults.specs.declared.faults.Fault.{Fault}
-use Rattle.faults.specs.declared.faults.Fault.TheVariants.{Reported, ReportedInvalid}
+use Rattle.faults.specs.declared.faults.Fault.TheVariants as refusal
 use Rattle.server.specs.declared.foreseeing.GivenMessage.{GivenMessage}
 use Rattle.server.specs.declared.outcomes.Outcome.{Outcome}
 use Rattle.server.specs.declared.outcomes.Outcome.TheVariants.{Unchanged, Stopped, Reloaded, Began}
@@ -268,15 +268,18 @@ IsAnswered policy busy operator outcome world seen steps kept =
 
 -- ---- inspections
 
--- the fault does not say that an object is damaged
-abbrev pub IsNoDamage : Fault → Type 0
-IsNoDamage Reported = ⊥
-IsNoDamage ReportedInvalid = ⊥
-IsNoDamage _ = ⊤
+-- an inspection ends with this fault: the database refused, memory ran out, or what it sends could not be sent; none says that an
+-- object is damaged
+abbrev pub IsInspectionFault : Fault → Type 0
+IsInspectionFault (refusal.Store fault) = ⊤
+IsInspectionFault refusal.Memory = ⊤
+IsInspectionFault refusal.Output = ⊤
+IsInspectionFault refusal.Operator = ⊤
+IsInspectionFault _ = ⊥
 
 -- the operator's inspection has ended: its reply ends with the status with which it ended, and no damage is reported
 abbrev pub HasInspected : UnixStream → List Observation → Type 0
-HasInspected operator seen = (ended : Result ⊤ Fault) × IfErr ended IsNoDamage × IsReplied operator (status_of_end ended) seen
+HasInspected operator seen = (ended : Result ⊤ Fault) × IfErr ended IsInspectionFault × IsReplied operator (status_of_end ended) seen
 
 -- an operator's inspection went on, and he is sent nothing that is observed; or it has ended, and nobody waits
 abbrev pub IsGoneOn : UnixStream → (waiting : Option UnixStream) → World → List Observation → List Event → (kept : World) → Type 0

@@ -2,7 +2,7 @@
 
 ghost use Rattle.std.specs.Prelude.{◌≡◌, ⊤, IfErr};
 ghost use Rattle.refinement.specs.Left.{From, Reads};
-ghost use Rattle.server.specs.Commands.{IsClean, IsGoneOn, IsNoDamage, operator_in};
+ghost use Rattle.server.specs.Commands.{IsClean, IsGoneOn, IsInspectionFault, operator_in};
 ghost use Rattle.server.specs.Jobs.{Helps};
 
 use crate::pieces::Pieces;
@@ -32,7 +32,7 @@ fn advance<S: Alter, W: Sink>(
 ) -> Result<bool, Fault>
     ensures { From S.Store store.old store.new (λ _. Reads S.Store store.old store.new (λ _. ⊤)
         × (inspection.old.damaged ≡ 0
-        → (inspection.new.damaged ≡ 0) × IfErr result IsNoDamage)) }
+        → (inspection.new.damaged ≡ 0) × IfErr result IsInspectionFault)) }
 {
     match inspection.advance(alloc, store)? {
         Advance::More => {}
