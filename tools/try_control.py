@@ -20,6 +20,7 @@ import random
 import shutil
 import signal
 import socket
+import sqlite3
 import stat
 import subprocess
 import sys
@@ -397,6 +398,33 @@ def check_gives_way(server, _):
     )
 
 
+def check_damaged(server, _):
+    """A bit of an object that is read in parts is flipped: a check by the socket names it, a repair removes it, and it can be
+    stored again."""
+    objects = [os.urandom(5_000_000), os.urandom(3_000_000), b"x" * 1_048_577]
+    with server.client() as client:
+        for data in objects:
+            put(client, data)
+    oid = hashlib.sha256(objects[0]).hexdigest()
+    server.end(signal.SIGKILL)
+    with contextlib.closing(sqlite3.connect(f"{server.room}/custody.db")) as db:
+        chunk = "upload = (SELECT id FROM uploads WHERE oid = ?) AND n = 30"
+        (first, *rest), = db.execute(f"SELECT bytes FROM chunks WHERE {chunk}", (oid,)).fetchone()
+        db.execute(f"UPDATE chunks SET bytes = ? WHERE {chunk}", (bytes([first ^ 1, *rest]), oid))
+        db.commit()
+        db.execute("PRAGMA wal_checkpoint(TRUNCATE)")
+    server.start()
+    found, removed = f"damaged studio/film {oid}\nchecked 3 objects\n", f"removed studio/film {oid}\nremoved 1 objects\n"
+    for command, wanted in (("check", (1, found, "")), ("repair", (0, removed, "")), ("check", (0, "checked 2 objects\n", ""))):
+        ran = via(server, command)
+        require(ran == wanted, f"{command}: {ran}")
+    with server.client() as client:
+        put(client, objects[0])
+    ran = via(server, "check")
+    require(ran == (0, "checked 3 objects\n", ""), f"at last: {ran}")
+    return "an object of 5 MB is named, removed and stored again"
+
+
 def check_stop(server, _):
     """A server that is stopped ends the upload that it reads, and leaves no socket. Its file needs no log then."""
     data = os.urandom(20_000_000)
@@ -561,6 +589,7 @@ CHECKS = {
     "idle-client": controlled(check_idle_client),
     "under-load": controlled(check_under_load),
     "gives-way": controlled(check_gives_way),
+    "damaged": controlled(check_damaged),
     "hold": controlled(check_hold),
     "hold-over": controlled(check_hold_over),
     "stop": controlled(check_stop),

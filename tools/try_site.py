@@ -9,6 +9,8 @@ omitted, and at most 4. It prints a line for each check, and ends with `N passed
 failed.
 """
 import getpass
+import http.client
+import json
 import os
 import random
 import shutil
@@ -393,6 +395,41 @@ def try_backup(site):
     site.check(len(copies) == 1 and least <= count <= most, f"the copy has {count} objects: {least} or more", found[1][:200])
 
 
+def time_of_lock(site, token, path):
+    """How long the server takes to lock a path, for whoever has the token, without nginx."""
+    body = json.dumps({"path": path})
+    began = time.monotonic()
+    connection = http.client.HTTPConnection("127.0.0.1", site.http)
+    connection.request("POST", "/studio/film.git/info/lfs/locks", body, {"Authorization": token})
+    status = connection.getresponse().status
+    connection.close()
+    return time.monotonic() - began if status == 201 else float("inf")
+
+
+def locks_beside_a_push(site, token, name, meanwhile):
+    """How long locks take while ann pushes 300 files, and something else is done, until both have ended."""
+    site.add_files("ann", name, 300, 100_000)
+    pushed = in_background(site, "push", "-q", "origin", "main")
+    other = threading.Thread(target=meanwhile)
+    other.start()
+    waits, before = [], site.objects()
+    while other.is_alive() or site.objects() < before + 250:
+        waits.append(time_of_lock(site, token, f"{name}/{len(waits)}"))
+    status, text = pushed()
+    site.check(status == 0, f"a push passes, with {len(waits)} locks meanwhile", text)
+    return max(waits)
+
+
+def try_check(site):
+    """Every object is hashed again during a push; no lock waits much longer than beside the push alone."""
+    token = json.loads(site.via("authenticate", "--user", "bob", "studio/film", "upload")[1])["header"]["Authorization"]
+    alone = locks_beside_a_push(site, token, "unchecked", lambda: None)
+    ran = []
+    beside = locks_beside_a_push(site, token, "checked", lambda: ran.append(site.via("check")))
+    site.check(ran[0][0] == 0, f"every object is hashed again during a push: {ran[0][1].strip()}", ran[0][1])
+    site.check(beside <= alone + 0.5, f"a lock took at most {beside:.2f} s, and {alone:.2f} s without the check", "")
+
+
 def try_stop(site):
     """A server that is stopped during a push breaks no transfer that it has in hand."""
     site.add_files("ann", "stopped", 300, 100_000)
@@ -488,7 +525,7 @@ def main():
         site = Site(sys.argv[1], room)
         try:
             site.set_up()
-            parts = (try_push_and_clone, try_locks, try_transfers, try_tokens, try_restart, try_backup, try_stop, try_reload)
+            parts = (try_push_and_clone, try_locks, try_transfers, try_tokens, try_restart, try_backup, try_check, try_stop, try_reload)
             for part in (*parts, try_status, try_other_requests):
                 part(site)
             try_large_files(site, gibibytes << 30)
