@@ -184,8 +184,8 @@ fn operators_and_clients_are_answered_in_turn(rt: HostRuntime) {
 /// What clients do, one letter each, in a queue of three connections; and which messages are served, or that a connection
 /// ended.
 ///
-/// `+x` connects the client `x`, `x=TEXT;` sends the text, with `/` for the end of a line, `x.` ends its side, `!` answers the
-/// next caller, and `?` does so if one is ready now.
+/// `+x` connects the client `x`, `x=TEXT;` sends the text, with `/` for the end of a line, `x.` ends its side, and `!`
+/// answers the next caller.
 const STEPS: &[(&str, &str)] = &[
     // A second message in halves, beside another client.
     ("+a+ba=a0/a;!b=b0/;!a=0/;!", "aba"),
@@ -197,8 +197,6 @@ const STEPS: &[(&str, &str)] = &[
     ("+aa=a3/xy;+bb=b0/;!a=z;!", "ba"),
     // A fourth connection: the client that was silent for longest gives way.
     ("+a+b+c+db=b0/;!d=d0/;!c=c0/;!", "bdc"),
-    // Nobody, half a head, its end, and a connection that ends after its turn.
-    ("?+a?a=a0;?a=/;??a.??", "???a?-?"),
 ];
 
 /// The client of this letter, among those in alphabetical order.
@@ -233,7 +231,6 @@ fn follow(rt: &impl Tester, host: &HostRuntime, listeners: Listeners<'_>, steps:
         rest = rest.get(1..).unwrap_or("");
         match letter {
             b'!' => unwrap(rt, record.push(unwrap(rt, take(host, &mut queue)).0)),
-            b'?' => unwrap(rt, record.push(unwrap(rt, take_ready(host, &mut queue)).0)),
             b'+' => {
                 unwrap(rt, clients.push(connect(rt, host, listeners.clients)));
                 rest = rest.get(1..).unwrap_or("");
