@@ -4,8 +4,10 @@
 //! success, 1 for a refusal, 2 for invalid arguments. `main` passes the machine's arguments and streams.
 #![tactic(auto)]
 
+mod explaining;
 mod inputs;
 mod migrating;
+mod noting;
 mod opening;
 mod operating;
 mod output;
@@ -13,15 +15,17 @@ mod policy_command;
 mod policy_lines;
 mod program;
 mod progress;
+mod quiet;
 mod reading;
 mod serve;
 mod session;
 mod via;
+mod watched;
 
 pub use command_line::ServeArgs;
 pub use operator::Destination;
 pub use output::Flushed;
-pub use program::{refuse_args, run};
+pub use program::{Environment, refuse_args, run};
 pub use reading::size_text;
 pub use serve::{Listeners, serve_listeners};
 pub use via::{Question, print_reply, request_of};

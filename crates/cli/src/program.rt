@@ -2,19 +2,26 @@
 
 ghost use Rattle.std.specs.Prelude.{◌≡◌, ◌≢◌, ◌≤◌, OnOk};
 ghost use Rattle.std.specs.IoError.{error_kind};
+ghost use Rattle.control.specs.declared.status.Status.TheVariants.{Good};
 
+use crate::explaining::Explaining;
 use crate::migrating::migrate;
+use crate::noting::Notes;
 use crate::operating::operate;
 use crate::policy_command::policy_command;
+use crate::quiet::but_last_line;
 use crate::serve::serve;
 use crate::session::session;
 use crate::via::ask_at;
-use command_line::{Command, read_args};
-use faults::{Fault, status_after};
+use crate::watched::Watched;
+use causes::Named;
+use command_line::{Command, is_given, read_args, with_server};
+use control::Status;
+use faults::{Fault, refuse};
 use names::{Counted, Sink};
 use operator::{Destination, print};
-use std::alloc::Global;
-use std::io::{self, ErrorKind, Read, Write};
+use std::alloc::{AllocError, Global};
+use std::io::{self, ErrorKind, IsTerminal, Read, Write};
 use std::rt::HostRuntime;
 use tables::Start;
 
@@ -31,8 +38,105 @@ fn print_text<K: Sink>(alloc: Global, text: &clap::Error, output: &mut K) -> Res
     Ok(())
 }
 
+/// What the program is run in, besides its arguments and streams.
+#[derive(Clone, Copy, Debug)]
+pub struct Environment<'a> {
+    /// Where the output is written to.
+    pub destination: Destination,
+    /// The control socket of the server that is asked if the arguments name neither files nor a server: the variable
+    /// `CUSTODY_VIA`.
+    pub server: Option<&'a str>,
+}
+
+/// How a command prints.
+#[derive(Clone, Copy)]
+struct Manner {
+    destination: Destination,
+    /// Whether failures are explained.
+    explains: bool,
+    /// Whether the last line of the output is dropped if the command succeeds.
+    is_quiet: bool,
+}
+
 /// Runs the command that the arguments name.
 fn dispatch<S: Start, R: Read, K: Sink, E: Write>(
+    rt: &HostRuntime,
+    command: &Command<'_>,
+    input: &mut R,
+    manner: Manner,
+    output: &mut K,
+    errors: &mut E,
+    start: S,
+) -> Result<(), Fault>
+    ensures { OnOk result (K.failed output.new ≡ K.failed output.old) }
+{
+    let destination = manner.destination;
+    match command {
+        Command::Text(text) => print_text(rt.alloc(), text, output),
+        Command::Session(asked) => session(rt, asked, &mut Counted::new(input), output, start),
+        Command::Serve(asked) => serve(rt, asked, manner.explains, output, errors, start),
+        Command::Policy(asked) => policy_command(rt, asked, output),
+        Command::Migrate(db) => migrate(rt, db, output, start),
+        Command::Local(files, command) => {
+            let input = &mut Counted::new(input);
+            operate(rt, files, command, input, destination, output, start)
+        }
+        Command::Remote(socket, command) => {
+            let input = &mut Counted::new(input);
+            ask_at(rt, socket, command, input, destination, output, errors)
+        }
+    }
+}
+
+/// The same without the last line of the output, if the command succeeds.
+fn dispatch_quietly<S: Start, R: Read, K: Sink, E: Write>(
+    rt: &HostRuntime,
+    command: &Command<'_>,
+    input: &mut R,
+    manner: Manner,
+    output: &mut K,
+    errors: &mut E,
+    start: S,
+) -> Result<(), Fault>
+    ensures { OnOk result (K.failed output.new ≡ K.failed output.old) }
+{
+    let mut kept = Counted::new(Vec::new(rt.alloc()));
+    let ended = dispatch(rt, command, input, manner, &mut kept, errors, start);
+    let text = kept.into_inner();
+    let printed = match ended {
+        Ok(()) => but_last_line(text.as_slice()),
+        Err(_) => text.as_slice(),
+    };
+    print(output, printed)?;
+    ended
+}
+
+/// Runs the command as the manner says.
+fn carry_out<S: Start, R: Read, K: Sink, E: Write>(
+    rt: &HostRuntime,
+    command: &Command<'_>,
+    input: &mut R,
+    manner: Manner,
+    output: &mut K,
+    errors: &mut E,
+    start: S,
+) -> Result<(), Fault>
+    ensures { OnOk result (K.failed output.new ≡ K.failed output.old) }
+{
+    if manner.is_quiet {
+        return dispatch_quietly(rt, command, input, manner, output, errors, start);
+    }
+    let notes = Notes::of(rt, command);
+    let mut watched = Watched::new(output);
+    let ended = dispatch(rt, command, input, manner, &mut watched, errors, start);
+    if manner.explains {
+        notes.write(rt, watched.has_printed() || ended.is_err(), errors);
+    }
+    ended
+}
+
+/// Runs the command of these arguments, and prints its fault, if there is one.
+fn run_args<S: Start, R: Read, K: Sink, E: Write>(
     rt: &HostRuntime,
     args: &[String],
     input: &mut R,
@@ -40,35 +144,37 @@ fn dispatch<S: Start, R: Read, K: Sink, E: Write>(
     output: &mut K,
     errors: &mut E,
     start: S,
-) -> Result<(), Fault>
-    ensures { OnOk result (K.failed output.new ≡ K.failed output.old) }
+) -> Status
+    ensures { result ≡ Good → K.failed output.new ≡ K.failed output.old }
 {
-    match read_args(rt.alloc(), args)? {
-        Command::Text(text) => print_text(rt.alloc(), &text, output),
-        Command::Session(asked) => session(rt, &asked, &mut Counted::new(input), output, start),
-        Command::Serve(asked) => serve(rt, &asked, output, errors, start),
-        Command::Policy(asked) => policy_command(rt, &asked, output),
-        Command::Migrate(db) => migrate(rt, db, output, start),
-        Command::Local(files, command) => {
-            operate(
-                rt,
-                &files,
-                &command,
-                &mut Counted::new(input),
-                destination,
-                output,
-                start,
-            )
-        }
-        Command::Remote(socket, command) => ask_at(
-            rt,
-            socket,
-            &command,
-            &mut Counted::new(input),
-            destination,
-            output,
-            errors,
-        ),
+    let manner = Manner {
+        destination,
+        explains: rt.stderr().is_terminal() || is_given(args, "--explain"),
+        is_quiet: is_given(args, "--quiet"),
+    };
+    let explaining = Explaining {
+        rt,
+        is_on: manner.explains,
+    };
+    let command = match read_args(rt.alloc(), args) {
+        Ok(command) => command,
+        Err(fault) => return explaining.refuse(&Fault::from(fault), &Named::NOTHING, errors),
+    };
+    match carry_out(rt, &command, input, manner, output, errors, start) {
+        Ok(()) => Status::Good,
+        Err(fault) => explaining.refuse(&fault, &Named::of(&command), errors),
+    }
+}
+
+/// The arguments with the server of the environment, if there is one, and they name neither files nor a server.
+fn args_with_server(
+    alloc: Global,
+    args: &[String],
+    server: Option<&str>,
+) -> Result<Option<Vec<String>>, AllocError> {
+    match server {
+        Some(socket) => with_server(alloc, args, socket),
+        None => Ok(None),
     }
 }
 
@@ -76,8 +182,8 @@ fn dispatch<S: Start, R: Read, K: Sink, E: Write>(
 /// stream. Returns the exit status: 0 for success, 1 for a refusal, 2 for invalid arguments. If it is 0, all output was
 /// written.
 ///
-/// The first argument is the program's own name. `destination` is where the output is written to.
-/// `docs/COMMANDS.md` lists what the commands print, and each line on the error stream.
+/// The first argument is the program's own name. `docs/COMMANDS.md` lists what the commands print, and each line on the error
+/// stream.
 ///
 /// `start` represents the contents of the database and its log when they are opened, which no code can
 /// read: so the proofs about the commands hold for every file. A program passes
@@ -86,7 +192,7 @@ pub fn run<S: Start, R: Read, K: Sink, E: Write>(
     rt: &HostRuntime,
     args: &[String],
     input: &mut R,
-    destination: Destination,
+    environment: Environment<'_>,
     output: &mut K,
     errors: &mut E,
     start: S,
@@ -94,8 +200,15 @@ pub fn run<S: Start, R: Read, K: Sink, E: Write>(
     ensures status { result ≤ 2 }
     ensures good { result ≡ 0 → K.failed output.new ≡ K.failed output.old }
 {
-    let ended = dispatch(rt, args, input, destination, output, errors, start);
-    status_after(ended, errors).code()
+    let destination = environment.destination;
+    let status = match args_with_server(rt.alloc(), args, environment.server) {
+        Ok(None) => run_args(rt, args, input, destination, output, errors, start),
+        Ok(Some(more)) => {
+            run_args(rt, more.as_slice(), input, destination, output, errors, start)
+        }
+        Err(_) => refuse(&Fault::Memory, errors),
+    };
+    status.code()
 }
 
 /// Prints that an argument is not valid UTF-8.
@@ -114,7 +227,7 @@ pub fn refuse_args<E: Write>(error: &io::Error, errors: &mut E) -> u8
     ensures other { error_kind error.now ≢ ErrorKind.OutOfMemory → result ≡ 2 }
 {
     match error.kind() {
-        ErrorKind::OutOfMemory => status_after(Err(Fault::Memory), errors).code(),
+        ErrorKind::OutOfMemory => refuse(&Fault::Memory, errors).code(),
         _ => {
             let _ = print_not_utf8(errors);
             2

@@ -1,11 +1,15 @@
-//! What `serve` shows on a terminal before it opens its database, which takes seconds if it is large.
+//! What `serve` says before it opens its database, which takes seconds if it is large.
 
 ghost use Rattle.std.specs.Prelude.{◌≡◌, IfOk, string_bytes};
 ghost use Rattle.cli.specs.Sizes.{size_text};
 
+use machine::policy_line;
+use names::Counted;
+use operator::Lines;
+use policy::Policy;
 use std::alloc::{AllocError, Global};
 use std::fs;
-use std::io::{IsTerminal, Write};
+use std::io::Write;
 use std::rt::HostRuntime;
 
 /// A number of bytes in decimal units, rounded down: KB below 1 MB, and tenths of a MB below 10 MB.
@@ -39,7 +43,7 @@ fn size_of(rt: &HostRuntime, path: &str) -> u64 {
 /// The line about a database of this size.
 fn reading_line(alloc: Global, db: &str, bytes: u64) -> Result<String, AllocError> {
     let size = size_text(alloc, bytes)?;
-    format!(in alloc; "reading {db} ({size})\n")
+    format!(in alloc; "reading {db} ({size})")
 }
 
 /// The number of bytes of a database and its log; 0 if there is none.
@@ -52,17 +56,26 @@ fn database_size(rt: &HostRuntime, db: &str) -> Result<u64, AllocError> {
     Ok(size.saturating_add(size_of(rt, log.as_str())))
 }
 
-/// Shows on the error stream that the database is read, and its size, if that is a terminal and there is one.
-pub(crate) fn show_reading(rt: &HostRuntime, db: &str) {
-    let mut terminal = rt.stderr();
-    if !terminal.is_terminal() {
-        return;
+/// The lines about a policy and a database that are read.
+///
+/// # Errors
+///
+/// Memory ran out.
+fn start_lines(rt: &HostRuntime, policy: &Policy, db: &str) -> Result<Lines, AllocError> {
+    let mut lines = Lines::new(rt.alloc());
+    lines.push(policy_line(rt.alloc(), policy)?.as_bytes())?;
+    let size = database_size(rt, db)?;
+    if size > 0 {
+        lines.push(reading_line(rt.alloc(), db, size)?.as_bytes())?;
     }
-    if let Ok(size) = database_size(rt, db)
-        && size > 0
-        && let Ok(line) = reading_line(rt.alloc(), db, size)
-    {
+    Ok(lines)
+}
+
+/// Writes on the error stream how many repositories and rows the policy has, and that the database is read, with its size, if
+/// it exists.
+pub(crate) fn show_start<E: Write>(rt: &HostRuntime, policy: &Policy, db: &str, errors: &mut E) {
+    if let Ok(lines) = start_lines(rt, policy, db) {
         // Nothing depends on what is shown.
-        let _ = terminal.write_all(line.as_bytes());
+        let _ = lines.write(&mut Counted::new(errors));
     }
 }

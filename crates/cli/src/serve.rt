@@ -5,7 +5,8 @@ ghost use Rattle.refinement.specs.Left.{From};
 ghost use Rattle.server.specs.Jobs.{ServesAll};
 
 use crate::opening::{Work, open_for};
-use crate::reading::show_reading;
+use crate::reading::show_start;
+use causes::Refusals;
 use command_line::ServeArgs;
 use faults::{Fault, status_after};
 use machine::{Sockets, read_policy};
@@ -68,6 +69,8 @@ struct ServeContext<'a, C> {
     rt: &'a HostRuntime,
     server: &'a Server<'a, C>,
     args: &'a ServeArgs<'a>,
+    /// Whether it is reported why the store refuses requests.
+    explains: bool,
 }
 
 impl<C: Clock> ServeContext<'_, C> {
@@ -97,6 +100,7 @@ impl<C: Clock> ServeContext<'_, C> {
             policy: self.args.policy,
             db: self.args.db,
             queue,
+            refusals: Refusals::new(self.explains),
         };
         let alloc = self.server.alloc;
         print_start(alloc, self.args.listen, output)?;
@@ -185,6 +189,7 @@ fn serve_bound<C: Clock, S: Start, K: Sink, E: Write>(
     rt: &HostRuntime,
     clock: &C,
     args: &ServeArgs<'_>,
+    explains: bool,
     policy: Policy,
     listeners: Listeners<'_>,
     output: &mut K,
@@ -203,6 +208,7 @@ fn serve_bound<C: Clock, S: Start, K: Sink, E: Write>(
         rt,
         server: &server,
         args,
+        explains,
     };
     let mut operator = None;
     let serving = Serving {
@@ -215,7 +221,8 @@ fn serve_bound<C: Clock, S: Start, K: Sink, E: Write>(
     open_for(rt, args.db, start, serving, output)
 }
 
-/// Serves connections to the address, one message after the other. Shows on a terminal that it reads the database.
+/// Serves connections to the address, one message after the other. If it explains, it writes on the error stream what it reads
+/// at the start, and why the store refuses requests.
 ///
 /// # Errors
 ///
@@ -225,6 +232,7 @@ fn serve_bound<C: Clock, S: Start, K: Sink, E: Write>(
 pub(crate) fn serve<S: Start, K: Sink, E: Write>(
     rt: &HostRuntime,
     args: &ServeArgs<'_>,
+    explains: bool,
     output: &mut K,
     errors: &mut E,
     start: S,
@@ -239,8 +247,10 @@ pub(crate) fn serve<S: Start, K: Sink, E: Write>(
         clients: &listener,
         operators: None,
     };
-    show_reading(rt, args.db);
-    serve_bound(rt, rt, args, policy, listeners, output, errors, start)
+    if explains {
+        show_start(rt, &policy, args.db, errors);
+    }
+    serve_bound(rt, rt, args, explains, policy, listeners, output, errors, start)
 }
 
 /// Runs the command `serve` over listeners that are bound already, at the moments of a clock, and returns the exit status.
@@ -260,7 +270,7 @@ pub fn serve_listeners<C: Clock, S: Start, K: Sink, E: Write>(
     ensures good { result ≡ 0 → K.failed output.new ≡ K.failed output.old }
 {
     let served = match read_policy(rt, args.policy) {
-        Ok(policy) => serve_bound(rt, clock, args, policy, listeners, output, errors, start),
+        Ok(policy) => serve_bound(rt, clock, args, false, policy, listeners, output, errors, start),
         Err(fault) => Err(fault),
     };
     status_after(served, errors).code()

@@ -180,32 +180,40 @@ const ROWS: Parameter = Parameter {
 
 const SESSION: CommandText = CommandText {
     name: "session",
+    usage: "custody session --db FILE --policy FILE [--now N] [--explain]",
     about: SESSION_ABOUT,
     long_about: SESSION_LONG_ABOUT,
     parameters: &[DB, POLICY, NOW],
+    example: "Example:\n  custody session --db film.db --policy policy.toml < requests",
 };
 
 const SERVE: CommandText = CommandText {
     name: "serve",
+    usage: "custody serve --db FILE --policy FILE --listen ADDR [--requests N] [--idle SECONDS] [--control SOCKET] [--explain]",
     about: SERVE_ABOUT,
     long_about: SERVE_LONG_ABOUT,
     parameters: &[DB, POLICY, LISTEN, REQUESTS, IDLE, CONTROL],
+    example: "Example:\n  custody serve --db film.db --policy policy.toml --listen 127.0.0.1:8080",
 };
 
 const POLICY_COMMAND: CommandText = CommandText {
     name: "policy",
+    usage: "custody policy --policy FILE [--rows | --user U --repo R --right RIGHT [--ref REF] [--path PATH]] [--explain]",
     about: POLICY_COMMAND_ABOUT,
     long_about: POLICY_COMMAND_LONG_ABOUT,
     parameters: &[
         POLICY, ASKER, ASKED_REPO, RIGHT, ASKED_REF, ASKED_PATH, ROWS,
     ],
+    example: "Example:\n  custody policy --policy policy.toml --user ann --repo studio/film --right lock --ref refs/heads/main --path art/hero.psd",
 };
 
 const MIGRATE: CommandText = CommandText {
     name: "migrate",
+    usage: "custody migrate --db FILE [--explain]",
     about: MIGRATE_ABOUT,
     long_about: MIGRATE_LONG_ABOUT,
     parameters: &[DB],
+    example: "Example:\n  custody migrate --db film.db",
 };
 
 /// The commands that only the program itself runs.

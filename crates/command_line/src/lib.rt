@@ -7,6 +7,7 @@
 mod args;
 mod commands;
 mod faults;
+mod flags;
 mod operator_commands;
 mod parameters;
 mod policy_args;
@@ -18,5 +19,6 @@ pub use args::{
     TokenArgs, TokensArgs, read_args,
 };
 pub use faults::ArgsFault;
+pub use flags::{is_given, with_server};
 pub use parameters::RANDOM;
 pub use policy_args::{AskedQuestion, PolicyArgs, PolicyTask};

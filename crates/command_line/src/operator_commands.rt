@@ -1,7 +1,7 @@
 //! The commands of an operator that need no server, as `clap` parses them.
 
 use crate::commands::{DB_HELP, NOW, POLICY_HELP};
-use crate::parameters::{CommandText, Kind, Parameter, commands_of};
+use crate::parameters::{CommandText, Kind, Parameter, QUIET, commands_of};
 use clap::Command;
 use std::alloc::{AllocError, Global};
 
@@ -27,7 +27,10 @@ const TOKENS_LONG_ABOUT: &str = "\
 Lists the valid tokens of a repository.
 
 For each one it prints who has it, for which operation, and until when. A token that has expired is not listed, \
-whether it is removed or not. The tokens themselves are not printed: the database keeps only their SHA-256.";
+whether it is removed or not. The tokens themselves are not printed: the database keeps only their SHA-256.
+
+The status is 0 if they were printed, also if there is none, 1 if something was refused, and 2 if the arguments are \
+wrong.";
 
 const PRUNE_ABOUT: &str = "Removes the tokens that have expired, and prints their number";
 
@@ -35,7 +38,10 @@ const PRUNE_LONG_ABOUT: &str = "\
 Removes the tokens that have expired, and prints their number.
 
 An expired token is refused whether it is removed or not: this keeps the database small. With \
---via it runs beside a server; with --db no other program may have the database open.";
+--via it runs beside a server; with --db no other program may have the database open.
+
+The status is 0 if they were removed, also if there was none, 1 if something was refused, and 2 if the arguments are \
+wrong.";
 
 const PUSHCHECK_ABOUT: &str =
     "Checks for each path on standard input whether a user may push it to a branch";
@@ -70,14 +76,20 @@ const LOCKS_ABOUT: &str = "Lists the locks of a repository";
 const LOCKS_LONG_ABOUT: &str = "\
 Lists the locks of a repository, in rising ids.
 
-A line has the id, the branch, the owner, the moment at which the lock was made, and the path.";
+A line has the id, the branch, the owner, the moment at which the lock was made, and the path.
+
+The status is 0 if they were printed, also if there is none, 1 if something was refused, and 2 if the arguments are \
+wrong.";
 
 const OBJECTS_ABOUT: &str = "Lists the objects of a repository";
 
 const OBJECTS_LONG_ABOUT: &str = "\
 Lists the objects of a repository, in rising names.
 
-A line has the object's name, which is its SHA-256, and its size in bytes.";
+A line has the object's name, which is its SHA-256, and its size in bytes.
+
+The status is 0 if they were printed, also if there is none, 1 if something was refused, and 2 if the arguments are \
+wrong.";
 
 const USAGE_ABOUT: &str = "Prints what each repository stores, and how much it may store";
 
@@ -88,7 +100,9 @@ A line has the repository, the number of its objects, their bytes, its quota, th
 of the uploads that were not completed, the number of locks, and the number of valid tokens.
 
 It reads the list of all objects, which takes about a second for 100000 objects. With --via nothing else is served \
-meanwhile.";
+meanwhile.
+
+The status is 0 if the lines were printed, 1 if something was refused, and 2 if the arguments are wrong.";
 
 const CHECK_ABOUT: &str = "Hashes every stored object again, and names the damaged ones";
 
@@ -123,7 +137,10 @@ const SWEEP_LONG_ABOUT: &str = "\
 Removes the uploads that were not completed, and prints their number.
 
 Such an upload is never served, and the next upload to its repository removes it too. No object is \
-removed. With --via it runs beside a server; with --db no other program may have the database open.";
+removed. With --via it runs beside a server; with --db no other program may have the database open.
+
+The status is 0 if they were removed, also if there was none, 1 if something was refused, and 2 if the arguments are \
+wrong.";
 
 const RETIRE_ABOUT: &str = "Removes an object of a repository for good";
 
@@ -229,86 +246,110 @@ const OID: Parameter = Parameter {
 
 const AUTHENTICATE: CommandText = CommandText {
     name: "authenticate",
+    usage: "custody authenticate (--db FILE --policy FILE [--random FILE] | --via SOCKET) --user U [--now N] PATH OPERATION [--explain]",
     about: AUTHENTICATE_ABOUT,
     long_about: AUTHENTICATE_LONG_ABOUT,
     parameters: &[DB, VIA, POLICY, USER, NOW, RANDOM_FILE, PATH, OPERATION],
+    example: "Example:\n  custody authenticate --via /run/custody/control --user ann studio/film upload",
 };
 
 const TOKENS: CommandText = CommandText {
     name: "tokens",
+    usage: "custody tokens (--db FILE | --via SOCKET) --repo R [--now N] [--explain]",
     about: TOKENS_ABOUT,
     long_about: TOKENS_LONG_ABOUT,
     parameters: &[DB, VIA, REPO, NOW],
+    example: "Example:\n  custody tokens --via /run/custody/control --repo studio/film",
 };
 
 const PRUNE: CommandText = CommandText {
     name: "prune",
+    usage: "custody prune (--db FILE | --via SOCKET) [--now N] [--quiet] [--explain]",
     about: PRUNE_ABOUT,
     long_about: PRUNE_LONG_ABOUT,
-    parameters: &[DB, VIA, NOW],
+    parameters: &[DB, VIA, NOW, QUIET],
+    example: "Example:\n  custody prune --via /run/custody/control --quiet",
 };
 
 const PUSHCHECK: CommandText = CommandText {
     name: "pushcheck",
+    usage: "custody pushcheck (--db FILE --policy FILE | --via SOCKET) --user U --repo R --ref REF [--explain]",
     about: PUSHCHECK_ABOUT,
     long_about: PUSHCHECK_LONG_ABOUT,
     parameters: &[DB, VIA, POLICY, PUSHER, REPO, REF],
+    example: "Example:\n  git diff --name-only main | custody pushcheck --via /run/custody/control --user ann --repo studio/film --ref refs/heads/main",
 };
 
 const FORESEE: CommandText = CommandText {
     name: "foresee",
+    usage: "custody foresee (--db FILE --policy FILE | --via SOCKET) --user U --repo R [--now N] [--explain]",
     about: FORESEE_ABOUT,
     long_about: FORESEE_LONG_ABOUT,
     parameters: &[DB, VIA, POLICY, SENDER, REPO, NOW],
+    example: "Example:\n  custody foresee --via /run/custody/control --user ann --repo studio/film < request",
 };
 
 const LOCKS: CommandText = CommandText {
     name: "locks",
+    usage: "custody locks (--db FILE | --via SOCKET) --repo R [--explain]",
     about: LOCKS_ABOUT,
     long_about: LOCKS_LONG_ABOUT,
     parameters: &[DB, VIA, REPO],
+    example: "Example:\n  custody locks --via /run/custody/control --repo studio/film",
 };
 
 const OBJECTS: CommandText = CommandText {
     name: "objects",
+    usage: "custody objects (--db FILE | --via SOCKET) --repo R [--explain]",
     about: OBJECTS_ABOUT,
     long_about: OBJECTS_LONG_ABOUT,
     parameters: &[DB, VIA, REPO],
+    example: "Example:\n  custody objects --via /run/custody/control --repo studio/film",
 };
 
 const USAGE: CommandText = CommandText {
     name: "usage",
+    usage: "custody usage (--db FILE --policy FILE | --via SOCKET) [--now N] [--explain]",
     about: USAGE_ABOUT,
     long_about: USAGE_LONG_ABOUT,
     parameters: &[DB, VIA, POLICY, NOW],
+    example: "Example:\n  custody usage --via /run/custody/control",
 };
 
 const CHECK: CommandText = CommandText {
     name: "check",
+    usage: "custody check (--db FILE | --via SOCKET) [--quiet] [--explain]",
     about: CHECK_ABOUT,
     long_about: CHECK_LONG_ABOUT,
-    parameters: &[DB, VIA],
+    parameters: &[DB, VIA, QUIET],
+    example: "Example:\n  custody check --via /run/custody/control",
 };
 
 const REPAIR: CommandText = CommandText {
     name: "repair",
+    usage: "custody repair (--db FILE | --via SOCKET) [--quiet] [--explain]",
     about: REPAIR_ABOUT,
     long_about: REPAIR_LONG_ABOUT,
-    parameters: &[DB, VIA],
+    parameters: &[DB, VIA, QUIET],
+    example: "Example:\n  custody repair --via /run/custody/control",
 };
 
 const SWEEP: CommandText = CommandText {
     name: "sweep",
+    usage: "custody sweep (--db FILE | --via SOCKET) [--quiet] [--explain]",
     about: SWEEP_ABOUT,
     long_about: SWEEP_LONG_ABOUT,
-    parameters: &[DB, VIA],
+    parameters: &[DB, VIA, QUIET],
+    example: "Example:\n  custody sweep --via /run/custody/control",
 };
 
 const RETIRE: CommandText = CommandText {
     name: "retire",
+    usage: "custody retire (--db FILE | --via SOCKET) --repo R OID [--explain]",
     about: RETIRE_ABOUT,
     long_about: RETIRE_LONG_ABOUT,
     parameters: &[DB, VIA, REPO, OID],
+    example: "Example:\n  custody retire --via /run/custody/control --repo studio/film e3b0c44298fc1c149afbf4c8996fb92427ae41e4649b934ca495991b7852b855",
 };
 
 /// The commands about tokens, and about what a user may do.

@@ -20,6 +20,8 @@ pub(crate) enum Kind {
     Question,
     /// A flag, in place of a question.
     Flag,
+    /// A flag that goes with all other parameters.
+    Switch,
     /// An argument without a name, which is required.
     Argument,
     /// The same for the operation of a token, which has two values.
@@ -104,6 +106,11 @@ fn arg_of<'a>(alloc: Global, parameter: &Parameter) -> Result<Arg<'a>, AllocErro
             .conflicts_with(VIA),
         Kind::Question => question_part(alloc, parameter),
         Kind::Flag => flag(alloc, parameter),
+        Kind::Switch => Ok(
+            plain_arg(alloc, parameter)
+                .long(parameter.name)
+                .action(ArgAction::SetTrue),
+        ),
         Kind::Argument => Ok(argument(alloc, parameter)),
         Kind::Operation => {
             Ok(argument(alloc, parameter).value_parser([DOWNLOAD, UPLOAD].as_slice()))
@@ -120,21 +127,43 @@ fn args_of<'a>(alloc: Global, parameters: &[Parameter]) -> Result<Vec<Arg<'a>>, 
     Ok(args)
 }
 
-/// A command: its name, a line and a longer text about it, and its parameters.
+/// The flag that all commands have.
+const EXPLAIN: Parameter = Parameter {
+    name: "explain",
+    value_name: "",
+    help: "Says what caused a failure and what to do, in a further line on the error stream, also if that is no terminal",
+    kind: Kind::Switch,
+};
+
+/// The flag of the commands whose last line has a count.
+pub(crate) const QUIET: Parameter = Parameter {
+    name: "quiet",
+    value_name: "",
+    help: "Does not print the last line, which has the number, if the command succeeds",
+    kind: Kind::Switch,
+};
+
+/// A command: its name, how it is used, a line and a longer text about it, its parameters, and an example.
 #[derive(Clone, Copy, Debug)]
 pub(crate) struct CommandText {
     pub name: &'static str,
+    /// What is required, and what may be left out in brackets.
+    pub usage: &'static str,
     pub about: &'static str,
     pub long_about: &'static str,
     pub parameters: &'static [Parameter],
+    pub example: &'static str,
 }
 
 /// The command, as `clap` takes it.
 fn command_of<'a>(alloc: Global, text: &CommandText) -> Result<Command<'a>, AllocError> {
-    let args = args_of(alloc, text.parameters)?;
+    let mut args = args_of(alloc, text.parameters)?;
+    args.push(arg_of(alloc, &EXPLAIN)?)?;
     Command::new(alloc, text.name)
+        .override_usage(text.usage)
         .about(text.about)
         .long_about(text.long_about)
+        .after_help(text.example)
         .args(args)
 }
 

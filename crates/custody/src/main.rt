@@ -1,7 +1,7 @@
 //! The program `custody`: passes the machine's arguments, streams and files to the crate `cli`.
 #![tactic(auto)]
 
-use cli::{Destination, Flushed};
+use cli::{Destination, Environment, Flushed};
 use names::Counted;
 use std::io::IsTerminal;
 use std::process::ExitCode;
@@ -22,7 +22,15 @@ fn destination(rt: &HostRuntime) -> Destination {
     }
 }
 
+/// The variable that names the server to ask, if the arguments name neither files nor a server.
+const SERVER: &str = "CUSTODY_VIA";
+
 fn main(rt: HostRuntime) -> ExitCode {
+    let server = env::var(&rt, SERVER).ok();
+    let environment = Environment {
+        destination: destination(&rt),
+        server: server.as_ref().map(|socket| socket.as_str()).filter(|socket| !socket.is_empty()),
+    };
     let mut output = Counted::new(Flushed::new(rt.stdout()));
     let mut errors = rt.stderr();
     let status = match args(&rt) {
@@ -30,7 +38,7 @@ fn main(rt: HostRuntime) -> ExitCode {
             &rt,
             args.as_slice(),
             &mut rt.stdin(),
-            destination(&rt),
+            environment,
             &mut output,
             &mut errors,
             Unknown,

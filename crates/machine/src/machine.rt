@@ -7,6 +7,7 @@ use crate::framing::Messages;
 use crate::moments::moment;
 use crate::policies::read_described;
 use crate::random::read_random;
+use causes::Refusals;
 use command_line::RANDOM;
 use faults::Fault;
 use metrics::Gauges;
@@ -258,6 +259,15 @@ pub struct Sockets<'a, C> {
     pub db: &'a str,
     /// Those who wait at the sockets.
     pub queue: Queue<'a>,
+    /// The requests that the store refused.
+    pub refusals: Refusals,
+}
+
+impl<C: Clock> Sockets<'_, C> {
+    /// Reports the requests that the store refused.
+    fn report_refusals(&mut self) {
+        self.refusals.report(self.rt, self.clock, self.db);
+    }
 }
 
 impl<C: Clock> Machine for Sockets<'_, C> {
@@ -267,12 +277,14 @@ impl<C: Clock> Machine for Sockets<'_, C> {
     ghost idled = { λ _ _. ⊤ };
 
     fn next(&mut self) -> Result<Option<Caller>, Fault> {
+        self.report_refusals();
         self.queue
             .take(self.clock, &Messages)
             .map_err(|_| Fault::Network)
     }
 
     fn next_ready(&mut self) -> Result<Option<Caller>, Fault> {
+        self.report_refusals();
         self.queue
             .take_ready(self.clock, &Messages)
             .map_err(|_| Fault::Network)
@@ -343,6 +355,9 @@ impl<C: Clock> Machine for Sockets<'_, C> {
     }
 
     fn end_turn(&mut self, client: Client, front: &Front, end: End) -> Result<Option<End>, Fault> {
+        if matches!(end, End::StoreRefused | End::StoreFailed) {
+            self.refusals.count();
+        }
         let ended = match end {
             End::InputEnded if front.is_over() => self
                 .queue
