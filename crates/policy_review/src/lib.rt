@@ -5,8 +5,15 @@
 //! author probably did not mean. [`asked_by`] names the requests that ask a right.
 #![tactic(auto)]
 
+mod asking;
 mod doubts;
+mod found;
+mod lines;
+mod problems;
+mod sections;
 mod warning_list;
 
+pub use asking::asked_by;
 pub use doubts::{EntryDoubt, RightDoubt};
+pub use problems::{Problem, problem_in};
 pub use warning_list::{Warning, warnings};
