@@ -73,7 +73,7 @@ fn found_in_array(alloc: Global, key: Key, entries: &[Value]) -> Result<String, 
         Some(text) => found_text(alloc, text),
         None => {
             let count = entries.len();
-            format!(in alloc; "found {count}")
+            format!(in alloc; "found {count} texts")
         }
     }
 }

@@ -144,7 +144,7 @@ fn bare(alloc: Global, fault: Fault) -> Result<Problem, AllocError> {
     })
 }
 
-/// A text that is no TOML, or bytes that are no text: the index of what is wrong, and why.
+/// A text that is no TOML, or bytes that are no text: `place` is the index of what is wrong, and `why` says it.
 fn unreadable(
     alloc: Global,
     source: &[u8],
@@ -162,7 +162,7 @@ fn unreadable(
     })
 }
 
-/// The names of the keys that the place may have.
+/// Whether the place may have a key of this name.
 fn is_key_of(place: Place, name: &str) -> bool {
     match place {
         Place::File | Place::Top => matches!(name, "base" | "token_seconds" | "repo" | "row"),
@@ -271,7 +271,7 @@ fn too_many(
     Ok(Problem {
         line: section.line_past(key, count, most_of(key)),
         sentence: Sentence(fault).to_string(alloc)?,
-        found: Some(format!(in alloc; "found {count}")?),
+        found: Some(format!(in alloc; "found {count} tables")?),
     })
 }
 

@@ -120,11 +120,14 @@ fn write_entry<W: fmt::Write>(
     text: &str,
 ) -> fmt::Result {
     match doubt {
-        EntryDoubt::NeverAllowed => write!(f, "no row allows {text:?} anything, so the user need not be denied anything"),
+        EntryDoubt::NeverAllowed => write!(
+            f,
+            "no row allows {text:?} anything: what no row allows is denied without a row that denies it"
+        ),
         EntryDoubt::NotServed => write!(f, "{text:?} matches no repository of this file"),
         EntryDoubt::StarInPath => write!(
             f,
-            "{text:?} matches only the path of that very text: a path with a slash at its end, as \"art/\", matches all paths below it, and nothing matches paths by their ending"
+            "{text:?} matches only the path with this very text: write a folder and a slash, as \"art/\", for all paths below it; there are no patterns by ending"
         ),
     }
 }
@@ -154,7 +157,7 @@ impl fmt::Display for Warning {
             ),
             Warning::ShortToken(seconds) => write!(
                 f,
-                "token_seconds: {seconds} seconds are short: the Git LFS client counts a token as expired 5 seconds before its end, and a long transfer needs several"
+                "token_seconds: {seconds} seconds are short: the Git LFS client counts a token as expired 5 seconds before its end, so a transfer may need several tokens"
             ),
             Warning::Entry(row, doubt, text) => {
                 write!(f, "row {row}: ")?;
