@@ -30,8 +30,8 @@ impl Explaining<'_> {
         let (rt, path) = (self.rt, named.policy?);
         match fault {
             Fault::Policy(_) => match read_described(rt, path) {
-                Err(Fault::PolicyDescribed(sentence)) => {
-                    format!(in rt.alloc(); "{path}: {sentence}").ok()
+                Err(Fault::PolicyDescribed(_, problem)) => {
+                    format!(in rt.alloc(); "{path}: {problem}").ok()
                 }
                 _ => None,
             },

@@ -6,7 +6,8 @@ ghost use Rattle.faults.specs.Statuses.{status_of};
 use command_line::ArgsFault;
 use control::{RequestFault, Status};
 use operator::{PathsFault, TaskFault};
-use policy::{PolicyFault, Sentence};
+use policy::PolicyFault;
+use policy_review::Problem;
 use service::{End, MessageFault};
 use std::alloc::AllocError;
 use tables::{OpenFault, StoreFault};
@@ -50,9 +51,9 @@ pub enum Fault {
     /// The file is not a policy.
     #[error("custody: policy {0}")]
     Policy(policy::Fault),
-    /// The same of the command `policy`, which adds a sentence that says what to mend.
-    #[error("custody: policy {}\n{}", .0.0, .0)]
-    PolicyDescribed(Sentence),
+    /// The same of the command `policy`, which adds a line that says where the fault is and how to correct it.
+    #[error("custody: policy {0}\n{1}")]
+    PolicyDescribed(policy::Fault, Problem),
     /// The policy has no such repository.
     #[error("custody: R1: no such repository")]
     Repository,
@@ -119,7 +120,7 @@ impl Fault {
             Fault::NoMessage | Fault::NoCaller | Fault::NoObject => Status::Refused,
             Fault::Clock => Status::Refused,
             Fault::PolicyFile => Status::Refused,
-            Fault::Policy(_) | Fault::PolicyDescribed(_) => Status::Refused,
+            Fault::Policy(_) | Fault::PolicyDescribed(_, _) => Status::Refused,
             Fault::Repository => Status::Refused,
             Fault::Random => Status::Refused,
             Fault::Network => Status::Refused,

@@ -5,7 +5,8 @@ ghost use Rattle.policy.specs.Values.{policy_view};
 ghost use Rattle.machine.specs.Policies.{counts_line, policy_line};
 
 use faults::Fault;
-use policy::{LONGEST_FILE, Policy, Sentence};
+use policy::{LONGEST_FILE, Policy, PolicyFault};
+use policy_review::problem_in;
 use std::alloc::{AllocError, Global};
 use std::fs::File;
 use std::io::{self, ErrorKind, Read};
@@ -20,6 +21,19 @@ fn read_file(rt: &HostRuntime, path: &str) -> io::Result<Vec<u8>> {
     Ok(bytes)
 }
 
+/// The bytes of the policy file.
+///
+/// # Errors
+///
+/// `PolicyFile` if the file could not be read, and `Memory`.
+fn policy_bytes(rt: &HostRuntime, path: &str) -> Result<Vec<u8>, Fault> {
+    match read_file(rt, path) {
+        Ok(bytes) => Ok(bytes),
+        Err(error) if error.kind() == ErrorKind::OutOfMemory => Err(Fault::Memory),
+        Err(_) => Err(Fault::PolicyFile),
+    }
+}
+
 /// Reads the policy in the file.
 ///
 /// # Errors
@@ -27,11 +41,8 @@ fn read_file(rt: &HostRuntime, path: &str) -> io::Result<Vec<u8>> {
 /// `PolicyFile` if the file could not be read, `Policy` with the first fault of its text, and
 /// `Memory`.
 pub fn read_policy(rt: &HostRuntime, path: &str) -> Result<Policy, Fault> {
-    match read_file(rt, path) {
-        Ok(bytes) => Ok(Policy::read_bytes(rt.alloc(), bytes.as_slice())?),
-        Err(error) if error.kind() == ErrorKind::OutOfMemory => Err(Fault::Memory),
-        Err(_) => Err(Fault::PolicyFile),
-    }
+    let bytes = policy_bytes(rt, path)?;
+    Ok(Policy::read_bytes(rt.alloc(), bytes.as_slice())?)
 }
 
 /// Reads the policy in the file, as [`read_policy`] does. A fault of its text is described.
@@ -40,9 +51,14 @@ pub fn read_policy(rt: &HostRuntime, path: &str) -> Result<Policy, Fault> {
 ///
 /// Those of [`read_policy`], with `PolicyDescribed` in place of `Policy`.
 pub fn read_described(rt: &HostRuntime, path: &str) -> Result<Policy, Fault> {
-    match read_policy(rt, path) {
-        Err(Fault::Policy(fault)) => Err(Fault::PolicyDescribed(Sentence(fault))),
-        read => read,
+    let bytes = policy_bytes(rt, path)?;
+    match Policy::read_bytes(rt.alloc(), bytes.as_slice()) {
+        Ok(policy) => Ok(policy),
+        Err(PolicyFault::Refused(fault)) => {
+            let problem = problem_in(rt.alloc(), bytes.as_slice(), fault)?;
+            Err(Fault::PolicyDescribed(fault, problem))
+        }
+        Err(PolicyFault::Memory) => Err(Fault::Memory),
     }
 }
 

@@ -1,0 +1,6 @@
+-- A property of the items of a mapped list, as a property of the items themselves.
+use Rattle.policy_review.proofs.Prelude.{◌≡◌, Bool, List, [], ◌∷◌, map, refl, ap, ◌||◌, list_any}
+
+pub list_any-map : {A B : Type 0} (test : B → Bool) (f : A → B) (xs : List A) → list_any test (map f xs) ≡ list_any (λ x. test (f x)) xs
+list_any-map test f [] = refl
+list_any-map test f (x ∷ xs) = ap (λ b. test (f x) || b) (list_any-map test f xs)
