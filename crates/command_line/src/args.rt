@@ -9,7 +9,7 @@ ghost use Rattle.command_line.specs.Words.{IsCommand, IsHold, IsMoment};
 
 use crate::commands::program;
 use crate::faults::ArgsFault;
-use crate::parameters::UPLOAD;
+use crate::parameters::{UPLOAD, Usage};
 use crate::policy_args::{PolicyArgs, policy_args};
 use clap::ArgMatches;
 use clap::error::ErrorKind;
@@ -439,6 +439,26 @@ fn is_text_asked_for(kind: ErrorKind) -> bool {
     matches!(kind, ErrorKind::DisplayHelp | ErrorKind::DisplayVersion)
 }
 
+/// The help or the version that the arguments ask for.
+///
+/// # Errors
+///
+/// `Rejected` if they ask for neither, and `Memory`.
+fn text_of<'a>(alloc: Global, args: &'a [String]) -> Result<Command<'a>, ArgsFault>
+    ensures range { IfOk result IsInRange }
+    ensures local { IfOk result HasItsServer }
+{
+    let program = program(alloc, Usage::Whole)?;
+    let Err(error) = program.try_get_matches_from(args) else {
+        return Err(ArgsFault::NoCommand);
+    };
+    if is_text_asked_for(error.kind()) {
+        Ok(Command::Text(error))
+    } else {
+        Err(ArgsFault::from(error))
+    }
+}
+
 /// Parses the arguments. The first is the program's name.
 ///
 /// # Errors
@@ -448,10 +468,10 @@ pub fn read_args<'a>(alloc: Global, args: &'a [String]) -> Result<Command<'a>, A
     ensures range { IfOk result IsInRange }
     ensures local { IfOk result HasItsServer }
 {
-    let mut program = program(alloc)?;
+    let mut program = program(alloc, Usage::Required)?;
     let matches = match program.try_get_matches_from_mut(args) {
         Ok(matches) => matches,
-        Err(error) if is_text_asked_for(error.kind()) => return Ok(Command::Text(error)),
+        Err(error) if is_text_asked_for(error.kind()) => return text_of(alloc, args),
         Err(error) => return Err(ArgsFault::from(error)),
     };
     let asked = match matches.subcommand() {

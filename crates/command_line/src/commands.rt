@@ -1,7 +1,7 @@
 //! The commands, as `clap` parses and documents them.
 
 use crate::operator_commands::{REPO_HELP, access_commands, storage_commands};
-use crate::parameters::{CommandText, Kind, Parameter, commands_of};
+use crate::parameters::{CommandText, Kind, Parameter, Usage, commands_of};
 use crate::server_commands::server_commands;
 use clap::Command;
 use std::alloc::{AllocError, Global};
@@ -220,11 +220,11 @@ const MIGRATE: CommandText = CommandText {
 const OWN_COMMANDS: [CommandText; 4] = [SESSION, SERVE, POLICY_COMMAND, MIGRATE];
 
 /// The program, with its commands.
-pub(crate) fn program<'a>(alloc: Global) -> Result<Command<'a>, AllocError> {
-    let own = commands_of(alloc, OWN_COMMANDS.as_slice())?;
-    let access = access_commands(alloc)?;
-    let storage = storage_commands(alloc)?;
-    let servers = server_commands(alloc)?;
+pub(crate) fn program<'a>(alloc: Global, usage: Usage) -> Result<Command<'a>, AllocError> {
+    let own = commands_of(alloc, OWN_COMMANDS.as_slice(), usage)?;
+    let access = access_commands(alloc, usage)?;
+    let storage = storage_commands(alloc, usage)?;
+    let servers = server_commands(alloc, usage)?;
     Command::new(alloc, "custody")
         .about(ABOUT)
         .version(VERSION)

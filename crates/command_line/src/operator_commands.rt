@@ -1,7 +1,7 @@
 //! The commands of an operator that need no server, as `clap` parses them.
 
 use crate::commands::{DB_HELP, NOW, POLICY_HELP};
-use crate::parameters::{CommandText, Kind, Parameter, QUIET, commands_of};
+use crate::parameters::{CommandText, Kind, Parameter, QUIET, Usage, commands_of};
 use clap::Command;
 use std::alloc::{AllocError, Global};
 
@@ -359,11 +359,17 @@ const ACCESS_COMMANDS: [CommandText; 5] = [AUTHENTICATE, TOKENS, PRUNE, PUSHCHEC
 const STORAGE_COMMANDS: [CommandText; 7] = [LOCKS, OBJECTS, USAGE, CHECK, REPAIR, SWEEP, RETIRE];
 
 /// The commands about tokens, and about what a user may do, as `clap` takes them.
-pub(crate) fn access_commands<'a>(alloc: Global) -> Result<Vec<Command<'a>>, AllocError> {
-    commands_of(alloc, ACCESS_COMMANDS.as_slice())
+pub(crate) fn access_commands<'a>(
+    alloc: Global,
+    usage: Usage,
+) -> Result<Vec<Command<'a>>, AllocError> {
+    commands_of(alloc, ACCESS_COMMANDS.as_slice(), usage)
 }
 
 /// The commands about what is stored, as `clap` takes them.
-pub(crate) fn storage_commands<'a>(alloc: Global) -> Result<Vec<Command<'a>>, AllocError> {
-    commands_of(alloc, STORAGE_COMMANDS.as_slice())
+pub(crate) fn storage_commands<'a>(
+    alloc: Global,
+    usage: Usage,
+) -> Result<Vec<Command<'a>>, AllocError> {
+    commands_of(alloc, STORAGE_COMMANDS.as_slice(), usage)
 }

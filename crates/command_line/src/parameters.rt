@@ -155,26 +155,42 @@ pub(crate) struct CommandText {
     pub example: &'static str,
 }
 
+/// Which usage `clap` prints.
+#[derive(Clone, Copy, Debug, PartialEq, Eq)]
+pub(crate) enum Usage {
+    /// That of the table, which has all that may be given: for the help.
+    Whole,
+    /// That of `clap`, which has what is required: for an error.
+    Required,
+}
+
 /// The command, as `clap` takes it.
-fn command_of<'a>(alloc: Global, text: &CommandText) -> Result<Command<'a>, AllocError> {
+fn command_of<'a>(
+    alloc: Global,
+    text: &CommandText,
+    usage: Usage,
+) -> Result<Command<'a>, AllocError> {
     let mut args = args_of(alloc, text.parameters)?;
     args.push(arg_of(alloc, &EXPLAIN)?)?;
-    Command::new(alloc, text.name)
-        .override_usage(text.usage)
+    let mut command = Command::new(alloc, text.name)
         .about(text.about)
         .long_about(text.long_about)
-        .after_help(text.example)
-        .args(args)
+        .after_help(text.example);
+    if usage == Usage::Whole {
+        command = command.override_usage(text.usage);
+    }
+    command.args(args)
 }
 
 /// The commands, as `clap` takes them.
 pub(crate) fn commands_of<'a>(
     alloc: Global,
     texts: &[CommandText],
+    usage: Usage,
 ) -> Result<Vec<Command<'a>>, AllocError> {
     let mut commands = Vec::new(alloc);
     for text in texts {
-        commands.push(command_of(alloc, text)?)?;
+        commands.push(command_of(alloc, text, usage)?)?;
     }
     Ok(commands)
 }

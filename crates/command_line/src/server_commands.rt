@@ -1,6 +1,6 @@
 //! The commands of an operator that only a running server carries out, as `clap` parses them.
 
-use crate::parameters::{CommandText, Kind, Parameter, commands_of};
+use crate::parameters::{CommandText, Kind, Parameter, Usage, commands_of};
 use clap::Command;
 use std::alloc::{AllocError, Global};
 
@@ -99,6 +99,9 @@ const STOP: CommandText = CommandText {
 const SERVER_COMMANDS: [CommandText; 4] = [STATUS, HOLD, RELOAD, STOP];
 
 /// These commands, as `clap` takes them.
-pub(crate) fn server_commands<'a>(alloc: Global) -> Result<Vec<Command<'a>>, AllocError> {
-    commands_of(alloc, SERVER_COMMANDS.as_slice())
+pub(crate) fn server_commands<'a>(
+    alloc: Global,
+    usage: Usage,
+) -> Result<Vec<Command<'a>>, AllocError> {
+    commands_of(alloc, SERVER_COMMANDS.as_slice(), usage)
 }
