@@ -99,9 +99,10 @@ changes | gzip -9 -n > "$documents/changelog.gz"
   package cannot read a database of version 2. OPERATING.md, Upgrading, has the
   commands.
 
-  The policy that the package installs is empty: if you never changed
-  /etc/custody/policy.toml, it has no repository any more. The example that it
-  had is in /usr/share/doc/custody/examples/policy.toml.
+  The policy that the package installs is empty. If you changed
+  /etc/custody/policy.toml, dpkg asks which one to take: keep yours, which is the
+  default. If you never changed it, it has no repository any more; the example
+  that it had is in /usr/share/doc/custody/examples/policy.toml.
 
 END
     printf ' -- %s  %s\n' "$maintainer" "$(git -C "$top" log -1 --format=%aD)"
