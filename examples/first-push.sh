@@ -58,8 +58,8 @@ until serve_at "$port"; do
 done
 
 # What sshd would do for the key of a user: the words of the client are passed to the forced command as one text.
-sed -e "s|/run/custody/control|$work/run/control|" -e "s|/srv/git|$work/git|" \
-    "$top/examples/forced-command" > "$work/bin/forced-command"
+sed -e "s|/run/custody/control|$work/run/control|" -e "s|/etc/custody/policy.toml|$work/policy.toml|" \
+    -e "s|/srv/git|$work/git|" "$top/examples/forced-command" > "$work/bin/forced-command"
 cat > "$work/bin/ssh" << END
 #!/bin/sh
 for words in "\$@"; do :; done

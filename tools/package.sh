@@ -1,13 +1,13 @@
 #!/bin/sh
 # Makes a Debian package of the program, its manual page, the unit for systemd, the forced command and the documents. It
-# needs dpkg-deb, pandoc, gzip, strip (of binutils) and git, and a program that bin/custody has built; what is missing is
-# named, and no package is made.
+# needs dpkg-deb, pandoc, gzip, strip (of binutils), awk and git, and a program that bin/custody has built; what is missing
+# is named, and no package is made. `lintian` then has nothing to report but how the program was compiled.
 # usage: tools/package.sh [FOLDER]      the package is written to the folder, or to this one
 set -eu
 unset CDPATH
 # The modes of a package's folders and files are those that it installs, whoever makes it.
 umask 022
-for command in dpkg-deb pandoc gzip strip git; do
+for command in dpkg-deb pandoc gzip strip awk git; do
     if ! command -v "$command" > /dev/null; then
         echo "package.sh: $command is missing: install it first" >&2
         exit 2
@@ -24,6 +24,10 @@ version=$("$program" -V | cut -d ' ' -f 2)
 architecture=$(dpkg --print-architecture)
 maintainer=$(git -C "$top" log -1 --format='%an <%ae>')
 commit=$(git -C "$top" log -1 --format=%h)
+if [ "$(sed -n 's/^## \([^ ]*\) .*/\1/p' "$top/CHANGELOG.md" | head -n 1)" != "$version" ]; then
+    echo "package.sh: CHANGELOG.md does not begin with version $version, which the program has" >&2
+    exit 2
+fi
 root=$(mktemp -d)
 chmod 755 "$root"
 trap 'rm -rf "$root"' EXIT
@@ -31,11 +35,11 @@ trap 'rm -rf "$root"' EXIT
 documents=$root/usr/share/doc/custody
 mkdir -p "$documents/examples" "$root/usr/share/man/man1"
 install -D -m 755 "$program" "$root/usr/bin/custody"
-strip --strip-unneeded "$root/usr/bin/custody"
+strip --remove-section=.comment --remove-section=.note "$root/usr/bin/custody"
 install -D -m 755 -t "$root/usr/lib/custody" "$top/examples/forced-command" "$top/examples/spare" \
     "$top/examples/unreferenced" "$top/examples/backup"
 install -D -m 644 "$top/examples/custody.service" "$root/lib/systemd/system/custody.service"
-install -D -m 644 "$top/examples/policy.toml" "$root/etc/custody/policy.toml"
+install -D -m 644 "$top/examples/installed-policy.toml" "$root/etc/custody/policy.toml"
 for example in nginx-site sshd-custody.conf custody-group.conf policy.toml; do
     install -m 644 "$top/examples/$example" "$documents/examples"
 done
@@ -45,19 +49,41 @@ cat > "$root/etc/custody/authorized_keys" << 'END'
 # One line for each key, with the name of its user (sshd(8), AUTHORIZED_KEYS FILE FORMAT):
 # restrict,command="/usr/lib/custody/forced-command ann" ssh-ed25519 AAAA... ann@studio
 END
-install -m 644 "$top/docs/OPERATING.md" "$top/docs/COMMANDS.md" "$top/docs/POLICY.md" "$top/docs/PROTOCOL.md" "$documents"
+install -m 644 "$top/docs/OPERATING.md" "$top/docs/COMMANDS.md" "$top/docs/POLICY.md" "$top/docs/PROTOCOL.md" \
+    "$top/CHANGELOG.md" "$documents"
 
-cat > "$documents/copyright" << END
-custody, a Git LFS object and lock server. This package is made from its Git repository, at commit $commit.
-
-Copyright (C) $(git -C "$top" log -1 --format=%ad --date=format:%Y) the authors whom the repository's history names.
-The repository states no licence.
-END
+# The licence, in Debian's form: the text is a field, so its empty lines have a dot.
 {
-    printf 'custody (%s) unstable; urgency=medium\n\n' "$version"
-    printf '  * Made from commit %s of the repository, whose history lists the changes.\n\n' "$commit"
-    printf ' -- %s  %s\n' "$maintainer" "$(git -C "$top" log -1 --format=%aD)"
-} | gzip -9 -n > "$documents/changelog.gz"
+    cat << END
+Format: https://www.debian.org/doc/packaging-manuals/copyright-format/1.0/
+Upstream-Name: custody
+Comment: Made from commit $commit of its Git repository. The program contains
+ libraries of the Rattle toolchain, with the licences that they have there.
+
+Files: *
+END
+    sed -n 's/^Copyright (c) /Copyright: /p' "$top/LICENSE"
+    echo 'License: Expat'
+    sed -e '1,/^Copyright/d' "$top/LICENSE" | sed -e 1d -e 's/^$/./' -e 's/^/ /'
+} > "$documents/copyright"
+
+# CHANGELOG.md in Debian's form. A version has the date on which it was released after its number, in parentheses; one that
+# is unreleased has that of the commit.
+changes() {
+    sed -n 's/^## //p' "$top/CHANGELOG.md" | while read -r number date; do
+        date=${date#\(}
+        date=${date%\)}
+        if [ "$date" = unreleased ]; then
+            date=$(git -C "$top" log -1 --format=%aI)
+        fi
+        printf 'custody (%s) unstable; urgency=medium\n\n' "$number"
+        awk -v number="$number" '/^## / { inside = $2 == number; next } inside' "$top/CHANGELOG.md" |
+            pandoc -f gfm -t plain --columns=76 |
+            sed -e 's/^-   /  * /' -e 's/^\([^ ].*\)$/  [ \1 ]/'
+        printf '\n -- %s  %s\n' "$maintainer" "$(date -R -d "$date")"
+    done
+}
+changes | gzip -9 -n > "$documents/changelog.gz"
 # What an administrator has to do at an upgrade; apt-listchanges shows it.
 {
     printf 'custody (%s) unstable; urgency=medium\n\n' "$version"
@@ -73,15 +99,23 @@ END
   package cannot read a database of version 2. OPERATING.md, Upgrading, has the
   commands.
 
+  The policy that the package installs is empty. If you changed
+  /etc/custody/policy.toml, dpkg asks which one to take: keep yours, which is the
+  default. If you never changed it, it has no repository any more; the example
+  that it had is in /usr/share/doc/custody/examples/policy.toml.
+
 END
     printf ' -- %s  %s\n' "$maintainer" "$(git -C "$top" log -1 --format=%aD)"
 } | gzip -9 -n > "$documents/NEWS.Debian.gz"
 
-# The manual page has the text of docs/COMMANDS.md.
+# The manual page has the text of docs/COMMANDS.md, after the forms of the commands, which are those of its tables.
 {
-    printf '# NAME\n\ncustody - a Git LFS object and lock server\n\n# DESCRIPTION\n\n'
-    sed -e 1d -e '/^`bin\/custody` runs/d' -e 's/^## /# /' "$top/docs/COMMANDS.md"
-} | pandoc -s -f gfm -t man -V title=custody -V section=1 -V footer="custody $version" \
+    printf '# NAME\n\ncustody - a Git LFS object and lock server\n\n# SYNOPSIS\n\n'
+    awk -f "$top/tools/synopsis.awk" "$top/docs/COMMANDS.md"
+    printf '\n# DESCRIPTION\n\n'
+    sed -e 1d -e '/^.bin\/custody. runs/d' -e 's/^## /# /' "$top/docs/COMMANDS.md"
+} | pandoc -s -f gfm -t man -M hyphenate=false -V adjusting=l -V title=custody -V section=1 \
+    -V footer="custody $version" \
     | gzip -9 -n > "$root/usr/share/man/man1/custody.1.gz"
 
 mkdir "$root/DEBIAN"
@@ -161,4 +195,10 @@ if [ "$1" = remove ] && [ -d /run/systemd/system ]; then
 fi
 END
 chmod 755 "$root/DEBIAN/postinst" "$root/DEBIAN/prerm" "$root/DEBIAN/postrm"
+# What lintian is to pass over: the server is started by the unit alone, which confines it.
+mkdir -p "$root/usr/share/lintian/overrides"
+echo 'custody: package-supports-alternative-init-but-no-init.d-script [lib/systemd/system/custody.service]' \
+    > "$root/usr/share/lintian/overrides/custody"
+# Each file that is not a conffile, with its digest.
+(cd "$root" && find usr lib -type f | sort | xargs md5sum) > "$root/DEBIAN/md5sums"
 dpkg-deb --build --root-owner-group "$root" "$folder/custody_${version}_$architecture.deb"

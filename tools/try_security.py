@@ -326,7 +326,7 @@ def try_ssh():
     status, text = over_ssh("bob", "cat /etc/passwd")
     check(status == 1 and "only git-lfs-authenticate" in text, "no other command runs", text)
     status, text = over_ssh("ann", "git-lfs-authenticate studio/none.git upload")
-    check(status == 1 and text.strip() == "custody: R1: no such repository", "a repository that the policy lacks is R1", text)
+    check(status == 1 and text.startswith("custody: R1: no such repository\n"), "a repository that the policy lacks is R1", text)
     check(sshd_setting("custody", "disableforwarding") == "yes" and sshd_setting("custody", "permittty") == "no",
           "sshd forwards nothing for custody, and gives no terminal, whatever a key's line says")
     check(".ssh/authorized_keys" in sshd_setting("root", "authorizedkeysfile"), "and reads the keys of others where it did")

@@ -35,9 +35,10 @@ fi
 work=$(mktemp -d /var/tmp/custody-security.XXXXXX)
 root=$work/root
 container=
+# shellcheck disable=SC2317  # The trap calls it.
 clean() {
     if [ -n "$container" ] && kill -0 "$container" 2> /dev/null; then
-        kill "$container" && wait "$container" || true
+        { kill "$container" && wait "$container"; } || true
     fi
     umount "$root" 2> /dev/null || true
     rm -rf "$work"

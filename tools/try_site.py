@@ -171,7 +171,9 @@ class Site:
         self.run("ssh-keygen", "-q", "-t", "ed25519", "-N", "", "-f", f"{self.room}/host_key")
         command = (TOP / "examples/forced-command").read_text()
         for old, new in [("/run/custody/control", f"{self.room}/control"), ("/srv/git", f"{self.room}/git"),
-                         ("exec custody", f"exec {self.program}")]:
+                         ("/etc/custody/policy.toml", f"{self.room}/policy.toml"),
+                         ("custody authenticate", f"{self.program} authenticate"),
+                         ("custody policy", f"{self.program} policy")]:
             if old not in command:
                 sys.exit(f"examples/forced-command has no {old}")
             command = command.replace(old, new)
