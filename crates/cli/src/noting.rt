@@ -67,18 +67,19 @@ impl<'a> Notes<'a> {
         }
     }
 
-    /// The line about the command, after it succeeded.
-    fn line(&self, rt: &HostRuntime, has_printed: bool) -> Option<String> {
+    /// The line about the command, after it ended.
+    fn line(&self, rt: &HostRuntime, has_answered: bool) -> Option<String> {
         match (self.created, self.listing) {
             (Some(db), _) if fs::metadata(rt, db).is_ok() => created_line(rt.alloc(), db).ok(),
-            (_, Some(listing)) if !has_printed => empty_line(rt.alloc(), listing).ok(),
+            (_, Some(listing)) if !has_answered => empty_line(rt.alloc(), listing).ok(),
             _ => None,
         }
     }
 
-    /// Writes the line about the command, if there is one.
-    pub(crate) fn write<E: Write>(&self, rt: &HostRuntime, has_printed: bool, errors: &mut E) {
-        if let Some(line) = self.line(rt, has_printed) {
+    /// Writes the line about the command, if there is one, after it ended: `has_answered` is whether it printed anything, or
+    /// failed.
+    pub(crate) fn write<E: Write>(&self, rt: &HostRuntime, has_answered: bool, errors: &mut E) {
+        if let Some(line) = self.line(rt, has_answered) {
             // Nothing depends on what is said here.
             let _ = write_line(errors, line.as_str());
         }

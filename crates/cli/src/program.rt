@@ -124,15 +124,10 @@ fn carry_out<S: Start, R: Read, K: Sink, E: Write>(
     ensures { OnOk result (K.failed output.new ≡ K.failed output.old) }
 {
     if manner.is_quiet {
-        return dispatch_quietly(rt, command, input, manner, output, errors, start);
+        dispatch_quietly(rt, command, input, manner, output, errors, start)
+    } else {
+        dispatch(rt, command, input, manner, output, errors, start)
     }
-    let notes = Notes::of(rt, command);
-    let mut watched = Watched::new(output);
-    let ended = dispatch(rt, command, input, manner, &mut watched, errors, start);
-    if manner.explains {
-        notes.write(rt, watched.has_printed() || ended.is_err(), errors);
-    }
-    ended
 }
 
 /// Runs the command of these arguments, and prints its fault, if there is one.
@@ -160,10 +155,18 @@ fn run_args<S: Start, R: Read, K: Sink, E: Write>(
         Ok(command) => command,
         Err(fault) => return explaining.refuse(&Fault::from(fault), &Named::NOTHING, errors),
     };
-    match carry_out(rt, &command, input, manner, output, errors, start) {
+    let notes = Notes::of(rt, &command);
+    let mut watched = Watched::new(output);
+    let ended = carry_out(rt, &command, input, manner, &mut watched, errors, start);
+    let status = match ended {
         Ok(()) => Status::Good,
         Err(fault) => explaining.refuse(&fault, &Named::of(&command), errors),
+    };
+    if manner.explains {
+        let has_answered = watched.has_printed() || status != Status::Good;
+        notes.write(rt, has_answered, errors);
     }
+    status
 }
 
 /// The arguments with the server of the environment, if there is one, and they name neither files nor a server.

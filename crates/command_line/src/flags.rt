@@ -48,17 +48,26 @@ fn inserted(alloc: Global, args: &[String], socket: &str) -> Result<Vec<String>,
     Ok(words)
 }
 
-/// Whether the arguments are rejected since a required one is missing.
-fn lack_one(alloc: Global, args: &[String]) -> bool {
-    match read_args(alloc, args) {
-        Err(ArgsFault::Rejected(error)) => error.kind() == ErrorKind::MissingRequiredArgument,
-        _ => false,
-    }
+/// How `clap` takes arguments.
+#[derive(Clone, Copy, PartialEq, Eq)]
+enum Reading {
+    /// They are a command, or a value is not in its range.
+    Accepted,
+    /// A required one is missing.
+    Lacking,
+    /// They are rejected for another cause.
+    Rejected,
 }
 
-/// Whether the arguments are accepted.
-fn are_accepted(alloc: Global, args: &[String]) -> bool {
-    read_args(alloc, args).is_ok()
+/// How `clap` takes the arguments.
+fn reading_of(alloc: Global, args: &[String]) -> Reading {
+    match read_args(alloc, args) {
+        Err(ArgsFault::Rejected(error)) => match error.kind() {
+            ErrorKind::MissingRequiredArgument => Reading::Lacking,
+            _ => Reading::Rejected,
+        },
+        _ => Reading::Accepted,
+    }
 }
 
 /// Adds the server at this socket to the arguments of a command that needs files or a server, and names neither. `None` for
@@ -75,13 +84,12 @@ pub fn with_server(
     ensures { IfOk result (λ found. IfSome found (λ words. map string_bytes words.items
         ≡ with_server socket.now (map string_bytes args.now))) }
 {
-    if !lack_one(alloc, args) {
+    if reading_of(alloc, args) != Reading::Lacking {
         return Ok(None);
     }
     let words = inserted(alloc, args, socket)?;
-    if are_accepted(alloc, words.as_slice()) || lack_one(alloc, words.as_slice()) {
-        Ok(Some(words))
-    } else {
-        Ok(None)
+    match reading_of(alloc, words.as_slice()) {
+        Reading::Rejected => Ok(None),
+        Reading::Accepted | Reading::Lacking => Ok(Some(words)),
     }
 }

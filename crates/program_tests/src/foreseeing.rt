@@ -1,6 +1,6 @@
 //! The command `foresee`: the reply that a user would get to a message.
 
-use crate::program::{prepare, read, remove, run, status_over};
+use crate::program::{plain, prepare, read, remove, run, status_over};
 use crate::transcript::{POLICY, perform, play};
 use cli::Destination;
 use std::io::{self, Read};
@@ -319,7 +319,7 @@ fn a_longer_message_is_not_sent_to_a_server(rt: HostRuntime) {
         "nowhere",
         "foresee --via @/socket --user ann --repo studio/film",
         &mut input,
-        Destination::Other,
+        plain(Destination::Other),
         &mut output,
         &mut errors,
     );

@@ -11,6 +11,8 @@ mod commands;
 #[cfg(test)]
 mod control_sockets;
 #[cfg(test)]
+mod explaining;
+#[cfg(test)]
 mod foreseeing;
 #[cfg(test)]
 mod harness;

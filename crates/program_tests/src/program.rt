@@ -2,7 +2,7 @@
 // The helpers have no clause, so a test's proof does not include those of each call.
 
 use crate::harness::{Tester, unwrap};
-use cli::{Destination, ServeArgs};
+use cli::{Destination, Environment, ServeArgs};
 use names::Counted;
 use sqlite::{Connection, Error, File, FileStore};
 use std::io::{Read, Write};
@@ -64,7 +64,7 @@ pub(crate) fn status_over<R: Read, W: Write>(
     folder: &str,
     line: &str,
     input: &mut R,
-    destination: Destination,
+    environment: Environment<'_>,
     output: &mut W,
     errors: &mut Vec<u8>,
 ) -> u8 {
@@ -74,11 +74,19 @@ pub(crate) fn status_over<R: Read, W: Write>(
         host,
         words.as_slice(),
         input,
-        destination,
+        environment,
         &mut output,
         errors,
         Unknown,
     )
+}
+
+/// An environment in which no server is named.
+pub(crate) fn plain(destination: Destination) -> Environment<'static> {
+    Environment {
+        destination,
+        server: None,
+    }
 }
 
 /// Runs the program over the input. Its output is no terminal.
@@ -101,6 +109,18 @@ pub(crate) fn run_to(
     input: &str,
     destination: Destination,
 ) -> Ran {
+    run_in(rt, host, folder, line, input, plain(destination))
+}
+
+/// Runs the program over the input, in this environment.
+pub(crate) fn run_in(
+    rt: &impl Tester,
+    host: &HostRuntime,
+    folder: &str,
+    line: &str,
+    input: &str,
+    environment: Environment<'_>,
+) -> Ran {
     let mut rest = input.as_bytes();
     let mut output = Vec::new(rt.alloc());
     let mut errors = Vec::new(rt.alloc());
@@ -110,7 +130,7 @@ pub(crate) fn run_to(
         folder,
         line,
         &mut rest,
-        destination,
+        environment,
         &mut output,
         &mut errors,
     );

@@ -1,7 +1,7 @@
 //! Streams that fail, and arguments that could not be read.
 
 use crate::harness::Tester;
-use crate::program::{prepare, remove, status_over};
+use crate::program::{plain, prepare, remove, status_over};
 use crate::transcript::{POLICY, play};
 use cli::Destination;
 use std::io::{self, ErrorKind, Read};
@@ -73,7 +73,7 @@ fn a_failed_read_is_reported_after_the_replies(rt: HostRuntime) {
         "read",
         SESSION,
         &mut input,
-        Destination::Other,
+        plain(Destination::Other),
         &mut output,
         &mut errors,
     );
@@ -94,7 +94,7 @@ fn expect_cut(rt: &impl Tester, host: &HostRuntime, line: &str, input: &str, wan
         "write",
         line,
         &mut rest,
-        Destination::Other,
+        plain(Destination::Other),
         &mut output,
         &mut errors,
     );
