@@ -201,6 +201,10 @@ const FILES: &[(&[u8], &str)] = &[
         "line 3: the file is no TOML text in UTF-8; found a byte that is not UTF-8",
     ),
     (
+        b"[[[[[[[[",
+        "line 1: the file is no TOML text in UTF-8; invalid key, expected letters, numbers, `-`, `_` or a quoted key",
+    ),
+    (
         b"base =",
         "line 1: the file is no TOML text in UTF-8; invalid value, expected a string, number, boolean, date-time, array or inline table",
     ),
