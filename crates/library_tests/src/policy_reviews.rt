@@ -155,11 +155,7 @@ const PROBLEMS: &[(&str, &str, &str)] = &[
         "effect = \"\"\"\nusers = 1\n\"\"\"\n",
         "in row 2, `effect` is out of range: expected allow or deny; found \"users = 1\\n\"",
     ),
-    (
-        "# the artists",
-        "# the artists {ann, bob}",
-        "none",
-    ),
+    ("# the artists", "# the artists {ann, bob}", "none"),
     (
         "repos = [\"studio/\"]",
         "repos = [\"studio/]",
@@ -271,11 +267,7 @@ fn a_fault_of_another_text_is_described(rt: HostRuntime) {
 /// Texts of the file, others in their place, and the warnings, each with a line end.
 const WARNINGS: &[(&str, &str, &str)] = &[
     ("colour", "", ""),
-    (
-        "token_seconds = 3600",
-        "token_seconds = 60",
-        "",
-    ),
+    ("token_seconds = 3600", "token_seconds = 60", ""),
     (
         "token_seconds = 3600",
         "token_seconds = 59",
@@ -311,11 +303,7 @@ const WARNINGS: &[(&str, &str, &str)] = &[
         "  \"zoe\",\n",
         "row 2: no row allows \"zoe\" anything: what no row allows is denied without a row that denies it\n",
     ),
-    (
-        "users = [\"ann\", \"bob\"]",
-        "users = [\"*\"]",
-        "",
-    ),
+    ("users = [\"ann\", \"bob\"]", "users = [\"*\"]", ""),
 ];
 
 /// The warnings of the text, each with a line end.
@@ -340,6 +328,12 @@ fn each_kind_of_warning(rt: HostRuntime) {
 
 #[test]
 fn requests_that_ask_a_right(rt: HostRuntime) {
-    assert_eq!(rt; asked_by(Right::List), "a list of locks, for each lock in it");
-    assert_eq!(rt; asked_by(Right::Force), "the release of another user's lock, by force");
+    assert_eq!(rt;
+        asked_by(Right::List),
+        "a list of locks, for each lock in it"
+    );
+    assert_eq!(rt;
+        asked_by(Right::Force),
+        "the release of another user's lock, by force"
+    );
 }
