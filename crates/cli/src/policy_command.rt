@@ -1,4 +1,4 @@
-//! The command `policy`: checks a policy file, decides a question by it, and lists its rows.
+//! The command `policy`: checks a policy file, decides a question by it, lists its rows, and warns.
 
 ghost use Rattle.std.specs.Prelude.{◌≡◌, map, option_map, IfOk, OnOk, IsTrue, is_ok};
 ghost use Rattle.model.specs.Policy.{decide};
@@ -10,9 +10,11 @@ use crate::policy_lines::{decision_line, row_line};
 use command_line::{AskedQuestion, PolicyArgs, PolicyTask};
 use faults::Fault;
 use machine::{policy_line, read_described};
+use model::Right;
 use names::Sink;
 use operator::Lines;
 use policy::{Policy, Row, Verdict, decide};
+use policy_review::{asked_by, warnings};
 use std::alloc::{AllocError, Global};
 use std::rt::HostRuntime;
 
@@ -65,24 +67,43 @@ fn covering_in(earlier: &[Row], row: &Row) -> Option<usize>
     None
 }
 
-/// The line with the number of repositories and rows.
+/// Adds a line for each warning of the policy.
+fn push_warnings(alloc: Global, policy: &Policy, lines: &mut Lines) -> Result<(), AllocError> {
+    let found = warnings(alloc, policy)?;
+    for warning in found.iter() {
+        let line = format!(in alloc; "warning: {warning}")?;
+        lines.push(line.as_bytes())?;
+    }
+    Ok(())
+}
+
+/// The line with the number of repositories and rows, and the warnings.
 fn count_lines(alloc: Global, policy: &Policy) -> Result<Lines, AllocError> {
     let mut lines = Lines::new(alloc);
     lines.push(policy_line(alloc, policy)?.as_bytes())?;
+    push_warnings(alloc, policy, &mut lines)?;
     Ok(lines)
 }
 
-/// The lines with the verdict, and with the row that decides.
-fn decision_lines(alloc: Global, policy: &Policy, verdict: Verdict) -> Result<Lines, AllocError> {
+/// The lines with the verdict, with the row that decides, and with the requests that ask the right.
+fn decision_lines(
+    alloc: Global,
+    policy: &Policy,
+    right: Right,
+    verdict: Verdict,
+) -> Result<Lines, AllocError> {
     let mut lines = Lines::new(alloc);
     lines.push(decision_line(alloc, verdict)?.as_bytes())?;
     if let Some(row) = row_numbered(policy.rows(), number_of(verdict)) {
         lines.push(row.to_string(alloc)?.as_bytes())?;
     }
+    let requests = asked_by(right);
+    lines.push(format!(in alloc; "asked by: {requests}")?.as_bytes())?;
     Ok(lines)
 }
 
-/// Writes which row decides the question, and its text. `Ok` means that the question is allowed.
+/// Writes which row decides the question, its text, and which requests ask the right. `Ok` means that the question is
+/// allowed.
 fn write_decision<K: Sink>(
     alloc: Global,
     policy: &Policy,
@@ -94,18 +115,25 @@ fn write_decision<K: Sink>(
     ensures good { OnOk result (K.failed output.new ≡ K.failed output.old) }
 {
     let verdict = verdict_on(policy, asked);
-    decision_lines(alloc, policy, verdict)?.write(output)?;
+    decision_lines(alloc, policy, asked.right, verdict)?.write(output)?;
     ending(verdict)
 }
 
-/// The text of each row, after a line with its number.
-fn row_lines(alloc: Global, rows: &[Row]) -> Result<Lines, AllocError> {
-    let mut lines = Lines::new(alloc);
+/// Adds the text of each row, after a line with its number.
+fn push_rows(alloc: Global, rows: &[Row], lines: &mut Lines) -> Result<(), AllocError> {
     for (index, row) in rows.iter().enumerate() {
         let covering = covering_in(&rows[..index], row);
         lines.push(row_line(alloc, index + 1, covering)?.as_bytes())?;
         lines.push(row.to_string(alloc)?.as_bytes())?;
     }
+    Ok(())
+}
+
+/// The rows, and the warnings.
+fn row_lines(alloc: Global, policy: &Policy) -> Result<Lines, AllocError> {
+    let mut lines = Lines::new(alloc);
+    push_rows(alloc, policy.rows(), &mut lines)?;
+    push_warnings(alloc, policy, &mut lines)?;
     Ok(lines)
 }
 
@@ -127,7 +155,7 @@ pub(crate) fn policy_command<K: Sink>(
     let lines = match &args.task {
         PolicyTask::Decide(asked) => return write_decision(alloc, &policy, asked, output),
         PolicyTask::Count => count_lines(alloc, &policy)?,
-        PolicyTask::List => row_lines(alloc, policy.rows())?,
+        PolicyTask::List => row_lines(alloc, &policy)?,
     };
     lines.write(output)?;
     Ok(())

@@ -1,4 +1,4 @@
-//! Tests of the crates that need no database: `names`, `policy`, `forms`, `wire`, `routes` and `control`,
+//! Tests of the crates that need no database: `names`, `policy`, `policy_review`, `forms`, `wire`, `routes` and `control`,
 //! through their public items. In a crate of their own the tests are proved without the code of those
 //! crates, which is proved already.
 #![tactic(auto)]
@@ -17,6 +17,8 @@ mod heads;
 mod messages;
 #[cfg(test)]
 mod policies;
+#[cfg(test)]
+mod policy_reviews;
 #[cfg(test)]
 mod replies;
 #[cfg(test)]

@@ -93,9 +93,7 @@ fn is_ever_allowed(policy: &Policy, user: &str) -> bool
 fn any_served(repos: &[Repo], entry: &str) -> bool
     ensures { result ≡ list_any (λ repo. holds (repo_view repo).name entry.now) repos.now }
 {
-    repos
-        .iter()
-        .any(|repo| holds(entry, repo.name().as_str()))
+    repos.iter().any(|repo| holds(entry, repo.name().as_str()))
 }
 
 /// Whether the entry matches a repository of the policy.

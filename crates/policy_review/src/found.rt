@@ -100,7 +100,11 @@ pub(crate) fn found_kind(alloc: Global, value: &Value) -> Result<String, AllocEr
 }
 
 /// What is found at a key whose value is of the wrong kind.
-pub(crate) fn found_wrong_kind(alloc: Global, key: Key, value: &Value) -> Result<String, AllocError> {
+pub(crate) fn found_wrong_kind(
+    alloc: Global,
+    key: Key,
+    value: &Value,
+) -> Result<String, AllocError> {
     match value {
         Value::Array(entries) if is_list(key) => found_no_text(alloc, entries.as_slice()),
         other => found_kind(alloc, other),
@@ -109,7 +113,10 @@ pub(crate) fn found_wrong_kind(alloc: Global, key: Key, value: &Value) -> Result
 
 /// Whether the key has a list of texts.
 fn is_list(key: Key) -> bool {
-    matches!(key, Key::Users | Key::Repos | Key::Refs | Key::Paths | Key::Rights)
+    matches!(
+        key,
+        Key::Users | Key::Repos | Key::Refs | Key::Paths | Key::Rights
+    )
 }
 
 /// The kind of the first entry of the list that is not a text.

@@ -90,7 +90,10 @@ impl<'a> Section<'a> {
             };
         };
         let entries = entries_of(top, name);
-        let entry = entries.get(number.saturating_sub(1));
+        let entry = match number {
+            0 => None,
+            _ => entries.get(number - 1),
+        };
         let table = match entry {
             Some(Value::Table(table)) => Some(table),
             _ => None,

@@ -58,7 +58,10 @@ impl<'a> PlainText<'a> {
 
     /// How many headers of the name the text has.
     pub fn headers(&self, name: &str) -> usize {
-        self.text.lines().filter(|line| is_header(line, name)).count()
+        self.text
+            .lines()
+            .filter(|line| is_header(line, name))
+            .count()
     }
 
     /// The number of the line with the header of the name that has this number. Both count from 1.

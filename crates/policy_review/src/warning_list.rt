@@ -77,9 +77,30 @@ fn push_row(
     ensures { OnOk result (Adds found.old.items found.new.items
         (row_warnings (policy_view policy.now) number (row_view row.now))) }
 {
-    push_entries(alloc, found, policy, number, EntryDoubt::NeverAllowed, &row.users)?;
-    push_entries(alloc, found, policy, number, EntryDoubt::NotServed, &row.repos)?;
-    push_entries(alloc, found, policy, number, EntryDoubt::StarInPath, &row.paths)?;
+    push_entries(
+        alloc,
+        found,
+        policy,
+        number,
+        EntryDoubt::NeverAllowed,
+        &row.users,
+    )?;
+    push_entries(
+        alloc,
+        found,
+        policy,
+        number,
+        EntryDoubt::NotServed,
+        &row.repos,
+    )?;
+    push_entries(
+        alloc,
+        found,
+        policy,
+        number,
+        EntryDoubt::StarInPath,
+        &row.paths,
+    )?;
     push_right(found, number, row, RightDoubt::PullWithRefs)?;
     push_right(found, number, row, RightDoubt::PullWithPaths)?;
     push_right(found, number, row, RightDoubt::PushWithPaths)?;

@@ -25,6 +25,7 @@ $ policy --policy @/policy
 $ policy --policy @/policy --rows
 $ policy --policy @/policy --user ann --repo studio/film --right pull
 | denied by row 0
+| asked by: a download (batch, GET of an object), as in a fetch or a clone; a list of locks
 status 1
 "#;
 
@@ -41,7 +42,7 @@ status 1
 file policy 40 91
 $ policy --policy @/policy
 error custody: policy Y1
-error the file is no TOML text in UTF-8
+error line 1: the file is no TOML text in UTF-8; invalid key, expected letters, numbers, `-`, `_` or a quoted key
 status 1
 file policy 1048577 32
 $ policy --policy @/policy
@@ -52,69 +53,97 @@ status 1
 $ policy --policy @/policy
 replace base = => colour = 1\nbase =
 error custody: policy Y2 at top
-error at the top, there is a key that is none of `base`, `token_seconds`, `repo`, `row`
+error line 2: at the top, there is a key that is none of `base`, `token_seconds`, `repo`, `row`; found the key "colour"
 status 1
 file policy 0 0
 $ policy --policy @/policy
 error custody: policy Y2 at top
-error at the top, `base` is missing or of the wrong kind: expected a text of 8 to 200 of `A-Z a-z 0-9 . : _ / -` that begins with http:// or https://, goes on after it and does not end in /
+error at the top, `base` is missing: expected a text of 8 to 200 of `A-Z a-z 0-9 . : _ / -` that begins with http:// or https://, goes on after it and does not end in /
 status 1
 $ policy --policy @/policy
 replace = 3600 => = 86401
 error custody: policy Y3 at top
-error at the top, `token_seconds` is out of range: expected a whole number from 1 to 86400
+error line 3: at the top, `token_seconds` is out of range: expected a whole number from 1 to 86400; found 86401
 status 1
 $ policy --policy @/policy
 append 256 [[repo]]\nname = "studio/r@"\ndefault_ref = "refs/heads/main"\nquota = 1\n
 error custody: policy Y5 at top
-error at the top, `repo` is too long: expected an array of at most 256 tables
+error line 1037: at the top, `repo` is too long: expected an array of at most 256 tables; found 257 tables
 status 1
 # a repository
 $ policy --policy @/policy
 replace quota = 1000000 => quota = 1000000\ncolour = 1
 error custody: policy Y2 at repo 1
-error in repository 1, there is no table, or a key that is none of `name`, `default_ref`, `quota`
+error line 9: in repository 1, there is a key that is none of `name`, `default_ref`, `quota`; found the key "colour"
 status 1
 $ policy --policy @/policy
 replace quota = 1000000 => quota = -1
 error custody: policy Y3 at repo 1
-error in repository 1, `quota` is out of range: expected a whole number from 0 to 1099511627776
+error line 8: in repository 1, `quota` is out of range: expected a whole number from 0 to 1099511627776; found -1
 status 1
 $ policy --policy @/policy
 append 1 [[repo]]\nname = "studio/film"\ndefault_ref = "refs/heads/main"\nquota = 1\n
 error custody: policy Y4 at repo 2
-error in repository 2, `name` is the same as in an earlier repository: expected a repository, as owner/name, each 1 to 40 of `a-z 0-9 _ -`
+error line 18: in repository 2, `name` is the same as in an earlier repository: expected a repository, as owner/name, each 1 to 40 of `a-z 0-9 _ -`; found "studio/film"
 status 1
 # a row
 $ policy --policy @/policy
 replace rights = => colour = 1\nrights =
 error custody: policy Y2 at row 1
-error in row 1, there is no table, or a key that is none of `effect`, `users`, `repos`, `refs`, `paths`, `rights`
+error line 16: in row 1, there is a key that is none of `effect`, `users`, `repos`, `refs`, `paths`, `rights`; found the key "colour"
 status 1
 $ policy --policy @/policy
 replace refs = ["*"] => refs = "*"
 error custody: policy Y2 at row 1
-error in row 1, `refs` is missing or of the wrong kind: expected 1 to 64 texts, each *, refs/, a ref and a slash, or a ref
+error line 14: in row 1, `refs` is of the wrong kind: expected 1 to 64 texts, each *, refs/, a ref and a slash, or a ref; found a text
 status 1
 $ policy --policy @/policy
 replace "list", "lock" => "lists"
 error custody: policy Y3 at row 1
-error in row 1, `rights` is out of range: expected 1 to 64 texts of pull, push, list, lock, force
+error line 16: in row 1, `rights` is out of range: expected 1 to 64 texts of pull, push, list, lock, force; found "lists"
 status 1
 $ policy --policy @/policy
 append 1 [[row]]\neffect = "forbid"\nusers = ["*"]\nrepos = ["*"]\nrefs = ["*"]\npaths = ["*"]\nrights = ["pull"]\n
 error custody: policy Y3 at row 2
-error in row 2, `effect` is out of range: expected allow or deny
+error line 18: in row 2, `effect` is out of range: expected allow or deny; found "forbid"
+status 1
+# what is missing, and what has another kind
+$ policy --policy @/policy
+replace effect = "allow" => # nothing
+error custody: policy Y2 at row 1
+error line 10: in row 1, `effect` is missing: expected allow or deny
+status 1
+$ policy --policy @/policy
+append 1 row = 1\n
+error custody: policy Y2 at row 1
+error line 17: in row 1, there is a key that is none of `effect`, `users`, `repos`, `refs`, `paths`, `rights`; found the key "row"
+status 1
+# a text is escaped, and cut
+$ policy --policy @/policy
+replace "ann", "bob" => "\u001b[31m"
+error custody: policy Y3 at row 1
+error line 12: in row 1, `users` is out of range: expected 1 to 64 texts, each * or a user; found "\u{1b}[31m"
+status 1
+$ policy --policy @/policy
+replace "ann" => "0123456789012345678901234567890123456789012345678901234567890123456789"
+error custody: policy Y3 at row 1
+error line 12: in row 1, `users` is out of range: expected 1 to 64 texts, each * or a user; found "012345678901234567890123456789012345678901234567890123456789"..
+status 1
+# no line is named beside an inline table
+$ policy --policy @/policy
+replace effect = "allow" => effect = { allow = 1 }
+error custody: policy Y2 at row 1
+error in row 1, `effect` is of the wrong kind: expected allow or deny; found a table
 status 1
 # the same for a question, and for the rows; other commands print one line
 $ policy --policy @/policy --user ann --repo studio/film --right pull
 replace = 3600 => = 0
 error custody: policy Y3 at top
-error at the top, `token_seconds` is out of range: expected a whole number from 1 to 86400
+error line 3: at the top, `token_seconds` is out of range: expected a whole number from 1 to 86400; found 0
 status 1
 $ policy --policy @/policy --rows
 error custody: policy Y3 at top
-error at the top, `token_seconds` is out of range: expected a whole number from 1 to 86400
+error line 3: at the top, `token_seconds` is out of range: expected a whole number from 1 to 86400; found 0
 status 1
 missing db
 $ session --db @/db --policy @/policy --now 5
@@ -140,6 +169,7 @@ $ policy --policy @/policy --user rita --repo studio/film --right push --ref ref
 | refs = ["refs/heads/release/"]
 | paths = ["*"]
 | rights = ["push", "lock"]
+| asked by: an upload (batch, PUT of an object, verification of an object); the check of the locks of a ref before a push; pushcheck, for each path
 missing db
 $ policy --policy @/policy --user ann --repo studio/film --right push --ref refs/heads/release/1.0
 | denied by row 2
@@ -149,6 +179,7 @@ $ policy --policy @/policy --user ann --repo studio/film --right push --ref refs
 | refs = ["refs/heads/release/"]
 | paths = ["*"]
 | rights = ["push", "lock", "force"]
+| asked by: an upload (batch, PUT of an object, verification of an object); the check of the locks of a ref before a push; pushcheck, for each path
 status 1
 missing db
 $ policy --policy @/policy --user ann --repo studio/film --right lock --ref refs/heads/release/1.0 --path art/hero.psd
@@ -159,6 +190,7 @@ $ policy --policy @/policy --user ann --repo studio/film --right lock --ref refs
 | refs = ["refs/heads/release/"]
 | paths = ["*"]
 | rights = ["push", "lock", "force"]
+| asked by: the creation of a lock; the release of a lock of one's own
 status 1
 $ policy --policy @/policy --user ann --repo studio/film --right push --ref refs/heads/main
 | allowed by row 3
@@ -168,6 +200,7 @@ $ policy --policy @/policy --user ann --repo studio/film --right push --ref refs
 | refs = ["*"]
 | paths = ["*"]
 | rights = ["pull", "push", "list", "lock"]
+| asked by: an upload (batch, PUT of an object, verification of an object); the check of the locks of a ref before a push; pushcheck, for each path
 $ policy --policy @/policy --user ann --repo studio/film --right pull
 | allowed by row 3
 | effect = "allow"
@@ -176,6 +209,7 @@ $ policy --policy @/policy --user ann --repo studio/film --right pull
 | refs = ["*"]
 | paths = ["*"]
 | rights = ["pull", "push", "list", "lock"]
+| asked by: a download (batch, GET of an object), as in a fetch or a clone; a list of locks
 # a row for some refs does not match a question without a ref
 $ policy --policy @/policy --user rita --repo studio/film --right push
 | allowed by row 3
@@ -185,15 +219,19 @@ $ policy --policy @/policy --user rita --repo studio/film --right push
 | refs = ["*"]
 | paths = ["*"]
 | rights = ["pull", "push", "list", "lock"]
+| asked by: an upload (batch, PUT of an object, verification of an object); the check of the locks of a ref before a push; pushcheck, for each path
 # a user without a row, a right without a row, and a repository that the policy does not have
 $ policy --policy @/policy --user zoe --repo studio/film --right pull
 | denied by row 0
+| asked by: a download (batch, GET of an object), as in a fetch or a clone; a list of locks
 status 1
 $ policy --policy @/policy --user ann --repo studio/film --right force --ref refs/heads/main --path art/hero.psd
 | denied by row 0
+| asked by: the release of another user's lock, by force
 status 1
 $ policy --policy @/policy --user ann --repo studio/game --right pull
 | denied by row 0
+| asked by: a download (batch, GET of an object), as in a fetch or a clone; a list of locks
 status 1
 "#;
 
@@ -207,6 +245,7 @@ $ policy --policy @/policy --user ann --repo studio/film --right lock --ref refs
 | refs = ["*"]
 | paths = ["art/characters/"]
 | rights = ["lock"]
+| asked by: the creation of a lock; the release of a lock of one's own
 # * among the refs matches a question without a ref
 $ policy --policy @/policy --user bob --repo studio/film --right lock --path art/palette.aco
 | allowed by row 3
@@ -216,15 +255,19 @@ $ policy --policy @/policy --user bob --repo studio/film --right lock --path art
 | refs = ["*"]
 | paths = ["art/sets/", "art/palette.aco"]
 | rights = ["lock"]
+| asked by: the creation of a lock; the release of a lock of one's own
 $ policy --policy @/policy --user ann --repo studio/film --right lock --ref refs/heads/main --path art/sets/street.psd
 | denied by row 0
+| asked by: the creation of a lock; the release of a lock of one's own
 status 1
 $ policy --policy @/policy --user ann --repo studio/film --right lock --ref refs/heads/main --path art/characters.psd
 | denied by row 0
+| asked by: the creation of a lock; the release of a lock of one's own
 status 1
 # a row for some paths does not match a question without a path
 $ policy --policy @/policy --user ann --repo studio/film --right lock --ref refs/heads/main
 | denied by row 0
+| asked by: the creation of a lock; the release of a lock of one's own
 status 1
 "#;
 
@@ -240,8 +283,10 @@ $ policy --policy @/policy --user ann --repo studio/tools --right pull
 | refs = ["*"]
 | paths = ["*"]
 | rights = ["pull"]
+| asked by: a download (batch, GET of an object), as in a fetch or a clone; a list of locks
 $ policy --policy @/policy --user ann --repo studio/tools --right push --ref refs/heads/main
 | denied by row 0
+| asked by: an upload (batch, PUT of an object, verification of an object); the check of the locks of a ref before a push; pushcheck, for each path
 status 1
 $ policy --policy @/policy --user bob --repo studio/game --right push --ref refs/heads/main
 | allowed by row 3
@@ -251,6 +296,7 @@ $ policy --policy @/policy --user bob --repo studio/game --right push --ref refs
 | refs = ["*"]
 | paths = ["*"]
 | rights = ["pull", "push", "list", "lock"]
+| asked by: an upload (batch, PUT of an object, verification of an object); the check of the locks of a ref before a push; pushcheck, for each path
 "#;
 
 #[test]
@@ -379,7 +425,8 @@ fn policy_words_and_values_are_refused(rt: HostRuntime) {
 
 /// Rows of which some are never reached: 3, which row 1 covers alone; 6, which rows 1 and 3 cover; and 7, which row
 /// 2 covers, whatever the two allow. Rows 1 and 4 together match each question that row 5 matches, but neither does
-/// alone. Row 8 has one right more than row 1; row 9 has a path, and row 10 also matches questions without one.
+/// alone. Row 8 has one right more than row 1; row 9 has a path, and row 10 also matches questions without one. The file
+/// has no repository, of which it warns.
 const COVERED: &str = r#"
 base = "https://lfs.example"
 token_seconds = 3600
@@ -547,10 +594,60 @@ $ policy --policy @/policy --rows
 | refs = ["*"]
 | paths = ["art/", "*"]
 | rights = ["lock"]
+| warning: row 1: "studio/" matches no repository of this file
+| warning: row 3: "studio/film" matches no repository of this file
+| warning: row 4: "studio/film" matches no repository of this file
+| warning: row 5: "studio/film" matches no repository of this file
+| warning: row 6: "studio/film" matches no repository of this file
+| warning: row 7: "studio/film" matches no repository of this file
+| warning: row 8: "studio/film" matches no repository of this file
+| warning: row 9: "studio/film" matches no repository of this file
+| warning: row 10: "studio/film" matches no repository of this file
 missing db
 "#;
 
 #[test]
 fn covered_rows_are_marked(rt: HostRuntime) {
     perform(&rt, &rt, "covered", COVERED, LISTED);
+}
+
+/// Policies without a fault of which it is doubtful that they are meant so.
+const WARNED: &str = r#"
+$ policy --policy @/policy
+replace token_seconds = 3600 => token_seconds = 59
+| policy ok: 1 repositories, 1 rows
+| warning: token_seconds: 59 seconds are short: the Git LFS client counts a token as expired 5 seconds before its end, so a transfer may need several tokens
+missing db
+$ policy --policy @/policy
+replace token_seconds = 3600 => token_seconds = 5
+| policy ok: 1 repositories, 1 rows
+| warning: token_seconds: a token of 5 seconds cannot be used: the Git LFS client counts a token as expired 5 seconds before its end
+# a user whom no row allows anything, and a repository and an owner that the file does not have
+$ policy --policy @/policy
+append 1 [[row]]\neffect = "deny"\nusers = ["zoe", "ann"]\nrepos = ["studio/flim", "stduio/"]\nrefs = ["*"]\npaths = ["*"]\nrights = ["pull"]\n
+| policy ok: 1 repositories, 2 rows
+| warning: row 2: no row allows "zoe" anything: what no row allows is denied without a row that denies it
+| warning: row 2: "studio/flim" matches no repository of this file
+| warning: row 2: "stduio/" matches no repository of this file
+# paths that look like patterns
+$ policy --policy @/policy
+append 1 [[row]]\neffect = "allow"\nusers = ["ann"]\nrepos = ["studio/film"]\nrefs = ["*"]\npaths = ["*.psd", "art/"]\nrights = ["lock"]\n
+| policy ok: 1 repositories, 2 rows
+| warning: row 2: "*.psd" matches only the path with this very text: write a folder and a slash, as "art/", for all paths below it; there are no patterns by ending
+# rights whose requests name no ref or no path; a question has no warnings
+$ policy --policy @/policy
+append 1 [[row]]\neffect = "allow"\nusers = ["ann"]\nrepos = ["*"]\nrefs = ["refs/"]\npaths = ["art/"]\nrights = ["pull", "push"]\n
+| policy ok: 1 repositories, 2 rows
+| warning: row 2: a request that asks pull names no ref, and the refs have no "*": the row does not match it
+| warning: row 2: a request that asks pull names no path, and the paths have no "*": the row does not match it
+| warning: row 2: a request that asks push names no path, and the paths have no "*": the row matches only the paths of `custody pushcheck`
+$ policy --policy @/policy --user zoe --repo studio/film --right force
+| denied by row 0
+| asked by: the release of another user's lock, by force
+status 1
+"#;
+
+#[test]
+fn what_is_doubtful_is_reported(rt: HostRuntime) {
+    perform(&rt, &rt, "warned", POLICY, WARNED);
 }
