@@ -45,7 +45,9 @@ fn created_by<'a>(rt: &HostRuntime, command: &'a Command<'_>) -> Option<&'a str>
 
 /// The line about a database that was made.
 fn created_line(alloc: Global, db: &str) -> Result<String, AllocError> {
-    format!(in alloc; "{db}: there was no such file, and an empty database was created: is the path right?")
+    format!(in alloc;
+        "{db}: there was no such file, and an empty database was created: is the path right?"
+    )
 }
 
 /// The line about a listing that has no line.

@@ -207,7 +207,15 @@ pub fn run<S: Start, R: Read, K: Sink, E: Write>(
     let status = match args_with_server(rt.alloc(), args, environment.server) {
         Ok(None) => run_args(rt, args, input, destination, output, errors, start),
         Ok(Some(more)) => {
-            run_args(rt, more.as_slice(), input, destination, output, errors, start)
+            run_args(
+                rt,
+                more.as_slice(),
+                input,
+                destination,
+                output,
+                errors,
+                start,
+            )
         }
         Err(_) => refuse(&Fault::Memory, errors),
     };

@@ -250,7 +250,9 @@ pub(crate) fn serve<S: Start, K: Sink, E: Write>(
     if explains {
         show_start(rt, &policy, args.db, errors);
     }
-    serve_bound(rt, rt, args, explains, policy, listeners, output, errors, start)
+    serve_bound(
+        rt, rt, args, explains, policy, listeners, output, errors, start,
+    )
 }
 
 /// Runs the command `serve` over listeners that are bound already, at the moments of a clock, and returns the exit status.
@@ -270,7 +272,9 @@ pub fn serve_listeners<C: Clock, S: Start, K: Sink, E: Write>(
     ensures good { result ≡ 0 → K.failed output.new ≡ K.failed output.old }
 {
     let served = match read_policy(rt, args.policy) {
-        Ok(policy) => serve_bound(rt, clock, args, false, policy, listeners, output, errors, start),
+        Ok(policy) => serve_bound(
+            rt, clock, args, false, policy, listeners, output, errors, start,
+        ),
         Err(fault) => Err(fault),
     };
     status_after(served, errors).code()

@@ -29,7 +29,10 @@ fn main(rt: HostRuntime) -> ExitCode {
     let server = env::var(&rt, SERVER).ok();
     let environment = Environment {
         destination: destination(&rt),
-        server: server.as_ref().map(|socket| socket.as_str()).filter(|socket| !socket.is_empty()),
+        server: server
+            .as_ref()
+            .map(|socket| socket.as_str())
+            .filter(|socket| !socket.is_empty()),
     };
     let mut output = Counted::new(Flushed::new(rt.stdout()));
     let mut errors = rt.stderr();
