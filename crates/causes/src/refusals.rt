@@ -1,7 +1,7 @@
 //! Reports why a server's store refuses requests.
 
-use crate::room::room_beside;
-use std::io::{self, Stderr, Write};
+use crate::room::{Room, room_beside};
+use std::io::{self, Write};
 use std::rt::HostRuntime;
 use std::time::{Clock, Duration, Instant};
 
@@ -16,13 +16,14 @@ pub struct Refusals {
     is_reported: bool,
     /// How many are not reported yet.
     count: u64,
+    /// Whether the disk had room after the first of these.
+    room: Room,
     /// When the last line was written.
     last: Option<Instant>,
 }
 
 /// Writes that requests were refused, and why.
-fn write_line(rt: &HostRuntime, db: &str, count: u64, errors: &mut Stderr) -> io::Result<()> {
-    let room = room_beside(rt, db);
+fn write_line<E: Write>(errors: &mut E, db: &str, count: u64, room: Room) -> io::Result<()> {
     let requests = if count == 1 {
         "request was"
     } else {
@@ -37,12 +38,17 @@ impl Refusals {
         Refusals {
             is_reported,
             count: 0,
+            room: Room::Unknown,
             last: None,
         }
     }
 
-    /// Counts a refusal.
-    pub fn count(&mut self) {
+    /// Counts a refusal by the store of this database. At the first one that is not reported yet it looks for the cause, with a
+    /// file that is written beside the database.
+    pub fn count(&mut self, rt: &HostRuntime, db: &str) {
+        if self.is_reported && self.count == 0 {
+            self.room = room_beside(rt, db);
+        }
         self.count = self.count.saturating_add(1);
     }
 
@@ -57,14 +63,14 @@ impl Refusals {
     }
 
     /// Writes a line on the error stream about the refusals that are not reported yet, if there is one, and the last line is
-    /// at least a second old. Looks for the cause with a file that is written beside the database.
+    /// at least a second old.
     pub fn report<C: Clock>(&mut self, rt: &HostRuntime, clock: &C, db: &str) {
         let Ok(now) = Instant::now(clock) else {
             return;
         };
         if self.is_due(now) {
             // Each refused connection has a line of its own in any case.
-            let _ = write_line(rt, db, self.count, &mut rt.stderr());
+            let _ = write_line(&mut rt.stderr(), db, self.count, self.room);
             self.count = 0;
             self.last = Some(now);
         }

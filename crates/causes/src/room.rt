@@ -54,7 +54,7 @@ pub fn room_beside(rt: &HostRuntime, db: &str) -> Room {
     room
 }
 
-/// Writes a clause about the room, after `the disk has`.
+/// Writes what that means for a request which was refused, after the path of the database and a colon.
 impl fmt::Display for Room {
     fn fmt<W: fmt::Write>(&self, f: &mut fmt::Formatter<W>) -> fmt::Result {
         f.write_str(match self {

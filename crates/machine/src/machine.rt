@@ -356,7 +356,7 @@ impl<C: Clock> Machine for Sockets<'_, C> {
 
     fn end_turn(&mut self, client: Client, front: &Front, end: End) -> Result<Option<End>, Fault> {
         if matches!(end, End::StoreRefused | End::StoreFailed) {
-            self.refusals.count();
+            self.refusals.count(self.rt, self.db);
         }
         let ended = match end {
             End::InputEnded if front.is_over() => self

@@ -331,7 +331,21 @@ const HELPS: &[(&str, &[&str])] = &[
             "--now <N>",
         ],
     ),
-    ("status --help", &["--via <SOCKET>"]),
+    (
+        "prune -h",
+        &[
+            "Usage: custody prune (--db FILE | --via SOCKET) [--now N] [--quiet] [--explain]",
+            "Example:\n  custody prune --via /run/custody/control --quiet",
+        ],
+    ),
+    (
+        "serve --help",
+        &[
+            "Usage: custody serve --db FILE --policy FILE --listen ADDR [--requests N] [--idle SECONDS] [--control SOCKET] [--explain]",
+            "The status is 0 after the last connection",
+        ],
+    ),
+    ("status --help", &["--via <SOCKET>", "The status is 0 if"]),
     ("hold --help", &["--via <SOCKET>", "--seconds <N>"]),
     ("reload --help", &["--via <SOCKET>"]),
     ("stop --help", &["--via <SOCKET>"]),
