@@ -21,7 +21,7 @@ use faults::{Fault, refuse};
 use names::{Counted, Sink};
 use operator::{Destination, print};
 use std::alloc::{AllocError, Global};
-use std::io::{self, ErrorKind, IsTerminal, Read, Write};
+use std::io::{self, ErrorKind, Read, Write};
 use std::rt::HostRuntime;
 use tables::Start;
 
@@ -43,6 +43,8 @@ fn print_text<K: Sink>(alloc: Global, text: &clap::Error, output: &mut K) -> Res
 pub struct Environment<'a> {
     /// Where the output is written to.
     pub destination: Destination,
+    /// Whether failures are explained without `--explain`: whether the error stream is a terminal.
+    pub explains: bool,
     /// The control socket of the server that is asked if the arguments name neither files nor a server: the variable
     /// `CUSTODY_VIA`.
     pub server: Option<&'a str>,
@@ -135,7 +137,7 @@ fn run_args<S: Start, R: Read, K: Sink, E: Write>(
     rt: &HostRuntime,
     args: &[String],
     input: &mut R,
-    destination: Destination,
+    environment: Environment<'_>,
     output: &mut K,
     errors: &mut E,
     start: S,
@@ -143,8 +145,8 @@ fn run_args<S: Start, R: Read, K: Sink, E: Write>(
     ensures { result ≡ Good → K.failed output.new ≡ K.failed output.old }
 {
     let manner = Manner {
-        destination,
-        explains: rt.stderr().is_terminal() || is_given(args, "--explain"),
+        destination: environment.destination,
+        explains: environment.explains || is_given(args, "--explain"),
         is_quiet: is_given(args, "--quiet"),
     };
     let explaining = Explaining {
@@ -203,15 +205,14 @@ pub fn run<S: Start, R: Read, K: Sink, E: Write>(
     ensures status { result ≤ 2 }
     ensures good { result ≡ 0 → K.failed output.new ≡ K.failed output.old }
 {
-    let destination = environment.destination;
     let status = match args_with_server(rt.alloc(), args, environment.server) {
-        Ok(None) => run_args(rt, args, input, destination, output, errors, start),
+        Ok(None) => run_args(rt, args, input, environment, output, errors, start),
         Ok(Some(more)) => {
             run_args(
                 rt,
                 more.as_slice(),
                 input,
-                destination,
+                environment,
                 output,
                 errors,
                 start,

@@ -29,6 +29,7 @@ fn main(rt: HostRuntime) -> ExitCode {
     let server = env::var(&rt, SERVER).ok();
     let environment = Environment {
         destination: destination(&rt),
+        explains: rt.stderr().is_terminal(),
         server: server
             .as_ref()
             .map(|socket| socket.as_str())

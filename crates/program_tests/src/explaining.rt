@@ -288,6 +288,21 @@ fn an_address_in_use_is_named(rt: HostRuntime) {
     remove(&rt, "occupied");
 }
 
+/// A user at a terminal gets the explanation without the flag.
+#[test]
+fn a_terminal_gets_the_cause(rt: HostRuntime) {
+    let environment = Environment {
+        destination: Destination::Other,
+        explains: true,
+        server: None,
+    };
+    let line = "locks --db @/db --repo studio/film";
+    let ran = run_in(&rt, &rt, "nowhere", line, "", environment);
+    let errors =
+        "custody: store G2\nnowhere/db: its folder does not exist: create it, or correct the path\n";
+    assert!(rt; ran.is(1, "", errors));
+}
+
 /// Commands with the server `asked/socket` in the environment, on which nobody listens, and their error streams.
 const ASKED: &[(&str, u8, &str)] = &[
     (
@@ -324,6 +339,7 @@ fn the_environment_names_a_server(rt: HostRuntime) {
     drop(unwrap(&rt, UnixListener::bind(&rt, path.as_str())));
     let environment = Environment {
         destination: Destination::Other,
+        explains: false,
         server: Some(path.as_str()),
     };
     for &(line, status, errors) in ASKED {

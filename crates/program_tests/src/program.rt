@@ -85,6 +85,7 @@ pub(crate) fn status_over<R: Read, W: Write>(
 pub(crate) fn plain(destination: Destination) -> Environment<'static> {
     Environment {
         destination,
+        explains: false,
         server: None,
     }
 }
