@@ -1,7 +1,7 @@
 //! Explains why a command failed.
 
 ghost use Rattle.std.specs.Prelude.{◌≡◌};
-ghost use Rattle.faults.specs.Statuses.{status_of};
+ghost use Rattle.faults.specs.Statuses.{status_of, status_of_end};
 
 use causes::{Named, explanation};
 use control::Status;
@@ -74,5 +74,20 @@ impl Explaining<'_> {
             let _ = write_line(errors, line.as_str());
         }
         status
+    }
+
+    /// Returns the exit status of a command that ended, and prints its fault, if there is one, as [`refuse`](Self::refuse) does.
+    pub(crate) fn status_after<E: Write>(
+        &self,
+        ended: Result<(), Fault>,
+        named: &Named<'_>,
+        errors: &mut E,
+    ) -> Status
+        ensures { result ≡ status_of_end ended }
+    {
+        match ended {
+            Ok(()) => Status::Good,
+            Err(fault) => self.refuse(&fault, named, errors),
+        }
     }
 }

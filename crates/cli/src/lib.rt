@@ -20,7 +20,6 @@ mod reading;
 mod serve;
 mod session;
 mod via;
-mod watched;
 
 pub use command_line::ServeArgs;
 pub use operator::Destination;

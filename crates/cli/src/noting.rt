@@ -69,6 +69,11 @@ impl<'a> Notes<'a> {
         }
     }
 
+    /// Whether they depend on whether the command prints anything.
+    pub(crate) fn are_about_output(&self) -> bool {
+        self.listing.is_some()
+    }
+
     /// The line about the command, after it ended.
     fn line(&self, rt: &HostRuntime, has_answered: bool) -> Option<String> {
         match (self.created, self.listing) {

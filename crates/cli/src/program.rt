@@ -13,7 +13,6 @@ use crate::quiet::but_last_line;
 use crate::serve::serve;
 use crate::session::session;
 use crate::via::ask_at;
-use crate::watched::Watched;
 use causes::Named;
 use command_line::{Command, is_given, read_args, with_server};
 use control::Status;
@@ -90,46 +89,77 @@ fn dispatch<S: Start, R: Read, K: Sink, E: Write>(
     }
 }
 
-/// The same without the last line of the output, if the command succeeds.
-fn dispatch_quietly<S: Start, R: Read, K: Sink, E: Write>(
-    rt: &HostRuntime,
-    command: &Command<'_>,
-    input: &mut R,
-    manner: Manner,
-    output: &mut K,
-    errors: &mut E,
-    start: S,
-) -> Result<(), Fault>
-    ensures { OnOk result (K.failed output.new ≡ K.failed output.old) }
-{
-    let mut kept = Counted::new(Vec::new(rt.alloc()));
-    let ended = dispatch(rt, command, input, manner, &mut kept, errors, start);
-    let text = kept.into_inner();
-    let printed = match ended {
-        Ok(()) => but_last_line(text.as_slice()),
-        Err(_) => text.as_slice(),
-    };
-    print(output, printed)?;
-    ended
+/// How a command ended, and what it has printed.
+#[derive(Drop)]
+struct Kept {
+    ended: Result<(), Fault>,
+    text: Vec<u8>,
 }
 
-/// Runs the command as the manner says.
-fn carry_out<S: Start, R: Read, K: Sink, E: Write>(
+/// Runs the command, and keeps what it prints.
+fn dispatch_kept<S: Start, R: Read, E: Write>(
     rt: &HostRuntime,
+    command: &Command<'_>,
+    input: &mut R,
+    manner: Manner,
+    errors: &mut E,
+    start: S,
+) -> Kept {
+    let mut output = Counted::new(Vec::new(rt.alloc()));
+    let ended = dispatch(rt, command, input, manner, &mut output, errors, start);
+    Kept {
+        ended,
+        text: output.into_inner(),
+    }
+}
+
+impl Kept {
+    /// Prints what was kept, but for its last line if the command succeeded and is to be quiet. Returns how the command ended.
+    ///
+    /// # Errors
+    ///
+    /// That of the command, and `Output` if the text could not be written.
+    fn print<K: Sink>(self, is_quiet: bool, output: &mut K) -> Result<(), Fault>
+        ensures { OnOk result (K.failed output.new ≡ K.failed output.old) }
+    {
+        let text = self.text.as_slice();
+        let printed = if is_quiet && self.ended.is_ok() {
+            but_last_line(text)
+        } else {
+            text
+        };
+        print(output, printed)?;
+        self.ended
+    }
+}
+
+/// Runs the command, and prints its fault, if there is one, and what may not have been meant.
+fn run_command<S: Start, R: Read, K: Sink, E: Write>(
+    explaining: Explaining<'_>,
     command: &Command<'_>,
     input: &mut R,
     manner: Manner,
     output: &mut K,
     errors: &mut E,
     start: S,
-) -> Result<(), Fault>
-    ensures { OnOk result (K.failed output.new ≡ K.failed output.old) }
+) -> Status
+    ensures { result ≡ Good → K.failed output.new ≡ K.failed output.old }
 {
-    if manner.is_quiet {
-        dispatch_quietly(rt, command, input, manner, output, errors, start)
+    let (rt, named) = (explaining.rt, Named::of(command));
+    let notes = Notes::of(rt, command);
+    let mut has_printed = true;
+    let ended = if manner.is_quiet || (manner.explains && notes.are_about_output()) {
+        let kept = dispatch_kept(rt, command, input, manner, errors, start);
+        has_printed = !kept.text.is_empty();
+        kept.print(manner.is_quiet, output)
     } else {
         dispatch(rt, command, input, manner, output, errors, start)
+    };
+    let status = explaining.status_after(ended, &named, errors);
+    if manner.explains {
+        notes.write(rt, has_printed || status != Status::Good, errors);
     }
+    status
 }
 
 /// Runs the command of these arguments, and prints its fault, if there is one.
@@ -144,31 +174,21 @@ fn run_args<S: Start, R: Read, K: Sink, E: Write>(
 ) -> Status
     ensures { result ≡ Good → K.failed output.new ≡ K.failed output.old }
 {
+    let is_on = environment.explains || is_given(args, "--explain");
     let manner = Manner {
         destination: environment.destination,
-        explains: environment.explains || is_given(args, "--explain"),
+        explains: is_on,
         is_quiet: is_given(args, "--quiet"),
     };
-    let explaining = Explaining {
-        rt,
-        is_on: manner.explains,
-    };
-    let command = match read_args(rt.alloc(), args) {
-        Ok(command) => command,
-        Err(fault) => return explaining.refuse(&Fault::from(fault), &Named::NOTHING, errors),
-    };
-    let notes = Notes::of(rt, &command);
-    let mut watched = Watched::new(output);
-    let ended = carry_out(rt, &command, input, manner, &mut watched, errors, start);
-    let status = match ended {
-        Ok(()) => Status::Good,
-        Err(fault) => explaining.refuse(&fault, &Named::of(&command), errors),
-    };
-    if manner.explains {
-        let has_answered = watched.has_printed() || status != Status::Good;
-        notes.write(rt, has_answered, errors);
+    let explaining = Explaining { rt, is_on };
+    match read_args(rt.alloc(), args) {
+        Ok(command) => {
+            let status = run_command(explaining, &command, input, manner, output, errors, start);
+            drop(command);
+            status
+        }
+        Err(fault) => explaining.refuse(&Fault::from(fault), &Named::NOTHING, errors),
     }
-    status
 }
 
 /// The arguments with the server of the environment, if there is one, and they name neither files nor a server.
