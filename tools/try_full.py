@@ -74,7 +74,7 @@ def fill(path, left=0):
 
 
 class Stream:
-    """The error stream of a server from one start on: its lines, each with the moment at which it came."""
+    """The error stream of a server from one start on: its whole lines, each with the moment at which it came."""
 
     def __init__(self):
         self.lines = []
@@ -85,7 +85,9 @@ class Stream:
     def read(self, reading):
         with open(reading, encoding="utf-8") as stream:
             for line in stream:
-                self.lines.append((time.monotonic(), line.removesuffix("\n")))
+                # A server that is killed may have written a part of its last line.
+                if line.endswith("\n"):
+                    self.lines.append((time.monotonic(), line[:-1]))
 
 
 class DiskServer(Server):
