@@ -8,11 +8,13 @@ neither. Its status is 1, its output is empty, and its error stream has the line
 about the cause, which the last of the three does not print (docs/COMMANDS.md, Why a command failed).
 
 Each case prints one line. The last line counts the cases; the status is 1 if one failed. It needs Linux, root,
-python3, mount and setpriv, a program that nobody may run, and takes half a minute. Without --program it is bin/custody.
+python3, mount and setpriv, and a program that the user nobody may run, and takes seconds. Without --program it is
+bin/custody.
 """
 import argparse
 import contextlib
 import os
+import re
 import shutil
 import signal
 import socket
@@ -32,12 +34,15 @@ LONGEST = 20
 # After how many seconds the server closes a connection that answers nothing.
 SILENCE = 2
 USERS = {"root": [], "nobody": ["setpriv", "--reuid=nobody", "--regid=nogroup", "--clear-groups"]}
+# What `serve` prints at its start, except with neither.
+START = re.compile(r"\Apolicy ok: 1 repositories, 1 rows\n(reading own/db \(\d+ KB\)\n)?")
 # By how a command is run: its further words, and whether its error stream is a terminal.
 MANNERS = {"with --explain": (["--explain"], False), "on a terminal": ([], True), "with neither": ([], False)}
 LOCKS = "locks --repo studio/film --db"
 FILES = "--db own/db --policy policy.toml"
 MAY_NOT_CREATE = "this user may not create files in its folder, where the log is: run the command as its owner"
 MAY_NOT_READ = "this user may not read it: give it a mode or an owner that lets the user read"
+NOT_CREATED = "this user may not create files in its folder, or the path with .new added exists: remove that"
 MAY_NOT_USE = "this user may not use it: run the command as the user of the server, or as root"
 IN_USE = "another program has it open: if that is the server, ask it with --via SOCKET, else end that program"
 UNANSWERED = "the server closed the connection or did not answer in time: see what it printed"
@@ -66,6 +71,8 @@ CASES = {
                         "random bytes not read", f"own/sealed: {MAY_NOT_READ}"),
     "port": Case("nobody", f"serve {FILES} --listen 127.0.0.1:80", "network",
                  "127.0.0.1:80: this user may not use the port: use one from 1024 on"),
+    "control-folder": Case("nobody", f"serve {FILES} --listen 127.0.0.1:0 --control control", "control socket",
+                           f"control: {NOT_CREATED}"),
     "other-user": Case("nobody", "status --via served/control", "control socket", f"served/control: {MAY_NOT_USE}"),
     "killed": Case("root", "status --via killed/control", "control socket",
                    "killed/control: the server does not run: start it"),
@@ -153,9 +160,11 @@ def run(words, room, has_terminal):
 def check(case, room, program):
     """Runs the command in each manner. Returns what it says of the cause."""
     for manner, (more, has_terminal) in MANNERS.items():
-        came = run([*USERS[case.user], program, *case.words.split(), *more], room, has_terminal)
-        want = f"custody: {case.fault}\n" + (f"{case.cause}\n" if more or has_terminal else "")
-        require(came == (1, "", want), f"{manner}, the command {case.words} gave {came}, and not {want!r}")
+        is_explained = bool(more) or has_terminal
+        status, output, errors = run([*USERS[case.user], program, *case.words.split(), *more], room, has_terminal)
+        came = (status, output, START.sub("", errors) if is_explained else errors)
+        want = (1, "", f"custody: {case.fault}\n" + (f"{case.cause}\n" if is_explained else ""))
+        require(came == want, f"{manner}, the command {case.words} gave {came}, and not {want}")
     return f"{case.user}: {case.fault}; {case.cause}"
 
 
