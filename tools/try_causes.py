@@ -142,6 +142,15 @@ def scene(program):
         yield room
 
 
+def read_terminal(terminal):
+    """What was written to a terminal that all who write to it have closed."""
+    pieces = []
+    with contextlib.suppress(OSError):
+        while piece := os.read(terminal, 4096):
+            pieces.append(piece)
+    return b"".join(pieces).decode().replace("\r\n", "\n")
+
+
 def run(words, room, has_terminal):
     """Runs the words. Returns the status, the output and the error stream."""
     if not has_terminal:
@@ -150,11 +159,10 @@ def run(words, room, has_terminal):
     terminal, errors = os.openpty()
     try:
         ran = subprocess.run(words, cwd=room, stdout=subprocess.PIPE, stderr=errors, timeout=LONGEST)
-        os.set_blocking(terminal, False)
-        return ran.returncode, ran.stdout.decode(), os.read(terminal, 4096).decode().replace("\r\n", "\n")
     finally:
-        os.close(terminal)
         os.close(errors)
+    with os.fdopen(terminal, "rb"):
+        return ran.returncode, ran.stdout.decode(), read_terminal(terminal)
 
 
 def check(case, room, program):
