@@ -10,10 +10,10 @@ def socket_of(server):
     return f"{server.room}/control"
 
 
-def restart(server):
-    """Starts the server again, with a control socket."""
+def restart(server, *more):
+    """Starts the server again, with a control socket and these words."""
     server.end(signal.SIGKILL)
-    server.more = ["--control", socket_of(server)]
+    server.more = ["--control", socket_of(server), *more]
     server.start()
 
 

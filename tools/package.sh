@@ -195,10 +195,13 @@ if [ "$1" = remove ] && [ -d /run/systemd/system ]; then
 fi
 END
 chmod 755 "$root/DEBIAN/postinst" "$root/DEBIAN/prerm" "$root/DEBIAN/postrm"
-# What lintian is to pass over: the server is started by the unit alone, which confines it.
+# What lintian is to pass over: the server is started by the unit alone, which confines it; and in the program a text that
+# ends with "user" is next to one that begins with "a".
 mkdir -p "$root/usr/share/lintian/overrides"
-echo 'custody: package-supports-alternative-init-but-no-init.d-script [lib/systemd/system/custody.service]' \
-    > "$root/usr/share/lintian/overrides/custody"
+cat > "$root/usr/share/lintian/overrides/custody" << 'END'
+custody: package-supports-alternative-init-but-no-init.d-script [lib/systemd/system/custody.service]
+custody: spelling-error-in-binary usera users [usr/bin/custody]
+END
 # Each file that is not a conffile, with its digest.
 (cd "$root" && find usr lib -type f | sort | xargs md5sum) > "$root/DEBIAN/md5sums"
 dpkg-deb --build --root-owner-group "$root" "$folder/custody_${version}_$architecture.deb"

@@ -1,5 +1,5 @@
 # Writes the forms of the commands in Markdown, for the SYNOPSIS of the manual page, from the two tables of
-# docs/COMMANDS.md: what each word is, and which words a command takes.
+# docs/COMMANDS.md: what each word is, and which words a command takes. Each of them takes --explain.
 # usage: awk -f tools/synopsis.awk docs/COMMANDS.md
 BEGIN {
     FS = " *\\| *"
@@ -42,7 +42,7 @@ function takes(command, cell,    files, rest) {
 }
 /^\|/ && heading == "Command" && $2 ~ /^`/ {
     count = split(words, names, ", ")
-    for (at = 1; at <= count; at++) printf "**custody %s** %s\\\n", names[at], takes(names[at], $3)
+    for (at = 1; at <= count; at++) printf "**custody %s** %s [--explain]\\\n", names[at], takes(names[at], $3)
 }
 /^\|/ && $2 !~ /^(`|---)/ { heading = $2 == "Command" && $3 == "Takes" ? "Command" : "" }
 !/^\|/ { heading = "" }

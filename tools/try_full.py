@@ -5,10 +5,11 @@
 
 Each round mounts a small file system in memory for the database, and a file that takes a part of it. Requests, and
 commands by the control socket, go on until the disk is full of objects, locks, tokens or all of them; then every write
-is refused. In half of the rounds the server is killed within a request and started again on the full disk. Then the
-file is removed, and every kind of request has to be granted at once, without a restart. What was acknowledged is
-compared with what is stored before the kill, after it, with room again, and by sqlite3 at the end. A reply that is
-neither the right one nor a refusal of the store fails the check.
+is refused. In half of the rounds the server is killed within a request and started again on the full disk, and before
+that a command over the files says why it fails. Then the file is removed, and every kind of request has to be granted
+at once, without a restart. What was acknowledged is compared with what is stored before the kill, after it, with room
+again, and by sqlite3 at the end. A reply that is neither the right one nor a refusal of the store fails the check, and
+so does a refusal whose cause the server does not report, or reports within a second of the last report.
 
 Each check prints one line. The last line counts the checks; the status is 1 if one failed. It needs Linux, root,
 python3 and sqlite3, and takes about a minute. Without --program it is bin/custody.
@@ -16,6 +17,7 @@ python3 and sqlite3, and takes about a minute. Without --program it is bin/custo
 import argparse
 import collections
 import contextlib
+import math
 import os
 import random
 import re
@@ -29,7 +31,7 @@ import time
 from pathlib import Path
 
 sys.dont_write_bytecode = True
-from control import restart
+from control import issue_words, over_files, restart
 from needs import need_commands, stop
 from try_server import TOP, Server, judge, require, summary
 from work import REMOVALS, WRITES, Killed, Work, compare_all, policy_of
@@ -38,7 +40,15 @@ MIB = 1 << 20
 SIZE = 48 * MIB
 # This many refusals one after the other mean that the disk is full.
 ROW = 12
-STATED = {"ReadFailed", "WriteFailed", "StoreRefused", "StoreFailed"}
+# This many tokens are more than the rest of a page and of the log has room for.
+COMMANDS = 1000
+# How a connection may end; of the last two the server reports the cause.
+STATED = ["ReadFailed", "WriteFailed", "StoreRefused", "StoreFailed"]
+REPORTED = STATED[2:]
+# What the server prints at its start.
+START = [r"policy ok: 1 repositories, 1 rows", r"reading .*/custody\.db \(\d+(\.\d)? [KM]B\)"]
+# How long there is no report after one, in seconds, and how much of it a busy machine may take to hand a line over.
+PAUSE, DELAY = 1, 0.2
 
 
 @contextlib.contextmanager
@@ -63,11 +73,36 @@ def fill(path, left=0):
             file.write(bytes(size))
 
 
+class Stream:
+    """The error stream of a server from one start on: its whole lines, each with the moment at which it came."""
+
+    def __init__(self):
+        self.lines = []
+        reading, self.writing = os.pipe()
+        self.thread = threading.Thread(target=self.read, args=(reading,))
+        self.thread.start()
+
+    def read(self, reading):
+        with open(reading, encoding="utf-8") as stream:
+            for line in stream:
+                # A server that is killed may have written a part of its last line.
+                if line.endswith("\n"):
+                    self.lines.append((time.monotonic(), line[:-1]))
+
+
 class DiskServer(Server):
-    """A server whose database is in the folder `disk` of its folder."""
+    """A server whose database is in the folder `disk` of its folder, and whose error streams are kept."""
+
+    def __init__(self, *words):
+        self.streams = []
+        super().__init__(*words)
 
     def files(self):
         return ["--db", f"{self.room}/disk/custody.db", "--policy", f"{self.room}/policy.toml"]
+
+    def error_stream(self):
+        self.streams.append(Stream())
+        return open(self.streams[-1].writing, "wb")
 
 
 def act_until_full(work, names):
@@ -86,8 +121,19 @@ def kill_within(work):
         while True:
             work.act(WRITES + REMOVALS)
     timer.join()
+    check_command(work.server)
     work.server.start()
     work.settle()
+
+
+def check_command(server):
+    """A command over the files of the server, which is killed, is refused at some time, and names the full disk."""
+    status, errors = 0, ""
+    for _ in range(COMMANDS):
+        if status == 0:
+            status, _, errors = over_files(server, *issue_words("bob"), "--explain", with_policy=True)
+    want = f"custody: store G2\n{server.files()[1]}: the disk is full: make room, and run the command again\n"
+    require((status, errors) == (1, want), f"on the full disk a command ended with {status} and printed {errors!r}")
 
 
 def check_rows(work):
@@ -104,12 +150,41 @@ def check_rows(work):
     work.server.start()
 
 
+def report_line(server, count):
+    """The line about the cause of this many refusals."""
+    requests = "1 request was" if count == 1 else f"{count} requests were"
+    return f"custody: {requests} refused: {server.files()[1]}: the disk is full: make room, then push again"
+
+
+def check_start(server, lines):
+    """The server printed the lines that docs/COMMANDS.md states, after one start. Returns how often each of them."""
+    start, rest = [line for _, line in lines[:len(START)]], lines[len(START):]
+    is_right = len(start) == len(START) and all(map(re.fullmatch, START, start))
+    require(is_right, f"at its start the server printed {start}")
+    found, waiting, last = collections.Counter(), [], -math.inf
+    for moment, line in rest:
+        name = re.sub(r"^custody: connection \d+ ", "", line)
+        if line == report_line(server, len(waiting)):
+            require(moment - last > PAUSE - DELAY, f"two reports within {moment - last:.2f} s")
+            name, waiting, last = "reports", [], moment
+        elif name in REPORTED:
+            waiting.append(moment)
+        require(name in [*STATED, "reports"], f"after {len(waiting)} refusals the server printed {line!r}")
+        found[name] += 1
+    # The server may have been killed before it reported the last one.
+    late = [it - last for it in waiting[:-1] if it - last > PAUSE + DELAY]
+    require(not late, f"of {len(waiting)} refusals that are not reported, {len(late)} came later than a second")
+    found["unreported"] = len(waiting)
+    return found
+
+
 def check_errors(server):
-    """The server printed the lines that docs/COMMANDS.md states. Returns how often each of them."""
-    lines = server.errors().splitlines()
-    found = collections.Counter(re.sub(r"connection \d+", "connection N", line) for line in lines)
-    for line in found:
-        require(line.removeprefix("custody: connection N ") in STATED, f"the server printed {line!r}")
+    """The same after each start but the first, which has another command line, once the server has ended."""
+    server.end(signal.SIGKILL)
+    for stream in server.streams:
+        stream.thread.join()
+    found = sum((check_start(server, stream.lines) for stream in server.streams[1:]), collections.Counter())
+    require(found["reports"], "the server reported no cause")
     return found
 
 
@@ -127,7 +202,14 @@ def play(work, names, left, is_killed):
     compare_all(work, "on the full disk")
     if is_killed:
         kill_within(work)
+        act_until_full(work, names)
         compare_all(work, "after a start on the full disk")
+    # After that the next request brings the report about the last refusals.
+    time.sleep(PAUSE + DELAY)
+    compare_all(work, "after the last report")
+    found = check_start(work.server, work.server.streams[-1].lines)
+    require(not found["unreported"], f"{found['unreported']} refusals are not reported after a second")
+    require(not Path(f"{work.server.files()[1]}-probe").exists(), "the file is left with which the room was tried")
     for name in ("other", "rest"):
         os.unlink(f"{disk}/{name}")
     for name in WRITES + REMOVALS:
@@ -143,7 +225,7 @@ def check(names, left, options):
     for number in range(rounds):
         with tempfile.TemporaryDirectory() as room, small_disk(f"{room}/disk", SIZE):
             with DiskServer(options.program, room, policy_of(["studio/film"])) as server:
-                restart(server)
+                restart(server, "--explain")
                 work = Work(server, random.random())
                 play(work, names, left, number % 2 == 1)
                 done, refused, errors = done + work.done, refused + work.refused, errors + check_errors(server)

@@ -130,11 +130,15 @@ class Server:
     def files(self):
         return ["--db", f"{self.room}/custody.db", "--policy", f"{self.room}/policy.toml"]
 
+    def error_stream(self):
+        """The file that the server writes its faults to."""
+        return open(f"{self.room}/errors", "ab")
+
     def start(self):
         address = f"127.0.0.1:{self.port}"
         words = [self.program, "serve", *self.files(), "--listen", address, "--idle", str(self.idle), *self.more]
-        errors = open(f"{self.room}/errors", "ab")
-        self.child = subprocess.Popen(words, stdout=subprocess.PIPE, stderr=errors)
+        with self.error_stream() as errors:
+            self.child = subprocess.Popen(words, stdout=subprocess.PIPE, stderr=errors)
         line = self.child.stdout.readline()
         require(line == f"listening on {address}\n".encode(), f"the server printed {line!r}")
 
