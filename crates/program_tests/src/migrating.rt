@@ -26,7 +26,7 @@ $ prune --db @/db --now 1463503600
 $ migrate --via @/socket
 error error: unexpected argument '--via' found
 error
-error Usage: custody migrate --db <FILE>
+error Usage: custody migrate [OPTIONS] --db <FILE>
 error
 error For more information, try '--help'.
 status 2
