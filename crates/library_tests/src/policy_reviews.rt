@@ -281,7 +281,7 @@ const WARNINGS: &[(&str, &str, &str)] = &[
     (
         "token_seconds = 3600",
         "token_seconds = 5",
-        "token_seconds: a token of 5 seconds cannot be used: the Git LFS client counts a token as expired 5 seconds before its end\n",
+        "token_seconds: a token of 5 seconds cannot transfer files: the Git LFS client counts a token as expired 5 seconds before its end\n",
     ),
     (
         "repos = [\"studio/film\"]",

@@ -174,7 +174,7 @@ impl fmt::Display for Warning {
         match self {
             Warning::ShortToken(seconds) if *seconds < SHORTEST_USABLE_LIFE => write!(
                 f,
-                "token_seconds: a token of {seconds} seconds cannot be used: the Git LFS client counts a token as expired 5 seconds before its end"
+                "token_seconds: a token of {seconds} seconds cannot transfer files: the Git LFS client counts a token as expired 5 seconds before its end"
             ),
             Warning::ShortToken(seconds) => write!(
                 f,

@@ -621,7 +621,7 @@ missing db
 $ policy --policy @/policy
 replace token_seconds = 3600 => token_seconds = 5
 | policy ok: 1 repositories, 1 rows
-| warning: token_seconds: a token of 5 seconds cannot be used: the Git LFS client counts a token as expired 5 seconds before its end
+| warning: token_seconds: a token of 5 seconds cannot transfer files: the Git LFS client counts a token as expired 5 seconds before its end
 # a user whom no row allows anything, and a repository and an owner that the file does not have
 $ policy --policy @/policy
 append 1 [[row]]\neffect = "deny"\nusers = ["zoe", "ann"]\nrepos = ["studio/flim", "stduio/"]\nrefs = ["*"]\npaths = ["*"]\nrights = ["pull"]\n
