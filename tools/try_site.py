@@ -1,12 +1,12 @@
 #!/usr/bin/env python3
 """Sets up a site on this machine, and uses it with the real clients: tools/try_site.sh runs it.
 
-    try_site.py PROGRAM [GIB]
+    try_site.py PROGRAM [GIB [PART...]]
 
 In a temporary folder: nginx with examples/nginx-site and a certificate, sshd with examples/forced-command, `custody serve`
-with a control socket, a repository of Git, and two users with keys of their own. The largest files have GIB GiB: 1 if it is
-omitted, and at most 4. It prints a line for each check, and ends with `N passed, M failed`, and with status 1 if a check
-failed.
+with a control socket, a repository of Git with the hook examples/pre-receive, and users with keys of their own. The largest
+files have GIB GiB: 1 if it is omitted, and at most 4. PART is the name of a part, as `pushes`; without one all are tried. It
+prints a line for each check, and ends with `N passed, M failed`, and with status 1 if a check failed.
 """
 import getpass
 import http.client
@@ -22,6 +22,8 @@ import tempfile
 import threading
 import time
 from pathlib import Path
+
+from site_pushes import try_pushes
 
 TOP = Path(__file__).resolve().parent.parent
 ROWS = """
@@ -66,7 +68,12 @@ StrictModes no
 UsePAM no
 PasswordAuthentication no
 PermitRootLogin forced-commands-only
+SetEnv PATH=@room/bin:/usr/local/bin:/usr/bin:/bin
+# More than a site accepts: what a client sets must not reach the hook.
+AcceptEnv CUSTODY_* GIT_*
 """
+# Who has a key. The rows name the first two.
+USERS = ("ann", "bob", "vera", "carl", "mirror", "zoe")
 
 
 def free_port():
@@ -130,9 +137,9 @@ class Site:
     def git(self, user, *words, may_fail=False):
         return self.run("git", *words, folder=f"{self.room}/{user}", may_fail=may_fail)
 
-    def write_policy(self, seconds):
+    def write_policy(self, seconds, rows=ROWS):
         repo = '[[repo]]\nname = "studio/film"\ndefault_ref = "refs/heads/main"\nquota = 100000000000\n'
-        self.write("policy.toml", f'base = "{self.base}"\ntoken_seconds = {seconds}\n\n{repo}{ROWS}')
+        self.write("policy.toml", f'base = "{self.base}"\ntoken_seconds = {seconds}\n\n{repo}{rows}')
 
     def start_server(self):
         words = ["serve", "--db", f"{self.room}/db", "--policy", f"{self.room}/policy.toml"]
@@ -167,19 +174,22 @@ class Site:
         self.children.append(subprocess.Popen(["nginx", "-c", config, "-e", f"{self.room}/nginx.log"]))
         wait_for(self.https)
 
+    def here(self, name, *paths):
+        """The text of a file of the repository, with the site's own paths in the place of these."""
+        own = {"/run/custody/control": "control", "/srv/git": "git", "/etc/custody/policy.toml": "policy.toml"}
+        text = (TOP / name).read_text()
+        for path in paths:
+            if path not in text:
+                sys.exit(f"{name} has no {path}")
+            text = text.replace(path, f"{self.room}/{own[path]}")
+        return text
+
     def start_sshd(self):
         self.run("ssh-keygen", "-q", "-t", "ed25519", "-N", "", "-f", f"{self.room}/host_key")
-        command = (TOP / "examples/forced-command").read_text()
-        for old, new in [("/run/custody/control", f"{self.room}/control"), ("/srv/git", f"{self.room}/git"),
-                         ("/etc/custody/policy.toml", f"{self.room}/policy.toml"),
-                         ("custody authenticate", f"{self.program} authenticate"),
-                         ("custody policy", f"{self.program} policy")]:
-            if old not in command:
-                sys.exit(f"examples/forced-command has no {old}")
-            command = command.replace(old, new)
-        self.write("forced-command", command, 0o755)
+        self.write("forced-command", self.here("examples/forced-command", "/run/custody/control", "/srv/git",
+                                               "/etc/custody/policy.toml"), 0o755)
         lines = ""
-        for user in ("ann", "bob"):
+        for user in USERS:
             self.run("ssh-keygen", "-q", "-t", "ed25519", "-N", "", "-f", f"{self.room}/key-{user}")
             public = Path(self.room, f"key-{user}.pub").read_text().strip()
             lines += f'restrict,command="{self.room}/forced-command {user}" {public}\n'
@@ -192,12 +202,16 @@ class Site:
 
     def set_up(self):
         self.write_policy(3600)
+        Path(self.room, "bin").mkdir()
+        Path(self.room, "bin/custody").symlink_to(self.program)
         self.start_server()
         self.start_nginx()
         self.start_sshd()
         self.run("git", "config", "--global", "init.defaultBranch", "main")
         self.run("git", "lfs", "install", "--skip-repo")
         self.run("git", "init", "-q", "--bare", f"{self.room}/git/studio/film.git")
+        hook = self.here("examples/pre-receive", "/run/custody/control")
+        self.write("git/studio/film.git/hooks/pre-receive", hook, 0o755)
 
     def remote(self):
         return f"ssh://{getpass.getuser()}@localhost:{self.ssh}/studio/film.git"
@@ -525,12 +539,17 @@ def main():
     gibibytes = int(sys.argv[2]) if len(sys.argv) > 2 else 1
     with tempfile.TemporaryDirectory() as room:
         site = Site(sys.argv[1], room)
+        parts = (try_locks, try_transfers, try_tokens, try_restart, try_backup, try_check, try_stop, try_reload, try_pushes,
+                 try_status, try_other_requests)
+        wanted = sys.argv[3:] or [*(it.__name__[4:] for it in parts), "large_files"]
         try:
             site.set_up()
-            parts = (try_push_and_clone, try_locks, try_transfers, try_tokens, try_restart, try_backup, try_check, try_stop, try_reload)
-            for part in (*parts, try_status, try_other_requests):
-                part(site)
-            try_large_files(site, gibibytes << 30)
+            try_push_and_clone(site)
+            for part in parts:
+                if part.__name__[4:] in wanted:
+                    part(site)
+            if "large_files" in wanted:
+                try_large_files(site, gibibytes << 30)
         finally:
             site.end()
     print(f"{site.passed} passed, {site.failed} failed")

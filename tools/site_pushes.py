@@ -1,0 +1,306 @@
+"""What tools/try_site.py tries of pushes: examples/pre-receive and examples/forced-command, with the real git.
+
+Each push goes past the client's own checks: without the hook of Git LFS (--no-verify), or without its verification of locks.
+"""
+import os
+import subprocess
+import time
+from pathlib import Path
+
+ROWS = """
+[[row]]
+effect = "deny"
+users = ["bob"]
+repos = ["studio/film"]
+refs = ["refs/heads/main", "refs/heads/release/"]
+paths = ["final/"]
+rights = ["push"]
+
+[[row]]
+effect = "deny"
+users = ["bob"]
+repos = ["*"]
+refs = ["refs/tags/"]
+paths = ["*"]
+rights = ["push"]
+
+[[row]]
+effect = "allow"
+users = ["vera"]
+repos = ["studio/"]
+refs = ["*"]
+paths = ["*"]
+rights = ["pull"]
+
+[[row]]
+effect = "allow"
+users = ["ann"]
+repos = ["studio/film"]
+refs = ["*"]
+paths = ["*"]
+rights = ["force"]
+
+[[row]]
+effect = "allow"
+users = ["ann", "bob"]
+repos = ["studio/film"]
+refs = ["*"]
+paths = ["*"]
+rights = ["pull", "push", "list", "lock"]
+"""
+ODD_NAMES = [b"two words.txt", b"quote's \"both\".txt", b"line\nbreak.txt", b"tab\there.txt", b"back\\slash.txt", b"latin-\xfc.txt",
+             b"f/" * 511 + b"x.txt", "umlaut-ü.txt".encode()]
+
+
+class Pushes:
+    """A clone of bob, which starts each change from what the server has."""
+
+    def __init__(self, site):
+        self.site, self.folder = site, f"{site.room}/pushing"
+        site.check(site.clone("bob", "pushing")[0] == 0, "bob has a clone to push from")
+
+    def git(self, *words, may_fail=False):
+        return self.site.git("pushing", "--no-replace-objects", *words, may_fail=may_fail)
+
+    def start(self):
+        self.git("fetch", "-q", "--prune", "origin")
+        self.git("checkout", "-q", "-f", "-B", "main", "origin/main")
+        self.git("clean", "-q", "-f", "-d", "-x")
+
+    def write(self, name, text):
+        path = os.path.join(os.fsencode(self.folder), name if isinstance(name, bytes) else name.encode())
+        os.makedirs(os.path.dirname(path), exist_ok=True)
+        if os.path.exists(path):
+            os.chmod(path, 0o644)
+        with open(path, "w", encoding="utf-8") as file:
+            file.write(text)
+
+    def commit(self):
+        self.git("add", "-A")
+        self.git("commit", "-q", "-m", "A change")
+
+    def heads(self):
+        """The refs of the server."""
+        return self.site.run("git", "-C", f"{self.site.room}/git/studio/film.git", "for-each-ref")[1]
+
+    def refused(self, what, words, *push):
+        """A push is refused whole, with these words."""
+        before = self.heads()
+        status, text = self.git("push", "--no-verify", "origin", *(push or ["main"]), may_fail=True)
+        self.site.check(status != 0 and all(it in text for it in words) and self.heads() == before, what, text)
+
+    def passes(self, what, *push):
+        before = self.heads()
+        status, text = self.git("push", "--no-verify", "origin", *(push or ["main"]), may_fail=True)
+        self.site.check(status == 0 and self.heads() != before, what, text)
+
+
+def try_locked(site, pushes):
+    """Whatever changes a path that ann has locked is refused, and nothing of the push is taken."""
+    site.git("ann", "pull", "-q")
+    for name in ("art/1.psd", "art/2.psd"):
+        site.check("Locked" in site.git("ann", "lfs", "lock", name, may_fail=True)[1], f"ann locks {name}")
+    locked = "art/1.psd: ann has locked it"
+    pushes.start()
+    pushes.write("art/1.psd", "bob's hero")
+    pushes.commit()
+    status, text = pushes.git("-c", "lfs.locksverify=false", "push", "origin", "main", may_fail=True)
+    site.check(status != 0 and locked in text and "Nothing was pushed" in text, "a client that verifies no locks is refused", text)
+    pushes.write("art/1.psd", "bob's hero")
+    pushes.refused("and one that runs no hook", [locked])
+    pushes.git("branch", "-f", "side", "origin/main")
+    pushes.refused("with all that it pushes", [locked], "main", "side")
+    pushes.start()
+    pushes.git("rm", "-q", "art/1.psd")
+    pushes.commit()
+    pushes.refused("the removal of a locked path", [locked])
+    pushes.start()
+    pushes.git("mv", "-f", "art/3.psd", "art/1.psd")
+    pushes.commit()
+    pushes.refused("a rename over a locked path", [locked])
+    pushes.start()
+    pushes.git("mv", "art/1.psd", "art/elsewhere.psd")
+    pushes.commit()
+    pushes.refused("a rename of a locked path", [locked])
+    pushes.start()
+    pushes.write("notes.txt", "of bob")
+    pushes.commit()
+    pushes.passes("a push of other paths passes")
+
+
+def try_history(site, pushes):
+    """Pushes that move a ref back, or add one, or remove one."""
+    site.git("ann", "pull", "-q", "--rebase")
+    site.git("ann", "lfs", "unlock", "art/2.psd")
+    Path(site.room, "ann/art/2.psd").chmod(0o644)
+    Path(site.room, "ann/art/2.psd").write_bytes(b"ann's ship")
+    site.git("ann", "commit", "-q", "-a", "-m", "A ship")
+    site.git("ann", "push", "-q", "origin", "main")
+    site.git("ann", "lfs", "lock", "art/2.psd")
+    pushes.start()
+    pushes.git("reset", "-q", "--hard", "HEAD~1")
+    pushes.refused("a force push that takes a locked path back", ["art/2.psd: ann has locked it"], "+main")
+    pushes.start()
+    pushes.write("aside.txt", "bob's")
+    pushes.commit()
+    pushes.git("push", "-q", "--no-verify", "origin", "main")
+    pushes.git("reset", "-q", "--hard", "HEAD~1")
+    pushes.passes("one that takes other paths back", "+main")
+    pushes.passes("a new branch at a commit of the server", "main:refs/heads/copy")
+    pushes.write("art/1.psd", "bob's hero")
+    pushes.commit()
+    pushes.passes("a new branch with a change of a path that is locked on main alone", "main:refs/heads/mine")
+    pushes.refused("and the same commit for main", ["art/1.psd: ann has locked it"])
+    body = '{"path":"art/3.psd","ref":{"name":"refs/heads/mine"}}'
+    site.check(lock_by_hand(site, body) == 201, "ann locks a path on that branch")
+    pushes.refused("the removal of a branch with a lock of ann's", ["art/3.psd: ann has locked it"], ":mine")
+    pushes.passes("the removal of a branch without one", ":copy")
+    merge = pushes.git("commit-tree", "-p", "origin/main", "-p", "HEAD", "-m", "A merge", "HEAD^{tree}")[1].strip()
+    pushes.refused("a merge that brings a locked path to main", ["art/1.psd"], f"{merge}:refs/heads/main")
+    commit = pushes.git("rev-parse", "HEAD")[1].strip()
+    pushes.passes("a replacement of a commit, which looks like main", f"origin/main:refs/replace/{commit}")
+    pushes.refused("the commit itself is looked at", ["art/1.psd: ann has locked it"])
+    pushes.passes("the replacement is removed", f":refs/replace/{commit}")
+
+
+def lock_by_hand(site, body):
+    """The status of a lock that ann makes without her client."""
+    line = site.via("authenticate", "--user", "ann", "studio/film", "upload")[1]
+    token = line.split('"Bearer ')[1].split('"')[0]
+    words = ["curl", "-s", "-o", "/dev/null", "-w", "%{http_code}", "-H", f"Authorization: Bearer {token}", "-d", body]
+    return int(site.run(*words, f"http://127.0.0.1:{site.http}/studio/film.git/info/lfs/locks")[1])
+
+
+def try_rows(site, pushes):
+    """What the rows of the policy say of paths, branches and tags."""
+    pushes.start()
+    pushes.write("final/cut.txt", "bob's")
+    pushes.commit()
+    pushes.refused("a path that a row denies", ["final/cut.txt: row 1 of the policy denies it"])
+    pushes.refused("a new branch below release/", ["final/cut.txt: row 1"], "main:refs/heads/release/1")
+    pushes.passes("the same path on a branch that the row does not name", "main:refs/heads/idea")
+    site.git("ann", "pull", "-q", "--rebase")
+    Path(site.room, "ann/final").mkdir()
+    Path(site.room, "ann/final/cut.txt").write_text("ann's")
+    site.git("ann", "add", "final")
+    site.git("ann", "commit", "-q", "-m", "A cut")
+    site.git("ann", "push", "-q", "origin", "main", "main:refs/heads/release/2")
+    pushes.refused("the removal of a branch with such a path", ["final/cut.txt: row 1"], ":release/2")
+    pushes.refused("a tag, which changes no path", ["refs/tags/one", "this branch or tag: row 2 of the policy denies it"],
+                   "origin/main:refs/tags/one")
+    pushes.refused("a branch with a character that the server does not take", ["A-Z a-z 0-9"], "main:refs/heads/idea#2")
+    blob = pushes.git("rev-parse", "HEAD:final/cut.txt")[1].strip()
+    pushes.refused("a tag of a file", ["it is no commit"], f"{blob}:refs/tags/file")
+    site.environment["GIT_SSH_COMMAND"] = f"{site.ssh_command('bob')} -o SetEnv=CUSTODY_USER=ann"
+    pushes.refused("a client that sets the environment of the hook", ["final/cut.txt: row 1"], "+main")
+    del site.environment["GIT_SSH_COMMAND"]
+    pushes.start()
+    for name in ODD_NAMES:
+        pushes.write(b"odd/" + name, "odd")
+    pushes.commit()
+    pushes.passes("odd paths pass where the rows let them")
+    for name in ODD_NAMES:
+        pushes.start()
+        pushes.write(b"final/" + name, "odd")
+        pushes.commit()
+        pushes.refused(f"final/{name[:20]!r} is denied by the row of its folder", ["row 1 of the policy denies it"])
+    pushes.start()
+    pushes.git("rm", "-q", "-r", "odd")
+    pushes.commit()
+    pushes.passes("odd paths are removed")
+
+
+def try_many(site, pushes):
+    """Pushes of many paths, with the time that the hook takes."""
+    for count in (1_000, 2_500, 10_001):
+        pushes.start()
+        for number in range(count):
+            pushes.write(f"many-{count}/{number}.txt", f"{number}")
+        pushes.commit()
+        began = time.monotonic()
+        pushes.passes(f"{count} paths are pushed")
+        print(f"     in {time.monotonic() - began:.2f} s, {without_hook(site, pushes, count):.2f} s without the hook", flush=True)
+    last = sorted(f"many-10001/{it}.txt" for it in range(10_001))[-1]
+    site.check(lock_by_hand(site, f'{{"path":"{last}"}}') == 201, f"ann locks the last of 10001 paths, {last}")
+    pushes.start()
+    for number in range(10_001):
+        pushes.write(f"many-10001/{number}.txt", "again")
+    pushes.commit()
+    pushes.refused("10001 paths, the last of which is locked", [f"{last}: ann has locked it"])
+    for number in range(30):
+        lock_by_hand(site, f'{{"path":"many-1000/{number}.txt"}}')
+    pushes.start()
+    pushes.git("rm", "-q", "-r", "many-1000")
+    pushes.commit()
+    pushes.refused("of 30 locked paths 20 are named", ["many-1000/0.txt: ann has locked it", "and 10 more"])
+
+
+def without_hook(site, pushes, count):
+    """How long a push of as many paths takes if there is no hook."""
+    hook = Path(site.room, "git/studio/film.git/hooks/pre-receive")
+    hook.chmod(0o644)
+    for number in range(count):
+        pushes.write(f"many-{count}/{number}.txt", f"again {number}")
+    pushes.commit()
+    began = time.monotonic()
+    pushes.git("push", "-q", "--no-verify", "origin", "main")
+    taken = time.monotonic() - began
+    hook.chmod(0o755)
+    return taken
+
+
+def try_users(site, pushes):
+    """The policy is asked before Git is served."""
+    status, text = site.clone("vera", "vera")
+    site.check("Cloning" in text or status == 0, "vera, who may only pull, clones", text)
+    status, text = site.git("vera", "push", "--no-verify", "origin", "main:refs/heads/vera", may_fail=True)
+    site.check(status != 0 and "does not let vera push to studio/film" in text, "and may not push", text)
+    status, text = site.clone("carl", "carl")
+    site.check(status != 0 and "does not let carl pull from studio/film" in text, "carl, whom no row names, may not clone", text)
+    site.run("git", "init", "-q", "--bare", f"{site.room}/git/other/film.git")
+    remote = site.remote().replace("studio/film", "other/film")
+    words = ["git", "-c", f"core.sshCommand={site.ssh_command('vera')}", "ls-remote", remote]
+    status, text = site.run(*words, may_fail=True)
+    site.check(status != 0 and "does not let vera pull from other/film" in text, "nor vera another owner's repository", text)
+    policy = Path(site.room, "policy.toml")
+    whole = policy.read_text()
+    policy.write_text("no policy")
+    status, text = pushes.git("fetch", "origin", may_fail=True)
+    site.check(status != 0 and "The policy has no answer" in text, "without a policy nobody is served", text)
+    policy.write_text(whole)
+
+
+def try_silence(site, pushes):
+    """A server that does not answer."""
+    pushes.start()
+    pushes.write("notes.txt", "of bob, again")
+    pushes.commit()
+    site.end_server()
+    pushes.refused("no push passes while the server is down", ["the Git LFS server is not running"])
+    site.start_server()
+    hook = Path(site.room, "git/studio/film.git/hooks/pre-receive")
+    text = hook.read_text()
+    hook.write_text(text.replace("PATIENCE = 300", "PATIENCE = 1"))
+    held = subprocess.Popen([site.program, "hold", "--via", f"{site.room}/control", "--seconds", "20"], stdin=subprocess.PIPE,
+                            stdout=subprocess.PIPE)
+    held.stdout.readline()
+    pushes.refused("nor while it does not answer", ["did not answer"])
+    held.communicate()
+    hook.write_text(text)
+    pushes.passes("it passes when the server is there again")
+    bare = f"{site.room}/git/studio/film.git"
+    status, text = site.run("git", "-C", pushes.folder, "push", "--no-verify", bare, "main:refs/heads/local", may_fail=True)
+    site.check(status != 0 and "did not come over SSH" in text, "a push by a path says that nobody knows whose it is", text)
+
+
+def try_pushes(site):
+    site.write_policy(3600, ROWS)
+    site.reload()
+    pushes = Pushes(site)
+    for part in (try_locked, try_history, try_rows, try_many, try_users, try_silence):
+        part(site, pushes)
+    site.write_policy(3600)
+    site.reload()
+    for line in site.via("locks", "--repo", "studio/film")[1].splitlines():
+        site.git("ann", "lfs", "unlock", "--force", f"--id={line.split()[0]}", may_fail=True)
+    site.git("ann", "pull", "-q", "--rebase")
