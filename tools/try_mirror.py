@@ -1,0 +1,587 @@
+#!/usr/bin/env python3
+"""Tries examples/mirror and examples/unlock with real servers.
+
+    tools/try_mirror.py [PROGRAM] [--only NAME]...
+
+Each part starts servers on new databases and free ports of this machine, and prints a line for each check. The last line
+is `N passed, M failed`; the status is 1 if a check failed. The bytes of files are compared with their names by the command
+sha256sum. It needs Linux, python3, sha256sum, curl, git and git-lfs, 4 GB in the folder for temporary files, and takes
+about five minutes. Without PROGRAM it is bin/custody.
+"""
+import argparse
+import contextlib
+import hashlib
+import itertools
+import os
+import random
+import re
+import signal
+import sqlite3
+import subprocess
+import sys
+import tempfile
+import threading
+import time
+from pathlib import Path
+
+sys.dont_write_bytecode = True
+from control import token_of, with_token
+from needs import need_commands
+from try_server import Client, Failed, require
+from try_site import TOP, Site, free_port
+
+FILM, GAME, MAIN = "studio/film", "studio/game", "refs/heads/main"
+ROW = '\n[[row]]\neffect = "allow"\nusers = [{}]\nrepos = ["*"]\nrefs = ["*"]\npaths = ["*"]\nrights = [{}]\n'
+ROWS = (ROW.format('"ann"', '"force"') + ROW.format('"ann", "bob"', '"pull", "push", "list", "lock"')
+        + ROW.format('"mirror"', '"pull", "push"'))
+LARGE_QUOTA = 100_000_000_000
+DONE = re.compile(r"copied (\d+) objects, (\d+) bytes; (\d+) were there\n")
+TOKEN = re.compile(rb"(?<![0-9a-f])[0-9a-f]{64}(?![0-9a-f])")
+# In the place of ssh: it writes down its words, and does what sshd does for the key of ann.
+SSH = """#!/bin/sh
+printf '%s\\n' "$*" >> @room/asked
+for words in "$@"; do :; done
+SSH_ORIGINAL_COMMAND=$words exec sh @room/forced-command ann
+"""
+
+
+class Place(Site):
+    """A server with a control socket, in a folder of its own; without nginx and sshd."""
+
+    def __init__(self, program, room):
+        os.mkdir(room)
+        super().__init__(program, room)
+        self.base, self.socket = f"http://127.0.0.1:{self.http}", f"{room}/control"
+        self.write_policy(3600)
+        self.start_server()
+
+    def write_policy(self, seconds, quota=LARGE_QUOTA):
+        repos = "".join(f'\n[[repo]]\nname = "{name}"\ndefault_ref = "{MAIN}"\nquota = {quota}\n' for name in (FILM, GAME))
+        self.write("policy.toml", f'base = "{self.base}"\ntoken_seconds = {seconds}\n{repos}{ROWS}')
+
+    def set_policy(self, seconds=3600, quota=LARGE_QUOTA):
+        self.write_policy(seconds, quota)
+        require(self.via("reload")[0] == 0, "the policy was not read")
+
+    def listed(self, repo=FILM):
+        """The sizes of the objects that the server lists, by name."""
+        return {oid: int(size) for oid, size in map(str.split, self.via("objects", "--repo", repo)[1].splitlines())}
+
+    def locks(self):
+        return self.via("locks", "--repo", FILM)[1].splitlines()
+
+    def token(self, user="ann"):
+        return token_of(self.via("authenticate", "--user", user, FILM, "upload")[1])
+
+    def digests(self):
+        """The first digits of the SHA-256 of each token that the server has, also of those that have expired."""
+        return [line.split()[3] for line in self.via("tokens", "--repo", FILM, "--now", "0")[1].splitlines()]
+
+    def put(self, sizes, token):
+        """Pushes an object of random bytes for each of the sizes."""
+        with Client(self.http, 600) as client:
+            for size in sizes:
+                data = os.urandom(size)
+                target = f"/{FILM}.git/info/lfs/content/{hashlib.sha256(data).hexdigest()}"
+                status, _ = client.ask(with_token(token, "PUT", target, data=data))
+                require(status == 200, f"an upload got {status}")
+
+    def lock(self, path, token, ref=MAIN):
+        with Client(self.http) as client:
+            target = f"/{FILM}.git/info/lfs/locks"
+            status, _ = client.ask(with_token(token, "POST", target, {"path": path, "ref": {"name": ref}}))
+        require(status == 201, f"a lock got {status}")
+
+    def is_whole(self):
+        return self.via("check", "--quiet") == (0, "")
+
+    @contextlib.contextmanager
+    def database(self):
+        """The database, while the server is stopped."""
+        require(self.via("stop")[0] == 0, "the server was not stopped")
+        self.server.wait()
+        with contextlib.closing(sqlite3.connect(f"{self.room}/db", isolation_level=None)) as found:
+            yield found
+        self.start_server()
+
+
+class Trial:
+    """The folder of a part with its servers, and the checks of all parts."""
+
+    def __init__(self, program):
+        self.program, self.room, self.places = program, None, []
+        self.passed = self.failed = 0
+        self.numbers = itertools.count()
+        self.environment = dict(os.environ, CUSTODY=program)
+
+    check = Site.check
+
+    @contextlib.contextmanager
+    def part(self):
+        with tempfile.TemporaryDirectory() as self.room:
+            try:
+                yield
+            finally:
+                for place in self.places:
+                    place.end()
+                self.places = []
+
+    def place(self, sizes=()):
+        """A new server, with objects of these sizes."""
+        place = Place(self.program, f"{self.room}/server-{next(self.numbers)}")
+        self.places.append(place)
+        place.put(sizes, place.token())
+        return place
+
+    def folder(self):
+        path = f"{self.room}/folder-{next(self.numbers)}"
+        os.mkdir(path)
+        return path
+
+    def start(self, *words, repo=FILM, **more):
+        return subprocess.Popen([TOP / "examples/mirror", *words[:-2], repo, *words[-2:]], stdout=subprocess.PIPE,
+                                stderr=subprocess.PIPE, text=True, env={**self.environment, **more})
+
+    def mirror(self, *words, **more):
+        """Runs the mirror. Returns its status, its output and its error stream."""
+        with self.start(*words, **more) as ran:
+            output, errors = ran.communicate()
+        return ran.returncode, output, errors
+
+    def expect(self, what, ran, copied, there, byte_count=None):
+        """Checks that a run ended well, with these numbers in its line."""
+        found = DONE.fullmatch(ran[1])
+        holds = ran[0] == 0 and ran[2] == "" and found and (int(found[1]), int(found[3])) == (copied, there)
+        self.check(holds and byte_count in (None, int(found[2])), what, f"{ran}")
+
+    def unlock(self, place, *words, **more):
+        environment = {**self.environment, "CUSTODY_URL": place.base, "CUSTODY_VIA": place.socket, **more}
+        ran = subprocess.run([TOP / "examples/unlock", *words], capture_output=True, text=True, env=environment, check=False)
+        return ran.returncode, ran.stdout, ran.stderr
+
+
+def mixed(count):
+    """Sizes of 0 bytes to 5 MB."""
+    edges = [0, 1, 65_535, 65_536, 65_537, 5_000_000]
+    return edges + [int(5_000_000 ** random.random()) for _ in range(count - len(edges))]
+
+
+def stored(folder):
+    """The sizes of the objects of a folder, by name; each has its name by sha256sum."""
+    files = sorted(Path(folder, "objects").glob("*/*/*"))
+    if not files:
+        return {}
+    lines = subprocess.run(["sha256sum", "--", *files], stdout=subprocess.PIPE, text=True, check=True).stdout.splitlines()
+    for line, file in zip(lines, files, strict=True):
+        oid = line.split()[0]
+        require(file == Path(folder, "objects", oid[:2], oid[2:4], oid), f"{file} has the bytes of {oid}")
+    return {file.name: file.stat().st_size for file in files}
+
+
+def others(folder):
+    """The files of a folder that are no objects."""
+    return {str(it.relative_to(folder)) for it in Path(folder).rglob("*") if it.is_file() and len(it.name) != 64}
+
+
+def wait_until(holds, what):
+    begun = time.monotonic()
+    while not holds():
+        require(time.monotonic() - begun < 60, f"{what} within 60 s")
+        time.sleep(0.005)
+
+
+def count_files(folder):
+    return sum(1 for _ in Path(folder).glob("objects/*/*/*"))
+
+
+def try_folder(trial):
+    """A folder, while others push and lock."""
+    place, folder, is_over = trial.place(mixed(300)), trial.folder(), threading.Event()
+    before, token = place.listed(), place.token("bob")
+    place.lock("art/first lock.psd", token)
+    first = place.locks()
+
+    def work():
+        for number in itertools.count():
+            if is_over.is_set():
+                return
+            place.put([20_000], token)
+            place.lock(f"art/{number}.psd", token)
+
+    worker = threading.Thread(target=work)
+    worker.start()
+    ran = trial.mirror(place.socket, folder)
+    is_over.set()
+    worker.join()
+    found, pushed, copied = stored(folder), len(place.listed()) - 300, int(DONE.fullmatch(ran[1])[1])
+    trial.check(ran[0] == 0 and ran[2] == "" and before.items() <= found.items() <= place.listed().items()
+                and len(found) == copied, f"{copied} objects, while {pushed} were pushed and locked: {ran[1].strip()}", f"{ran}")
+    written = Path(folder, "locks.txt").read_text(encoding="utf-8").splitlines()
+    trial.check(first == written[:1] and set(written) <= set(place.locks()), f"{len(written)} of {len(place.locks())} locks")
+    trial.mirror(place.socket, folder)
+    count = len(place.listed())
+    trial.expect("a run without new objects copies nothing", trial.mirror(place.socket, folder), 0, count, 0)
+    place.put(range(1, 11), token)
+    trial.expect("ten new objects are copied", trial.mirror(place.socket, folder), 10, count, sum(range(1, 11)))
+    trial.check(stored(folder) == place.listed() and others(folder) == {"lock", "locks.txt"}, "the folder has each, and no other file")
+
+
+def try_words(trial):
+    """Words that are wrong, and places that do not exist."""
+    place, folder = trial.place(), trial.folder()
+    for status, words in [(2, ("film", place.socket)), (2, (place.socket, "film")), (2, ("ssh://custody@localhost", folder)),
+                          (2, (folder, "ssh://-oProxyCommand=x/")), (1, (place.socket, f"{folder}/none")), (1, (folder, place.socket))]:
+        ran = trial.mirror(*words)
+        trial.check(ran[0] == status and ran[2] and "Traceback" not in ran[2], f"status {status}: {ran[2].splitlines()[-1]}", f"{ran}")
+    ran = trial.mirror(place.socket, folder, repo="film")
+    trial.check(ran[0] == 2, f"status 2: {ran[2].splitlines()[-1]}", f"{ran}")
+    place.put([5], place.token())
+    ran = trial.mirror("--user", "eve", place.socket, folder)
+    trial.check(ran[0] == 1 and "P0: no policy row allows pull" in ran[2], f"a user without rights: {ran[2].strip()}", f"{ran}")
+    trial.check(stored(folder) == {} and others(folder) == {"lock", "locks.txt"}, "and no object is copied")
+
+
+def try_git_lfs(trial):
+    """Git LFS itself: its store is copied to a server, and a copy of that is its store."""
+    place, folder = trial.place(), trial.folder()
+    room, store = place.room, f"{place.room}/ann/.git/lfs"
+    place.run("git", "lfs", "install", "--skip-repo")
+    place.run("git", "init", "-q", "-b", "main", f"{room}/ann")
+    for name, value in (("user.name", "ann"), ("user.email", "ann@studio.example")):
+        place.git("ann", "config", name, value)
+    place.git("ann", "lfs", "track", "*.psd")
+    place.git("ann", "add", ".gitattributes")
+    place.add_files("ann", "art", 20, 100_000)
+    trial.expect("the store of a clone is copied to a server", trial.mirror(store, place.socket, repo=GAME), 20, 0)
+    trial.expect("and from there to a folder", trial.mirror(place.socket, folder, repo=GAME), 20, 0)
+    same = place.run("diff", "-r", f"{store}/objects", f"{folder}/objects", may_fail=True)
+    trial.check(same == (0, ""), "whose files are those of the clone", same[1])
+    place.environment["GIT_LFS_SKIP_SMUDGE"] = "1"
+    place.run("git", "clone", "-q", f"{room}/ann", f"{room}/bob")
+    place.git("bob", "config", "lfs.storage", folder)
+    status, text = place.git("bob", "lfs", "checkout", may_fail=True)
+    same = place.run("diff", "-r", f"{room}/ann/art", f"{room}/bob/art", may_fail=True)
+    trial.check(status == 0 and same == (0, ""), "with lfs.storage, git lfs checkout takes the files from it", text + same[1])
+    status, text = place.git("bob", "lfs", "fsck", may_fail=True)
+    trial.check(status == 0, f"git lfs fsck: {text.strip()}", text)
+
+
+def kill_often(trial, words, seconds, look):
+    """Kills ten runs, each within a tenth of the time that a whole one takes. Returns what `look` found after each."""
+    found = []
+    for _ in range(10):
+        ran = trial.start(*words)
+        time.sleep(random.uniform(0.2, 0.3 + seconds / 10))
+        ran.kill()
+        ran.communicate()
+        require(ran.returncode == -signal.SIGKILL, f"a run ended with {ran.returncode} before it was killed")
+        found.append(look())
+    return found
+
+
+def try_killed(trial):
+    """Runs that are killed."""
+    place, folder = trial.place(mixed(600)), trial.folder()
+    begun = time.monotonic()
+    trial.mirror(place.socket, trial.folder())
+    seconds, listed = time.monotonic() - begun, place.listed()
+
+    def look():
+        require(stored(folder).items() <= listed.items(), "an object that the server does not have")
+        require(others(folder) <= {"lock", "locks.txt", "objects/arriving"}, f"{others(folder)}")
+        return len(stored(folder)), "objects/arriving" in others(folder)
+
+    found = kill_often(trial, (place.socket, folder), seconds, look)
+    counts = [count for count, _ in found]
+    trial.check(0 < counts[-1] < 600, f"killed ten times on the way to a folder, with {counts} whole objects in it")
+    trial.check(any(it for _, it in found), f"{sum(it for _, it in found)} of them left a file without a name")
+    trial.expect("the next run copies the rest", trial.mirror(place.socket, folder), 600 - counts[-1], counts[-1])
+    trial.check(stored(folder) == listed and others(folder) == {"lock", "locks.txt"}, "each is whole, and nothing else is there")
+    back = trial.place()
+
+    def look_back():
+        require(back.listed().items() <= listed.items() and back.is_whole(), "the server has a wrong object")
+        return len(back.listed())
+
+    counts = kill_often(trial, (folder, back.socket), 2 * seconds, look_back)
+    trial.check(0 < counts[-1] < 600, f"killed ten times on the way back, with {counts} whole objects there")
+    trial.expect("the next run copies the rest", trial.mirror(folder, back.socket), 600 - counts[-1], counts[-1])
+    trial.check(back.listed() == listed and back.is_whole(), "the new server lists the same, and `custody check` finds all whole")
+
+
+def try_servers(trial):
+    """From one server to another."""
+    place, other = trial.place(mixed(100)), trial.place()
+    trial.expect("a server is copied to another", trial.mirror(place.socket, other.socket), 100, 0, sum(place.listed().values()))
+    trial.check(other.listed() == place.listed() and other.is_whole(), "which lists the same, all whole")
+    trial.expect("a second run copies nothing", trial.mirror(place.socket, other.socket), 0, 100, 0)
+    folder, full = trial.folder(), trial.folder()
+    trial.mirror(place.socket, full)
+    trial.expect("a folder is copied to another", trial.mirror(full, folder), 100, 0)
+    trial.check(stored(folder) == place.listed(), "which has the same")
+
+
+def try_one_run(trial):
+    """A second run in the same folder."""
+    place, folder = trial.place(mixed(300)), trial.folder()
+    ran = trial.start(place.socket, folder)
+    wait_until(lambda: count_files(folder) > 0, "an object")
+    status, output, errors = trial.mirror(place.socket, folder)
+    trial.check((status, output) == (1, "") and "another run" in errors, f"a second run: {errors.strip()}", errors)
+    trial.check(ran.communicate()[1] == "" and ran.returncode == 0 and stored(folder) == place.listed(), "the first one passes")
+
+
+def try_tokens(trial):
+    """Tokens that live for 2 seconds."""
+    place, folder = trial.place([10_000] * 1000), trial.folder()
+    place.set_policy(seconds=2)
+    for source, target, servers in ((place, folder, [place]), (folder, trial.place(), []), (place, trial.place(), [place])):
+        if isinstance(target, Place):
+            target.set_policy(seconds=2)
+            servers = [*servers, target]
+        before, begun = [len(it.digests()) for it in servers], time.monotonic()
+        ran = trial.mirror(*(it.socket if isinstance(it, Place) else it for it in (source, target)))
+        taken, issued = time.monotonic() - begun, [len(it.digests()) - count for it, count in zip(servers, before)]
+        # At most one for each of 10 groups, and one each time that one has expired.
+        holds = ran[0] == 0 and taken > 2 and all(1 < it <= 10 + taken for it in issued)
+        trial.check(holds, f"1000 objects in {taken:.1f} s, with {issued} tokens of 2 seconds: {ran[1].strip()}", f"{ran}")
+        found = stored(target) if target is folder else target.listed()
+        trial.check(found == place.listed() and len(found) == 1000, "each is there")
+
+
+def try_restarts(trial):
+    """Servers that are ended within a run, and started again."""
+    place, folder = trial.place(mixed(300)), trial.folder()
+    trial.mirror(place.socket, folder)
+    for kind, is_back in itertools.product((signal.SIGTERM, signal.SIGKILL), (False, True)):
+        target = trial.place() if is_back else trial.folder()
+        server = target if is_back else place
+        ran = trial.start(*((folder, target.socket) if is_back else (place.socket, target)))
+        wait_until(lambda: (len(target.listed()) if is_back else count_files(target)) > 20, "20 objects")
+        server.end_server(kind)
+        is_within = ran.poll() is None
+        time.sleep(2)
+        server.start_server()
+        output, errors = ran.communicate()
+        found = target.listed() if is_back else stored(target)
+        trial.check(is_within and ran.returncode == 0 and errors == "" and found == place.listed(),
+                    f"{'TO' if is_back else 'FROM'} is ended by {kind.name}, and started 2 s later: {output.strip()}", errors)
+
+
+def try_no_server(trial):
+    """A server that ends within a run, and is started after it."""
+    place, folder = trial.place(mixed(300)), trial.folder()
+    ran, begun = trial.start(place.socket, folder), time.monotonic()
+    wait_until(lambda: count_files(folder) > 20, "20 objects")
+    place.end_server()
+    output, errors = ran.communicate()
+    trial.check(ran.returncode == 1 and DONE.fullmatch(output) and errors.startswith("mirror: ") and errors.count("\n") == 1,
+                f"the run ends after {time.monotonic() - begun:.0f} s: {errors.strip()}", f"{output}{errors}")
+    count = len(stored(folder))
+    place.start_server()
+    trial.expect(f"the next run copies what was missing, {300 - count} objects", trial.mirror(place.socket, folder), 300 - count, count)
+    trial.check(stored(folder) == place.listed(), "each is there")
+
+
+def named(ran):
+    """The names of objects on the error stream of a run."""
+    return {it.decode() for it in TOKEN.findall(ran[2].encode())}
+
+
+def try_damaged(trial):
+    """Damaged objects, in a folder and in a server."""
+    place, folder, other = trial.place([*mixed(100), 200_000, 200_000]), trial.folder(), trial.place()
+    listed = place.listed()
+    trial.mirror(place.socket, folder)
+    oids = [oid for oid, size in listed.items() if size == 200_000]
+    flipped, cut = (Path(folder, "objects", oid[:2], oid[2:4], oid) for oid in oids)
+    data = flipped.read_bytes()
+    flipped.write_bytes(data[:100_000] + bytes([data[100_000] ^ 1]) + data[100_001:])
+    os.truncate(cut, 100_000)
+    ran = trial.mirror(folder, other.socket)
+    trial.check(ran[0] == 1 and set(ran[2].splitlines()) == {f"mirror: damaged {oid}" for oid in oids}, f"two damaged files: {ran[1].strip()}", f"{ran}")
+    trial.check(other.listed().items() == listed.items() - {(oid, 200_000) for oid in oids} and other.is_whole(), "all others are stored, and whole")
+    chunk = "WHERE n = 1 AND upload = (SELECT id FROM uploads WHERE oid = ?)"
+    with place.database() as database:
+        for text, oid in zip(("UPDATE chunks SET bytes = zeroblob(length(bytes))", "DELETE FROM chunks"), oids):
+            require(database.execute(f"{text} {chunk}", (oid,)).rowcount == 1, "no chunk was changed")
+    ran, target = trial.mirror(place.socket, new := trial.folder()), stored(new)
+    lines = [f"mirror: damaged {oids[0]}", f"mirror: {oids[1]}: 127.0.0.1:{place.http}: the connection ended within a reply"]
+    trial.check(ran[0] == 1 and sorted(ran[2].splitlines()) == sorted(lines), f"a server with zeros in an object and without a part of another: {ran[1].strip()}", f"{ran}")
+    trial.check(target.items() == listed.items() - {(oid, 200_000) for oid in oids}, "all others are in the folder, and whole")
+
+
+def try_quota(trial):
+    """A server whose quota is too small."""
+    place, folder, other = trial.place([100_000] * 150), trial.folder(), trial.place()
+    trial.mirror(place.socket, folder)
+    # Room for 20 objects of the batch, and then for an object that is larger than the rest of the room.
+    other.set_policy(quota=2_050_000)
+    ran = trial.mirror(folder, other.socket)
+    count, rules = len(other.listed()), set(re.findall(r"[A-Z]\d+: .*", ran[2]))
+    trial.check(ran[0] == 1 and named(ran) == set(place.listed()) - set(other.listed()) and count == 20, f"{ran[1].strip()}; {rules}", f"{ran}")
+    trial.check(rules == {"B5: the quota does not hold the object", "X3: the quota does not hold the object"}, "with the rules' own words")
+    other.set_policy()
+    trial.expect("the next run, with room, copies the others", trial.mirror(folder, other.socket), 130, 20)
+    trial.check(other.listed() == place.listed() and other.is_whole(), "each is there, and whole")
+
+
+def try_retired(trial):
+    """Objects that are removed within a run."""
+    place, folder = trial.place(mixed(300)), trial.folder()
+    listed = place.listed()
+    ran, last = trial.start(place.socket, folder), max(listed)
+    wait_until(lambda: count_files(folder) > 0, "an object")
+    status, _ = place.via("retire", "--repo", FILM, last)
+    require(status == 0 and count_files(folder) < 200, "the object was not removed in time")
+    output, errors = ran.communicate()
+    trial.check(ran.returncode == 1 and errors == f"mirror: {last}: B6: the object was removed by its owner\n", errors.strip(), output)
+    trial.check(stored(folder).items() == listed.items() - {(last, listed[last])}, f"the others are copied: {output.strip()}")
+    trial.expect("the next run does not ask for it", trial.mirror(place.socket, folder), 0, 299, 0)
+    back = trial.place()
+    kept = next(iter(stored(folder)))
+    trial.mirror(folder, back.socket)
+    require(back.via("retire", "--repo", FILM, kept)[0] == 0, "it was not removed")
+    ran = trial.mirror(folder, back.socket)
+    trial.check(ran[0] == 1 and named(ran) == {kept} and "B6" in ran[2], "an object that was removed in TO is not brought back", f"{ran}")
+
+
+class Watch(threading.Thread):
+    """Reads the command lines of all processes, until it is ended."""
+
+    def __init__(self):
+        super().__init__()
+        self.seen, self.is_over = set(), False
+
+    def run(self):
+        while not self.is_over:
+            for number in filter(str.isdigit, os.listdir("/proc")):
+                with contextlib.suppress(OSError):
+                    self.seen.add(Path("/proc", number, "cmdline").read_bytes())
+
+    def __enter__(self):
+        self.start()
+        return self
+
+    def __exit__(self, *_):
+        self.is_over = True
+        self.join()
+
+
+def tokens_in(texts, digests):
+    """What there is in the texts whose SHA-256 begins as that of a token."""
+    return [it for text in texts for it in TOKEN.findall(text) if hashlib.sha256(it).hexdigest()[:8] in digests]
+
+
+def try_secrets(trial):
+    """Tokens on command lines and in files."""
+    place, folder, other = trial.place([20_000] * 300), trial.folder(), trial.place()
+    token = place.token("bob")
+    for number in range(20):
+        place.lock(f"art/{number}.psd", token)
+    with Watch() as watch:
+        for words in ((place.socket, folder), (folder, other.socket)):
+            require(trial.mirror(*words)[0] == 0, "a run failed")
+        released = [trial.unlock(place, "ann", FILM, f"art/{number}.psd")[0] for number in range(20)]
+    digests = {*place.digests(), *other.digests()}
+    seen = b" ".join(watch.seen)
+    require(tokens_in([token.encode()], digests) == [token.encode()], "a token is not found by its digest")
+    require(all(it in seen for it in (b"examples/mirror", b"authenticate", b"curl")) and released == [0] * 20, "not all was seen")
+    trial.check(not tokens_in(watch.seen, digests) and b"Bearer" not in seen, f"no token in {len(watch.seen)} command lines")
+    texts = [it.read_bytes() for it in Path(folder).rglob("*") if it.is_file()]
+    trial.check(len(texts) == 302 and not tokens_in(texts, digests), f"no token in {len(texts)} files")
+
+
+def try_ssh(trial):
+    """A server that is reached by SSH."""
+    place, folder, remote = trial.place(mixed(50)), trial.folder(), trial.place()
+    command = (TOP / "examples/forced-command").read_text()
+    for old, new in (("/run/custody/control", remote.socket), ("/etc/custody/policy.toml", f"{remote.room}/policy.toml"),
+                     ("custody authenticate", f"{trial.program} authenticate"), ("custody policy", f"{trial.program} policy")):
+        require(old in command, f"examples/forced-command has no {old}")
+        command = command.replace(old, new)
+    remote.write("forced-command", command)
+    remote.write("bin/ssh", SSH.replace("@room", remote.room), 0o755)
+    path = {"PATH": remote.environment["PATH"]}
+    trial.expect("a server is copied to one by SSH", trial.mirror(place.socket, "ssh://custody@lfs.example:2222", **path), 50, 0)
+    trial.check(remote.listed() == place.listed() and remote.is_whole(), "which lists the same, all whole")
+    trial.mirror(place.socket, folder)
+    trial.expect("a folder has nothing new for it", trial.mirror(folder, "ssh://custody@lfs.example", **path), 0, 50, 0)
+    asked = Path(remote.room, "asked").read_text().splitlines()
+    words = f"custody@lfs.example git-lfs-authenticate {FILM} upload"
+    trial.check(asked == [f"-p 2222 {words}", words], f"ssh got: {asked}")
+    ran = trial.mirror("ssh://custody@lfs.example", folder, **path)
+    trial.check(ran[0] == 2, f"as FROM: {ran[2].splitlines()[-1]}", f"{ran}")
+    ran = trial.mirror(folder, "ssh://custody@lfs.example", repo="studio/none", **path)
+    trial.check(ran[0] == 1 and "R1: no such repository" in ran[2], f"no such repository: {ran[2].strip()}", f"{ran}")
+
+
+def try_unlock(trial):
+    """The release of locks."""
+    place = trial.place()
+    token, spaced, twice = place.token("bob"), "art/a hero  of two.psd", "art/twice.psd"
+    for path, ref in ((spaced, MAIN), ("art/a hero", MAIN), (twice, MAIN), (twice, "refs/heads/dev")):
+        place.lock(path, token, ref)
+    moments = {line.split(" ", 4)[4]: line.split()[3] for line in place.locks()}
+    for status, words, text in [
+        (1, ("mirror", FILM, spaced), "unlock: P0: no policy row allows force\n"),
+        (0, ("ann", FILM, spaced), f"released: {spaced} on {MAIN}, which bob had locked since {moments[spaced]}\n"),
+        (1, ("ann", FILM, spaced), f"unlock: there is no lock on {spaced}\n"),
+        (1, ("ann", FILM, "art/a"), "unlock: there is no lock on art/a\n"),
+        (1, ("ann", FILM, twice), "unlock: the path is locked on several refs, name one of them:\n" + "".join(
+            f"{line}\n" for line in place.locks() if line.endswith(f" {twice}"))),
+        (1, ("ann", FILM, twice, "refs/heads/none"), f"unlock: there is no lock on {twice} on refs/heads/none\n"),
+        (0, ("ann", FILM, twice, "refs/heads/dev"), f"released: {twice} on refs/heads/dev, which bob had locked since {moments[twice]}\n"),
+        (0, ("ann", FILM, twice), f"released: {twice} on {MAIN}, which bob had locked since {moments[twice]}\n"),
+        (2, ("ann", FILM), "usage: unlock USER REPO PATH [REF]\n"),
+    ]:
+        ran = trial.unlock(place, *words)
+        trial.check(ran == ((0, text, "") if status == 0 else (status, "", text)), text.strip().replace("\n", "; "), f"{ran}")
+    trial.check([line.split()[-1] for line in place.locks()] == ["hero"], "one lock is left")
+    nobody = f"http://127.0.0.1:{free_port()}"
+    ran = trial.unlock(place, "ann", FILM, "art/a hero", CUSTODY_URL=nobody)
+    trial.check(ran[0] == 1 and f"no server answers at {nobody}" in ran[2], f"no server: {ran[2].splitlines()[-1]}", f"{ran}")
+    ran = trial.unlock(place, "ann", FILM, "art/a hero", CUSTODY_VIA=f"{place.room}/none")
+    trial.check(ran[0] == 1 and ran[2].startswith("custody: control socket\n"), f"no socket: {ran[2].splitlines()[-1]}", f"{ran}")
+
+
+def timed(trial, what, words, count):
+    begun = time.monotonic()
+    ran = trial.mirror(*words)
+    trial.expect(f"{what}: {time.monotonic() - begun:.1f} s", ran, count, 0)
+
+
+def try_times(trial):
+    """How long copies take."""
+    place, folder, back = trial.place([10_000] * 1000), trial.folder(), trial.place()
+    timed(trial, "1000 objects of 10 KB to a folder", (place.socket, folder), 1000)
+    timed(trial, "and back", (folder, back.socket), 1000)
+    trial.check(stored(folder) == back.listed() == place.listed() and back.is_whole(), "each is whole")
+    place, folder = trial.place([1 << 28] * 4), trial.folder()
+    timed(trial, "1 GiB in four objects to a folder", (place.socket, folder), 4)
+    trial.check(stored(folder) == place.listed(), "each is whole")
+
+
+PARTS = {name.removeprefix("try_"): part for name, part in list(globals().items()) if name.startswith("try_")}
+
+
+def main():
+    parser = argparse.ArgumentParser(description=__doc__.splitlines()[0])
+    parser.add_argument("program", nargs="?", default=str(TOP / "bin/custody"), help="the program [default: bin/custody]")
+    parser.add_argument("--only", action="append", choices=PARTS, help="only this part")
+    options = parser.parse_args()
+    need_commands("sha256sum", "curl", "git", "git-lfs", "diff")
+    trial = Trial(os.path.abspath(options.program))
+    for name in options.only or PARTS:
+        print(f"{name}: {PARTS[name].__doc__}", flush=True)
+        with trial.part():
+            try:
+                PARTS[name](trial)
+            except (Failed, OSError, subprocess.SubprocessError) as fault:
+                trial.check(False, f"{name} ends: {fault}")
+    print(f"{trial.passed} passed, {trial.failed} failed")
+    return 1 if trial.failed else 0
+
+
+if __name__ == "__main__":
+    sys.exit(main())
