@@ -237,7 +237,7 @@ def try_many(site, pushes):
 
 def without_hook(site, pushes, count):
     """How long a push of as many paths takes if there is no hook."""
-    hook = Path(site.room, "git/studio/film.git/hooks/pre-receive")
+    hook = Path(site.room, "lib/pre-receive")
     hook.chmod(0o644)
     for number in range(count):
         pushes.write(f"many-{count}/{number}.txt", f"again {number}")
@@ -278,7 +278,7 @@ def try_silence(site, pushes):
     site.end_server()
     pushes.refused("no push passes while the server is down", ["the Git LFS server is not running"])
     site.start_server()
-    hook = Path(site.room, "git/studio/film.git/hooks/pre-receive")
+    hook = Path(site.room, "lib/pre-receive")
     text = hook.read_text()
     hook.write_text(text.replace("PATIENCE = 300", "PATIENCE = 1"))
     held = subprocess.Popen([site.program, "hold", "--via", f"{site.room}/control", "--seconds", "20"], stdin=subprocess.PIPE,

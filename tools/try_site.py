@@ -13,6 +13,7 @@ import http.client
 import json
 import os
 import random
+import re
 import shutil
 import signal
 import socket
@@ -23,6 +24,7 @@ import threading
 import time
 from pathlib import Path
 
+import site_handbook
 from site_pushes import try_pushes
 
 TOP = Path(__file__).resolve().parent.parent
@@ -72,8 +74,8 @@ SetEnv PATH=@room/bin:/usr/local/bin:/usr/bin:/bin
 # More than a site accepts: what a client sets must not reach the hook.
 AcceptEnv CUSTODY_* GIT_*
 """
-# Who has a key. The rows name the first two.
-USERS = ("ann", "bob", "vera", "carl", "mirror", "zoe")
+# Who has a key that sshd knows. The rows name the first two.
+USERS = ("ann", "bob", "vera", "carl")
 
 
 def free_port():
@@ -96,6 +98,7 @@ class Site:
 
     def __init__(self, program, room):
         self.program, self.room = os.path.abspath(program), room
+        self.database = f"{room}/state/custody.db"
         self.passed = self.failed = 0
         self.https, self.ssh, self.http = free_port(), free_port(), free_port()
         self.base = f"https://localhost:{self.https}"
@@ -110,6 +113,7 @@ class Site:
             GIT_TERMINAL_PROMPT="0",
             # Git LFS 3.3 does not read http.sslCAInfo.
             GIT_SSL_CAINFO=f"{room}/tls.pem",
+            SSL_CERT_FILE=f"{room}/tls.pem",
         )
 
     def check(self, holds, what, text=""):
@@ -141,10 +145,13 @@ class Site:
         repo = '[[repo]]\nname = "studio/film"\ndefault_ref = "refs/heads/main"\nquota = 100000000000\n'
         self.write("policy.toml", f'base = "{self.base}"\ntoken_seconds = {seconds}\n\n{repo}{rows}')
 
+    def serve_words(self):
+        """The command of the server, as the unit has it."""
+        words = [self.program, "serve", "--db", self.database, "--policy", f"{self.room}/policy.toml"]
+        return [*words, "--listen", f"127.0.0.1:{self.http}", "--control", f"{self.room}/control"]
+
     def start_server(self):
-        words = ["serve", "--db", f"{self.room}/db", "--policy", f"{self.room}/policy.toml"]
-        more = ["--listen", f"127.0.0.1:{self.http}", "--control", f"{self.room}/control"]
-        self.server = subprocess.Popen([self.program, *words, *more], stdout=subprocess.PIPE,
+        self.server = subprocess.Popen(self.serve_words(), stdout=subprocess.PIPE,
                                        stderr=open(f"{self.room}/custody.log", "a", encoding="utf-8"))
         line = self.server.stdout.readline()
         if not line.startswith(b"listening"):
@@ -174,25 +181,34 @@ class Site:
         self.children.append(subprocess.Popen(["nginx", "-c", config, "-e", f"{self.room}/nginx.log"]))
         wait_for(self.https)
 
-    def here(self, name, *paths):
-        """The text of a file of the repository, with the site's own paths in the place of these."""
-        own = {"/run/custody/control": "control", "/srv/git": "git", "/etc/custody/policy.toml": "policy.toml"}
-        text = (TOP / name).read_text()
-        for path in paths:
-            if path not in text:
-                sys.exit(f"{name} has no {path}")
-            text = text.replace(path, f"{self.room}/{own[path]}")
+    def own_paths(self):
+        """What the documents and the examples name, and what this site has in its place."""
+        return {"/run/custody/control": f"{self.room}/control", "/var/lib/custody/db": f"{self.room}/state",
+                "/etc/custody": self.room, "/srv/git": f"{self.room}/git", "/usr/lib/custody": f"{self.room}/lib",
+                "/var/log/nginx": self.room, "/backup": f"{self.room}/backup", "127.0.0.1:8080": f"127.0.0.1:{self.http}"}
+
+    def here(self, text):
+        """The text with the paths of this site."""
+        for old, new in self.own_paths().items():
+            text = re.sub(rf"(?<![\w.]){re.escape(old)}(?!\w)", new, text)
         return text
+
+    def install(self):
+        """Installs the programs of examples/ as the package does."""
+        for name in ("forced-command", "pre-receive", "backup", "spare", "unreferenced", "unlock", "mirror"):
+            self.write(f"lib/{name}", self.here((TOP / "examples" / name).read_text()), 0o755)
+
+    def new_key(self, name):
+        """The public part of a new key."""
+        self.run("ssh-keygen", "-q", "-t", "ed25519", "-N", "", "-f", f"{self.room}/key-{name}")
+        return Path(self.room, f"key-{name}.pub").read_text().strip()
 
     def start_sshd(self):
         self.run("ssh-keygen", "-q", "-t", "ed25519", "-N", "", "-f", f"{self.room}/host_key")
-        self.write("forced-command", self.here("examples/forced-command", "/run/custody/control", "/srv/git",
-                                               "/etc/custody/policy.toml"), 0o755)
         lines = ""
         for user in USERS:
-            self.run("ssh-keygen", "-q", "-t", "ed25519", "-N", "", "-f", f"{self.room}/key-{user}")
-            public = Path(self.room, f"key-{user}.pub").read_text().strip()
-            lines += f'restrict,command="{self.room}/forced-command {user}" {public}\n'
+            public = self.new_key(user)
+            lines += f'restrict,command="{self.room}/lib/forced-command {user}" {public}\n'
         self.write("authorized_keys", lines, 0o600)
         config = self.write("sshd_config", SSHD.replace("@room", self.room).replace("@port", str(self.ssh)))
         Path("/run/sshd").mkdir(exist_ok=True) if os.getuid() == 0 else None
@@ -202,16 +218,17 @@ class Site:
 
     def set_up(self):
         self.write_policy(3600)
-        Path(self.room, "bin").mkdir()
+        for name in ("bin", "state", "backup"):
+            Path(self.room, name).mkdir()
         Path(self.room, "bin/custody").symlink_to(self.program)
+        self.install()
         self.start_server()
         self.start_nginx()
         self.start_sshd()
         self.run("git", "config", "--global", "init.defaultBranch", "main")
         self.run("git", "lfs", "install", "--skip-repo")
         self.run("git", "init", "-q", "--bare", f"{self.room}/git/studio/film.git")
-        hook = self.here("examples/pre-receive", "/run/custody/control")
-        self.write("git/studio/film.git/hooks/pre-receive", hook, 0o755)
+        Path(self.room, "git/studio/film.git/hooks/pre-receive").symlink_to(f"{self.room}/lib/pre-receive")
 
     def remote(self):
         return f"ssh://{getpass.getuser()}@localhost:{self.ssh}/studio/film.git"
@@ -399,14 +416,14 @@ def try_backup(site):
     Path(site.room, "backups").mkdir()
     began, least = time.monotonic(), site.objects()
     environment = dict(site.environment, CUSTODY=site.program)
-    words = [str(TOP / "examples/backup"), f"{site.room}/control", f"{site.room}/db", f"{site.room}/backups", "2"]
+    words = [str(TOP / "examples/backup"), f"{site.room}/control", site.database, f"{site.room}/backups", "2"]
     ran = subprocess.run(words, env=environment, stdout=subprocess.PIPE, stderr=subprocess.STDOUT, text=True, check=False)
     taken, most = time.monotonic() - began, site.objects()
     status, text = pushed()
     site.check(ran.returncode == 0, f"a copy is made during a push, and checked, in {taken:.1f} s: {ran.stdout.strip()}", ran.stdout)
     site.check(status == 0, "the push passes", text)
     copies = list(Path(site.room, "backups").iterdir())
-    found = site.run(site.program, "objects", "--db", f"{copies[0]}/db", "--repo", "studio/film", may_fail=True)
+    found = site.run(site.program, "objects", "--db", f"{copies[0]}/custody.db", "--repo", "studio/film", may_fail=True)
     count = len(found[1].splitlines())
     site.check(len(copies) == 1 and least <= count <= most, f"the copy has {count} objects: {least} or more", found[1][:200])
 
@@ -458,7 +475,7 @@ def try_stop(site):
     printed = site.server.stdout.read().decode()
     site.server.stdout.close()
     site.check((status, text, ended) == (0, "", 0) and printed.startswith("served "), f"a server is stopped: {printed.strip()}", text)
-    shutil.copyfile(f"{site.room}/db", f"{site.room}/alone")
+    shutil.copyfile(site.database, f"{site.room}/alone")
     site.start_server()
     status, text = pushed()
     print(f"     a push during which the server was stopped ended with {status}")
@@ -484,6 +501,10 @@ def try_reload(site):
     site.reload()
     status, text = site.git("ann", "push", "-q", "origin", "main", may_fail=True)
     site.check(status == 0, "and passes when the right is there again", text)
+
+
+def try_handbook(site):
+    site_handbook.try_handbook(site, free_port())
 
 
 def try_status(site):
@@ -540,7 +561,7 @@ def main():
     with tempfile.TemporaryDirectory() as room:
         site = Site(sys.argv[1], room)
         parts = (try_locks, try_transfers, try_tokens, try_restart, try_backup, try_check, try_stop, try_reload, try_pushes,
-                 try_status, try_other_requests)
+                 try_handbook, try_status, try_other_requests)
         wanted = sys.argv[3:] or [*(it.__name__[4:] for it in parts), "large_files"]
         try:
             site.set_up()
