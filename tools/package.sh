@@ -1,5 +1,5 @@
 #!/bin/sh
-# Makes a Debian package of the program, its manual page, the unit for systemd, the forced command and the documents. It
+# Makes a Debian package of the program, its manual page, the unit for systemd, the examples and the documents. It
 # needs dpkg-deb, pandoc, gzip, strip (of binutils), awk and git, and a program that bin/custody has built; what is missing
 # is named, and no package is made. `lintian` then has nothing to report but how the program was compiled.
 # usage: tools/package.sh [FOLDER]      the package is written to the folder, or to this one
@@ -36,8 +36,10 @@ documents=$root/usr/share/doc/custody
 mkdir -p "$documents/examples" "$root/usr/share/man/man1"
 install -D -m 755 "$program" "$root/usr/bin/custody"
 strip --remove-section=.comment --remove-section=.note "$root/usr/bin/custody"
-install -D -m 755 -t "$root/usr/lib/custody" "$top/examples/forced-command" "$top/examples/spare" \
-    "$top/examples/unreferenced" "$top/examples/backup"
+for example in forced-command pre-receive backup spare unlock unreferenced mirror; do
+    install -D -m 755 -t "$root/usr/lib/custody" "$top/examples/$example"
+done
+install -D -m 644 "$top/examples/locks.html" "$root/usr/share/custody/locks.html"
 install -D -m 644 "$top/examples/custody.service" "$root/lib/systemd/system/custody.service"
 install -D -m 644 "$top/examples/installed-policy.toml" "$root/etc/custody/policy.toml"
 for example in nginx-site sshd-custody.conf custody-group.conf policy.toml; do
@@ -126,8 +128,8 @@ Architecture: $architecture
 Maintainer: $maintainer
 Installed-Size: $(du -sk "$root" | cut -f 1)
 Depends: libc6, passwd
-Recommends: nginx, openssh-server
-Suggests: git, python3, sqlite3
+Recommends: nginx, openssh-server, git, python3, curl
+Suggests: sqlite3
 Section: vcs
 Priority: optional
 Description: Git LFS object and lock server

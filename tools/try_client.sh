@@ -24,7 +24,7 @@ trap 'kill "$feeder" 2> /dev/null || true; rm -rf "$work"' EXIT
 
 mkdir "$work/bin"
 sed "s|https://lfs.example|http://127.0.0.1:$port|" "$top/examples/policy.toml" > "$work/policy.toml"
-sed -e "s|--via /run/custody/control|--db $work/custody.db --policy $work/policy.toml|" \
+sed -e "s|--via \"\$control\"|--db $work/custody.db --policy $work/policy.toml|" \
     -e "s|/etc/custody/policy.toml|$work/policy.toml|" "$top/examples/forced-command" > "$work/bin/forced-command"
 ln -s "$program" "$work/bin/custody"
 cat > "$work/bin/ssh" << END
