@@ -160,7 +160,7 @@ def try_damage(site, book):
     name = random.Random(1).choice(sorted(Path(site.room, "ann/art").glob("*.psd")))
     text = name.read_bytes()[30_000:30_100]
     site.run("systemctl", "stop")
-    database = Path(site.database)
+    database = Path(site.database_file)
     stored = bytearray(database.read_bytes())
     site.check(stored.count(text) == 1, f"the bytes of {name.name} are in the database once")
     stored[stored.find(text)] ^= 1

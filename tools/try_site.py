@@ -98,7 +98,8 @@ class Site:
 
     def __init__(self, program, room):
         self.program, self.room = os.path.abspath(program), room
-        self.database = f"{room}/state/custody.db"
+        self.database_file = f"{room}/state/custody.db"
+        Path(room, "state").mkdir()
         self.passed = self.failed = 0
         self.https, self.ssh, self.http = free_port(), free_port(), free_port()
         self.base = f"https://localhost:{self.https}"
@@ -147,7 +148,7 @@ class Site:
 
     def serve_words(self):
         """The command of the server, as the unit has it."""
-        words = [self.program, "serve", "--db", self.database, "--policy", f"{self.room}/policy.toml"]
+        words = [self.program, "serve", "--db", self.database_file, "--policy", f"{self.room}/policy.toml"]
         return [*words, "--listen", f"127.0.0.1:{self.http}", "--control", f"{self.room}/control"]
 
     def start_server(self):
@@ -218,7 +219,7 @@ class Site:
 
     def set_up(self):
         self.write_policy(3600)
-        for name in ("bin", "state", "backup"):
+        for name in ("bin", "backup"):
             Path(self.room, name).mkdir()
         Path(self.room, "bin/custody").symlink_to(self.program)
         self.install()
@@ -416,7 +417,7 @@ def try_backup(site):
     Path(site.room, "backups").mkdir()
     began, least = time.monotonic(), site.objects()
     environment = dict(site.environment, CUSTODY=site.program)
-    words = [str(TOP / "examples/backup"), f"{site.room}/control", site.database, f"{site.room}/backups", "2"]
+    words = [str(TOP / "examples/backup"), f"{site.room}/control", site.database_file, f"{site.room}/backups", "2"]
     ran = subprocess.run(words, env=environment, stdout=subprocess.PIPE, stderr=subprocess.STDOUT, text=True, check=False)
     taken, most = time.monotonic() - began, site.objects()
     status, text = pushed()
@@ -475,7 +476,7 @@ def try_stop(site):
     printed = site.server.stdout.read().decode()
     site.server.stdout.close()
     site.check((status, text, ended) == (0, "", 0) and printed.startswith("served "), f"a server is stopped: {printed.strip()}", text)
-    shutil.copyfile(site.database, f"{site.room}/alone")
+    shutil.copyfile(site.database_file, f"{site.room}/alone")
     site.start_server()
     status, text = pushed()
     print(f"     a push during which the server was stopped ended with {status}")
