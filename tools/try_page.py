@@ -132,9 +132,13 @@ class Studio(Site):
         time.sleep(0.3)
         return Path(self.room, "custody.access.log").read_text().count(".git/")
 
-    def stored(self):
-        """How many bodies nginx keeps."""
-        return sum(1 for it in Path(self.room, "spool/requests").rglob("*") if it.is_file())
+    def kept(self):
+        """How many bodies nginx keeps: it removes the name of such a file at once, and has it open."""
+        links = []
+        for folder in Path("/proc").glob("[0-9]*/fd"):
+            with contextlib.suppress(OSError):
+                links += [os.readlink(it) for it in folder.iterdir()]
+        return sum(link.startswith(f"{self.room}/spool/requests/") for link in links)
 
     @contextlib.contextmanager
     def connection(self):
@@ -225,15 +229,14 @@ class Page:
 
     def focus(self):
         """What the focused element is called."""
-        return self.run("const it = document.activeElement; return it.ariaLabel || it.id || it.textContent")
+        return self.run("""const it = document.activeElement;
+            return it === document.body ? "body" : it.ariaLabel || it.id || it.textContent""")
 
     def search(self, text):
-        self.at("filter").clear()
-        self.at("filter").send_keys(text)
+        self.at("filter").send_keys(Keys.CONTROL, "a", Keys.NULL, text or Keys.BACKSPACE)
 
     def name_branches(self, text):
-        self.at("branches").clear()
-        self.at("branches").send_keys(text, Keys.ENTER)
+        self.at("branches").send_keys(Keys.CONTROL, "a", Keys.NULL, text, Keys.ENTER)
         time.sleep(0.1)
         return self.until(self.is_read)
 
@@ -303,13 +306,15 @@ def try_nginx(site):
         site.check(reply.status == 401 and "A1: a bearer token is needed" in text, f"{target} without a token is 401", text)
     with site.connection() as connection:
         connection.request("POST", "/locks", b"x" * 200_000, {"Content-Length": "2000000"})
-        kept, reply = site.stored(), connection.getresponse()
-        site.check((reply.status, kept, site.stored()) == (405, 0, 0), "a body that is sent to /locks is refused, and not kept")
+        status = connection.getresponse().status
+        connection.send(b"x" * 200_000)
+        time.sleep(0.5)
+        site.check((status, site.kept()) == (405, 0), "a body that is sent to /locks is refused, and not kept", f"{status} {site.kept()}")
     with site.connection() as connection:
         head = json.loads(site.line("ann"))["header"]
         connection.request("POST", f"{API}/locks", b"x" * 200_000, {**head, "Content-Length": "900000"})
         time.sleep(0.5)
-        site.check(site.stored() == 1, "one that is sent to the API with a token is kept until it is whole")
+        site.check(site.kept() == 1, "one that is sent to the API with a token is kept until it is whole")
 
 
 def try_nginx_without_default(site):
@@ -333,6 +338,7 @@ def try_nginx_without_default(site):
 
 
 def try_form(site, page):
+    asked = site.asked()
     page.open()
     page.picture("form")
     errors = page.browser.get_log("browser")
@@ -340,7 +346,7 @@ def try_form(site, page):
     site.check(page.at("line").is_displayed() and not page.at("list").is_displayed(), "it asks for a token")
     command = "ssh custody@localhost git-lfs-authenticate studio/film upload"
     site.check(page.at("command").text == command, "and shows the command that prints one", page.at("command").text)
-    site.check(site.asked() == 0, "without a token it sends no request")
+    site.check(site.asked() == asked, "without a token it sends no request")
     line = json.loads(site.line("ann"))
     no_token = {**line, "header": {}}
     other = {**line, "href": line["href"].replace("localhost", "lfs.example")}
@@ -354,7 +360,7 @@ def try_form(site, page):
         found = page.status()
         site.check(found.startswith(words) and page.focus() == "line" and page.at("line").get_attribute("value") == "",
                    f"what is no line is refused in words: {found}", found)
-    site.check(site.asked() == 0, "and no request is sent for it")
+    site.check(site.asked() == asked, "and no request is sent for it")
     kept = page.run("return sessionStorage.getItem('line')")
     site.check(kept is None, "nor is it kept", str(kept))
 
@@ -456,12 +462,12 @@ def try_keyboard(site, page):
     site.check(page.focus() == "Release art/hero.psd", "and returns to the button", page.focus())
     page.press(Keys.ENTER)
     page.question()
-    page.press(Keys.TAB)
-    inside = page.focus()
-    page.press(Keys.SHIFT, Keys.TAB)
-    page.run("document.getElementById('cancel').focus()")
+    focused = []
+    while focused[-1:] != ["cancel"]:
+        page.press(Keys.TAB)
+        focused.append(page.focus())
+    site.check(set(focused) <= {"cancel", "confirm", "body"}, "Tab stays within the question", str(focused))
     page.press(Keys.ENTER)
-    site.check(inside in ("cancel", "BODY", "") or "art" not in inside, "Tab stays within the question", inside)
     page.until(lambda: not page.is_asking())
     site.check("art/hero.psd" in site.paths(), "Cancel changes nothing")
     page.press(Keys.ENTER)
