@@ -483,14 +483,14 @@ def try_force(site, page):
     page.enter(site.line("bob"))
     page.name_branches("main")
     questions, words = page.release("art/shot10.psd", "confirm")
-    site.check(words == "art/shot10.psd: P0: no policy row allows force" and "belongs to ann" in questions[0],
+    site.check(words == "art/shot10.psd: P0: no policy row allows force" and "Release the lock of ann?" in questions[0],
                "bob may not release ann's lock", f"{questions} {words}")
     page.picture("refusal")
     site.check("art/shot10.psd" in site.paths() & page.shown(), "which stays")
     page.enter(site.line("ann"))
     page.button("art/ship.psd").click()
     text = page.question()
-    site.check("belongs to bob" in text and "lost or overwritten" in text and page.focus() == "cancel",
+    site.check("locked by bob" in text and "lost or overwritten" in text and page.focus() == "cancel",
                "ann is asked about bob's lock, and Cancel has the focus", text)
     page.picture("question-force")
     page.press(Keys.ENTER)
@@ -499,7 +499,7 @@ def try_force(site, page):
     _, words = page.release("art/ship.psd", "confirm")
     site.check(words == "art/ship.psd is released." and "art/ship.psd" not in site.paths() | page.shown(), "ann releases it", words)
     questions, words = page.release("art/nobody.psd", "confirm", "confirm")
-    site.check(words == "art/nobody.psd is released." and "belongs to" not in questions[0] and "belongs to bob" in questions[1]
+    site.check(words == "art/nobody.psd is released." and "lost" not in questions[0] and "Release the lock of bob?" in questions[1]
                and "art/nobody.psd" not in site.paths(), "and one of a branch that is not named, after two questions", str(questions))
     questions, words = page.release("art/none.psd", "confirm")
     site.check(words == "art/none.psd is released." and "art/none.psd" not in site.paths(), "and her own there, after one", words)
@@ -520,7 +520,7 @@ def try_rights(site, page):
     site.check(sorted(page.rows()) == sorted(expected(site, {MAIN})) and page.status() == "",
                "who may not push has the list with its branches", f"{page.rows()} {page.status()}")
     questions, words = page.release("art/shot10.psd", "confirm", "confirm")
-    site.check(words == "art/shot10.psd: P0: no policy row allows force" and "belongs to ann" in questions[1],
+    site.check(words == "art/shot10.psd: P0: no policy row allows force" and "Release the lock of ann?" in questions[1],
                "and is refused after the question of force", f"{questions} {words}")
     page.enter(site.line("ann", "download"))
     site.check(sorted(page.rows()) == sorted(expected(site, {MAIN})) and page.status() == "", "a download token shows the list",
@@ -579,10 +579,19 @@ def try_many(site, page, count):
     site.check(statistics.median(times) < 100, f"a typed letter takes {statistics.median(times):.0f} ms, at most {max(times):.0f}")
     page.search("shot12")
     page.picture("found")
+    page.search("")
+    names = page.run("return [...document.querySelectorAll('#rows button')].map(it => it.ariaLabel)")
+    page.run("document.querySelectorAll('#rows button')[700].focus()")
+    page.press(Keys.TAB)
+    covered = page.run("""const box = document.activeElement.getBoundingClientRect();
+        return document.elementFromPoint(box.x + box.width / 2, box.y + box.height / 2) !== document.activeElement""")
+    site.check(page.focus() == names[701] and not covered, "Tab leads to what is outside of the window, and shows it", page.focus())
+    roles = [page.browser.find_element(By.CSS_SELECTOR, name).aria_role for name in ("table", "th", "#rows tr:nth-child(702)", "#rows tr:nth-child(702) td")]
+    site.check(roles == ["table", "columnheader", "row", "cell"], "for a screen reader it is a table", str(roles))
 
 
 def try_narrow(site, page):
-    page.search("")
+    page.run("scrollTo(0, 0)")
     page.resize(360, 740)
     page.picture("narrow")
     site.check(page.stays_inside(360), "a window of 360 pixels holds the list, and its buttons")
