@@ -81,9 +81,11 @@ rights = ["pull", "list"]
 MARKUP = "art/<script>document.title='x'</script><img src=x onerror=alert(1)>.psd"
 REVERSED = "art/hero\u202edsp.exe"
 MAIN, RELEASE = "refs/heads/main", "refs/heads/release/1.0"
-FIRST = [("ann", "art/hero.psd", MAIN), ("bob", "art/ship.psd", MAIN), ("ann", "art/tree 2.psd", RELEASE), ("bob", MARKUP, MAIN),
-         ("ann", REVERSED, MAIN), ("ann", "art/shot10.psd", MAIN), ("bob", "art/shot9.psd", RELEASE), ("bob", "art/left.psd", MAIN),
-         ("ann", "art/none.psd", "refs/heads/other"), ("bob", "art/nobody.psd", "refs/heads/other")]
+OTHER = "refs/heads/other"
+FIRST = [("ann", "art/hero.psd", MAIN), ("bob", "art/ship.psd", MAIN), ("ann", "art/tree 2.psd", RELEASE),
+         ("bob", MARKUP, MAIN), ("ann", REVERSED, MAIN), ("ann", "art/shot10.psd", MAIN), ("bob", "art/shot9.psd", RELEASE),
+         ("bob", "art/left.psd", MAIN), ("ann", "art/none.psd", OTHER), ("bob", "art/nobody.psd", OTHER)]
+COLUMNS = ("path", "owner", "since", "branch")
 ROWS = """return [...document.querySelectorAll("#rows tr")].filter(row => !row.hidden)
     .map(row => [...row.children].slice(0, 4).map(cell => cell.textContent))"""
 # The time from a typed letter to the frame after it.
@@ -142,8 +144,9 @@ class Studio(Site):
 
     @contextlib.contextmanager
     def connection(self):
-        context = ssl._create_unverified_context()
-        with contextlib.closing(http.client.HTTPSConnection("localhost", self.https, context=context, timeout=20)) as connection:
+        context = ssl.create_default_context(cafile=f"{self.room}/tls.pem")
+        connection = http.client.HTTPSConnection("localhost", self.https, context=context, timeout=20)
+        with contextlib.closing(connection):
             yield connection
 
     def get(self, target, headers=None):
@@ -256,8 +259,9 @@ class Page:
         questions = []
         for answer in answers:
             questions.append(self.question())
+            self.run("document.getElementById('status').textContent = ''")
             self.at(answer).click()
-            self.until(lambda: not self.status().startswith("Releasing"))
+            self.until(lambda: not self.status().startswith("Releasing") and self.status() != "")
         return questions, self.status()
 
     def stays_inside(self, width):
@@ -309,7 +313,8 @@ def try_nginx(site):
         status = connection.getresponse().status
         connection.send(b"x" * 200_000)
         time.sleep(0.5)
-        site.check((status, site.kept()) == (405, 0), "a body that is sent to /locks is refused, and not kept", f"{status} {site.kept()}")
+        kept = site.kept()
+        site.check((status, kept) == (405, 0), "a body that is sent to /locks is refused, and not kept", f"{status} {kept}")
     with site.connection() as connection:
         head = json.loads(site.line("ann"))["header"]
         connection.request("POST", f"{API}/locks", b"x" * 200_000, {**head, "Content-Length": "900000"})
@@ -331,7 +336,7 @@ def try_nginx_without_default(site):
     replies = [site.get(*words) for words in [("/locks",), (f"{API}/locks", head), ("/studio/game.git/info/lfs/locks", head),
                                               ("/locks/", head), ("/locks/",)]]
     statuses = [reply.status for reply, _ in replies]
-    site.check(statuses == [200, 401, 404, 404, 401], "the page is served where the map of the servers has no default", str(statuses))
+    site.check(statuses == [200, 401, 404, 404, 401], "a site without a default server serves the page", str(statuses))
     config.write_text(whole)
     site.children[0].send_signal(signal.SIGHUP)
     time.sleep(1)
@@ -351,9 +356,10 @@ def try_form(site, page):
     no_token = {**line, "header": {}}
     other = {**line, "href": line["href"].replace("localhost", "lfs.example")}
     no_repository = {**line, "href": f"{site.base}//lfs.example/studio/film.git/info/lfs"}
-    cases = [("hello", "This is not the line"), ("null", "This is not the line"), (json.dumps(line)[:-9], "This is not the line"),
-             (line["header"]["Authorization"], "This is not the line"), (json.dumps(no_token), "This line has no token"),
-             (json.dumps(no_repository), "This line has no token"), (json.dumps(other), "This token is for https://lfs.example:")]
+    others = ("hello", "null", json.dumps(line)[:-9], line["header"]["Authorization"])
+    cases = [*((text, "This is not the line") for text in others),
+             *((json.dumps(it), "This line has no token") for it in (no_token, no_repository)),
+             (json.dumps(other), "This token is for https://lfs.example:")]
     for text, words in cases:
         page.paste(text)
         page.until(lambda: page.status() != "")
@@ -391,7 +397,8 @@ def try_list(site, page):
     page.browser.refresh()
     site.check(page.until(page.is_read) and sorted(page.rows()) == sorted(wanted), "a reload of the tab shows it again")
     page.name_branches("refs/heads/release/1.0 refs/tags/none")
-    site.check(sorted(page.rows()) == sorted(expected(site, {RELEASE})), "branches are named by whole refs too", str(page.rows()))
+    rows = page.rows()
+    site.check(sorted(rows) == sorted(expected(site, {RELEASE})), "branches are named by whole refs too", str(rows))
     page.name_branches("main grün")
     site.check(page.status() == "Branch grün: J2: a field is out of range" and len(page.rows()) == len(FIRST),
                "a branch that the server refuses is named, and the rest is shown", page.status())
@@ -415,7 +422,7 @@ def try_filter(site, page):
 def check_order(site, page, by, falling):
     """The list is in the order of Python's sort, by this column, and then by path."""
     moments = {escaped(path): moment for _, _, _, moment, path in site.locks()}
-    place = ("path", "owner", "since", "branch").index(by)
+    place = COLUMNS.index(by)
     rows = sorted(expected(site, {MAIN, RELEASE}), key=lambda row: natural(row[0]))
     rows.sort(key=lambda row: natural(moments[row[0]] if by == "since" else row[place]), reverse=falling)
     rising = page.run("return [...document.querySelectorAll('th')].map(it => it.ariaSort)")
@@ -427,7 +434,7 @@ def check_order(site, page, by, falling):
 
 def try_order(site, page):
     check_order(site, page, "path", False)
-    headers = {by: page.browser.find_element(By.CSS_SELECTOR, f"th button[value={by}]") for by in ("path", "owner", "since", "branch")}
+    headers = {by: page.browser.find_element(By.CSS_SELECTOR, f"th button[value={by}]") for by in COLUMNS}
     for by in ("owner", "since", "branch", "path"):
         headers[by].click()
         check_order(site, page, by, False)
@@ -497,18 +504,22 @@ def try_force(site, page):
     page.until(lambda: not page.is_asking())
     site.check("art/ship.psd" in site.paths(), "so that Enter changes nothing")
     _, words = page.release("art/ship.psd", "confirm")
-    site.check(words == "art/ship.psd is released." and "art/ship.psd" not in site.paths() | page.shown(), "ann releases it", words)
+    left = site.paths() | page.shown()
+    site.check(words == "art/ship.psd is released." and "art/ship.psd" not in left, "ann releases it", words)
     questions, words = page.release("art/nobody.psd", "confirm", "confirm")
-    site.check(words == "art/nobody.psd is released." and "lost" not in questions[0] and "Release the lock of bob?" in questions[1]
-               and "art/nobody.psd" not in site.paths(), "and one of a branch that is not named, after two questions", str(questions))
-    questions, words = page.release("art/none.psd", "confirm")
-    site.check(words == "art/none.psd is released." and "art/none.psd" not in site.paths(), "and her own there, after one", words)
+    asked = ["lost or overwritten" in it for it in questions]
+    site.check(words == "art/nobody.psd is released." and asked == [False, True] and "art/nobody.psd" not in site.paths(),
+               "and one of a branch that is not named, after two questions", f"{questions} {words}")
+    _, words = page.release("art/none.psd", "confirm")
+    site.check(words == "art/none.psd is released." and "art/none.psd" not in site.paths(), "and ann's own there, after one",
+               words)
 
 
 def try_race(site, page):
     page.enter(site.line("ann"))
     number = next(lock[0] for lock in site.locks() if lock[4] == "art/left.psd")
-    site.check(site.ask("bob", f"/locks/{number}/unlock", {"force": False}) == 200, "bob releases a lock that ann has on the page")
+    status = site.ask("bob", f"/locks/{number}/unlock", {"force": False})
+    site.check(status == 200, "bob releases a lock that ann has on the page", str(status))
     _, words = page.release("art/left.psd", "confirm")
     site.check(words == "art/left.psd: L2: no such lock" and "art/left.psd" not in page.shown(),
                "ann gets the words of L2, and the row goes", words)
@@ -553,7 +564,8 @@ def try_token(site, page):
     page.until(page.is_read)
     page.at("forget").click()
     kept = page.run("return [sessionStorage.getItem('line'), document.body.textContent.includes('art/')]")
-    site.check(kept == [None, False] and page.at("line").is_displayed(), "`Forget the token` removes it, and the list", str(kept))
+    site.check(kept == [None, False] and page.at("line").is_displayed(), "`Forget the token` removes it, and the list",
+               str(kept))
 
 
 def try_many(site, page, count):
@@ -575,18 +587,25 @@ def try_many(site, page, count):
                f"{count} locks are shown in {site.asked() - asked} requests, in {taken:.2f} s")
     page.name_branches("main release/1.0")
     check_order(site, page, "path", False)
-    times = [page.browser.execute_async_script(LETTER, text) for text in ("h", "he", "her", "", "s", "sh", "sho", "shot1", "", "b")]
-    site.check(statistics.median(times) < 100, f"a typed letter takes {statistics.median(times):.0f} ms, at most {max(times):.0f}")
+    typed = ("h", "he", "her", "", "s", "sh", "sho", "shot1", "", "b")
+    times = [page.browser.execute_async_script(LETTER, text) for text in typed]
+    middle = statistics.median(times)
+    site.check(middle < 100, f"a typed letter takes {middle:.0f} ms, at most {max(times):.0f}")
     page.search("shot12")
     page.picture("found")
     page.search("")
+
+
+def try_far_rows(site, page):
+    """Rows outside of the window, which the browser does not draw."""
     names = page.run("return [...document.querySelectorAll('#rows button')].map(it => it.ariaLabel)")
     page.run("document.querySelectorAll('#rows button')[700].focus()")
     page.press(Keys.TAB)
     covered = page.run("""const box = document.activeElement.getBoundingClientRect();
         return document.elementFromPoint(box.x + box.width / 2, box.y + box.height / 2) !== document.activeElement""")
-    site.check(page.focus() == names[701] and not covered, "Tab leads to what is outside of the window, and shows it", page.focus())
-    roles = [page.browser.find_element(By.CSS_SELECTOR, name).aria_role for name in ("table", "th", "#rows tr:nth-child(702)", "#rows tr:nth-child(702) td")]
+    site.check(page.focus() == names[701] and not covered, "Tab leads to a row outside of the window", page.focus())
+    parts = ("table", "th", "#rows tr:nth-child(702)", "#rows tr:nth-child(702) td")
+    roles = [page.browser.find_element(By.CSS_SELECTOR, name).aria_role for name in parts]
     site.check(roles == ["table", "columnheader", "row", "cell"], "for a screen reader it is a table", str(roles))
 
 
@@ -626,7 +645,8 @@ def try_end(site, page):
     page.until(lambda: page.status().startswith("Branch main"))
     site.check("All branches: the LFS server is not reachable now" in page.status(), "for the list too", page.status())
     kept = page.run("return [localStorage.length, document.cookie, Object.keys(sessionStorage).sort().join()]")
-    site.check(kept == [0, "", "branches,line"] and page.browser.get_cookies() == [], "no cookie is kept, and nothing beyond the tab", str(kept))
+    site.check(kept == [0, "", "branches,line"] and page.browser.get_cookies() == [],
+               "no cookie is kept, and nothing beyond the tab", str(kept))
     log = Path(site.room, "custody.access.log").read_text()
     site.check(not re.search("[0-9a-f]{64}", log), "nginx has logged no token")
     errors = [it["message"] for it in page.browser.get_log("browser") if it["source"] != "network"]
@@ -655,6 +675,7 @@ def main():
                 for part in (try_list, try_filter, try_order, try_keyboard, try_force, try_race, try_rights, try_token):
                     part(site, page)
                 try_many(site, page, 1500)
+                try_far_rows(site, page)
                 try_narrow(site, page)
                 try_end(site, page)
             finally:
