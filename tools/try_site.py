@@ -171,7 +171,7 @@ class Site:
         for old, new in [("127.0.0.1:8080", f"127.0.0.1:{self.http}"), ("listen 443", f"listen 127.0.0.1:{self.https}"),
                          ("lfs.example;", "localhost;"), ("/etc/ssl/certs/lfs.example.pem", certificate),
                          ("/etc/ssl/private/lfs.example.key", key), ("/var/log/nginx", self.room),
-                         ("/var/spool/custody", f"{self.room}/spool")]:
+                         ("/var/spool/custody", f"{self.room}/spool"), ("/usr/share/custody", str(TOP / "examples"))]:
             if old not in site:
                 sys.exit(f"examples/nginx-site has no {old}")
             site = site.replace(old, new)
