@@ -52,7 +52,7 @@ cat > "$root/etc/custody/authorized_keys" << 'END'
 # restrict,command="/usr/lib/custody/forced-command ann" ssh-ed25519 AAAA... ann@studio
 END
 install -m 644 "$top/docs/OPERATING.md" "$top/docs/COMMANDS.md" "$top/docs/POLICY.md" "$top/docs/PROTOCOL.md" \
-    "$top/CHANGELOG.md" "$documents"
+    "$top/docs/locks.png" "$top/CHANGELOG.md" "$documents"
 
 # The licence, in Debian's form: the text is a field, so its empty lines have a dot.
 {
