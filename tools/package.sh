@@ -106,6 +106,11 @@ changes | gzip -9 -n > "$documents/changelog.gz"
   default. If you never changed it, it has no repository any more; the example
   that it had is in /usr/share/doc/custody/examples/policy.toml.
 
+  The forced command asks the policy before it serves Git: without a row that
+  allows a user pull, or push, in a repository, Git is refused there too. Look
+  at the rows before the upgrade. OPERATING.md, Pushes of Git, has a hook by
+  which locks and rows hold at a push. The site for nginx has a new page.
+
 END
     printf ' -- %s  %s\n' "$maintainer" "$(git -C "$top" log -1 --format=%aD)"
 } | gzip -9 -n > "$documents/NEWS.Debian.gz"

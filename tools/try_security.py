@@ -714,6 +714,37 @@ def try_client():
     start()
 
 
+def push_of_bob(text):
+    """What a push past the client's own checks ends with: bob changes a path."""
+    file = Path("/try/bob/film/art/1.psd")
+    file.chmod(0o644)
+    file.write_text(text)
+    git("bob", "commit", "-q", "-a", "-m", text)
+    return git("bob", "push", "--no-verify", "origin", "main")
+
+
+def try_hook():
+    """Locks hold at a push of Git, whatever the client does."""
+    must("ln", "-s", "/usr/lib/custody/pre-receive", "/srv/git/studio/film.git/hooks/pre-receive")
+    status, text = push_of_bob("a hero of bob")
+    check(status != 0 and "art/1.psd: ann has locked it" in text, "with the hook a push of a locked path is refused", text)
+    git("ann", "lfs", "unlock", "art/1.psd")
+    status, text = push_of_bob("another hero of bob")
+    check(status == 0, "and passes when the lock is released", text)
+
+
+def try_locks_page():
+    """The page with the locks needs no token, and nothing beside it does without one."""
+    def fetch(path):
+        return run("curl", "-s", "-i", "--cacert", CERTIFICATE, f"https://lfs.example{path}")[1]
+
+    text = fetch("/locks")
+    check(" 200" in text.splitlines()[0] and "content-security-policy: default-src 'none'" in text and "<title>Locks" in text,
+          "nginx serves the page with the locks, with a security policy", text)
+    for path in ("/locks/", "/LOCKS", "/locks%0a", "/locks.html", f"{API}/locks"):
+        check(" 401" in fetch(path).splitlines()[0], f"and {path} needs a token")
+
+
 # What costs others something.
 
 
@@ -872,12 +903,16 @@ def try_group():
                environment={"GIT_SSH_COMMAND": " ".join(ssh_words("ann"))})
     check(status == 0 and "Bearer" in text and refs[0] == 0 and "refs/heads/main" in refs[1],
           "users get tokens, and reach their repositories, as git", f"{text}\n{refs[1]}")
+    git("bob", "remote", "set-url", "origin", "ssh://git@lfs.example/studio/film.git")
+    git("ann", "-c", "lfs.url=ssh://git@lfs.example/studio/film.git", "lfs", "lock", "art/1.psd")
+    status, text = push_of_bob("a third hero of bob")
+    check(status != 0 and "art/1.psd: ann has locked it" in text, "and the hook asks the server as git", text)
     check(over_ssh("ann", "git-lfs-authenticate studio/film.git upload")[0] == 255, "and not as custody any more")
 
 
 PARTS = [try_package, try_unit, try_earlier, try_confinement, try_neighbours, set_up_ssh, set_up_nginx, try_modes, try_ssh,
          try_no_token, try_streams, try_limits, try_prefix, try_fields, try_log, try_given_up, try_unreachable, try_several,
-         try_full_spool, try_client, try_wrong_names, measure_growth, try_full_disk, try_group]
+         try_full_spool, try_client, try_hook, try_locks_page, try_wrong_names, measure_growth, try_full_disk, try_group]
 
 
 def main():
