@@ -4,7 +4,6 @@ The site has its own paths, and stand-ins for what a temporary folder lacks: sys
 site, runuser runs the command, apt installs nothing, and editor puts the text into the file that the check has prepared.
 """
 import getpass
-import json
 import random
 import re
 import shlex
@@ -99,22 +98,13 @@ def try_new_user(site, book):
     site.check(status == 0, "zoe clones", text)
 
 
-def lock(site, user, path, ref="refs/heads/main"):
-    """Locks a path as a client of the user does."""
-    line = json.loads(site.via("authenticate", "--user", user, "studio/film", "upload")[1])
-    body = json.dumps({"path": path, "ref": {"name": ref}})
-    words = ["curl", "-s", "-o", "/dev/null", "-w", "%{http_code}", "-H", f"Authorization: {line['header']['Authorization']}", "-d", body]
-    status = site.run(*words, f"http://127.0.0.1:{site.http}/studio/film.git/info/lfs/locks")[1]
-    site.check(status == "201", f"{user} locks {path} on {ref}", status)
-
-
 def try_locks(site, book):
-    lock(site, "bob", "art/hero.psd")
+    site.lock("bob", "art/hero.psd")
     printed = book.run("A lock whose owner is on holiday")
     site.check("released: art/hero.psd" in printed and "art/hero.psd" not in book.locks(), "bob's lock is released", printed)
-    lock(site, "bob", "art/1.psd")
-    lock(site, "bob", "art/two words.psd", "refs/heads/idea")
-    lock(site, "ann", "art/2.psd")
+    site.lock("bob", "art/1.psd")
+    site.lock("bob", "art/two words.psd", "refs/heads/idea")
+    site.lock("ann", "art/2.psd")
     book.edit(book.force(), row("allow", ["ann", "zoe"], ALL))
     printed = book.run("A user who leaves")
     site.check("\nbob upload " in printed, "his tokens are listed, until they expire", printed)

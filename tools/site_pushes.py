@@ -150,8 +150,7 @@ def try_history(site, pushes):
     pushes.commit()
     pushes.passes("a new branch with a change of a path that is locked on main alone", "main:refs/heads/mine")
     pushes.refused("and the same commit for main", ["art/1.psd: ann has locked it"])
-    body = '{"path":"art/3.psd","ref":{"name":"refs/heads/mine"}}'
-    site.check(lock_by_hand(site, body) == 201, "ann locks a path on that branch")
+    site.lock("ann", "art/3.psd", "refs/heads/mine")
     pushes.refused("the removal of a branch with a lock of ann's", ["art/3.psd: ann has locked it"], ":mine")
     pushes.passes("the removal of a branch without one", ":copy")
     merge = pushes.git("commit-tree", "-p", "origin/main", "-p", "HEAD", "-m", "A merge", "HEAD^{tree}")[1].strip()
@@ -160,14 +159,6 @@ def try_history(site, pushes):
     pushes.passes("a replacement of a commit, which looks like main", f"origin/main:refs/replace/{commit}")
     pushes.refused("the commit itself is looked at", ["art/1.psd: ann has locked it"])
     pushes.passes("the replacement is removed", f":refs/replace/{commit}")
-
-
-def lock_by_hand(site, body):
-    """The status of a lock that ann makes without her client."""
-    line = site.via("authenticate", "--user", "ann", "studio/film", "upload")[1]
-    token = line.split('"Bearer ')[1].split('"')[0]
-    words = ["curl", "-s", "-o", "/dev/null", "-w", "%{http_code}", "-H", f"Authorization: Bearer {token}", "-d", body]
-    return int(site.run(*words, f"http://127.0.0.1:{site.http}/studio/film.git/info/lfs/locks")[1])
 
 
 def try_rows(site, pushes):
@@ -220,14 +211,15 @@ def try_many(site, pushes):
         pushes.passes(f"{count} paths are pushed")
         print(f"     in {time.monotonic() - began:.2f} s, {without_hook(site, pushes, count):.2f} s without the hook", flush=True)
     last = sorted(f"many-10001/{it}.txt" for it in range(10_001))[-1]
-    site.check(lock_by_hand(site, f'{{"path":"{last}"}}') == 201, f"ann locks the last of 10001 paths, {last}")
+    site.lock("ann", last)
     pushes.start()
     for number in range(10_001):
         pushes.write(f"many-10001/{number}.txt", "again")
     pushes.commit()
     pushes.refused("10001 paths, the last of which is locked", [f"{last}: ann has locked it"])
+    authorization = site.authorization("ann")
     for number in range(30):
-        lock_by_hand(site, f'{{"path":"many-1000/{number}.txt"}}')
+        site.post(authorization, "locks", {"path": f"many-1000/{number}.txt"})
     pushes.start()
     pushes.git("rm", "-q", "-r", "many-1000")
     pushes.commit()
@@ -300,6 +292,5 @@ def try_pushes(site):
         part(site, pushes)
     site.write_policy(3600)
     site.reload()
-    for line in site.via("locks", "--repo", "studio/film")[1].splitlines():
-        site.git("ann", "lfs", "unlock", "--force", f"--id={line.split()[0]}", may_fail=True)
+    site.release_all()
     site.git("ann", "pull", "-q", "--rebase")

@@ -275,6 +275,30 @@ class Site:
         name, *rest = words
         return self.run(self.program, name, "--via", f"{self.room}/control", *rest, may_fail=True)
 
+    def authorization(self, user):
+        """The field of a new token of the user."""
+        line = self.via("authenticate", "--user", user, "studio/film", "upload")[1]
+        return json.loads(line)["header"]["Authorization"]
+
+    def post(self, authorization, rest, body):
+        """The status of a request that goes to the server itself, without nginx."""
+        connection = http.client.HTTPConnection("127.0.0.1", self.http)
+        connection.request("POST", f"/studio/film.git/info/lfs/{rest}", json.dumps(body), {"Authorization": authorization})
+        status = connection.getresponse().status
+        connection.close()
+        return status
+
+    def lock(self, user, path, ref="refs/heads/main"):
+        """Locks a path for the user, as a client does."""
+        status = self.post(self.authorization(user), "locks", {"path": path, "ref": {"name": ref}})
+        self.check(status == 201, f"{user} locks {path} on {ref}", str(status))
+
+    def release_all(self):
+        """Releases each lock, by ann's right to force."""
+        authorization = self.authorization("ann")
+        for line in self.via("locks", "--repo", "studio/film")[1].splitlines():
+            self.post(authorization, f"locks/{line.split()[0]}/unlock", {"force": True})
+
     def reload(self):
         """Has the server read its policy again."""
         status, text = self.via("reload")
@@ -429,18 +453,14 @@ def try_backup(site):
     site.check(len(copies) == 1 and least <= count <= most, f"the copy has {count} objects: {least} or more", found[1][:200])
 
 
-def time_of_lock(site, token, path):
+def time_of_lock(site, authorization, path):
     """How long the server takes to lock a path, for whoever has the token, without nginx."""
-    body = json.dumps({"path": path})
     began = time.monotonic()
-    connection = http.client.HTTPConnection("127.0.0.1", site.http)
-    connection.request("POST", "/studio/film.git/info/lfs/locks", body, {"Authorization": token})
-    status = connection.getresponse().status
-    connection.close()
+    status = site.post(authorization, "locks", {"path": path})
     return time.monotonic() - began if status == 201 else float("inf")
 
 
-def locks_beside_a_push(site, token, name, meanwhile):
+def locks_beside_a_push(site, authorization, name, meanwhile):
     """How long locks take while ann pushes 300 files, and something else is done, until both have ended."""
     site.add_files("ann", name, 300, 100_000)
     pushed = in_background(site, "push", "-q", "origin", "main")
@@ -448,7 +468,7 @@ def locks_beside_a_push(site, token, name, meanwhile):
     other.start()
     waits, before = [], site.objects()
     while other.is_alive() or site.objects() < before + 250:
-        waits.append(time_of_lock(site, token, f"{name}/{len(waits)}"))
+        waits.append(time_of_lock(site, authorization, f"{name}/{len(waits)}"))
     status, text = pushed()
     site.check(status == 0, f"a push passes, with {len(waits)} locks meanwhile", text)
     return max(waits)
@@ -456,10 +476,10 @@ def locks_beside_a_push(site, token, name, meanwhile):
 
 def try_check(site):
     """Every object is hashed again during a push; no lock waits much longer than beside the push alone."""
-    token = json.loads(site.via("authenticate", "--user", "bob", "studio/film", "upload")[1])["header"]["Authorization"]
-    alone = locks_beside_a_push(site, token, "unchecked", lambda: None)
+    authorization = site.authorization("bob")
+    alone = locks_beside_a_push(site, authorization, "unchecked", lambda: None)
     ran = []
-    beside = locks_beside_a_push(site, token, "checked", lambda: ran.append(site.via("check")))
+    beside = locks_beside_a_push(site, authorization, "checked", lambda: ran.append(site.via("check")))
     site.check(ran[0][0] == 0, f"every object is hashed again during a push: {ran[0][1].strip()}", ran[0][1])
     site.check(beside <= alone + 0.5, f"a lock took at most {beside:.2f} s, and {alone:.2f} s without the check", "")
 
