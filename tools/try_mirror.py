@@ -164,9 +164,9 @@ class Trial:
 
 
 def mixed(count):
-    """Sizes of 0 bytes to 5 MB."""
+    """Sizes of 0 bytes to 5 MB. No two objects of a few bytes, which may be the same."""
     edges = [0, 1, 65_535, 65_536, 65_537, 5_000_000]
-    return edges + [int(5_000_000 ** random.random()) for _ in range(count - len(edges))]
+    return edges + [int(100 * 50_000 ** random.random()) for _ in range(count - len(edges))]
 
 
 def stored(folder):
