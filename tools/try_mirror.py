@@ -6,12 +6,14 @@
 Each part starts servers on new databases and free ports of this machine, and prints a line for each check. The last line
 is `N passed, M failed`; the status is 1 if a check failed. The bytes of files are compared with their names by the command
 sha256sum. It needs Linux, python3, sha256sum, curl, git and git-lfs, 4 GB in the folder for temporary files, and takes
-about five minutes. Without PROGRAM it is bin/custody.
+about ten minutes. Without PROGRAM it is bin/custody.
 """
 import argparse
 import contextlib
 import hashlib
+import http.server
 import itertools
+import json
 import os
 import random
 import re
@@ -56,7 +58,8 @@ class Place(Site):
         self.start_server()
 
     def write_policy(self, seconds, quota=LARGE_QUOTA):
-        repos = "".join(f'\n[[repo]]\nname = "{name}"\ndefault_ref = "{MAIN}"\nquota = {quota}\n' for name in (FILM, GAME))
+        repos = "".join(f'\n[[repo]]\nname = "{name}"\ndefault_ref = "{MAIN}"\nquota = {quota}\n'
+                        for name in (FILM, GAME))
         self.write("policy.toml", f'base = "{self.base}"\ntoken_seconds = {seconds}\n{repos}{ROWS}')
 
     def set_policy(self, seconds=3600, quota=LARGE_QUOTA):
@@ -156,14 +159,14 @@ class Trial:
 
     def unlock(self, place, *words, **more):
         environment = {**self.environment, "CUSTODY_URL": place.base, "CUSTODY_VIA": place.socket, **more}
-        ran = subprocess.run([TOP / "examples/unlock", *words], capture_output=True, text=True, env=environment, check=False)
+        ran = subprocess.run([TOP / "examples/unlock", *words], capture_output=True, text=True, env=environment)
         return ran.returncode, ran.stdout, ran.stderr
 
 
 def mixed(count):
-    """Sizes of 0 bytes to 5 MB."""
+    """Sizes of 0 bytes to 5 MB. No two objects of a few bytes, which may be the same."""
     edges = [0, 1, 65_535, 65_536, 65_537, 5_000_000]
-    return edges + [int(5_000_000 ** random.random()) for _ in range(count - len(edges))]
+    return edges + [int(100 * 50_000 ** random.random()) for _ in range(count - len(edges))]
 
 
 def stored(folder):
@@ -215,29 +218,40 @@ def try_folder(trial):
     worker.join()
     found, pushed, copied = stored(folder), len(place.listed()) - 300, int(DONE.fullmatch(ran[1])[1])
     trial.check(ran[0] == 0 and ran[2] == "" and before.items() <= found.items() <= place.listed().items()
-                and len(found) == copied, f"{copied} objects, while {pushed} were pushed and locked: {ran[1].strip()}", f"{ran}")
+                and len(found) == copied,
+                f"{copied} objects, while {pushed} were pushed and locked: {ran[1].strip()}", f"{ran}")
     written = Path(folder, "locks.txt").read_text(encoding="utf-8").splitlines()
-    trial.check(first == written[:1] and set(written) <= set(place.locks()), f"{len(written)} of {len(place.locks())} locks")
+    trial.check(first == written[:1] and set(written) <= set(place.locks()),
+                f"{len(written)} of {len(place.locks())} locks")
     trial.mirror(place.socket, folder)
     count = len(place.listed())
     trial.expect("a run without new objects copies nothing", trial.mirror(place.socket, folder), 0, count, 0)
     place.put(range(1, 11), token)
     trial.expect("ten new objects are copied", trial.mirror(place.socket, folder), 10, count, sum(range(1, 11)))
-    trial.check(stored(folder) == place.listed() and others(folder) == {"lock", "locks.txt"}, "the folder has each, and no other file")
+    trial.check(stored(folder) == place.listed() and others(folder) == {"lock", "locks.txt"},
+                "the folder has each, and no other file")
 
 
 def try_words(trial):
     """Words that are wrong, and places that do not exist."""
     place, folder = trial.place(), trial.folder()
-    for status, words in [(2, ("film", place.socket)), (2, (place.socket, "film")), (2, ("ssh://custody@localhost", folder)),
-                          (2, (folder, "ssh://-oProxyCommand=x/")), (1, (place.socket, f"{folder}/none")), (1, (folder, place.socket))]:
+    for status, words in [
+        (2, ("film", place.socket)),
+        (2, (place.socket, "film")),
+        (2, ("ssh://custody@localhost", folder)),
+        (2, (folder, "ssh://-oProxyCommand=x/")),
+        (1, (place.socket, f"{folder}/none")),
+        (1, (folder, place.socket)),
+    ]:
         ran = trial.mirror(*words)
-        trial.check(ran[0] == status and ran[2] and "Traceback" not in ran[2], f"status {status}: {ran[2].splitlines()[-1]}", f"{ran}")
+        trial.check(ran[0] == status and ran[2] and "Traceback" not in ran[2],
+                    f"status {status}: {ran[2].splitlines()[-1]}", f"{ran}")
     ran = trial.mirror(place.socket, folder, repo="film")
     trial.check(ran[0] == 2, f"status 2: {ran[2].splitlines()[-1]}", f"{ran}")
     place.put([5], place.token())
     ran = trial.mirror("--user", "eve", place.socket, folder)
-    trial.check(ran[0] == 1 and "P0: no policy row allows pull" in ran[2], f"a user without rights: {ran[2].strip()}", f"{ran}")
+    trial.check(ran[0] == 1 and "P0: no policy row allows pull" in ran[2], f"a user without rights: {ran[2].strip()}",
+                f"{ran}")
     trial.check(stored(folder) == {} and others(folder) == {"lock", "locks.txt"}, "and no object is copied")
 
 
@@ -261,7 +275,8 @@ def try_git_lfs(trial):
     place.git("bob", "config", "lfs.storage", folder)
     status, text = place.git("bob", "lfs", "checkout", may_fail=True)
     same = place.run("diff", "-r", f"{room}/ann/art", f"{room}/bob/art", may_fail=True)
-    trial.check(status == 0 and same == (0, ""), "with lfs.storage, git lfs checkout takes the files from it", text + same[1])
+    trial.check(status == 0 and same == (0, ""), "with lfs.storage, git lfs checkout takes the files from it",
+                text + same[1])
     status, text = place.git("bob", "lfs", "fsck", may_fail=True)
     trial.check(status == 0, f"git lfs fsck: {text.strip()}", text)
 
@@ -296,7 +311,8 @@ def try_killed(trial):
     trial.check(0 < counts[-1] < 600, f"killed ten times on the way to a folder, with {counts} whole objects in it")
     trial.check(any(it for _, it in found), f"{sum(it for _, it in found)} of them left a file without a name")
     trial.expect("the next run copies the rest", trial.mirror(place.socket, folder), 600 - counts[-1], counts[-1])
-    trial.check(stored(folder) == listed and others(folder) == {"lock", "locks.txt"}, "each is whole, and nothing else is there")
+    trial.check(stored(folder) == listed and others(folder) == {"lock", "locks.txt"},
+                "each is whole, and nothing else is there")
     back = trial.place()
 
     def look_back():
@@ -306,13 +322,15 @@ def try_killed(trial):
     counts = kill_often(trial, (folder, back.socket), 2 * seconds, look_back)
     trial.check(0 < counts[-1] < 600, f"killed ten times on the way back, with {counts} whole objects there")
     trial.expect("the next run copies the rest", trial.mirror(folder, back.socket), 600 - counts[-1], counts[-1])
-    trial.check(back.listed() == listed and back.is_whole(), "the new server lists the same, and `custody check` finds all whole")
+    trial.check(back.listed() == listed and back.is_whole(),
+                "the new server lists the same, and `custody check` finds all whole")
 
 
 def try_servers(trial):
     """From one server to another."""
     place, other = trial.place(mixed(100)), trial.place()
-    trial.expect("a server is copied to another", trial.mirror(place.socket, other.socket), 100, 0, sum(place.listed().values()))
+    trial.expect("a server is copied to another", trial.mirror(place.socket, other.socket), 100, 0,
+                 sum(place.listed().values()))
     trial.check(other.listed() == place.listed() and other.is_whole(), "which lists the same, all whole")
     trial.expect("a second run copies nothing", trial.mirror(place.socket, other.socket), 0, 100, 0)
     folder, full = trial.folder(), trial.folder()
@@ -328,14 +346,27 @@ def try_one_run(trial):
     wait_until(lambda: count_files(folder) > 0, "an object")
     status, output, errors = trial.mirror(place.socket, folder)
     trial.check((status, output) == (1, "") and "another run" in errors, f"a second run: {errors.strip()}", errors)
-    trial.check(ran.communicate()[1] == "" and ran.returncode == 0 and stored(folder) == place.listed(), "the first one passes")
+    trial.check(ran.communicate()[1] == "" and ran.returncode == 0 and stored(folder) == place.listed(),
+                "the first one passes")
 
 
 def try_tokens(trial):
-    """Tokens that live for 2 seconds."""
+    """Tokens that are removed, and tokens that live for 2 seconds."""
     place, folder = trial.place([10_000] * 1000), trial.folder()
+    place.via("prune", "--now", "253402300799")
+    trial.expect("1000 objects are copied", trial.mirror(place.socket, trial.folder()), 1000, 0)
+    trial.check(len(place.digests()) == 1, "with one token")
+    other = trial.folder()
+    ran = trial.start(place.socket, other)
+    wait_until(lambda: count_files(other) > 20, "20 objects")
+    status, text = place.via("prune", "--now", "253402300799")
+    require(status == 0 and count_files(other) < 900, "the tokens were not removed in time")
+    output, errors = ran.communicate()
+    trial.expect(f"and all of them, if meanwhile: {text.strip()}", (ran.returncode, output, errors), 1000, 0)
+    trial.check(len(place.digests()) == 1, "with one more token")
     place.set_policy(seconds=2)
-    for source, target, servers in ((place, folder, [place]), (folder, trial.place(), []), (place, trial.place(), [place])):
+    ways = [(place, folder, [place]), (folder, trial.place(), []), (place, trial.place(), [place])]
+    for source, target, servers in ways:
         if isinstance(target, Place):
             target.set_policy(seconds=2)
             servers = [*servers, target]
@@ -344,7 +375,8 @@ def try_tokens(trial):
         taken, issued = time.monotonic() - begun, [len(it.digests()) - count for it, count in zip(servers, before)]
         # At most one for each of 10 groups, and one each time that one has expired.
         holds = ran[0] == 0 and taken > 2 and all(1 < it <= 10 + taken for it in issued)
-        trial.check(holds, f"1000 objects in {taken:.1f} s, with {issued} tokens of 2 seconds: {ran[1].strip()}", f"{ran}")
+        trial.check(holds, f"1000 objects in {taken:.1f} s, with {issued} tokens of 2 seconds: {ran[1].strip()}",
+                    f"{ran}")
         found = stored(target) if target is folder else target.listed()
         trial.check(found == place.listed() and len(found) == 1000, "each is there")
 
@@ -365,7 +397,8 @@ def try_restarts(trial):
         output, errors = ran.communicate()
         found = target.listed() if is_back else stored(target)
         trial.check(is_within and ran.returncode == 0 and errors == "" and found == place.listed(),
-                    f"{'TO' if is_back else 'FROM'} is ended by {kind.name}, and started 2 s later: {output.strip()}", errors)
+                    f"{'TO' if is_back else 'FROM'} is ended by {kind.name}, and started 2 s later: {output.strip()}",
+                    errors)
 
 
 def try_no_server(trial):
@@ -375,11 +408,13 @@ def try_no_server(trial):
     wait_until(lambda: count_files(folder) > 20, "20 objects")
     place.end_server()
     output, errors = ran.communicate()
-    trial.check(ran.returncode == 1 and DONE.fullmatch(output) and errors.startswith("mirror: ") and errors.count("\n") == 1,
+    is_sentence = errors.startswith("mirror: ") and errors.count("\n") == 1
+    trial.check(ran.returncode == 1 and DONE.fullmatch(output) and is_sentence,
                 f"the run ends after {time.monotonic() - begun:.0f} s: {errors.strip()}", f"{output}{errors}")
     count = len(stored(folder))
     place.start_server()
-    trial.expect(f"the next run copies what was missing, {300 - count} objects", trial.mirror(place.socket, folder), 300 - count, count)
+    trial.expect(f"the next run copies what was missing, {300 - count} objects", trial.mirror(place.socket, folder),
+                 300 - count, count)
     trial.check(stored(folder) == place.listed(), "each is there")
 
 
@@ -399,16 +434,21 @@ def try_damaged(trial):
     flipped.write_bytes(data[:100_000] + bytes([data[100_000] ^ 1]) + data[100_001:])
     os.truncate(cut, 100_000)
     ran = trial.mirror(folder, other.socket)
-    trial.check(ran[0] == 1 and set(ran[2].splitlines()) == {f"mirror: damaged {oid}" for oid in oids}, f"two damaged files: {ran[1].strip()}", f"{ran}")
-    trial.check(other.listed().items() == listed.items() - {(oid, 200_000) for oid in oids} and other.is_whole(), "all others are stored, and whole")
+    lines = {f"mirror: damaged {oid}" for oid in oids}
+    trial.check(ran[0] == 1 and set(ran[2].splitlines()) == lines, f"two damaged files: {ran[1].strip()}", f"{ran}")
+    rest = listed.items() - {(oid, 200_000) for oid in oids}
+    trial.check(other.listed().items() == rest and other.is_whole(), "all others are stored, and whole")
     chunk = "WHERE n = 1 AND upload = (SELECT id FROM uploads WHERE oid = ?)"
     with place.database() as database:
         for text, oid in zip(("UPDATE chunks SET bytes = zeroblob(length(bytes))", "DELETE FROM chunks"), oids):
             require(database.execute(f"{text} {chunk}", (oid,)).rowcount == 1, "no chunk was changed")
-    ran, target = trial.mirror(place.socket, new := trial.folder()), stored(new)
-    lines = [f"mirror: damaged {oids[0]}", f"mirror: {oids[1]}: 127.0.0.1:{place.http}: the connection ended within a reply"]
-    trial.check(ran[0] == 1 and sorted(ran[2].splitlines()) == sorted(lines), f"a server with zeros in an object and without a part of another: {ran[1].strip()}", f"{ran}")
-    trial.check(target.items() == listed.items() - {(oid, 200_000) for oid in oids}, "all others are in the folder, and whole")
+    new = trial.folder()
+    ran = trial.mirror(place.socket, new)
+    lines = [f"mirror: damaged {oids[0]}",
+             f"mirror: {oids[1]}: 127.0.0.1:{place.http}: the connection ended within a reply"]
+    trial.check(ran[0] == 1 and sorted(ran[2].splitlines()) == sorted(lines),
+                f"of a server, one of zeros and one without its end: {ran[1].strip()}", f"{ran}")
+    trial.check(stored(new).items() == rest, "all others are in the folder, and whole")
 
 
 def try_quota(trial):
@@ -419,8 +459,10 @@ def try_quota(trial):
     other.set_policy(quota=2_050_000)
     ran = trial.mirror(folder, other.socket)
     count, rules = len(other.listed()), set(re.findall(r"[A-Z]\d+: .*", ran[2]))
-    trial.check(ran[0] == 1 and named(ran) == set(place.listed()) - set(other.listed()) and count == 20, f"{ran[1].strip()}; {rules}", f"{ran}")
-    trial.check(rules == {"B5: the quota does not hold the object", "X3: the quota does not hold the object"}, "with the rules' own words")
+    trial.check(ran[0] == 1 and named(ran) == set(place.listed()) - set(other.listed()) and count == 20,
+                f"{ran[1].strip()}; {rules}", f"{ran}")
+    trial.check(rules == {"B5: the quota does not hold the object", "X3: the quota does not hold the object"},
+                "with the rules' own words")
     other.set_policy()
     trial.expect("the next run, with room, copies the others", trial.mirror(folder, other.socket), 130, 20)
     trial.check(other.listed() == place.listed() and other.is_whole(), "each is there, and whole")
@@ -435,15 +477,18 @@ def try_retired(trial):
     status, _ = place.via("retire", "--repo", FILM, last)
     require(status == 0 and count_files(folder) < 200, "the object was not removed in time")
     output, errors = ran.communicate()
-    trial.check(ran.returncode == 1 and errors == f"mirror: {last}: B6: the object was removed by its owner\n", errors.strip(), output)
-    trial.check(stored(folder).items() == listed.items() - {(last, listed[last])}, f"the others are copied: {output.strip()}")
+    trial.check(ran.returncode == 1 and errors == f"mirror: {last}: B6: the object was removed by its owner\n",
+                errors.strip(), output)
+    trial.check(stored(folder).items() == listed.items() - {(last, listed[last])},
+                f"the others are copied: {output.strip()}")
     trial.expect("the next run does not ask for it", trial.mirror(place.socket, folder), 0, 299, 0)
     back = trial.place()
     kept = next(iter(stored(folder)))
     trial.mirror(folder, back.socket)
     require(back.via("retire", "--repo", FILM, kept)[0] == 0, "it was not removed")
     ran = trial.mirror(folder, back.socket)
-    trial.check(ran[0] == 1 and named(ran) == {kept} and "B6" in ran[2], "an object that was removed in TO is not brought back", f"{ran}")
+    trial.check(ran[0] == 1 and named(ran) == {kept} and "B6" in ran[2],
+                "an object that was removed in TO is not brought back", f"{ran}")
 
 
 class Watch(threading.Thread):
@@ -486,8 +531,10 @@ def try_secrets(trial):
     digests = {*place.digests(), *other.digests()}
     seen = b" ".join(watch.seen)
     require(tokens_in([token.encode()], digests) == [token.encode()], "a token is not found by its digest")
-    require(all(it in seen for it in (b"examples/mirror", b"authenticate", b"curl")) and released == [0] * 20, "not all was seen")
-    trial.check(not tokens_in(watch.seen, digests) and b"Bearer" not in seen, f"no token in {len(watch.seen)} command lines")
+    require(all(it in seen for it in (b"examples/mirror", b"authenticate", b"curl")), "not all was seen")
+    require(released == [0] * 20, "a lock was not released")
+    trial.check(not tokens_in(watch.seen, digests) and b"Bearer" not in seen,
+                f"no token in {len(watch.seen)} command lines")
     texts = [it.read_bytes() for it in Path(folder).rglob("*") if it.is_file()]
     trial.check(len(texts) == 302 and not tokens_in(texts, digests), f"no token in {len(texts)} files")
 
@@ -496,14 +543,17 @@ def try_ssh(trial):
     """A server that is reached by SSH."""
     place, folder, remote = trial.place(mixed(50)), trial.folder(), trial.place()
     command = (TOP / "examples/forced-command").read_text()
-    for old, new in (("/run/custody/control", remote.socket), ("/etc/custody/policy.toml", f"{remote.room}/policy.toml"),
-                     ("custody authenticate", f"{trial.program} authenticate"), ("custody policy", f"{trial.program} policy")):
+    for old, new in (("/run/custody/control", remote.socket),
+                     ("/etc/custody/policy.toml", f"{remote.room}/policy.toml"),
+                     ("custody authenticate", f"{trial.program} authenticate"),
+                     ("custody policy", f"{trial.program} policy")):
         require(old in command, f"examples/forced-command has no {old}")
         command = command.replace(old, new)
     remote.write("forced-command", command)
     remote.write("bin/ssh", SSH.replace("@room", remote.room), 0o755)
     path = {"PATH": remote.environment["PATH"]}
-    trial.expect("a server is copied to one by SSH", trial.mirror(place.socket, "ssh://custody@lfs.example:2222", **path), 50, 0)
+    trial.expect("a server is copied to one by SSH",
+                 trial.mirror(place.socket, "ssh://custody@lfs.example:2222", **path), 50, 0)
     trial.check(remote.listed() == place.listed() and remote.is_whole(), "which lists the same, all whole")
     trial.mirror(place.socket, folder)
     trial.expect("a folder has nothing new for it", trial.mirror(folder, "ssh://custody@lfs.example", **path), 0, 50, 0)
@@ -514,6 +564,41 @@ def try_ssh(trial):
     trial.check(ran[0] == 2, f"as FROM: {ran[2].splitlines()[-1]}", f"{ran}")
     ran = trial.mirror(folder, "ssh://custody@lfs.example", repo="studio/none", **path)
     trial.check(ran[0] == 1 and "R1: no such repository" in ran[2], f"no such repository: {ran[2].strip()}", f"{ran}")
+
+
+class Busy(http.server.BaseHTTPRequestHandler):
+    """In the place of nginx: refuses two batches, and replies to the third one that all is stored."""
+
+    def do_POST(self):
+        batch = json.loads(self.rfile.read(int(self.headers["Content-Length"])))
+        status = self.server.replies.pop(0)
+        body = b"<html>" if status == 502 else json.dumps({"message": "too many", "objects": batch["objects"]}).encode()
+        self.send_response(status)
+        self.send_header("Content-Length", str(len(body)))
+        if status == 429:
+            self.send_header("Retry-After", "3")
+        self.end_headers()
+        self.wfile.write(body)
+
+    def log_message(self, *_):
+        pass
+
+
+def try_busy(trial):
+    """A proxy that asks to wait."""
+    place, folder = trial.place([1_000]), trial.folder()
+    trial.mirror(place.socket, folder)
+    with http.server.HTTPServer(("127.0.0.1", 0), Busy) as proxy:
+        threading.Thread(target=proxy.serve_forever).start()
+        proxy.replies = [429, 502, 200]
+        line = {"expires_in": 60, "header": {}, "href": f"http://127.0.0.1:{proxy.server_port}/x"}
+        place.write("bin/ssh", f"#!/bin/sh\necho '{json.dumps(line)}'\n", 0o755)
+        begun = time.monotonic()
+        ran = trial.mirror(folder, "ssh://custody@lfs.example", PATH=place.environment["PATH"])
+        taken = time.monotonic() - begun
+        proxy.shutdown()
+    trial.expect("429 and 502 are waited for", ran, 0, 1, 0)
+    trial.check(taken >= 3 and proxy.replies == [], f"for {taken:.1f} s, of which Retry-After asks 3")
 
 
 def try_unlock(trial):
@@ -531,18 +616,22 @@ def try_unlock(trial):
         (1, ("ann", FILM, twice), "unlock: the path is locked on several refs, name one of them:\n" + "".join(
             f"{line}\n" for line in place.locks() if line.endswith(f" {twice}"))),
         (1, ("ann", FILM, twice, "refs/heads/none"), f"unlock: there is no lock on {twice} on refs/heads/none\n"),
-        (0, ("ann", FILM, twice, "refs/heads/dev"), f"released: {twice} on refs/heads/dev, which bob had locked since {moments[twice]}\n"),
+        (0, ("ann", FILM, twice, "refs/heads/dev"),
+         f"released: {twice} on refs/heads/dev, which bob had locked since {moments[twice]}\n"),
         (0, ("ann", FILM, twice), f"released: {twice} on {MAIN}, which bob had locked since {moments[twice]}\n"),
         (2, ("ann", FILM), "usage: unlock USER REPO PATH [REF]\n"),
     ]:
         ran = trial.unlock(place, *words)
-        trial.check(ran == ((0, text, "") if status == 0 else (status, "", text)), text.strip().replace("\n", "; "), f"{ran}")
+        trial.check(ran == ((0, text, "") if status == 0 else (status, "", text)), text.strip().replace("\n", "; "),
+                    f"{ran}")
     trial.check([line.split()[-1] for line in place.locks()] == ["hero"], "one lock is left")
     nobody = f"http://127.0.0.1:{free_port()}"
     ran = trial.unlock(place, "ann", FILM, "art/a hero", CUSTODY_URL=nobody)
-    trial.check(ran[0] == 1 and f"no server answers at {nobody}" in ran[2], f"no server: {ran[2].splitlines()[-1]}", f"{ran}")
+    trial.check(ran[0] == 1 and f"no server answers at {nobody}" in ran[2], f"no server: {ran[2].splitlines()[-1]}",
+                f"{ran}")
     ran = trial.unlock(place, "ann", FILM, "art/a hero", CUSTODY_VIA=f"{place.room}/none")
-    trial.check(ran[0] == 1 and ran[2].startswith("custody: control socket\n"), f"no socket: {ran[2].splitlines()[-1]}", f"{ran}")
+    trial.check(ran[0] == 1 and ran[2].startswith("custody: control socket\n"),
+                f"no socket: {ran[2].splitlines()[-1]}", f"{ran}")
 
 
 def timed(trial, what, words, count):
@@ -567,7 +656,7 @@ PARTS = {name.removeprefix("try_"): part for name, part in list(globals().items(
 
 def main():
     parser = argparse.ArgumentParser(description=__doc__.splitlines()[0])
-    parser.add_argument("program", nargs="?", default=str(TOP / "bin/custody"), help="the program [default: bin/custody]")
+    parser.add_argument("program")
     parser.add_argument("--only", action="append", choices=PARTS, help="only this part")
     options = parser.parse_args()
     need_commands("sha256sum", "curl", "git", "git-lfs", "diff")
