@@ -145,9 +145,9 @@ def try_room(site, book):
                f"the slowest requests are listed, from {times[:1]} s on", printed)
 
 
-def try_damage(site, book):
+def damage(site, seed):
     """A bit of a stored object changes on the disk."""
-    name = random.Random(1).choice(sorted(Path(site.room, "ann/art").glob("*.psd")))
+    name = random.Random(seed).choice(sorted(Path(site.room, "ann/art").glob("*.psd")))
     text = name.read_bytes()[30_000:30_100]
     site.run("systemctl", "stop")
     database = Path(site.database_file)
@@ -156,6 +156,10 @@ def try_damage(site, book):
     stored[stored.find(text)] ^= 1
     database.write_bytes(stored)
     site.run("systemctl", "start")
+
+
+def try_damage(site, book):
+    damage(site, 1)
     printed = book.run("A damaged object", stops=False)
     site.check(printed.count("damaged studio/film ") == 1 and "removed 1 objects" in printed, "it is found and removed", printed)
     book.push_all("it is pushed again")
@@ -170,6 +174,14 @@ def try_copies(site, book):
     printed = book.run("Copies elsewhere")
     found = [it for it in Path(site.room, "backup/film/objects").rglob("*") if re.fullmatch(r"[0-9a-f]{64}", it.name)]
     site.check(f"copied {site.objects()} objects" in printed and len(found) == site.objects(), printed.strip().splitlines()[-1], printed)
+    book.edit(book.force(), row("allow", ["mirror"], '"pull", "push"'), row("allow", ["ann", "zoe"], ALL))
+    site.run("editor", f"{site.room}/policy.toml")
+    site.reload()
+    damage(site, 2)
+    status, text = site.via("repair")
+    site.check("removed 1 objects" in text and site.objects() == len(found) - 1, "the server loses an object", text)
+    printed = book.run("Copies elsewhere", 1)
+    site.check("copied 1 objects" in printed and site.objects() == len(found), "and has it back from the folder", printed)
 
 
 class SecondSite:

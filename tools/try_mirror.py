@@ -103,7 +103,7 @@ class Place(Site):
         """The database, while the server is stopped."""
         require(self.via("stop")[0] == 0, "the server was not stopped")
         self.server.wait()
-        with contextlib.closing(sqlite3.connect(f"{self.room}/db", isolation_level=None)) as found:
+        with contextlib.closing(sqlite3.connect(self.database_file, isolation_level=None)) as found:
             yield found
         self.start_server()
 
@@ -542,15 +542,9 @@ def try_secrets(trial):
 def try_ssh(trial):
     """A server that is reached by SSH."""
     place, folder, remote = trial.place(mixed(50)), trial.folder(), trial.place()
-    command = (TOP / "examples/forced-command").read_text()
-    for old, new in (("/run/custody/control", remote.socket),
-                     ("/etc/custody/policy.toml", f"{remote.room}/policy.toml"),
-                     ("custody authenticate", f"{trial.program} authenticate"),
-                     ("custody policy", f"{trial.program} policy")):
-        require(old in command, f"examples/forced-command has no {old}")
-        command = command.replace(old, new)
-    remote.write("forced-command", command)
+    remote.write("forced-command", remote.here((TOP / "examples/forced-command").read_text()))
     remote.write("bin/ssh", SSH.replace("@room", remote.room), 0o755)
+    Path(remote.room, "bin/custody").symlink_to(remote.program)
     path = {"PATH": remote.environment["PATH"]}
     trial.expect("a server is copied to one by SSH",
                  trial.mirror(place.socket, "ssh://custody@lfs.example:2222", **path), 50, 0)
