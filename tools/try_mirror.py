@@ -650,7 +650,7 @@ PARTS = {name.removeprefix("try_"): part for name, part in list(globals().items(
 
 def main():
     parser = argparse.ArgumentParser(description=__doc__.splitlines()[0])
-    parser.add_argument("program")
+    parser.add_argument("program", nargs="?", default=TOP / "bin/custody")
     parser.add_argument("--only", action="append", choices=PARTS, help="only this part")
     options = parser.parse_args()
     need_commands("sha256sum", "curl", "git", "git-lfs", "diff")
