@@ -247,7 +247,7 @@ def try_neighbours():
                            "/usr/local/lib/neighbour.py"], stdin=subprocess.PIPE, stdout=subprocess.PIPE, text=True) as child:
         words = f"/usr/bin/python3 /usr/local/lib/intruder.py {child.pid} {child.stdout.readline().strip()}"
         lines = [it for it in unit.splitlines()
-                 if not re.match("ExecStart|Restart|RuntimeDir|StateDir|WorkingDir|MemoryDeny|WantedBy|\\[Install|After|Doc", it)]
+                 if not re.match("Exec|Restart|RuntimeDir|StateDir|WorkingDir|MemoryDeny|WantedBy|\\[Install|After|Doc", it)]
         lines += ["[Service]", "Type=oneshot", f"ExecStart={words}", "StandardOutput=truncate:/try/intruder"]
         write("/etc/systemd/system/intruder.service", "\n".join(lines) + "\n")
         must("systemctl", "daemon-reload")
