@@ -190,16 +190,15 @@ class SecondSite:
     def __init__(self, site, http):
         self.site, self.room, self.http = site, f"{site.room}/second", http
         Path(self.room, "lib").mkdir(parents=True)
-        for name in ("forced-command", "pre-receive"):
-            text = (Path(site.room, "lib") / name).read_text()
-            for old in ("control", "policy.toml", "git", "lib"):
-                text = text.replace(f"{site.room}/{old}", f"{self.room}/{old}")
-            site.write(f"second/lib/{name}", text, 0o755)
+        text = Path(site.room, "lib/forced-command").read_text()
+        for name in ("control", "policy.toml", "git"):
+            text = text.replace(f"{site.room}/{name}", f"{self.room}/{name}")
+        site.write("second/lib/forced-command", text, 0o755)
         repo = '[[repo]]\nname = "studio/film"\ndefault_ref = "refs/heads/main"\nquota = 100000000000\n'
         rows = row("allow", ["mirror"], '"push"') + row("allow", ["ann"], ALL)
         site.write("second/policy.toml", f'base = "http://127.0.0.1:{http}"\ntoken_seconds = 3600\n\n{repo}{rows}')
         site.run("git", "init", "-q", "--bare", f"{self.room}/git/studio/film.git")
-        Path(self.room, "git/studio/film.git/hooks/pre-receive").symlink_to(f"{self.room}/lib/pre-receive")
+        Path(self.room, "git/studio/film.git/hooks/pre-receive").symlink_to(f"{site.room}/lib/pre-receive")
         words = ["serve", "--db", f"{self.room}/db", "--policy", f"{self.room}/policy.toml", "--listen", f"127.0.0.1:{http}"]
         self.server = subprocess.Popen([site.program, *words, "--control", f"{self.room}/control"], stdout=subprocess.PIPE)
         self.server.stdout.readline()
