@@ -10,6 +10,8 @@ import shlex
 import subprocess
 from pathlib import Path
 
+from policies import WORK, policy, row
+
 PAGE = Path(__file__).resolve().parent.parent / "docs/OPERATING.md"
 SYSTEMCTL = """#!/bin/sh
 set -eu
@@ -17,26 +19,14 @@ case $1 in
 stop) custody stop --via @room/control ;;
 start)
     nohup @serve > @room/unit.log 2>&1 &
-    until grep -q '^listening' @room/unit.log 2> /dev/null && custody status --via @room/control > /dev/null 2>&1; do sleep 0.1; done
+    until grep -q '^listening' @room/unit.log 2> /dev/null && custody status --via @room/control > /dev/null 2>&1; do
+        sleep 0.1
+    done
     ;;
 restart) "$0" stop && "$0" start ;;
 reload) custody reload --via @room/control ;;
 esac
 """
-ROW = """
-[[row]]
-effect = "{}"
-users = [{}]
-repos = ["studio/film"]
-refs = ["*"]
-paths = ["*"]
-rights = [{}]
-"""
-ALL = '"pull", "push", "list", "lock"'
-
-
-def row(effect, users, rights):
-    return ROW.format(effect, ", ".join(f'"{it}"' for it in users), rights)
 
 
 def blocks_of(page):
@@ -76,11 +66,10 @@ class Handbook:
 
     def edit(self, *rows, quota=100_000_000_000):
         """What the editor is to put into the policy."""
-        repo = f'[[repo]]\nname = "studio/film"\ndefault_ref = "refs/heads/main"\nquota = {quota}\n'
-        self.site.write("edited", f'base = "{self.site.base}"\ntoken_seconds = 3600\n\n{repo}{"".join(rows)}')
+        self.site.write("edited", policy(self.site.base, rows, quota=quota))
 
     def force(self):
-        return row("allow", ["ann"], '"force"')
+        return row("allow", ["ann"], ["force"])
 
     def locks(self):
         return self.site.via("locks", "--repo", "studio/film")[1]
@@ -92,7 +81,7 @@ class Handbook:
 
 def try_new_user(site, book):
     site.write("zoe.pub", site.new_key("zoe") + "\n")
-    book.edit(book.force(), row("allow", ["ann", "bob", "zoe"], ALL))
+    book.edit(book.force(), row("allow", ["ann", "bob", "zoe"], WORK))
     site.check("allowed by row 2" in book.run("A new user"), "the policy lets zoe pull")
     status, text = site.clone("zoe", "zoe")
     site.check(status == 0, "zoe clones", text)
@@ -105,7 +94,7 @@ def try_locks(site, book):
     site.lock("bob", "art/1.psd")
     site.lock("bob", "art/two words.psd", "refs/heads/idea")
     site.lock("ann", "art/2.psd")
-    book.edit(book.force(), row("allow", ["ann", "zoe"], ALL))
+    book.edit(book.force(), row("allow", ["ann", "zoe"], WORK))
     printed = book.run("A user who leaves")
     site.check("\nbob upload " in printed, "his tokens are listed, until they expire", printed)
     status, text = site.git("bob", "fetch", may_fail=True)
@@ -130,7 +119,7 @@ def try_backup(site, book):
 
 
 def try_room(site, book):
-    book.edit(book.force(), row("allow", ["ann", "zoe"], ALL), quota=123_456_789_000)
+    book.edit(book.force(), row("allow", ["ann", "zoe"], WORK), quota=123_456_789_000)
     printed = book.run("A full quota")
     site.check("studio/film" in printed and " objects, " in printed, "usage, and what no branch needs", printed)
     book.run("A full quota", 1)
@@ -168,13 +157,14 @@ def try_damage(site, book):
 
 
 def try_copies(site, book):
-    book.edit(book.force(), row("allow", ["mirror"], '"pull"'), row("allow", ["ann", "zoe"], ALL))
+    book.edit(book.force(), row("allow", ["mirror"], ["pull"]), row("allow", ["ann", "zoe"], WORK))
     site.run("editor", f"{site.room}/policy.toml")
     site.reload()
     printed = book.run("Copies elsewhere")
     found = [it for it in Path(site.room, "backup/film/objects").rglob("*") if re.fullmatch(r"[0-9a-f]{64}", it.name)]
-    site.check(f"copied {site.objects()} objects" in printed and len(found) == site.objects(), printed.strip().splitlines()[-1], printed)
-    book.edit(book.force(), row("allow", ["mirror"], '"pull", "push"'), row("allow", ["ann", "zoe"], ALL))
+    site.check(f"copied {site.objects()} objects" in printed and len(found) == site.objects(),
+               printed.strip().splitlines()[-1], printed)
+    book.edit(book.force(), row("allow", ["mirror"], ["pull", "push"]), row("allow", ["ann", "zoe"], WORK))
     site.run("editor", f"{site.room}/policy.toml")
     site.reload()
     damage(site, 2)
@@ -194,9 +184,8 @@ class SecondSite:
         for name in ("control", "policy.toml", "git"):
             text = text.replace(f"{site.room}/{name}", f"{self.room}/{name}")
         site.write("second/lib/forced-command", text, 0o755)
-        repo = '[[repo]]\nname = "studio/film"\ndefault_ref = "refs/heads/main"\nquota = 100000000000\n'
-        rows = row("allow", ["mirror"], '"push"') + row("allow", ["ann"], ALL)
-        site.write("second/policy.toml", f'base = "http://127.0.0.1:{http}"\ntoken_seconds = 3600\n\n{repo}{rows}')
+        rows = (row("allow", ["mirror"], ["push"]), row("allow", ["ann"], WORK))
+        site.write("second/policy.toml", policy(f"http://127.0.0.1:{http}", rows))
         site.run("git", "init", "-q", "--bare", f"{self.room}/git/studio/film.git")
         Path(self.room, "git/studio/film.git/hooks/pre-receive").symlink_to(f"{site.room}/lib/pre-receive")
         words = ["serve", "--db", f"{self.room}/db", "--policy", f"{self.room}/policy.toml", "--listen", f"127.0.0.1:{http}"]
@@ -230,7 +219,8 @@ def try_second_server(site, book, http):
     site.check(f"copied {count} objects" in printed, printed.strip().splitlines()[-1], printed)
     site.add_files("ann", "meanwhile", 3, 10_000)
     site.git("ann", "push", "-q", "origin", "main")
-    book.edit(row("deny", ["*"], '"push", "lock"'), book.force(), row("allow", ["mirror"], '"pull"'), row("allow", ["ann", "zoe"], ALL))
+    book.edit(row("deny", ["*"], ["push", "lock"]), book.force(), row("allow", ["mirror"], ["pull"]),
+              row("allow", ["ann", "zoe"], WORK))
     printed = book.run(heading, 1)
     site.check("copied 3 objects" in printed and f"{count} were there" in printed and "art/2.psd" in printed,
                "the second time only what is new, and the locks are listed", printed)

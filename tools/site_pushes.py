@@ -7,49 +7,17 @@ import subprocess
 import time
 from pathlib import Path
 
-ROWS = """
-[[row]]
-effect = "deny"
-users = ["bob"]
-repos = ["studio/film"]
-refs = ["refs/heads/main", "refs/heads/release/"]
-paths = ["final/"]
-rights = ["push"]
+from policies import WORK, row
 
-[[row]]
-effect = "deny"
-users = ["bob"]
-repos = ["*"]
-refs = ["refs/tags/"]
-paths = ["*"]
-rights = ["push"]
-
-[[row]]
-effect = "allow"
-users = ["vera"]
-repos = ["studio/"]
-refs = ["*"]
-paths = ["*"]
-rights = ["pull"]
-
-[[row]]
-effect = "allow"
-users = ["ann"]
-repos = ["studio/film"]
-refs = ["*"]
-paths = ["*"]
-rights = ["force"]
-
-[[row]]
-effect = "allow"
-users = ["ann", "bob"]
-repos = ["studio/film"]
-refs = ["*"]
-paths = ["*"]
-rights = ["pull", "push", "list", "lock"]
-"""
-ODD_NAMES = [b"two words.txt", b"quote's \"both\".txt", b"line\nbreak.txt", b"tab\there.txt", b"back\\slash.txt", b"latin-\xfc.txt",
-             b"f/" * 511 + b"x.txt", "umlaut-ü.txt".encode()]
+ROWS = (
+    row("deny", ["bob"], ["push"], refs=["refs/heads/main", "refs/heads/release/"], paths=["final/"]),
+    row("deny", ["bob"], ["push"], repos=["*"], refs=["refs/tags/"]),
+    row("allow", ["vera"], ["pull"], repos=["studio/"]),
+    row("allow", ["ann"], ["force"]),
+    row("allow", ["ann", "bob"], WORK),
+)
+ODD_NAMES = [b"two words.txt", b"quote's \"both\".txt", b"line\nbreak.txt", b"tab\there.txt", b"back\\slash.txt",
+             b"latin-\xfc.txt", b"f/" * 511 + b"x.txt", "umlaut-ü.txt".encode()]
 
 
 class Pushes:
@@ -105,7 +73,8 @@ def try_locked(site, pushes):
     pushes.write("art/1.psd", "a hero of bob")
     pushes.commit()
     status, text = pushes.git("-c", "lfs.locksverify=false", "push", "origin", "main", may_fail=True)
-    site.check(status != 0 and locked in text and "Nothing was pushed" in text, "a client that verifies no locks is refused", text)
+    site.check(status != 0 and locked in text and "Nothing was pushed" in text,
+               "a client that verifies no locks is refused", text)
     pushes.refused("and one that runs no hook", [locked])
     pushes.git("branch", "-f", "side", "origin/main")
     pushes.refused("with all that it pushes", [locked], "main", "side")

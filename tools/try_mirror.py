@@ -29,13 +29,16 @@ from pathlib import Path
 sys.dont_write_bytecode = True
 from control import token_of, with_token
 from needs import need_commands
+from policies import FILM, WORK, policy, row
 from try_server import Client, Failed, require
 from try_site import TOP, Site, free_port
 
-FILM, GAME, MAIN = "studio/film", "studio/game", "refs/heads/main"
-ROW = '\n[[row]]\neffect = "allow"\nusers = [{}]\nrepos = ["*"]\nrefs = ["*"]\npaths = ["*"]\nrights = [{}]\n'
-ROWS = (ROW.format('"ann"', '"force"') + ROW.format('"ann", "bob"', '"pull", "push", "list", "lock"')
-        + ROW.format('"mirror"', '"pull", "push"'))
+GAME, MAIN = "studio/game", "refs/heads/main"
+ROWS = (
+    row("allow", ["ann"], ["force"], repos=["*"]),
+    row("allow", ["ann", "bob"], WORK, repos=["*"]),
+    row("allow", ["mirror"], ["pull", "push"], repos=["*"]),
+)
 LARGE_QUOTA = 100_000_000_000
 DONE = re.compile(r"copied (\d+) objects, (\d+) bytes; (\d+) were there\n")
 TOKEN = re.compile(rb"(?<![0-9a-f])[0-9a-f]{64}(?![0-9a-f])")
@@ -58,9 +61,7 @@ class Place(Site):
         self.start_server()
 
     def write_policy(self, seconds, quota=LARGE_QUOTA):
-        repos = "".join(f'\n[[repo]]\nname = "{name}"\ndefault_ref = "{MAIN}"\nquota = {quota}\n'
-                        for name in (FILM, GAME))
-        self.write("policy.toml", f'base = "{self.base}"\ntoken_seconds = {seconds}\n{repos}{ROWS}')
+        self.write("policy.toml", policy(self.base, ROWS, seconds, quota, (FILM, GAME)))
 
     def set_policy(self, seconds=3600, quota=LARGE_QUOTA):
         self.write_policy(seconds, quota)

@@ -25,6 +25,7 @@ from pathlib import Path
 sys.dont_write_bytecode = True
 os.environ["PATH"] += ":/usr/sbin"
 from needs import need_commands, stop
+from policies import WORK, policy, row
 from try_site import TOP, Site
 
 try:
@@ -38,46 +39,12 @@ except ImportError:
 
 API = "/studio/film.git/info/lfs"
 ZONE = "America/St_Johns"
-POLICY = """base = "@base"
-token_seconds = @seconds
-
-[[repo]]
-name = "studio/film"
-default_ref = "refs/heads/main"
-quota = 1000000
-
-[[row]]
-effect = "deny"
-users = ["eve"]
-repos = ["*"]
-refs = ["*"]
-paths = ["*"]
-rights = ["pull", "push"]
-
-[[row]]
-effect = "allow"
-users = ["ann"]
-repos = ["studio/film"]
-refs = ["*"]
-paths = ["*"]
-rights = ["force"]
-
-[[row]]
-effect = "allow"
-users = ["ann", "bob"]
-repos = ["studio/film"]
-refs = ["*"]
-paths = ["*"]
-rights = ["pull", "push", "list", "lock"]
-
-[[row]]
-effect = "allow"
-users = ["vic"]
-repos = ["studio/film"]
-refs = ["*"]
-paths = ["*"]
-rights = ["pull", "list"]
-"""
+POLICY = (
+    row("deny", ["eve"], ["pull", "push"], repos=["*"]),
+    row("allow", ["ann"], ["force"]),
+    row("allow", ["ann", "bob"], WORK),
+    row("allow", ["vic"], ["pull", "list"]),
+)
 MARKUP = "art/<script>document.title='x'</script><img src=x onerror=alert(1)>.psd"
 REVERSED = "art/hero\u202edsp.exe"
 MAIN, RELEASE = "refs/heads/main", "refs/heads/release/1.0"
@@ -104,7 +71,7 @@ class Studio(Site):
         self.start_nginx()
 
     def write_policy(self, seconds):
-        self.write("policy.toml", POLICY.replace("@base", self.base).replace("@seconds", str(seconds)))
+        self.write("policy.toml", policy(self.base, POLICY, seconds))
 
     def line(self, user, operation="upload"):
         """What a user pastes into the page."""
@@ -301,10 +268,10 @@ def try_nginx(site):
                "nginx serves the page without a token", str(reply.headers))
     heads = {"X-Content-Type-Options": "nosniff", "Referrer-Policy": "no-referrer", "Cache-Control": "no-cache"}
     site.check(all(reply.headers[name] == value for name, value in heads.items()), "with its heads", str(reply.headers))
-    policy = reply.headers["Content-Security-Policy"]
-    sources = re.sub(r"'sha256-[A-Za-z0-9+/]{43}='", "HASH", policy)
+    security = reply.headers["Content-Security-Policy"]
+    sources = re.sub(r"'sha256-[A-Za-z0-9+/]{43}='", "HASH", security)
     site.check(sources == "default-src 'none'; script-src HASH; style-src HASH; connect-src 'self'; img-src data:; "
-               "base-uri 'none'; form-action 'none'; frame-ancestors 'none'", "and its security policy", policy)
+               "base-uri 'none'; form-action 'none'; frame-ancestors 'none'", "and its security policy", security)
     for target in ("/", "/locks/", "/locks/x", "/LOCKS", "/locks%0a", "/x/locks", f"{API}/locks", "/-/token"):
         reply, text = site.get(target)
         site.check(reply.status == 401 and "A1: a bearer token is needed" in text, f"{target} without a token is 401", text)

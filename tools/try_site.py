@@ -25,26 +25,11 @@ import time
 from pathlib import Path
 
 import site_handbook
+from policies import WORK, policy, row
 from site_pushes import try_pushes
 
 TOP = Path(__file__).resolve().parent.parent
-ROWS = """
-[[row]]
-effect = "allow"
-users = ["ann"]
-repos = ["studio/film"]
-refs = ["*"]
-paths = ["*"]
-rights = ["force"]
-
-[[row]]
-effect = "allow"
-users = ["ann", "bob"]
-repos = ["studio/film"]
-refs = ["*"]
-paths = ["*"]
-rights = ["pull", "push", "list", "lock"]
-"""
+ROWS = (row("allow", ["ann"], ["force"]), row("allow", ["ann", "bob"], WORK))
 NGINX = """
 daemon off;
 pid @room/nginx.pid;
@@ -143,8 +128,7 @@ class Site:
         return self.run("git", *words, folder=f"{self.room}/{user}", may_fail=may_fail)
 
     def write_policy(self, seconds, rows=ROWS):
-        repo = '[[repo]]\nname = "studio/film"\ndefault_ref = "refs/heads/main"\nquota = 100000000000\n'
-        self.write("policy.toml", f'base = "{self.base}"\ntoken_seconds = {seconds}\n\n{repo}{rows}')
+        self.write("policy.toml", policy(self.base, rows, seconds))
 
     def serve_words(self):
         """The command of the server, as the unit has it."""
