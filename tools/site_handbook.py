@@ -8,6 +8,7 @@ import random
 import re
 import shlex
 import subprocess
+import sys
 from pathlib import Path
 
 from policies import WORK, policy, row
@@ -136,12 +137,14 @@ def try_room(site, book):
 
 def damage(site, seed):
     """A bit of a stored object changes on the disk."""
-    name = random.Random(seed).choice(sorted(Path(site.room, "ann/art").glob("*.psd")))
+    files = [it for it in sorted(Path(site.room, "ann/art").glob("*.psd")) if it.stat().st_size > 50_000]
+    name = random.Random(seed).choice(files)
     text = name.read_bytes()[30_000:30_100]
     site.run("systemctl", "stop")
     database = Path(site.database_file)
     stored = bytearray(database.read_bytes())
-    site.check(stored.count(text) == 1, f"the bytes of {name.name} are in the database once")
+    if stored.count(text) != 1:
+        sys.exit(f"the bytes of {name.name} are not in the database once")
     stored[stored.find(text)] ^= 1
     database.write_bytes(stored)
     site.run("systemctl", "start")
