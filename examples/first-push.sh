@@ -1,6 +1,6 @@
 #!/bin/sh
 # From nothing to a push: a server on this machine, a Git repository, and two users who push, clone and lock files. A
-# script takes the place of ssh, and runs examples/forced-command as sshd would; nothing is installed or changed outside
+# script takes the place of ssh, and runs deploy/programs/forced-command as sshd would; nothing is installed or changed outside
 # the folder. It needs git and git-lfs.
 # usage: examples/first-push.sh [FOLDER]      the folder is made; without it, one in the folder for temporary files
 set -eu
@@ -59,7 +59,7 @@ done
 
 # What sshd would do for the key of a user: the words of the client are passed to the forced command as one text.
 sed -e "s|/run/custody/control|$work/run/control|" -e "s|/etc/custody/policy.toml|$work/policy.toml|" \
-    -e "s|/srv/git|$work/git|" "$top/examples/forced-command" > "$work/bin/forced-command"
+    -e "s|/srv/git|$work/git|" "$top/deploy/programs/forced-command" > "$work/bin/forced-command"
 cat > "$work/bin/ssh" << END
 #!/bin/sh
 for words in "\$@"; do :; done

@@ -1,6 +1,6 @@
 # Writes the forms of the commands in Markdown, for the SYNOPSIS of the manual page, from the two tables of
 # docs/COMMANDS.md: what each word is, and which words a command takes. Each of them takes --explain.
-# usage: awk -f tools/synopsis.awk docs/COMMANDS.md
+# usage: awk -f deploy/synopsis.awk docs/COMMANDS.md
 BEGIN {
     FS = " *\\| *"
     count = split("--requests --idle --control --now --seconds --random", names, " ")

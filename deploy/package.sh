@@ -1,8 +1,8 @@
 #!/bin/sh
-# Makes a Debian package of the program, its manual page, the unit for systemd, the examples and the documents. It
+# Makes a Debian package of the program, its manual page, the unit for systemd, the programs of the site and the documents. It
 # needs dpkg-deb, pandoc, gzip, strip (of binutils), awk and git, and a program that bin/custody has built; what is missing
 # is named, and no package is made. `lintian` then has nothing to report but how the program was compiled.
-# usage: tools/package.sh [FOLDER]      the package is written to the folder, or to this one
+# usage: deploy/package.sh [FOLDER]      the package is written to the folder, or to this one
 set -eu
 unset CDPATH
 # The modes of a package's folders and files are those that it installs, whoever makes it.
@@ -36,15 +36,15 @@ documents=$root/usr/share/doc/custody
 mkdir -p "$documents/examples" "$root/usr/share/man/man1"
 install -D -m 755 "$program" "$root/usr/bin/custody"
 strip --remove-section=.comment --remove-section=.note "$root/usr/bin/custody"
-for example in forced-command pre-receive backup spare unlock unreferenced mirror; do
-    install -D -m 755 -t "$root/usr/lib/custody" "$top/examples/$example"
+for name in forced-command pre-receive backup spare unlock unreferenced mirror; do
+    install -D -m 755 -t "$root/usr/lib/custody" "$top/deploy/programs/$name"
 done
-install -D -m 644 "$top/examples/locks.html" "$root/usr/share/custody/locks.html"
-install -D -m 644 "$top/examples/custody.service" "$root/lib/systemd/system/custody.service"
-install -D -m 644 "$top/examples/installed-policy.toml" "$root/etc/custody/policy.toml"
-for example in nginx-site sshd-custody.conf custody-group.conf policy.toml; do
-    install -m 644 "$top/examples/$example" "$documents/examples"
-done
+install -D -m 644 "$top/deploy/web/locks.html" "$root/usr/share/custody/locks.html"
+install -D -m 644 "$top/deploy/systemd/custody.service" "$root/lib/systemd/system/custody.service"
+install -D -m 644 "$top/deploy/policy.toml" "$root/etc/custody/policy.toml"
+install -m 644 "$top/deploy/nginx/site" "$documents/examples/nginx-site"
+install -m 644 "$top/deploy/sshd/custody.conf" "$documents/examples/sshd-custody.conf"
+install -m 644 "$top/deploy/systemd/custody-group.conf" "$top/examples/policy.toml" "$documents/examples"
 # The home of the user, which is root's; and what nginx keeps of requests and replies, for which a disk may be mounted there.
 install -d -m 755 "$root/var/lib/custody" "$root/var/spool/custody"
 cat > "$root/etc/custody/authorized_keys" << 'END'
@@ -118,7 +118,7 @@ END
 # The manual page has the text of docs/COMMANDS.md, after the forms of the commands, which are those of its tables.
 {
     printf '# NAME\n\ncustody - a Git LFS object and lock server\n\n# SYNOPSIS\n\n'
-    awk -f "$top/tools/synopsis.awk" "$top/docs/COMMANDS.md"
+    awk -f "$top/deploy/synopsis.awk" "$top/docs/COMMANDS.md"
     printf '\n# DESCRIPTION\n\n'
     sed -e 1d -e '/^.bin\/custody. runs/d' -e 's/^## /# /' "$top/docs/COMMANDS.md"
 } | pandoc -s -f gfm -t man -M hyphenate=false -V adjusting=l -V title=custody -V section=1 \
