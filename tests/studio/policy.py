@@ -1,10 +1,13 @@
-"""The text of a policy file, for the tools that try a server."""
+"""The text of a policy file."""
 
-FILM = "studio/film"
+FILM, GAME, ART = "studio/film", "studio/game", "studio/art"
+BASE = "https://lfs.example"
 WORK = ("pull", "push", "list", "lock")
+DAY = 86_400
 
 
 def texts(values):
+    """A list of texts."""
     return "[" + ", ".join(f'"{it}"' for it in values) + "]"
 
 
@@ -15,7 +18,12 @@ def row(effect, users, rights, repos=(FILM,), refs=("*",), paths=("*",)):
     return f'\n[[row]]\neffect = "{effect}"\n{lines}'
 
 
-def policy(base, rows, seconds=3600, quota=100_000_000_000, repos=(FILM,)):
+def policy(rows, base=BASE, seconds=DAY, quota=100_000_000_000, repos=(FILM,)):
     """A policy whose repositories have this quota each."""
     tables = "".join(f'\n[[repo]]\nname = "{it}"\ndefault_ref = "refs/heads/main"\nquota = {quota}\n' for it in repos)
     return f'base = "{base}"\ntoken_seconds = {seconds}\n{tables}{"".join(rows)}'
+
+
+def open_policy(users=("ann", "bob"), repos=(FILM,), quota=4_000_000_000):
+    """A policy in which these users may do everything but force in each of these repositories."""
+    return policy([row("allow", users, WORK, repos=("*",))], repos=repos, quota=quota)

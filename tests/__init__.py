@@ -1,0 +1,1 @@
+"""Tries the program from outside: `tests/run --list` has the suites."""

@@ -1,0 +1,1 @@
+"""Suites that try one program: a server, the commands, and the files of both."""

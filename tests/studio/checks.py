@@ -1,0 +1,68 @@
+"""How a check fails, and how checks are counted and printed; the arguments that each suite has."""
+import argparse
+import os
+import subprocess
+import sys
+
+from tests.studio.program import TOP
+
+
+class Failed(Exception):
+    """A check failed; the text says why."""
+
+
+def require(is_met, text):
+    """Fails the check with the text unless the condition is met."""
+    if not is_met:
+        raise Failed(text)
+
+
+def within(seconds, bound, what):
+    """Fails the check if it took longer than the bound, in seconds. Returns a text with both."""
+    text = f"{what} took {seconds:.2f} s (at most {bound} s)"
+    require(seconds <= bound, text)
+    return text
+
+
+class Checks:
+    """Counts checks, and prints a line for each."""
+
+    def __init__(self):
+        self.passed = self.failed = 0
+
+    def expect(self, is_met, what, text=""):
+        """One check. If it failed, the text is printed below its line. Returns whether it passed."""
+        self.passed, self.failed = self.passed + bool(is_met), self.failed + (not is_met)
+        print(f"{'ok  ' if is_met else 'FAIL'} {what}", flush=True)
+        if not is_met and text:
+            print("     " + text.strip().replace("\n", "\n     "), flush=True)
+        return bool(is_met)
+
+    def judge(self, name, act):
+        """One check that is a call: it returns what it measured, or raises Failed."""
+        try:
+            return self.expect(True, f"{name}: {act()}")
+        except (Failed, OSError, subprocess.SubprocessError) as fault:
+            return self.expect(False, f"{name}: {fault}")
+
+    def end(self):
+        """Prints how many checks passed. Returns the status of the suite."""
+        print(f"{self.passed} passed, {self.failed} failed", flush=True)
+        return 1 if self.failed or not self.passed else 0
+
+
+def arguments(says, names=None):
+    """A parser with the arguments that each suite has. `names` are those of its checks, if each can be tried alone."""
+    parser = argparse.ArgumentParser(description=says.strip().splitlines()[0])
+    parser.add_argument("--program", default=str(TOP / "bin/custody"), type=os.path.abspath,
+                        help="the program [default: bin/custody]")
+    if names:
+        parser.add_argument("--only", action="append", choices=list(names), metavar="CHECK",
+                            help=f"only this check: {', '.join(names)}")
+    return parser
+
+
+def stop(text):
+    """Ends the suite with status 2: something that it needs is missing."""
+    print(f"{sys.argv[0].rpartition('/')[2]}: {text}", file=sys.stderr)
+    sys.exit(2)

@@ -1,0 +1,208 @@
+"""The program as a server: its process, a client over a raw socket, and requests as bytes."""
+import contextlib
+import hashlib
+import json
+import os
+import signal
+import socket
+import struct
+import subprocess
+import time
+from pathlib import Path
+
+from tests.studio.policy import FILM, open_policy
+
+TOP = Path(__file__).resolve().parent.parent.parent
+CHUNK = 65_536
+
+
+def free_port():
+    """A port of this machine that nobody listens on."""
+    with socket.create_server(("127.0.0.1", 0)) as probe:
+        return probe.getsockname()[1]
+
+
+def target(rest, repo=FILM):
+    """The target of a request in a repository."""
+    return f"/{repo}.git/info/lfs/{rest}"
+
+
+def content(oid, repo=FILM):
+    """The target of the content of an object."""
+    return target(f"content/{oid}", repo)
+
+
+LOCKS = target("locks")
+
+
+def name_of(data):
+    """The name of an object with these bytes."""
+    return hashlib.sha256(data).hexdigest()
+
+
+def message(method, where, body=None, token="a", length=None, more=""):
+    """A request, as bytes. A token of one letter is that of 64 times the letter. A body that is not bytes is sent as
+    JSON. `length` is announced in place of the body's; `more` has further fields, each with its line end."""
+    data = body if isinstance(body, bytes) else b"" if body is None else json.dumps(body).encode()
+    bearer = token * 64 if len(token) == 1 else token
+    head = f"{method} {where} HTTP/1.1\r\nHost: studio.example\r\nAuthorization: Bearer {bearer}\r\n"
+    if length is not None or body is not None:
+        head += f"Content-Length: {len(data) if length is None else length}\r\n"
+    return (head + more + "\r\n").encode() + data
+
+
+def lock(path, token="a", repo=FILM, ref=None):
+    """A request to lock a path, on the repository's default branch if no ref is given."""
+    body = {"path": path} if ref is None else {"path": path, "ref": {"name": ref}}
+    return message("POST", target("locks", repo), body, token)
+
+
+def put(data, token="a", repo=FILM):
+    """An upload of an object."""
+    return message("PUT", content(name_of(data), repo), data, token)
+
+
+class Closed(OSError):
+    """The other side closed the connection before a reply was whole."""
+
+
+class Client:
+    """A connection to a server, over a raw socket."""
+
+    def __init__(self, port, timeout=60):
+        self.socket = socket.create_connection(("127.0.0.1", port), timeout=timeout)
+        self.socket.setsockopt(socket.IPPROTO_TCP, socket.TCP_NODELAY, 1)
+        self.rest = bytearray()
+
+    def send(self, data):
+        """Sends all of the bytes."""
+        self.socket.sendall(data)
+
+    def more(self):
+        """Reads some bytes of a reply."""
+        piece = self.socket.recv(1 << 16)
+        if not piece:
+            raise Closed("the server closed the connection before a reply")
+        self.rest += piece
+
+    def head(self):
+        """The lines of the head of the next reply, and the length of its body."""
+        while b"\r\n\r\n" not in self.rest:
+            self.more()
+        head, _, self.rest = self.rest.partition(b"\r\n\r\n")
+        lines = head.split(b"\r\n")
+        return lines, next(int(line.split(b":")[1]) for line in lines if line.startswith(b"Content-Length:"))
+
+    def reply(self):
+        """The status and the body of the next reply."""
+        lines, length = self.head()
+        while len(self.rest) < length:
+            self.more()
+        body, self.rest = bytes(self.rest[:length]), self.rest[length:]
+        return int(lines[0].split(b" ")[1]), body
+
+    def ask(self, data):
+        """The reply to a request."""
+        self.send(data)
+        return self.reply()
+
+    def reset(self):
+        """Closes the connection with a reset."""
+        self.socket.setsockopt(socket.SOL_SOCKET, socket.SO_LINGER, struct.pack("ii", 1, 0))
+        self.socket.close()
+
+    def close(self):
+        """Closes the connection."""
+        self.socket.close()
+
+    def __enter__(self):
+        return self
+
+    def __exit__(self, *_):
+        self.close()
+
+
+class Server:
+    """A server in a folder of its own, whose user ann has the token of 64 times the letter a."""
+
+    def __init__(self, program, room, policy=None, idle=10):
+        self.program, self.room, self.idle, self.more = program, room, idle, []
+        Path(f"{room}/policy.toml").write_text(policy or open_policy(), encoding="utf-8")
+        self.issue("a")
+        self.port = free_port()
+        self.start()
+
+    def issue(self, letter, *more, user="ann", repo=FILM):
+        """Stores the token of 64 times the letter, over the files: of a server that does not run."""
+        random = Path(f"{self.room}/random")
+        random.write_bytes(bytes.fromhex(letter * 64))
+        words = ["authenticate", *self.files(), "--user", user, "--random", str(random), *more, repo, "upload"]
+        subprocess.run([self.program, *words], check=True, stdout=subprocess.DEVNULL)
+
+    def files(self):
+        """The words that name the database and the policy."""
+        return ["--db", f"{self.room}/custody.db", "--policy", f"{self.room}/policy.toml"]
+
+    def control(self):
+        """The control socket, if the server has one."""
+        return f"{self.room}/control"
+
+    def error_stream(self):
+        """The file that the server writes its faults to."""
+        return open(f"{self.room}/errors", "ab")
+
+    def start(self):
+        """Starts the server, and waits until it listens."""
+        address = f"127.0.0.1:{self.port}"
+        words = [self.program, "serve", *self.files(), "--listen", address, "--idle", str(self.idle), *self.more]
+        with self.error_stream() as errors:
+            self.child = subprocess.Popen(words, stdout=subprocess.PIPE, stderr=errors)
+        line = self.child.stdout.readline()
+        if line != f"listening on {address}\n".encode():
+            raise OSError(f"the server printed {line!r}")
+
+    def end(self, kind=signal.SIGKILL):
+        """Sends the signal. Returns after how many seconds the server has ended."""
+        begun = time.monotonic()
+        self.child.send_signal(kind)
+        self.child.wait(timeout=10)
+        return time.monotonic() - begun
+
+    def errors(self):
+        """What the server wrote to its error stream."""
+        return Path(f"{self.room}/errors").read_text(encoding="utf-8")
+
+    def memory(self):
+        """The resident memory in KiB."""
+        lines = Path(f"/proc/{self.child.pid}/status").read_text(encoding="utf-8").splitlines()
+        return next(int(line.split()[1]) for line in lines if line.startswith("VmRSS:"))
+
+    def processor_time(self):
+        """How many seconds of a processor the server has used."""
+        return time.clock_gettime(~self.child.pid << 3 | 2)
+
+    def client(self, timeout=60):
+        """A new connection."""
+        return Client(self.port, timeout)
+
+    def ask(self, data, timeout=60):
+        """The reply over a connection of its own."""
+        with self.client(timeout) as client:
+            return client.ask(data)
+
+    def time_of_lock(self, path):
+        """After how many seconds a client that connects now has its lock."""
+        begun = time.monotonic()
+        status, _ = self.ask(lock(path))
+        if status != 201:
+            raise OSError(f"a lock got {status}")
+        return time.monotonic() - begun
+
+    def __enter__(self):
+        return self
+
+    def __exit__(self, *_):
+        with contextlib.suppress(ProcessLookupError):
+            if self.child.poll() is None:
+                self.end()
+        self.child.stdout.close()

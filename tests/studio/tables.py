@@ -1,0 +1,25 @@
+"""Reads databases with the command sqlite3, from copies."""
+import shutil
+import subprocess
+import tempfile
+from pathlib import Path
+
+
+def sqlite3(path, statements):
+    """What the command sqlite3 prints for the statements."""
+    ran = subprocess.run(["sqlite3", str(path)], input=statements, check=True, capture_output=True, text=True)
+    return ran.stdout
+
+
+def copied(path, folder):
+    """A copy of a database and its log in a folder. Returns the path of the copy."""
+    for end in ("", "-wal"):
+        if Path(f"{path}{end}").exists():
+            shutil.copyfile(f"{path}{end}", f"{folder}/copy.db{end}")
+    return f"{folder}/copy.db"
+
+
+def read_copy(path, statements):
+    """What sqlite3 prints for the statements, of a copy of the database and its log."""
+    with tempfile.TemporaryDirectory() as folder:
+        return sqlite3(copied(path, folder), statements)
