@@ -23,7 +23,7 @@ prints one line, with how many databases were
 and how many of those that are not refused sqlite3 refuses or reads otherwise.
 
 With --list a line comes before it for each that has changed, or is older for another reason than its log. The check `dump` copies the rows of databases without one
-page into a new file, as docs/operating/disk-and-damage.md says: only rows of that page's table may be missing, and
+page into a new file, as docs/OPERATING.md says (A spoiled database): only rows of that page's table may be missing, and
 `check` names the objects that are not whole. The last line counts the checks; the status is 1 if one failed. It needs
 Linux, the command sqlite3, and python3 with sqlite3 and dbstat, and takes two minutes. Without --program it is
 bin/custody.

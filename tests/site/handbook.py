@@ -1,4 +1,4 @@
-"""What tools/try_site.py tries of docs/operating/runbook.md: each block of commands, as it is there.
+"""What tools/try_site.py tries of docs/OPERATING.md, "What to do": each block of commands, as it is there.
 
 The site has its own paths, and stand-ins for what a temporary folder lacks: systemctl starts and stops the server of the
 site, runuser runs the command, apt installs nothing, and editor puts the text into the file that the check has prepared.
@@ -13,7 +13,7 @@ from pathlib import Path
 
 from policies import WORK, policy, row
 
-PAGE = Path(__file__).resolve().parent.parent / "docs/operating/runbook.md"
+PAGE = Path(__file__).resolve().parent.parent / "docs/OPERATING.md"
 SYSTEMCTL = """#!/bin/sh
 set -eu
 case $1 in
@@ -31,9 +31,9 @@ esac
 
 
 def blocks_of(page):
-    """The blocks of commands of the page, by heading."""
-    parts = page.read_text().split("\n## ")[1:]
-    return {part.split("\n")[0]: re.findall(r"```sh\n(.*?)```", part, re.S) for part in parts}
+    """The blocks of commands of the chapter, by heading."""
+    chapter = page.read_text().split("\n## What to do\n")[1].split("\n## ")[0]
+    return {part.split("\n")[0]: re.findall(r"```sh\n(.*?)```", part, re.S) for part in chapter.split("\n### ")[1:]}
 
 
 class Handbook:

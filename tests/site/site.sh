@@ -1,5 +1,5 @@
 #!/bin/sh
-# Tries a whole site on this machine: nginx with TLS, sshd, custody and the Git LFS client, as docs/operating/install.md sets them
+# Tries a whole site on this machine: nginx with TLS, sshd, custody and the Git LFS client, as docs/OPERATING.md sets them
 # up; then the page with the locks in a browser, and copies of objects elsewhere. It needs Debian's nginx, openssh-server,
 # openssl, git, git-lfs, curl, python3, chromium, chromium-driver and python3-selenium, and a program that bin/custody built.
 # usage: tools/try_site.sh [PROGRAM [GIB [FOLDER]]]: the largest files have GIB GiB, 1 if it is omitted; pictures of the page
