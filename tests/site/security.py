@@ -1,5 +1,5 @@
 #!/usr/bin/env python3
-"""Runs in the container of tools/try_security.sh, as root: installs the package in /try/022 as docs/OPERATING.md says, and
+"""Runs in the container of tools/try_security.sh, as root: installs the package in /try/022 as docs/operating/install.md says, and
 tries what that page says of security against the real systemd, nginx, sshd and Git LFS.
 
 It prints a line for each check, what it measured, and `N passed, M failed`. Its status is 1 if a check failed.
@@ -668,7 +668,7 @@ def git(user, *words):
 
 
 def set_up_client(user):
-    """The settings of docs/OPERATING.md, At the client."""
+    """The settings of docs/operating/install.md, At the client."""
     Path(f"/try/{user}/film").mkdir(parents=True)
     for name, value in (("user.name", user), ("user.email", f"{user}@studio.example"), ("lfs.locksverify", "true"),
                         ("lfs.concurrenttransfers", "8"), ("init.defaultBranch", "main")):

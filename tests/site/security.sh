@@ -1,5 +1,5 @@
 #!/bin/sh
-# Tries on a whole machine what docs/OPERATING.md says of security: a container with Debian 12, systemd, nginx, sshd, Git and
+# Tries on a whole machine what docs/operating/security.md says: a container with Debian 12, systemd, nginx, sshd, Git and
 # Git LFS, in which the package is installed as an administrator installs it (tools/try_security.py, which runs in there).
 # It needs root, debootstrap, systemd-nspawn (Debian's systemd-container), what tools/package.sh needs, and a program that
 # bin/custody has built. The container shares the kernel, and has a network of its own.
