@@ -431,9 +431,9 @@ def check_status(server, _):
     wanted = {
         "custody_replies_total": "2",
         'custody_connections_total{end="input_ended"}': "1",
-        'custody_repository_locks_made_total{repository=FILM}': "2",
-        'custody_repository_stored_bytes{repository=FILM}': "0",
-        'custody_repository_quota_bytes{repository=FILM}': "4000000000",
+        'custody_repository_locks_made_total{repository="studio/film"}': "2",
+        'custody_repository_stored_bytes{repository="studio/film"}': "0",
+        'custody_repository_quota_bytes{repository="studio/film"}': "4000000000",
         'custody_database_bytes{file="database"}': str(os.path.getsize(f"{server.room}/custody.db")),
         'custody_database_bytes{file="log"}': str(os.path.getsize(f"{server.room}/custody.db-wal")),
     }
