@@ -315,7 +315,7 @@ def compare(work, when):
 
 
 def compare_all(work, when):
-    """The same; each object is served as it was sent, what was removed or released is not there, and tokens are valid."""
+    """The same; each object is served as it was sent, what was removed is not there, and tokens are valid."""
     compare(work, when)
 
     def expect(want, *request, **more):
