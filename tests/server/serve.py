@@ -1,188 +1,23 @@
-#!/usr/bin/env python3
 """Tries `custody serve` with clients that are slow, silent, busy or gone, with a server that is killed, and with load.
 
-    tools/try_server.py [--program FILE] [--only NAME]... [--rounds N] [--connections N] [--requests N]
-
-Each check starts a server on a new database and a free port of this machine, prints one line with what was measured
-and its bound, and fails if the bound is not kept. The last line counts the checks; the status is 1 if one failed. It
-needs Linux and python3, and takes about three minutes: one check waits for 30 seconds, the time that a reply may
-pause. Without --program it is bin/custody.
+Each check starts a server on a new database and a free port of this machine. Its line has what was measured, with the
+bound, and it fails if the bound is not kept. One check waits for 30 seconds, the time that a reply may pause.
 """
-import argparse
 import collections
 import contextlib
-import hashlib
 import json
 import os
 import random
 import resource
 import signal
 import socket
-import struct
-import subprocess
 import sys
 import tempfile
-import threading
 import time
-from pathlib import Path
 
-TOP = Path(__file__).resolve().parent.parent
-TARGET = "/studio/film.git/info/lfs/locks"
-POLICY = """base = "https://lfs.example"
-token_seconds = 86400
-
-[[repo]]
-name = "studio/film"
-default_ref = "refs/heads/main"
-quota = 1000000
-
-[[row]]
-effect = "allow"
-users = ["ann"]
-repos = ["*"]
-refs = ["*"]
-paths = ["*"]
-rights = ["pull", "push", "list", "lock"]
-"""
-
-
-class Failed(Exception):
-    """A check failed; the text says why."""
-
-
-def require(is_met, text):
-    if not is_met:
-        raise Failed(text)
-
-
-def message(method, target, body=None, letter="a", more=""):
-    """A request, with the token of 64 times the letter."""
-    data = b"" if body is None else json.dumps(body).encode()
-    length = "" if body is None else f"Content-Length: {len(data)}\r\n"
-    head = f"{method} {target} HTTP/1.1\r\nHost: studio.example\r\nAuthorization: Bearer {letter * 64}\r\n"
-    return (head + length + more + "\r\n").encode() + data
-
-
-def lock(path):
-    return message("POST", TARGET, {"path": path})
-
-
-class Client:
-    """A connection to the server."""
-
-    def __init__(self, port, timeout=60):
-        self.socket = socket.create_connection(("127.0.0.1", port), timeout=timeout)
-        self.socket.setsockopt(socket.IPPROTO_TCP, socket.TCP_NODELAY, 1)
-        self.rest = bytearray()
-
-    def send(self, data):
-        self.socket.sendall(data)
-
-    def more(self):
-        piece = self.socket.recv(1 << 16)
-        require(piece, "the server closed the connection before a reply")
-        self.rest += piece
-
-    def reply(self):
-        """The status and the body of the next reply."""
-        while b"\r\n\r\n" not in self.rest:
-            self.more()
-        head, _, self.rest = self.rest.partition(b"\r\n\r\n")
-        lines = head.split(b"\r\n")
-        length = next(int(line.split(b":")[1]) for line in lines if line.startswith(b"Content-Length:"))
-        while len(self.rest) < length:
-            self.more()
-        body, self.rest = bytes(self.rest[:length]), self.rest[length:]
-        return int(lines[0].split(b" ")[1]), body
-
-    def ask(self, data):
-        self.send(data)
-        return self.reply()
-
-    def reset(self):
-        """Closes the connection with a reset."""
-        self.socket.setsockopt(socket.SOL_SOCKET, socket.SO_LINGER, struct.pack("ii", 1, 0))
-        self.socket.close()
-
-    def close(self):
-        self.socket.close()
-
-    def __enter__(self):
-        return self
-
-    def __exit__(self, *_):
-        self.close()
-
-
-class Server:
-    """A server in a folder of its own."""
-
-    def __init__(self, program, room, policy=POLICY, idle=10):
-        self.program, self.room, self.idle, self.more = program, room, idle, []
-        Path(f"{room}/policy.toml").write_text(policy)
-        Path(f"{room}/random").write_bytes(b"\xaa" * 32)
-        words = ["authenticate", *self.files(), "--user", "ann", "--random", f"{room}/random", "studio/film", "upload"]
-        subprocess.run([program, *words], check=True, stdout=subprocess.DEVNULL)
-        with socket.create_server(("127.0.0.1", 0)) as free:
-            self.port = free.getsockname()[1]
-        self.start()
-
-    def files(self):
-        return ["--db", f"{self.room}/custody.db", "--policy", f"{self.room}/policy.toml"]
-
-    def error_stream(self):
-        """The file that the server writes its faults to."""
-        return open(f"{self.room}/errors", "ab")
-
-    def start(self):
-        address = f"127.0.0.1:{self.port}"
-        words = [self.program, "serve", *self.files(), "--listen", address, "--idle", str(self.idle), *self.more]
-        with self.error_stream() as errors:
-            self.child = subprocess.Popen(words, stdout=subprocess.PIPE, stderr=errors)
-        line = self.child.stdout.readline()
-        require(line == f"listening on {address}\n".encode(), f"the server printed {line!r}")
-
-    def end(self, kind):
-        """Sends the signal. Returns after how many seconds the server has ended."""
-        begun = time.monotonic()
-        self.child.send_signal(kind)
-        self.child.wait(timeout=10)
-        return time.monotonic() - begun
-
-    def errors(self):
-        return Path(f"{self.room}/errors").read_text()
-
-    def memory(self):
-        """The resident memory in KiB."""
-        lines = Path(f"/proc/{self.child.pid}/status").read_text().splitlines()
-        return next(int(line.split()[1]) for line in lines if line.startswith("VmRSS:"))
-
-    def processor_time(self):
-        return time.clock_gettime(~self.child.pid << 3 | 2)
-
-    def client(self, timeout=60):
-        return Client(self.port, timeout)
-
-    def time_of_lock(self, path):
-        """After how many seconds a client that connects now has its lock."""
-        begun = time.monotonic()
-        with self.client() as client:
-            status, _ = client.ask(lock(path))
-        require(status == 201, f"a lock got {status}")
-        return time.monotonic() - begun
-
-    def __enter__(self):
-        return self
-
-    def __exit__(self, *_):
-        if self.child.poll() is None:
-            self.end(signal.SIGKILL)
-        self.child.stdout.close()
-
-
-def within(seconds, bound, what):
-    require(seconds <= bound, f"{what} took {seconds:.2f} s (at most {bound} s)")
-    return f"{what} took {seconds:.2f} s (at most {bound} s)"
+from tests.studio.checks import Failed, arguments, beside, judge_each, require, within
+from tests.studio.policy import policy, row, WORK
+from tests.studio.program import LOCKS, Server, lock, message, put
 
 
 def check_pipelined(server, _):
@@ -213,11 +48,8 @@ def check_keep_alive(server, _):
         except (Failed, OSError) as fault:
             faults.append(str(fault))
 
-    threads = [threading.Thread(target=act, args=(number,)) for number in range(8)]
-    for thread in threads:
-        thread.start()
-    for thread in threads:
-        thread.join()
+    with beside(*(lambda _, number=number: act(number) for number in range(8))):
+        pass
     for client in clients:
         client.close()
     require(not faults, "; ".join(faults))
@@ -271,33 +103,29 @@ def ask_always(server, is_over, counts):
         counts["whole"] += 1
 
 
+def raise_limit():
+    """Lets this process have as many files as it may."""
+    resource.setrlimit(resource.RLIMIT_NOFILE, (resource.getrlimit(resource.RLIMIT_NOFILE)[1],) * 2)
+
+
 def check_crowd(server, _):
     """Locks beside clients that send nothing, half a head, a byte a second, and request after request."""
-    resource.setrlimit(resource.RLIMIT_NOFILE, (resource.getrlimit(resource.RLIMIT_NOFILE)[1],) * 2)
-    is_over, counts, times = threading.Event(), collections.Counter(), []
-    silent = [server.client() for _ in range(200)]
-    halves = [server.client() for _ in range(200)]
-    for client in halves:
-        client.send(lock("art/half")[:60])
-    threads = [threading.Thread(target=drip, args=(server, number, is_over)) for number in range(50)]
-    threads.append(threading.Thread(target=ask_always, args=(server, is_over, counts)))
-    for thread in threads:
-        thread.start()
-    try:
-        time.sleep(1)
-        for number in range(50):
-            times.append(server.time_of_lock(f"art/{number}"))
-        with server.client() as client:
+    raise_limit()
+    counts, times = collections.Counter(), []
+    slow = [lambda is_over, number=number: drip(server, number, is_over) for number in range(50)]
+    with contextlib.ExitStack() as held:
+        clients = [held.enter_context(server.client()) for _ in range(400)]
+        for client in clients[200:]:
+            client.send(lock("art/half")[:60])
+        with beside(*slow, lambda is_over: ask_always(server, is_over, counts)):
+            time.sleep(1)
             for number in range(50):
-                begun = time.monotonic()
-                require(client.ask(lock(f"art/kept/{number}"))[0] == 201, "a lock was not made")
-                times.append(time.monotonic() - begun)
-    finally:
-        is_over.set()
-        for thread in threads:
-            thread.join()
-    for client in silent + halves:
-        client.close()
+                times.append(server.time_of_lock(f"art/{number}"))
+            with server.client() as client:
+                for number in range(50):
+                    begun = time.monotonic()
+                    require(client.ask(lock(f"art/kept/{number}"))[0] == 201, "a lock was not made")
+                    times.append(time.monotonic() - begun)
     median = sorted(times)[len(times) // 2]
     require(counts["whole"] == 1 and counts["busy"] >= 20, "the busy client was not served to its end")
     return (f"{within(max(times), 0.1, 'the slowest of 100 locks beside 451 clients')}, the median {median * 1e3:.1f} ms; "
@@ -306,8 +134,7 @@ def check_crowd(server, _):
 
 def check_late(server, _):
     """Clients whose first byte comes some time after they connect, as those of a busy proxy may, beside busy ones."""
-    is_over, counts, faults = threading.Event(), collections.Counter(), []
-    busy = [threading.Thread(target=ask_always, args=(server, is_over, counts)) for _ in range(4)]
+    counts, faults = collections.Counter(), []
 
     def ask(delay, number):
         try:
@@ -320,21 +147,17 @@ def check_late(server, _):
             faults.append(f"after {delay} s: {fault}")
 
     delays = [0, 0.1, 0.2, 0.3, 0.4, 0.5]
-    threads = [threading.Thread(target=ask, args=(delay, number)) for delay in delays for number in range(6)]
-    for thread in busy + threads:
-        thread.start()
-    for thread in threads:
-        thread.join()
-    is_over.set()
-    for thread in busy:
-        thread.join()
-    require(not faults and counts["whole"] == 4, f"{len(faults)} failed: {faults[:3]}; {counts['whole']} of 4 busy ones did not")
-    return f"{counts['asked']} of 360 requests, {len(threads) // len(delays) * 10} each with a first byte after {delays} s"
+    late = [lambda _, it=(delay, number): ask(*it) for delay in delays for number in range(6)]
+    with beside(*[lambda is_over: ask_always(server, is_over, counts)] * 4), beside(*late):
+        pass
+    require(not faults and counts["whole"] == 4,
+            f"{len(faults)} failed: {faults[:3]}; {counts['whole']} of 4 busy ones did not")
+    return f"{counts['asked']} of 360 requests, {len(late) // len(delays) * 10} each with a first byte after {delays} s"
 
 
 def check_many(server, _):
     """More clients than there may be connections; and more than the system allows the server."""
-    resource.setrlimit(resource.RLIMIT_NOFILE, (resource.getrlimit(resource.RLIMIT_NOFILE)[1],) * 2)
+    raise_limit()
     with contextlib.ExitStack() as open_clients:
         first = open_clients.enter_context(server.client())
         for _ in range(1_200):
@@ -354,17 +177,13 @@ def check_many(server, _):
 def check_expiry(server, _):
     """A token that expires while its connection is open is refused there."""
     server.end(signal.SIGTERM)
-    policy = Path(f"{server.room}/policy.toml")
-    policy.write_text(policy.read_text().replace("token_seconds = 86400", "token_seconds = 60"))
-    Path(f"{server.room}/random").write_bytes(b"\xbb" * 32)
-    then = int(time.time()) - 57
-    words = ["authenticate", *server.files(), "--user", "ann", "--random", f"{server.room}/random", "--now", str(then)]
-    subprocess.run([server.program, *words, "studio/film", "upload"], check=True, stdout=subprocess.DEVNULL)
+    server.set_policy(policy([row("allow", ["ann"], WORK)], seconds=60))
+    server.issue("b", "--now", str(int(time.time()) - 57))
     server.start()
     with server.client() as client:
         found = []
         for _ in range(6):
-            found.append(client.ask(message("GET", TARGET, letter="b"))[0])
+            found.append(client.ask(message("GET", LOCKS, token="b"))[0])
             time.sleep(1)
     require(found[0] == 200 and found[-1] == 401, f"the replies were {found}")
     return f"the replies of 6 seconds over one connection were {found}"
@@ -376,12 +195,10 @@ def check_busy(server, _):
     server.idle = 2
     server.start()
     data, half = os.urandom(200_000), lock("art/half")
-    put = message("PUT", f"/studio/film.git/info/lfs/content/{hashlib.sha256(data).hexdigest()}",
-                  more=f"Content-Length: {len(data)}\r\n")
     with server.client() as idle, server.client() as other, server.client() as slow:
         require(idle.ask(lock("art/hero"))[0] == 201, "a lock was not made")
         other.send(half[:60])
-        slow.send(put)
+        slow.send(put(data)[:-len(data)])
         for at in range(0, len(data), 25_000):
             slow.send(data[at : at + 25_000])
             time.sleep(0.5)
@@ -402,7 +219,7 @@ def check_no_reader(server, _):
     silent.setsockopt(socket.SOL_SOCKET, socket.SO_RCVBUF, 4096)
     silent.connect(("127.0.0.1", server.port))
     silent.setblocking(False)
-    wanted = message("GET", TARGET + "?limit=100") * 2000
+    wanted = message("GET", LOCKS + "?limit=100") * 2000
     begun, worst, count = time.monotonic(), 0, 0
     try:
         while "WriteFailed" not in server.errors() and time.monotonic() - begun < 60:
@@ -423,7 +240,7 @@ def check_reset(server, _):
             require(client.ask(lock(f"art/{number}"))[0] == 201, "a lock was not made")
     for _ in range(20):
         client = server.client()
-        client.send(message("GET", TARGET + "?limit=100") * 50)
+        client.send(message("GET", LOCKS + "?limit=100") * 50)
         client.socket.recv(100)
         client.reset()
     result = within(server.time_of_lock("art/hero"), 2, "a lock after 20 resets")
@@ -436,7 +253,7 @@ def check_early_reply(server, _):
     body = b"x" * 5_000_000
     for number in range(20):
         with server.client() as client:
-            head = f"POST {TARGET} HTTP/1.1\r\nContent-Length: {len(body)}\r\n\r\n".encode()
+            head = f"POST {LOCKS} HTTP/1.1\r\nContent-Length: {len(body)}\r\n\r\n".encode()
             client.send(head + body)
             status, _ = client.reply()
             require(status == 413, f"try {number} got {status}")
@@ -444,7 +261,7 @@ def check_early_reply(server, _):
 
 
 def load(server, number, answered, is_over):
-    """Locks paths until the connection fails. A path is answered once its reply was read."""
+    """Locks paths until it is over. A path is answered once its reply was read."""
     count = 0
     while not is_over.is_set():
         try:
@@ -462,15 +279,10 @@ def check_killed(server, options, kind=signal.SIGKILL):
     """A server that is ended in mid-load: after a restart each lock that was answered exists."""
     answered = []
     for number in range(options.rounds):
-        is_over = threading.Event()
-        threads = [threading.Thread(target=load, args=(server, f"{number}.{it}", answered, is_over)) for it in range(3)]
-        for thread in threads:
-            thread.start()
-        time.sleep(random.uniform(0.1, 0.6))
-        took = server.end(kind)
-        is_over.set()
-        for thread in threads:
-            thread.join()
+        names = [f"{number}.{it}" for it in range(3)]
+        with beside(*(lambda is_over, name=name: load(server, name, answered, is_over) for name in names)):
+            time.sleep(random.uniform(0.1, 0.6))
+            took = server.end(kind)
         require(took < 2, f"the server ended after {took:.2f} s")
         server.start()
     require(answered, "no lock was answered")
@@ -529,45 +341,22 @@ CHECKS = {
 }
 
 
-def judge(name, act):
-    """Calls the check, and prints its line. Returns whether it passed."""
-    try:
-        print(f"ok   {name}: {act()}", flush=True)
-        return True
-    except (Failed, OSError, subprocess.SubprocessError) as fault:
-        print(f"FAIL {name}: {fault}", flush=True)
-        return False
-
-
-def summary(results):
-    """Prints how many checks passed, and returns the status."""
-    print(f"{sum(results)} passed, {len(results) - sum(results)} failed")
-    return 0 if all(results) else 1
-
-
-def run(check, options, policy):
-    """Runs a check on a new database, and returns what it measured."""
-    with tempfile.TemporaryDirectory() as room, Server(options.program, room, policy) as server:
+def run(check, options):
+    """Runs a check on a new database. Returns what it measured."""
+    with tempfile.TemporaryDirectory() as room, Server(options.program, room) as server:
         result = check(server, options)
         require(server.child.poll() is None, "the server has ended")
         return result
 
 
-def run_all(checks, options, policy=POLICY):
-    """Runs the checks that the options name, or all, and prints how many passed. Returns the status."""
-    options.program = os.path.abspath(options.program)
-    names = options.only or list(checks)
-    return summary([judge(name, lambda: run(checks[name], options, policy)) for name in names])
-
-
 def main():
-    parser = argparse.ArgumentParser(description=__doc__.splitlines()[0])
-    parser.add_argument("--program", default=str(TOP / "bin/custody"), help="the program [default: bin/custody]")
-    parser.add_argument("--only", action="append", choices=CHECKS, help="only this check")
+    """Runs the checks."""
+    parser = arguments(__doc__, CHECKS)
     parser.add_argument("--rounds", type=int, default=10, help="how often a server is ended in mid-load")
-    parser.add_argument("--connections", type=int, default=10_000)
-    parser.add_argument("--requests", type=int, default=1_000_000)
-    return run_all(CHECKS, parser.parse_args())
+    parser.add_argument("--connections", type=int, default=10_000, help="how many connections the check `load` makes")
+    parser.add_argument("--requests", type=int, default=1_000_000, help="how many requests the check `load` sends")
+    options = parser.parse_args()
+    return judge_each(CHECKS, options, lambda name: run(CHECKS[name], options))
 
 
 if __name__ == "__main__":

@@ -1,8 +1,10 @@
 """How a check fails, and how checks are counted and printed; the arguments that each suite has."""
 import argparse
+import contextlib
 import os
 import subprocess
 import sys
+import threading
 
 from tests.studio.program import TOP
 
@@ -49,6 +51,29 @@ class Checks:
         """Prints how many checks passed. Returns the status of the suite."""
         print(f"{self.passed} passed, {self.failed} failed", flush=True)
         return 1 if self.failed or not self.passed else 0
+
+
+def judge_each(names, options, act):
+    """Judges `act` of each of the names, or of those that the options name. Returns the status of the suite."""
+    checks = Checks()
+    for name in options.only or names:
+        checks.judge(name, lambda: act(name))
+    return checks.end()
+
+
+@contextlib.contextmanager
+def beside(*acts):
+    """Calls the acts beside the block, each in a thread and with an event, which is set when the block has ended."""
+    is_over = threading.Event()
+    threads = [threading.Thread(target=act, args=(is_over,)) for act in acts]
+    for thread in threads:
+        thread.start()
+    try:
+        yield threads
+    finally:
+        is_over.set()
+        for thread in threads:
+            thread.join()
 
 
 def arguments(says, names=None):

@@ -2,6 +2,7 @@
 
 FILM, GAME, ART = "studio/film", "studio/game", "studio/art"
 BASE = "https://lfs.example"
+MAIN = "refs/heads/main"
 WORK = ("pull", "push", "list", "lock")
 DAY = 86_400
 
@@ -18,9 +19,14 @@ def row(effect, users, rights, repos=(FILM,), refs=("*",), paths=("*",)):
     return f'\n[[row]]\neffect = "{effect}"\n{lines}'
 
 
+def repo(name, quota=100_000_000_000, ref=MAIN):
+    """A repository with its default branch."""
+    return f'\n[[repo]]\nname = "{name}"\ndefault_ref = "{ref}"\nquota = {quota}\n'
+
+
 def policy(rows, base=BASE, seconds=DAY, quota=100_000_000_000, repos=(FILM,)):
-    """A policy whose repositories have this quota each."""
-    tables = "".join(f'\n[[repo]]\nname = "{it}"\ndefault_ref = "refs/heads/main"\nquota = {quota}\n' for it in repos)
+    """A policy whose repositories have this quota each; the rows may have others among them."""
+    tables = "".join(repo(it, quota) for it in repos)
     return f'base = "{base}"\ntoken_seconds = {seconds}\n{tables}{"".join(rows)}'
 
 

@@ -2,7 +2,7 @@
 import contextlib
 import hashlib
 import json
-import os
+import select
 import signal
 import socket
 import struct
@@ -14,6 +14,8 @@ from tests.studio.policy import FILM, open_policy
 
 TOP = Path(__file__).resolve().parent.parent.parent
 CHUNK = 65_536
+# A moment that is long past, and the last one that there is.
+NOW, LAST = 1_463_500_146, 253_402_300_799
 
 
 def free_port():
@@ -78,9 +80,9 @@ class Client:
         """Sends all of the bytes."""
         self.socket.sendall(data)
 
-    def more(self):
+    def more(self, most=1 << 16):
         """Reads some bytes of a reply."""
-        piece = self.socket.recv(1 << 16)
+        piece = self.socket.recv(most)
         if not piece:
             raise Closed("the server closed the connection before a reply")
         self.rest += piece
@@ -97,8 +99,10 @@ class Client:
         """The status and the body of the next reply."""
         lines, length = self.head()
         while len(self.rest) < length:
-            self.more()
-        body, self.rest = bytes(self.rest[:length]), self.rest[length:]
+            self.more(1 << 20)
+        with memoryview(self.rest) as view:
+            body = bytes(view[:length])
+        del self.rest[:length]
         return int(lines[0].split(b" ")[1]), body
 
     def ask(self, data):
@@ -122,26 +126,64 @@ class Client:
         self.close()
 
 
-class Server:
-    """A server in a folder of its own, whose user ann has the token of 64 times the letter a."""
+def run(words, given=b"", **more):
+    """Runs the words. Returns the status, the output and the error stream."""
+    ran = subprocess.run(words, input=given, capture_output=True, check=False, **more)
+    return ran.returncode, ran.stdout.decode(errors="replace"), ran.stderr.decode(errors="replace")
 
-    def __init__(self, program, room, policy=None, idle=10):
-        self.program, self.room, self.idle, self.more = program, room, idle, []
-        Path(f"{room}/policy.toml").write_text(policy or open_policy(), encoding="utf-8")
-        self.issue("a")
-        self.port = free_port()
-        self.start()
 
-    def issue(self, letter, *more, user="ann", repo=FILM):
-        """Stores the token of 64 times the letter, over the files: of a server that does not run."""
-        random = Path(f"{self.room}/random")
-        random.write_bytes(bytes.fromhex(letter * 64))
-        words = ["authenticate", *self.files(), "--user", user, "--random", str(random), *more, repo, "upload"]
-        subprocess.run([self.program, *words], check=True, stdout=subprocess.DEVNULL)
+class Files:
+    """A database and a policy in a folder, and commands over them."""
+
+    def __init__(self, program, room, policy=None, database="custody.db"):
+        self.program, self.room, self.database = program, room, f"{room}/{database}"
+        self.set_policy(policy or open_policy())
+
+    def set_policy(self, text):
+        """Writes the policy."""
+        Path(f"{self.room}/policy.toml").write_text(text, encoding="utf-8")
 
     def files(self):
         """The words that name the database and the policy."""
-        return ["--db", f"{self.room}/custody.db", "--policy", f"{self.room}/policy.toml"]
+        return ["--db", self.database, "--policy", f"{self.room}/policy.toml"]
+
+    def over_files(self, name, *more, given=b"", with_policy=False):
+        """Runs a command over the files. Returns the status, the output and the error stream."""
+        files = self.files() if with_policy else self.files()[:2]
+        return run([self.program, name, *files, *more], given)
+
+    def issue(self, letter, *more, user="ann", repo=FILM, operation="upload"):
+        """Stores the token of 64 times the letter. No server may run."""
+        random = Path(f"{self.room}/random")
+        random.write_bytes(bytes.fromhex(letter * 64))
+        words = ["authenticate", *self.files(), "--user", user, "--random", str(random), *more, repo, operation]
+        subprocess.run([self.program, *words], check=True, stdout=subprocess.DEVNULL)
+
+    def session_words(self, now=NOW):
+        """The words of a session at a moment."""
+        return [self.program, "session", *self.files(), "--now", str(now)]
+
+    def session(self, stream, now=NOW):
+        """What a session replies to the stream at a moment."""
+        return subprocess.run(self.session_words(now), input=stream, check=True, stdout=subprocess.PIPE).stdout
+
+
+class NotStarted(OSError):
+    """A server ended before it listened."""
+
+
+class Server(Files):
+    """A server in a folder of its own, whose user ann has the token of 64 times the letter a."""
+
+    # After how many seconds without a line a start has failed.
+    patience = 60
+
+    def __init__(self, program, room, policy=None, idle=10, more=(), database="custody.db"):
+        super().__init__(program, room, policy, database)
+        self.idle, self.more = idle, list(more)
+        self.issue("a")
+        self.port = free_port()
+        self.start()
 
     def control(self):
         """The control socket, if the server has one."""
@@ -157,9 +199,12 @@ class Server:
         words = [self.program, "serve", *self.files(), "--listen", address, "--idle", str(self.idle), *self.more]
         with self.error_stream() as errors:
             self.child = subprocess.Popen(words, stdout=subprocess.PIPE, stderr=errors)
+        if not select.select([self.child.stdout], [], [], self.patience)[0]:
+            self.child.kill()
+            raise OSError("the server prints nothing")
         line = self.child.stdout.readline()
         if line != f"listening on {address}\n".encode():
-            raise OSError(f"the server printed {line!r}")
+            raise NotStarted(f"the server printed {line!r}")
 
     def end(self, kind=signal.SIGKILL):
         """Sends the signal. Returns after how many seconds the server has ended."""

@@ -23,3 +23,8 @@ def read_copy(path, statements):
     """What sqlite3 prints for the statements, of a copy of the database and its log."""
     with tempfile.TemporaryDirectory() as folder:
         return sqlite3(copied(path, folder), statements)
+
+
+def has_begun(path):
+    """Whether the database has the first chunk of an upload that is not complete."""
+    return read_copy(path, "SELECT count(*) FROM uploads, chunks WHERE upload = id AND done = 0;") == "1\n"

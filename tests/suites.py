@@ -1,0 +1,113 @@
+"""The suites: what each tries, what it needs, how long it takes, and the arguments of its short form."""
+import importlib.util
+import os
+import shutil
+from dataclasses import dataclass
+
+# Each Debian package, and the command, module of Python or folder by which it is found.
+PACKAGES = {
+    "chromium": "chromium",
+    "chromium-driver": "chromedriver",
+    "curl": "curl",
+    "debootstrap": "debootstrap",
+    "git": "git",
+    "git-lfs": "git-lfs",
+    "golang-github-git-lfs-git-lfs-dev": "/usr/share/gocode/src/github.com/git-lfs/git-lfs",
+    "iproute2": "ss",
+    "nginx": "nginx",
+    "openssh-server": "sshd",
+    "openssl": "openssl",
+    "pandoc": "pandoc",
+    "python3-jsonschema": "module jsonschema",
+    "python3-selenium": "module selenium",
+    "rt": "rt",
+    "sqlite3": "sqlite3",
+    "strace": "strace",
+    "systemd-container": "systemd-nspawn",
+}
+# A short form needs no other package than these, and not root.
+QUICK = {"git", "git-lfs", "sqlite3"}
+PATH = os.environ.get("PATH", os.defpath) + ":/usr/sbin:/sbin"
+
+
+def is_installed(package):
+    """Whether the package is there."""
+    found = PACKAGES[package]
+    if found.startswith("module "):
+        return importlib.util.find_spec(found.removeprefix("module ")) is not None
+    return os.path.isdir(found) if found.startswith("/") else shutil.which(found, path=PATH) is not None
+
+
+@dataclass(frozen=True)
+class Suite:
+    """A row of the table. `quick` has the arguments of the short form, if there is one."""
+
+    name: str
+    module: str
+    sentence: str
+    minutes: float
+    packages: tuple = ()
+    root: bool = False
+    quick: tuple = None
+
+    def missing(self, quick=False):
+        """Why the suite cannot run, or None."""
+        packages = [it for it in self.packages if not is_installed(it) and (it in QUICK or not quick)]
+        if packages:
+            return f"{', '.join(packages)} {'is' if len(packages) == 1 else 'are'} not installed"
+        return "only root can run it" if self.root and os.geteuid() != 0 else None
+
+    def needs(self):
+        """What the suite needs, as a text."""
+        return ", ".join([*(["root"] if self.root else []), *self.packages]) or "nothing more"
+
+
+def only(*checks):
+    """The arguments for these checks alone."""
+    return tuple(word for check in checks for word in ("--only", check))
+
+
+SUITES = [
+    Suite("sessions", "tests.agree.sessions", "Random streams of requests get the replies that the protocol states.",
+          1, quick=("--seconds", "5")),
+    Suite("foresights", "tests.agree.foresights", "`custody foresee` prints the replies that the protocol states.",
+          1, quick=("--seconds", "5")),
+    Suite("walks", "tests.agree.walks", "Pages of locks that change show each lock that is there at every page.",
+          1, quick=("--seconds", "5")),
+    Suite("policies", "tests.agree.policies", "Random policy files have the faults that the policy's page states.",
+          1, quick=("--seconds", "5")),
+    Suite("schemas", "tests.agree.schemas", "Requests and replies fit the JSON schemas of the Git LFS client.",
+          1, ("golang-github-git-lfs-git-lfs-dev", "python3-jsonschema")),
+    Suite("serve", "tests.server.serve", "A server has clients that are slow, silent, busy, gone or many.",
+          3, quick=("--rounds", "1", "--connections", "200", "--requests", "20000",
+                    *only("pipelined", "keep-alive", "one-connection", "idle-end", "early-reply", "reset", "killed",
+                          "terminated", "load"))),
+    Suite("control", "tests.server.control", "Commands by the control socket act beside the clients of a server.",
+          5, ("strace",)),
+    Suite("objects", "tests.server.objects", "Objects of 0 bytes to 256 MiB are stored whole, and cut ones are not.",
+          2, ("sqlite3",), quick=only("stopped", "repositories", "refused")),
+    Suite("transfers", "tests.server.transfers", "Git LFS pushes, clones and fetches 200 files of 1 byte to 50 MB.",
+          2, ("git", "git-lfs")),
+    Suite("load", "tests.server.load", "200 clients through nginx and 50 without it push, pull and lock.",
+          2, ("nginx", "openssl", "iproute2")),
+    Suite("full", "tests.server.full", "A server on a full disk loses nothing, and goes on once it has room.",
+          2, ("sqlite3",), root=True),
+    Suite("spoiled", "tests.server.spoiled", "The program shows no spoiled object as whole, and names each.",
+          2, ("sqlite3",), quick=("--count", "20", *only("random"))),
+    Suite("causes", "tests.server.causes", "A fault of the system is printed with its cause.",
+          1, root=True),
+    Suite("migration", "tests.server.migration", "Database files of version 1 are migrated whole, or not at all.",
+          1, ("sqlite3",), quick=("--rounds", "5")),
+    Suite("client", "tests.site.client", "Two users of Git LFS lock, list, release and push over SSH.",
+          1, ("git", "git-lfs")),
+    Suite("site", "tests.site.site", "A whole site does what the handbook says, with nginx, sshd and Git LFS.",
+          10, ("nginx", "openssh-server", "openssl", "git", "git-lfs", "curl", "sqlite3")),
+    Suite("page", "tests.site.page", "The page with the locks works in a browser.",
+          1, ("nginx", "openssl", "chromium", "chromium-driver", "python3-selenium")),
+    Suite("mirror", "tests.site.mirror", "The programs `mirror` and `unlock` copy objects and release locks.",
+          5, ("curl", "git", "git-lfs")),
+    Suite("security", "tests.site.security", "A machine with the package keeps out what the handbook says.",
+          3, ("debootstrap", "systemd-container", "pandoc", "git"), root=True),
+    Suite("allocations", "tests/allocations/refuse.sh", "Each allocation that is refused gets a stated reply.",
+          120, ("rt",)),
+]
