@@ -175,12 +175,15 @@ class Server(Files):
 
     # After how many seconds without a line a start has failed.
     patience = 60
+    # The letter of the first token, or none if nobody has a token at first.
+    letter = "a"
 
-    def __init__(self, program, room, policy=None, idle=10, more=(), database="custody.db"):
+    def __init__(self, program, room, policy=None, idle=10, more=(), database="custody.db", port=None):
         super().__init__(program, room, policy, database)
         self.idle, self.more = idle, list(more)
-        self.issue("a")
-        self.port = free_port()
+        if self.letter:
+            self.issue(self.letter)
+        self.port = port or free_port()
         self.start()
 
     def control(self):
@@ -191,17 +194,20 @@ class Server(Files):
         """The file that the server writes its faults to."""
         return open(f"{self.room}/errors", "ab")
 
+    def words(self):
+        """The words that run the server."""
+        address = f"127.0.0.1:{self.port}"
+        return [self.program, "serve", *self.files(), "--listen", address, "--idle", str(self.idle), *self.more]
+
     def start(self):
         """Starts the server, and waits until it listens."""
-        address = f"127.0.0.1:{self.port}"
-        words = [self.program, "serve", *self.files(), "--listen", address, "--idle", str(self.idle), *self.more]
         with self.error_stream() as errors:
-            self.child = subprocess.Popen(words, stdout=subprocess.PIPE, stderr=errors)
+            self.child = subprocess.Popen(self.words(), stdout=subprocess.PIPE, stderr=errors)
         if not select.select([self.child.stdout], [], [], self.patience)[0]:
             self.child.kill()
             raise OSError("the server prints nothing")
         line = self.child.stdout.readline()
-        if line != f"listening on {address}\n".encode():
+        if line != f"listening on 127.0.0.1:{self.port}\n".encode():
             raise NotStarted(f"the server printed {line!r}")
 
     def end(self, kind=signal.SIGKILL):
