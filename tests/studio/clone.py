@@ -34,7 +34,7 @@ class Workroom:
         return path
 
     def run(self, *words, folder=None, may_fail=False, given=None):
-        """Runs a command. Returns its status and what it printed. If it may not fail, its failure is one of the check."""
+        """Runs a command. Returns its status and what it printed. If it fails and may not, the check fails."""
         begun = time.monotonic()
         ran = subprocess.run(words, cwd=folder or self.room, env=self.environment, input=given, stdout=subprocess.PIPE,
                              stderr=subprocess.STDOUT, text=True, errors="replace", check=False)
@@ -71,6 +71,10 @@ class Clone:
     def git(self, *words, may_fail=False):
         """Runs Git in the clone. Returns its status and what it printed."""
         return self.place.run("git", *words, folder=self.folder, may_fail=may_fail)
+
+    def tried(self, *words):
+        """The same, of what may fail."""
+        return self.git(*words, may_fail=True)
 
     def path(self, name):
         """The path of a file."""

@@ -124,6 +124,10 @@ class Site(Workroom):
         Path(room, "state").mkdir()
         self.server = SiteServer(program, room, rows, f"https://localhost:{self.https}", database="state/custody.db")
 
+    def expect(self, is_met, what, text=""):
+        """One check."""
+        return self.checks.expect(is_met, what, text)
+
     # nginx and sshd.
 
     def start_nginx(self):
@@ -134,7 +138,8 @@ class Site(Workroom):
         site = (TOP / "deploy/nginx/site").read_text(encoding="utf-8")
         for old, new in [("127.0.0.1:8080", f"127.0.0.1:{self.server.port}"),
                          ("listen 443", f"listen 127.0.0.1:{self.https}"), ("lfs.example;", "localhost;"),
-                         ("/etc/ssl/certs/lfs.example.pem", self.certificate), ("/etc/ssl/private/lfs.example.key", key),
+                         ("/etc/ssl/certs/lfs.example.pem", self.certificate), ("/etc/ssl/private/lfs.example.key",
+                                                                                key),
                          ("/var/log/nginx", self.room), ("/var/spool/custody", f"{self.room}/spool"),
                          ("/usr/share/custody", str(TOP / "deploy/web"))]:
             require(old in site, f"deploy/nginx/site has no {old}")
@@ -226,12 +231,12 @@ class Site(Workroom):
     def reload(self):
         """Has the server read its policy again."""
         status, text = self.via("reload")
-        self.checks.expect(status == 0 and text.startswith("policy ok: "), "the policy is read again", text)
+        self.expect(status == 0 and text.startswith("policy ok: "), "the policy is read again", text)
 
     def lock(self, user, path, ref=MAIN):
         """Locks a path for the user, as a client does."""
         status = self.server.lock(path, self.server.token(user=user), ref)
-        self.checks.expect(status == 201, f"{user} locks {path} on {ref}", str(status))
+        self.expect(status == 201, f"{user} locks {path} on {ref}", str(status))
 
     def release_all(self):
         """Releases each lock, by ann's right to force."""
