@@ -161,7 +161,7 @@ def try_room(site, book):
     slowest = [it.split() for it in printed.splitlines() if re.match(r"\d+\.\d+ \d{3} ", it)]
     times = [float(it[0]) for it in slowest]
     site.expect("custody_busy_seconds_total" in printed and times and times == sorted(times, reverse=True),
-               f"the slowest requests are listed, from {times[:1]} s on", printed)
+                f"the slowest requests are listed, from {times[:1]} s on", printed)
 
 
 def damage(site, seed):
@@ -195,7 +195,7 @@ def try_copies(site, book):
     printed = book.run("Copies elsewhere")
     found = [it for it in Path(site.room, "backup/film/objects").rglob("*") if re.fullmatch(r"[0-9a-f]{64}", it.name)]
     site.expect(f"copied {site.count()} objects" in printed and len(found) == site.count(),
-               printed.strip().splitlines()[-1], printed)
+                printed.strip().splitlines()[-1], printed)
     book.change_policy(FORCE, row("allow", ["mirror"], ["pull", "push"]), row("allow", ["ann", "zoe"], WORK))
     damage(site, 2)
     status, text = site.via("repair")

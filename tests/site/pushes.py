@@ -84,7 +84,7 @@ def try_locked(site, pushes):
     pushes.commit()
     status, text = pushes.git("-c", "lfs.locksverify=false", "push", "origin", "main", may_fail=True)
     site.expect(status != 0 and locked in text and "Nothing was pushed" in text,
-               "a client that verifies no locks is refused", text)
+                "a client that verifies no locks is refused", text)
     pushes.refused("and one that runs no hook", [locked])
     pushes.git("branch", "-f", "side", "origin/main")
     pushes.refused("with all that it pushes", [locked], "main", "side")

@@ -110,7 +110,7 @@ def try_transfers(site):
     began = time.monotonic()
     status, text = site.bob.tried("pull", "-q")
     site.expect(same_files(site.ann, site.bob, "many") and same_files(site.ann, site.bob, "large"),
-               f"and pulled, in {time.monotonic() - began:.1f} s", text)
+                f"and pulled, in {time.monotonic() - began:.1f} s", text)
 
 
 def try_tokens(site):
@@ -168,7 +168,7 @@ def try_backup(site):
     Path(site.room, "backups").mkdir()
     began, least = time.monotonic(), site.count()
     words = [TOP / "deploy/programs/backup", site.server.control(), site.server.database, f"{site.room}/backups", "2"]
-    ran = site.run("env", f"CUSTODY={site.server.program}", *map(str, words), may_fail=True)
+    ran = site.run("env", f"CUSTODY={site.server.program}", *words, may_fail=True)
     taken, most = time.monotonic() - began, site.count()
     status, text = pushed()
     site.expect(ran[0] == 0, f"a copy is made during a push, and checked, in {taken:.1f} s: {ran[1].strip()}", ran[1])

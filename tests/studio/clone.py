@@ -35,7 +35,7 @@ class Workroom:
 
     def run(self, *words, folder=None, may_fail=False, given=None):
         """Runs a command. Returns its status and what it printed. If it fails and may not, the check fails."""
-        begun = time.monotonic()
+        words, begun = [str(it) for it in words], time.monotonic()
         ran = subprocess.run(words, cwd=folder or self.room, env=self.environment, input=given, stdout=subprocess.PIPE,
                              stderr=subprocess.STDOUT, text=True, errors="replace", check=False)
         if self.shows:
