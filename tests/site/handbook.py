@@ -23,13 +23,21 @@ FORCE = row("allow", ["ann"], ["force"])
 STAND_INS = ("systemctl", "runuser", "apt", "editor", "id", "ssh")
 SYSTEMCTL = """#!/bin/sh
 set -eu
+serve() {
+    nohup @serve > @room/unit.log 2>&1 &
+    server=$!
+}
 case $1 in
 stop) custody stop --via @room/control ;;
 start)
-    nohup @serve > @room/unit.log 2>&1 &
-    until grep -q '^listening' @room/unit.log 2> /dev/null && custody status --via @room/control > /dev/null 2>&1; do
+    serve
+    for _ in $(seq 300); do
+        ! grep -qs '^listening' @room/unit.log || ! custody status --via @room/control > /dev/null 2>&1 || exit 0
         sleep 0.1
+        # The unit starts it again, if it has ended.
+        kill -0 "$server" 2> /dev/null || serve
     done
+    exit 1
     ;;
 restart) "$0" stop && "$0" start ;;
 reload) custody reload --via @room/control ;;

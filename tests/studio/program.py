@@ -2,6 +2,7 @@
 import contextlib
 import hashlib
 import json
+import random
 import select
 import signal
 import socket
@@ -14,14 +15,18 @@ from tests.studio.policy import FILM, open_policy
 
 TOP = Path(__file__).resolve().parent.parent.parent
 CHUNK = 65_536
+# Linux gives its clients ports from 32,768 on.
+PORTS = (20_000, 32_768)
 # A moment that is long past, and the last one that there is.
 NOW, LAST = 1_463_500_146, 253_402_300_799
 
 
 def free_port():
-    """A port of this machine that nobody listens on."""
-    with socket.create_server(("127.0.0.1", 0)) as probe:
-        return probe.getsockname()[1]
+    """A port of this machine that nobody listens on, and that the system gives to no client by itself."""
+    while True:
+        port = random.randrange(*PORTS)
+        with contextlib.suppress(OSError), socket.create_server(("127.0.0.1", port)):
+            return port
 
 
 def target(rest, repo=FILM):
@@ -152,9 +157,9 @@ class Files:
 
     def issue(self, letter, *more, user="ann", repo=FILM, operation="upload"):
         """Stores the token of 64 times the letter. No server may run."""
-        random = Path(f"{self.room}/random")
-        random.write_bytes(bytes.fromhex(letter * 64))
-        words = ["authenticate", *self.files(), "--user", user, "--random", str(random), *more, repo, operation]
+        digits = Path(f"{self.room}/random")
+        digits.write_bytes(bytes.fromhex(letter * 64))
+        words = ["authenticate", *self.files(), "--user", user, "--random", str(digits), *more, repo, operation]
         subprocess.run([self.program, *words], check=True, stdout=subprocess.DEVNULL)
 
     def session_words(self, now=NOW):
