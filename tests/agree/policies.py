@@ -1,32 +1,30 @@
-#!/usr/bin/env python3
 """Compares the fault that `custody session` reports of random policy files with a second reading of docs/POLICY.md.
 
-The reading below is written from that document alone, over Python's own reader of TOML. It prints the
-first file on which the two differ, and ends with status 1; else how many agreed.
-
-    compare_policies.py PROGRAM [SECONDS [SEED]]
+The reading below is written from that document alone, over Python's own reader of TOML. The first file on which the two
+differ fails the check.
 """
 import random
 import re
-import subprocess
 import sys
 import tempfile
 import time
 import tomllib
+from pathlib import Path
 
-sys.dont_write_bytecode = True
-from needs import program_given
+from tests.agree.both import comparison, counted, report, until
+from tests.studio.policy import repo, row
+from tests.studio.program import Files, run
 
 NAME = r"[a-z0-9_-]{1,40}"
 RIGHTS = ["pull", "push", "list", "lock", "force"]
-PLAIN_ROW = """[[row]]
-effect = "allow"
-users = ["a"]
-repos = ["a/"]
-refs = ["*"]
-paths = ["*"]
-rights = ["pull"]
-"""
+PLAIN_ROW = row("allow", ["a"], ["pull"], repos=["a/"]).lstrip()
+# What texts and numbers are bent to; a long text is put into the place of LONG.
+TEXTS = [*('"%s"' % it for it in ("LONG", "refs/LONG", "LONG/b", "a/LONG", "", "*", "a b", "A", "é", "a//b", "../a",
+                                  "refs/a..b", "a\\\\b")),
+         "1", "true", "1.0", "[]", '["a"]', "{}", "1979-05-27", "'a'", '"\\u0041"', '"']
+NUMBERS = ["0", "-1", "1.0", "1e3", '"1"', "0x10", "1_000", "9223372036854775807", "9223372036854775808", "+5", "05",
+           "inf", "[1]"]
+BYTES = [0, 9, 10, 13, 32, 34, 35, 61, 91, 93, 127, 128, 255]
 
 
 class Faulty(Exception):
@@ -34,16 +32,19 @@ class Faulty(Exception):
 
 
 def check(holds, fault):
+    """Raises the fault unless it holds."""
     if not holds:
         raise Faulty(fault)
 
 
 def is_ref(text):
+    """Whether the text is the name of a ref."""
     is_clean = re.fullmatch(r"refs/[A-Za-z0-9/._-]+", text) and ".." not in text
     return bool(is_clean) and len(text) <= 255 and "" not in text.split("/")
 
 
 def is_path(text):
+    """Whether the text is a path."""
     is_clean = not re.search(r"[\x00-\x1f\x7f\\]", text) and not {"", ".", ".."} & set(text.split("/"))
     return is_clean and 1 <= len(text.encode()) <= 1024
 
@@ -61,6 +62,7 @@ def is_entry(key, text):
 
 
 def is_whole(value, least, most):
+    """Whether the number is within the bounds."""
     return least <= value <= most
 
 
@@ -123,61 +125,21 @@ class Maker:
         self.random = random.Random(seed)
 
     def one(self, usual, *others):
+        """The usual one, or in some cases one of the others."""
         return usual if self.random.random() < 0.97 else self.random.choice(others)
 
     def text(self, *texts):
         """One of the texts as TOML has it, or another kind of value."""
         text = self.random.choice(texts)
         long = "a" * self.random.choice([40, 41, 250, 251, 1024, 1025])
-        bent = [
-            long,
-            f"refs/{long}",
-            f"{long}/b",
-            f"a/{long}",
-            "",
-            "*",
-            "a b",
-            "A",
-            "é",
-            "a//b",
-            "../a",
-            "refs/a..b",
-            "a\\\\b",
-        ]
-        other = [
-            *(f'"{it}"' for it in bent),
-            "1",
-            "true",
-            "1.0",
-            "[]",
-            '["a"]',
-            "{}",
-            "1979-05-27",
-            "'a'",
-            '"\\u0041"',
-            '"',
-        ]
-        return self.one(f'"{text}"', *other)
+        return self.one(f'"{text}"', *(it.replace("LONG", long) for it in TEXTS))
 
     def number(self, *numbers):
-        other = [
-            "0",
-            "-1",
-            "1.0",
-            "1e3",
-            '"1"',
-            "0x10",
-            "1_000",
-            "9223372036854775807",
-            "9223372036854775808",
-            "+5",
-            "05",
-            "inf",
-            "[1]",
-        ]
-        return self.one(str(self.random.choice(numbers)), *other)
+        """One of the numbers, or another value."""
+        return self.one(str(self.random.choice(numbers)), *NUMBERS)
 
     def texts(self, *texts):
+        """A list of some of the texts, or another value."""
         count = self.one(self.random.choice([1, 2, 3]), 0, 64, 65)
         items = [self.text(*texts) for _ in range(count)]
         return self.one("[" + ", ".join(items) + "]", *items, "[[]]", "[1]", "1", '["a",]', "[\n]")
@@ -190,18 +152,16 @@ class Maker:
         return "\n".join(lines) + "\n"
 
     def repo(self):
+        """A repository."""
         head = self.one("[[repo]]\n", "[repo]\n", "[[repos]]\n", "[[repo.a]]\n")
         names = ("studio/film", "a/b", "studio/score", "x/y", "z_-/0")
         refs = ("refs/heads/main", "refs/a", "refs/a.b/C-9_")
-        return head + self.table(
-            [
-                ("name", self.text(*names)),
-                ("default_ref", self.text(*refs)),
-                ("quota", self.number(0, 5, 1099511627776, 1099511627777)),
-            ]
-        )
+        name, ref = self.text(*names), self.text(*refs)
+        quota = self.number(0, 5, 1099511627776, 1099511627777)
+        return head + self.table([("name", name), ("default_ref", ref), ("quota", quota)])
 
     def row(self):
+        """A row."""
         entries = [
             ("effect", self.text("allow", "deny")),
             ("users", self.texts("*", "ann", "bob", "a" * 40)),
@@ -213,6 +173,7 @@ class Maker:
         return self.one("[[row]]\n", "[row]\n", "[[rows]]\n") + self.table(entries)
 
     def file(self):
+        """A file."""
         bases = ("https://lfs.example", "http://a", "https://a:1/b", "http://" + "a" * 193, "http://" + "a" * 194)
         top = self.table([("base", self.text(*bases)), ("token_seconds", self.number(1, 3600, 86400, 86401))])
         more = self.one("", "repo = []\n", "row = []\n", "repo = [1]\n", "row = [{}]\n", "row = 1\n")
@@ -221,10 +182,7 @@ class Maker:
         if self.random.random() < 0.02:
             tables += [PLAIN_ROW] * self.random.choice([996, 1000, 1001])
         if self.random.random() < 0.02:
-            tables += [
-                f'[[repo]]\nname = "q/{at}"\ndefault_ref = "refs/a"\nquota = 1\n'
-                for at in range(self.random.choice([250, 256, 257]))
-            ]
+            tables += [repo(f"q/{at}", 1, "refs/a").lstrip() for at in range(self.random.choice([250, 256, 257]))]
         self.random.shuffle(tables)
         return self.bent((top + more + "\n".join(tables)).encode())
 
@@ -235,21 +193,16 @@ class Maker:
         if self.random.random() < 0.9:
             return source
         at = self.random.randrange(len(source) + 1)
-        byte = bytes(
-            [self.random.choice([0, 9, 10, 13, 32, 34, 35, 61, 91, 93, 127, 128, 255, self.random.randrange(256)])]
-        )
+        byte = bytes([self.random.choice([*BYTES, self.random.randrange(256)])])
         return self.random.choice([source[:at] + byte + source[at + 1 :], source[:at] + byte + source[at:]])
 
 
-def reported_by(program, room, source):
+def reported_by(files, source):
     """The fault that the program reports of the file; nothing if it reports none."""
-    with open(f"{room}/policy", "wb") as file:
-        file.write(source)
-    words = [program, "session", "--db", f"{room}/db", "--policy", f"{room}/policy", "--now", "1463500146"]
-    ran = subprocess.run(words, stdin=subprocess.DEVNULL, stdout=subprocess.PIPE, stderr=subprocess.PIPE, check=False)
-    reported = ran.stderr.decode()
-    if ran.stdout or ran.returncode != (1 if reported else 0):
-        return f"status {ran.returncode}, {ran.stdout!r}, {reported!r}"
+    Path(files.room, "policy.toml").write_bytes(source)
+    status, output, reported = run(files.session_words())
+    if output or status != (1 if reported else 0):
+        return f"status {status}, {output!r}, {reported!r}"
     return reported.removeprefix("custody: policy ").removesuffix("\n")
 
 
@@ -262,26 +215,27 @@ def wanted_of(source):
     return ""
 
 
+def compare(files, make, end):
+    """Compares files until the end. Returns how many agreed, how often each fault was found, and what differed."""
+    agreed, seen = 0, {}
+    while time.time() < end:
+        source = make.file()
+        reported, wanted = reported_by(files, source), wanted_of(source)
+        if reported != wanted:
+            return agreed, seen, f"of {source!r}\nthe program: {reported!r}\nthe document: {wanted!r}"
+        kind = re.sub(r" \d+$", "", wanted) or "none"
+        seen[kind] = seen.get(kind, 0) + 1
+        agreed += 1
+    return agreed, seen, None
+
+
 def main():
-    program = program_given()
-    seconds = float(sys.argv[2]) if len(sys.argv) > 2 else 60
-    seed = int(sys.argv[3]) if len(sys.argv) > 3 else random.randrange(2**32)
-    make, until, agreed, seen = Maker(seed), time.time() + seconds, 0, {}
+    """Compares for some time."""
+    options = comparison(__doc__).parse_args()
     with tempfile.TemporaryDirectory() as room:
-        while time.time() < until:
-            source = make.file()
-            reported, wanted = reported_by(program, room, source), wanted_of(source)
-            if reported != wanted:
-                print(f"seed {seed}, file {agreed}: {source!r}\nthe program: {reported!r}\nthe document: {wanted!r}")
-                return 1
-            kind = re.sub(r" \d+$", "", wanted) or "none"
-            seen[kind] = seen.get(kind, 0) + 1
-            agreed += 1
-    print(
-        f"seed {seed}: {agreed} files agreed; faults: "
-        + ", ".join(f"{kind} {count}" for kind, count in sorted(seen.items()))
-    )
-    return 0
+        agreed, seen, differed = compare(Files(options.program, room), Maker(options.seed), until(options))
+    return report(options, f"{agreed} files agreed; faults: {counted(seen)}", differed)
 
 
-sys.exit(main())
+if __name__ == "__main__":
+    sys.exit(main())

@@ -1,32 +1,19 @@
-#!/usr/bin/env python3
-"""Validates what `custody session` replies against the JSON schemas of the Git LFS client.
+"""Validates requests, and what `custody session` replies to them, against the JSON schemas of the Git LFS client.
 
-The schemas are in Debian's package golang-github-git-lfs-git-lfs-dev; the Python module jsonschema reads them. It
-prints each exchange with its schema, and ends with `N passed, M failed`, and with status 1 if a reply failed. It is
-not part of the gate.
-
-    check_schemas.py PROGRAM [FOLDER]
+Each exchange is a check, which fails if the request or the reply does not fit its schema.
 """
-import hashlib
 import json
-import os
-import subprocess
 import sys
 import tempfile
 
-sys.dont_write_bytecode = True
-from needs import can_retire, program_given, stop
+import jsonschema
 
-try:
-    import jsonschema
-except ImportError:
-    stop("the Python module jsonschema is missing: install it first, as by \"apt install python3-jsonschema\"")
+from tests.studio.checks import Checks, arguments, require
+from tests.studio.policy import FILM
+from tests.studio.program import NOW, TOP, Files, message, name_of, target
 
 FOLDER = "/usr/share/gocode/src/github.com/git-lfs/git-lfs"
-POLICY = os.path.join(os.path.dirname(__file__), "..", "examples", "policy.toml")
-NOW = "1463500146"
-HELLO, ABC = (hashlib.sha256(text).hexdigest() for text in (b"hello", b"abc"))
-LFS = "/studio/film.git/info/lfs"
+HELLO, ABC = map(name_of, (b"hello", b"abc"))
 REF = {"ref": {"name": "refs/heads/main"}}
 
 
@@ -37,25 +24,25 @@ def batch(operation, *objects, **more):
 
 # Method, target, body, the schema of the request, and that of the reply.
 EXCHANGES = [
-    ("POST", "/objects/batch", batch("upload", (HELLO, 5), (ABC, 3), transfers=["basic"], **REF), "batch", "batch"),
-    ("PUT", f"/content/{HELLO}", b"hello", None, None),
-    ("POST", "/objects/batch", batch("upload", (HELLO, 5), (HELLO, 6)), "batch", "batch"),
-    ("POST", "/objects/batch", batch("download", (HELLO, 5), (ABC, 3), ("xyz", 0), **REF), "batch", "batch"),
-    ("POST", "/objects/batch", batch("download", (HELLO, 5), hash_algo="sha512"), None, "batch"),
-    ("POST", "/objects/batch", batch("upload", (ABC, 4294967296), transfers=[]), "batch", "batch"),
-    ("POST", "/objects/batch", batch("upload"), "batch", "batch"),
-    ("POST", "/locks", {"path": "art/hero.psd", **REF}, "lock-create", "lock-create"),
-    ("POST", "/locks", {"path": "art/hero.psd"}, "lock-create", "lock-create"),
-    ("POST", "/locks", {"path": "art/tree.psd"}, "lock-create", "lock-create"),
-    ("GET", "/locks?limit=1", None, None, "lock-list"),
-    ("GET", "/locks", None, None, "lock-list"),
-    ("POST", "/locks/verify", {"limit": 1}, None, "lock-verify"),
-    ("POST", "/locks/1/unlock", {"force": False, **REF}, "lock-delete", None),
+    ("POST", "objects/batch", batch("upload", (HELLO, 5), (ABC, 3), transfers=["basic"], **REF), "batch", "batch"),
+    ("PUT", f"content/{HELLO}", b"hello", None, None),
+    ("POST", "objects/batch", batch("upload", (HELLO, 5), (HELLO, 6)), "batch", "batch"),
+    ("POST", "objects/batch", batch("download", (HELLO, 5), (ABC, 3), ("xyz", 0), **REF), "batch", "batch"),
+    ("POST", "objects/batch", batch("download", (HELLO, 5), hash_algo="sha512"), None, "batch"),
+    ("POST", "objects/batch", batch("upload", (ABC, 4294967296), transfers=[]), "batch", "batch"),
+    ("POST", "objects/batch", batch("upload"), "batch", "batch"),
+    ("POST", "locks", {"path": "art/hero.psd", **REF}, "lock-create", "lock-create"),
+    ("POST", "locks", {"path": "art/hero.psd"}, "lock-create", "lock-create"),
+    ("POST", "locks", {"path": "art/tree.psd"}, "lock-create", "lock-create"),
+    ("GET", "locks?limit=1", None, None, "lock-list"),
+    ("GET", "locks", None, None, "lock-list"),
+    ("POST", "locks/verify", {"limit": 1}, None, "lock-verify"),
+    ("POST", "locks/1/unlock", {"force": False, **REF}, "lock-delete", None),
 ]
 # The same, once the object of `hello` is retired.
 LATER_EXCHANGES = [
-    ("POST", "/objects/batch", batch("download", (HELLO, 5), (ABC, 3)), "batch", "batch"),
-    ("POST", "/objects/batch", batch("upload", (HELLO, 5), (ABC, 3)), "batch", "batch"),
+    ("POST", "objects/batch", batch("download", (HELLO, 5), (ABC, 3)), "batch", "batch"),
+    ("POST", "objects/batch", batch("upload", (HELLO, 5), (ABC, 3)), "batch", "batch"),
 ]
 
 
@@ -64,13 +51,6 @@ def schema(folder, name, side):
     place = "tq" if name == "batch" else "locking"
     with open(f"{folder}/{place}/schemas/http-{name}-{side}-schema.json", encoding="utf-8") as file:
         return json.load(file)
-
-
-def message(token, method, target, body):
-    """The bytes of a request."""
-    body = b"" if body is None else body if isinstance(body, bytes) else json.dumps(body).encode()
-    head = f"{method} {LFS}{target} HTTP/1.1\r\nAuthorization: Bearer {token}\r\nContent-Length: {len(body)}\r\n\r\n"
-    return head.encode() + body
 
 
 def fault(folder, name, side, value):
@@ -84,36 +64,32 @@ def fault(folder, name, side, value):
     return None
 
 
-def exchange(program, common, token, folder, row):
-    """Sends a request and prints the exchange. Returns whether a part of it does not fit its schema."""
-    method, target, body, asked, answered = row
-    stream = message(token, method, target, body)
-    ran = subprocess.run([program, "session", *common], input=stream, stdout=subprocess.PIPE, check=True)
-    head, _, reply = ran.stdout.partition(b"\r\n\r\n")
+def exchange(checks, files, folder, row):
+    """Sends a request: a check, which fails if a part of the exchange does not fit its schema."""
+    method, rest, body, asked, answered = row
+    head, _, reply = files.session(message(method, target(rest), body)).partition(b"\r\n\r\n")
     wrong = fault(folder, asked, "request", body)
     if answered:
         wrong = wrong or fault(folder, answered, "response", json.loads(reply))
     status = head.split(b"\r\n")[0].decode()
-    print(f"{method} {target}: {status}: {wrong or answered or 'no schema'}")
-    return wrong is not None
+    checks.expect(wrong is None, f"{method} {rest}: {status}: {wrong or answered or 'no schema'}")
 
 
 def main():
-    program = program_given()
-    folder = sys.argv[2] if len(sys.argv) > 2 else FOLDER
-    if not os.path.isdir(folder):
-        stop(f"there is no folder {folder}: it comes with the package golang-github-git-lfs-git-lfs-dev")
+    """Sends the requests, before and after an object is retired."""
+    parser = arguments(__doc__)
+    parser.add_argument("--folder", default=FOLDER, help=f"the source of Git LFS [default: {FOLDER}]")
+    options = parser.parse_args()
+    checks, policy = Checks(), (TOP / "examples/policy.toml").read_text(encoding="utf-8")
     with tempfile.TemporaryDirectory() as room:
-        common = ["--db", f"{room}/db", "--policy", POLICY, "--now", NOW]
-        words = [program, "authenticate", *common, "--user", "ann", "studio/film", "upload"]
-        issued = json.loads(subprocess.run(words, stdout=subprocess.PIPE, check=True).stdout)
-        token = issued["header"]["Authorization"].removeprefix("Bearer ")
-        failures = [exchange(program, common, token, folder, row) for row in EXCHANGES]
-        if can_retire(program):
-            subprocess.run([program, "retire", "--db", f"{room}/db", "--repo", "studio/film", HELLO], check=True)
-            failures += [exchange(program, common, token, folder, row) for row in LATER_EXCHANGES]
-    print(f"{failures.count(False)} passed, {failures.count(True)} failed")
-    return 1 if any(failures) else 0
+        files = Files(options.program, room, policy)
+        files.issue("a", "--now", str(NOW))
+        for row in EXCHANGES:
+            exchange(checks, files, options.folder, row)
+        require(files.over_files("retire", "--repo", FILM, HELLO)[0] == 0, "the object was not retired")
+        for row in LATER_EXCHANGES:
+            exchange(checks, files, options.folder, row)
+    return checks.end()
 
 
 if __name__ == "__main__":

@@ -1,16 +1,13 @@
-#!/usr/bin/env python3
 """Compares walks through the pages of locks of `custody session` with a second reading of docs/PROTOCOL.md.
 
 A database has about 5,000 locks of two users on three refs. Each connection has a policy of its own, most of which
 hide some of the locks, and a few walks by List and by Verify locks, whose pages have limits of 1 to 100. Between the
 pages other requests make and release locks. The cursor of each page is the one that the page before it returned, by
-the second reading, which is in protocol_reading.py.
+the second reading, which is in protocol.py.
 
 Each reply is compared as a whole with that of the reading. Then the pages of each walk are joined, as the program
-returned them: ids rise, so no lock occurs twice, and each lock that was shown at every page of the walk is there. It
-prints the first difference, and ends with status 1; else what was compared.
-
-    compare_walks.py PROGRAM [SECONDS [SEED]]
+returned them: ids rise, so no lock occurs twice, and each lock that was shown at every page of the walk is there. The
+first difference fails the check.
 """
 import json
 import random
@@ -19,12 +16,13 @@ import tempfile
 import time
 from functools import lru_cache
 
-sys.dont_write_bytecode = True
-from compare_sessions import BASE, NOW, REPOS, TOKENS, new_database, policy_text, run
-from needs import program_given
-from protocol_reading import Server, lock_id
+from tests.agree.both import REPOS, Both, comparison, policy_text, report, until
+from tests.agree.protocol import Server, lock_id
+from tests.studio.policy import FILM
+from tests.studio.program import message, target
 
-LOCKS, MESSAGES, PAGES = 5000, 400, 120
+# The requests of a connection and the pages of a walk, at most about.
+MESSAGES, PAGES = 400, 120
 LIMITS = [1, 2, 3, 7, 10, 31, 32, 33, 50, 63, 64, 65, 99, 100]
 REFS = ["refs/heads/main", "refs/heads/main", "refs/heads/main", "refs/heads/release/1", "refs/heads/x"]
 FOLDERS = ["art/", "art/old/", "secret/", "plates/", ""]
@@ -37,9 +35,9 @@ ALL_LISTED = ("allow", ["*"], ["*"], ["*"], ["*"], ["list"])
 class Reading(Server):
     """The second reading, with its answers of the policy kept: a page asks one for each lock."""
 
-    def __init__(self, tokens, rows):
-        super().__init__(BASE, REPOS, rows, tokens, NOW)
-        self.obey(rows)
+    def __init__(self, *words):
+        super().__init__(*words)
+        self.obey(self.rows)
 
     def obey(self, rows):
         """Takes another policy."""
@@ -52,7 +50,7 @@ class Walk:
 
     def __init__(self, make, server):
         choose = make.choice
-        self.user, self.repo = choose(["ann", "bob"]), "studio/film"
+        self.user, self.repo = choose(["ann", "bob"]), FILM
         self.is_list = make.random() < 0.6
         self.ref = choose([None, *REFS])
         self.path = make.path(server) if self.is_list and make.random() < 0.05 else None
@@ -81,10 +79,10 @@ class Walk:
         if self.is_list:
             values = {"path": self.path, "refspec": self.ref, "cursor": self.cursor, "limit": limit}
             query = "&".join(f"{key}={value}" for key, value in values.items() if value is not None)
-            return message(self.user, "GET", self.repo, "locks" + ("?" + query if query else ""))
+            return request(self.user, "GET", self.repo, "locks" + ("?" + query if query else ""))
         body = {"cursor": self.cursor, "limit": limit, "ref": self.ref and {"name": self.ref}}
         some = {key: value for key, value in body.items() if value is not None or make.random() < 0.1}
-        return message(self.user, "POST", self.repo, "locks/verify", some)
+        return request(self.user, "POST", self.repo, "locks/verify", some)
 
     def met(self, ids):
         """Notes what is shown at a page."""
@@ -107,7 +105,11 @@ class Walk:
 
 
 class Maker(random.Random):
-    """Makes policies, walks and changes."""
+    """Makes policies, walks and changes, of about as many locks as there are to be."""
+
+    def __init__(self, seed, locks):
+        super().__init__(seed)
+        self.locks = locks
 
     def path(self, server):
         """The path of a lock that exists, or a new one."""
@@ -128,29 +130,25 @@ class Maker(random.Random):
     def new_lock(self, server):
         """A request for a lock."""
         body = {"path": self.path(server), "ref": {"name": self.choice(REFS)}}
-        repo = self.choice(["studio/film"] * 9 + ["a/b"])
-        return message("ann" if repo == "a/b" else self.choice(["ann", "bob"]), "POST", repo, "locks", body)
+        place = self.choice([FILM] * 9 + ["a/b"])
+        return request("ann" if place == "a/b" else self.choice(["ann", "bob"]), "POST", place, "locks", body)
 
     def release(self, server, walks):
         """A request that releases a lock: any, or the one at which a walk goes on."""
-        ids = [ident for repo, ident in server.locks if repo == "studio/film"]
+        ids = [ident for repo, ident in server.locks if repo == FILM]
         cursors = [int(walk.cursor) for walk in walks if walk.cursor]
         ident = self.choice(cursors if cursors and self.random() < 0.4 else ids or [1])
-        return message(self.choice(["ann", "bob"]), "POST", "studio/film", f"locks/{ident}/unlock", {"force": True})
+        return request(self.choice(["ann", "bob"]), "POST", FILM, f"locks/{ident}/unlock", {"force": True})
 
     def change(self, server, walks):
         """A request that makes or releases a lock; there stay about as many."""
         count = len(server.locks)
-        return self.new_lock(server) if self.random() * 2 * LOCKS > count else self.release(server, walks)
+        return self.new_lock(server) if self.random() * 2 * self.locks > count else self.release(server, walks)
 
 
-def message(user, method, repo, rest, body=None):
-    """The bytes of a request."""
-    letter = "d" if repo == "a/b" else USERS[user]
-    data = b"" if body is None else json.dumps(body).encode()
-    length = "" if body is None else f"Content-Length: {len(data)}\r\n"
-    head = f"{method} /{repo}.git/info/lfs/{rest} HTTP/1.1\r\nAuthorization: Bearer {letter * 64}\r\n{length}\r\n"
-    return head.encode() + data
+def request(user, method, place, rest, body=None):
+    """A request with a token of the user."""
+    return message(method, target(rest, place), body, "d" if place == "a/b" else USERS[user])
 
 
 def cut(stream):
@@ -186,9 +184,9 @@ class Connection:
         walk.cursor = json.loads(wanted.partition(b"\r\n\r\n")[2]).get("next_cursor")
         walk.has_ended = walk.cursor is None or len(walk.steps) == PAGES
 
-    def difference(self, program, words):
+    def difference(self, both):
         """What the program replied in another way, or None; and its replies."""
-        ran = run(program, words, b"".join(self.requests))
+        ran = both.session(b"".join(self.requests))
         replies = cut(ran.stdout)
         for request, reply, wanted in zip(self.requests, replies, self.wanted):
             if reply != wanted:
@@ -217,21 +215,22 @@ def walk_through(server, make):
 def fill(server, make):
     """A connection that makes the first locks."""
     connection = Connection(server)
-    while len(server.locks) < LOCKS:
+    while len(server.locks) < make.locks:
         connection.ask(make.new_lock(server))
     return connection
 
 
-def compare(program, room, make, until):
-    """Serves connections until then. Returns what was compared, and what differed."""
-    counts = {"connections": 0, "requests": 0, "walks": 0, "pages": 0, "locks on pages": 0, "locks at the end": 0}
-    tokens = {it * 64: (user, repo, operation, at + 3600) for it, (user, repo, operation, at) in TOKENS.items()}
-    server = Reading(tokens, LAST_ROWS)
-    database = new_database(program, room, 0, LAST_ROWS)
-    words = ["session", "--db", database, "--policy", f"{room}/policy", "--now", str(NOW)]
+COUNTED = ["connections", "requests", "walks", "pages", "locks on pages", "locks at the end"]
+
+
+def compare(program, room, make, end):
+    """Serves connections until the end. Returns what was compared, and what differed."""
+    counts = dict.fromkeys(COUNTED, 0)
+    both = Both(program, room, LAST_ROWS, reading=Reading)
+    server = both.reading
     connection, walks = fill(server, make), []
     while True:
-        fault, replies = connection.difference(program, words)
+        fault, replies = connection.difference(both)
         fault = fault or next(filter(None, (walk.fault(replies) for walk in walks)), None)
         counts["connections"] += 1
         counts["requests"] += len(connection.requests)
@@ -240,25 +239,23 @@ def compare(program, room, make, until):
         counts["pages"] += len(pages)
         counts["locks on pages"] += sum(connection.wanted[it].count(b'"locked_at"') for it in pages)
         counts["locks at the end"] = len(server.locks)
-        if fault or time.time() > until:
+        if fault or time.time() > end:
             return counts, fault
         rows = make.choice([make.rows(server)] * 4 + [[*LAST_ROWS, ALL_LISTED]])
         server.obey(rows)
-        with open(f"{room}/policy", "w", encoding="utf-8") as file:
-            file.write(policy_text(rows))
+        both.files.set_policy(policy_text(rows))
         connection, walks = walk_through(server, make)
 
 
 def main():
-    program = program_given()
-    seconds = float(sys.argv[2]) if len(sys.argv) > 2 else 60
-    seed = int(sys.argv[3]) if len(sys.argv) > 3 else random.randrange(2**32)
+    """Compares for some time."""
+    parser = comparison(__doc__)
+    parser.add_argument("--locks", type=int, default=5000, help="about how many locks there are")
+    options = parser.parse_args()
     with tempfile.TemporaryDirectory() as room:
-        counts, fault = compare(program, room, Maker(seed), time.time() + seconds)
-    print(f"seed {seed}: " + ", ".join(f"{name} {count}" for name, count in counts.items()))
-    if fault:
-        print(f"and then they differ, {fault}")
-    return 1 if fault else 0
+        counts, fault = compare(options.program, room, Maker(options.seed, options.locks), until(options))
+    return report(options, ", ".join(f"{name} {count}" for name, count in counts.items()), fault)
 
 
-sys.exit(main())
+if __name__ == "__main__":
+    sys.exit(main())

@@ -1,20 +1,22 @@
 #!/bin/sh
-# usage: tools/refuse_memory.sh [CONVERSATION..]
+# usage: tests/run allocations [-- CONVERSATION..]
 # Refuses each allocation of a connection in turn, and counts what came of it: of each connection that
-# tools/refuse_memory.rt.txt lists, or of these. `Calls` is no connection, but the calls of tools/refuse_calls.rt.txt.
+# tests/allocations/connections.rt.txt lists, or of these. `Calls` is no connection, but the calls of
+# tests/allocations/calls.rt.txt. A connection whose allocations all had a stated outcome is one check.
 #
 # One run of `rt try` refuses one allocation of each test, the one with a given number. So the tests
 # take memory that they do not need before their connection, each once less than the one before it, in a copy of the
 # crates. The first run measures how many allocations there are before the end of each connection.
 set -eu
 if ! command -v rt > /dev/null; then
-    echo 'refuse_memory.sh: rt, the command of the Rattle toolchain, is missing' >&2
+    echo 'refuse.sh: rt, the command of the Rattle toolchain, is missing' >&2
     exit 2
 fi
 # More allocations than the longest test makes, and the number of tests in one run.
 NUMBER=30000
 TESTS=5000
-root=$(cd "$(dirname "$0")/.." && pwd)
+here=$(cd "$(dirname "$0")" && pwd)
+root=$(cd "$here/../.." && pwd)
 room=$(mktemp -d)
 trap 'rm -rf "$room"' EXIT
 cp "$root/crates.txt" "$root/HANDLES" "$room"
@@ -35,9 +37,9 @@ for file in objects stops stops/calls; do
     awk '/^#\[test\]/ { skips = 1 } !skips { print } skips && /^}/ { skips = 0 }' "$room/tests/service_tests/$file.rt" |
         sed '/^mod [^c]/d; s/^mod calls/pub(crate) mod calls/' >"src/service_tests/$file.rt"
 done
-cat "$root/tools/refuse_calls.rt.txt" >>src/service_tests/stops/calls.rt
+cat "$here/calls.rt.txt" >>src/service_tests/stops/calls.rt
 printf 'mod objects;\npub(crate) mod stops;\n' >src/service_tests.rt
-cp "$root/tools/refuse_memory.rt.txt" "$room/memory.rt"
+cp "$here/connections.rt.txt" "$room/memory.rt"
 {
     printf '#![tactic(auto)]\n\n'
     printf '#[cfg(test)]\nmod %s;\n' harness memory server service_tests
@@ -65,7 +67,7 @@ outcomes() {
         waits { print name, /Before|Answered|Refused|SyncFailed|BrokenOff|After/ ? $1 : "Neither"; waits = 0 }' "$room/log" >"$room/some"
     if [ "$(wc -l <"$room/some")" -ne "$(wc -l <"$1")" ]; then
         tail -n 20 "$room/log" >&2
-        echo 'refuse_memory.sh: the tests did not run' >&2
+        echo 'refuse.sh: the tests did not run' >&2
         exit 1
     fi
     cat "$room/some"
@@ -121,7 +123,8 @@ awk '
             if (name == "Calls") line = line "; arguments not made: " total[name, "Unmade"] + 0
             else total[name, "Neither"] += total[name, "Unmade"]
             print line "; before the first message " total[name, "Before"] + 0 ", after the connection " total[name, "After"] + 0 "; none of these " total[name, "Neither"] + 0
-            if (total[name, "Neither"] || total[name, "Before"] != 1 || total[name, "After"] != 1) failed = 1
+            if (total[name, "Neither"] || total[name, "Before"] != 1 || total[name, "After"] != 1) failed++
         }
-        exit failed
+        print count - failed " passed, " failed + 0 " failed"
+        exit failed > 0
     }' "$room/all" "$room/asked"

@@ -1,17 +1,10 @@
-#!/usr/bin/env python3
 """Tries the causes that `custody` names of failures which need another user, a mount, a second process or a terminal.
 
-    tools/try_causes.py [--program FILE] [--only NAME]...
-
-Each case is a command that fails, run by root or by the user nobody. It is run with --explain, on a terminal, and with
-neither. Its status is 1, its output is empty, and its error stream has the line of the fault, and after it the line
-about the cause, which the last of the three does not print (docs/COMMANDS.md, Why a command failed).
-
-Each case prints one line. The last line counts the cases; the status is 1 if one failed. It needs Linux, root,
-python3, mount and setpriv, and a program that the user nobody may run, and takes seconds. Without --program it is
-bin/custody.
+Each case is a command that fails, run by root or by the user nobody, who has to be able to run the program. It is run
+with --explain, on a terminal, and with neither. Its status is 1, its output is empty, and its error stream has the line
+of the fault, and after it the line about the cause, which the last of the three does not print (docs/COMMANDS.md, Why a
+command failed).
 """
-import argparse
 import contextlib
 import os
 import re
@@ -25,10 +18,11 @@ import threading
 from dataclasses import dataclass
 from pathlib import Path
 
-sys.dont_write_bytecode = True
-from control import restart
-from needs import need_commands, stop
-from try_server import POLICY, TOP, Server, judge, require, summary
+from tests.studio.checks import arguments, judge_each, require, stop
+from tests.studio.control import ControlledServer
+from tests.studio.policy import open_policy
+from tests.studio.program import run as run_in_pipes
+from tests.studio.terminal import run_on_terminal
 
 LONGEST = 20
 # After how many seconds the server closes a connection that answers nothing.
@@ -98,6 +92,7 @@ def read_only_disk(folder, file):
 def silent_socket(path):
     """A socket whose server accepts each connection, and closes it SILENCE seconds later."""
     def accept():
+        """Accepts connections until the socket is closed."""
         with contextlib.suppress(OSError):
             while True:
                 threading.Timer(SILENCE, listener.accept()[0].close).start()
@@ -117,7 +112,7 @@ def silent_socket(path):
 def make_files(room):
     """A policy, a folder of nobody's with a file that nobody may read, and one of root's with nobody's database."""
     os.chmod(room, 0o755)
-    Path(room, "policy.toml").write_text(POLICY, encoding="utf-8")
+    Path(room, "policy.toml").write_text(open_policy(), encoding="utf-8")
     for name in ("own", "closed", "served", "killed"):
         os.mkdir(f"{room}/{name}")
     for name in ("own/db", "own/sealed", "closed/db"):
@@ -133,36 +128,20 @@ def scene(program):
     with contextlib.ExitStack() as stack:
         room = stack.enter_context(tempfile.TemporaryDirectory())
         make_files(room)
-        killed, served = (stack.enter_context(Server(program, f"{room}/{name}")) for name in ("killed", "served"))
-        for server in (killed, served):
-            restart(server)
+        names = ("killed", "served")
+        killed, _ = [stack.enter_context(ControlledServer(program, f"{room}/{name}")) for name in names]
         killed.end(signal.SIGKILL)
         stack.enter_context(read_only_disk(f"{room}/fixed", f"{room}/killed/custody.db"))
         stack.enter_context(silent_socket(f"{room}/silent"))
         yield room
 
 
-def read_terminal(terminal):
-    """What was written to a terminal that all who write to it have closed."""
-    pieces = []
-    with contextlib.suppress(OSError):
-        while piece := os.read(terminal, 4096):
-            pieces.append(piece)
-    return b"".join(pieces).decode().replace("\r\n", "\n")
-
-
 def run(words, room, has_terminal):
     """Runs the words. Returns the status, the output and the error stream."""
     if not has_terminal:
-        ran = subprocess.run(words, cwd=room, capture_output=True, timeout=LONGEST)
-        return ran.returncode, ran.stdout.decode(), ran.stderr.decode()
-    terminal, errors = os.openpty()
-    try:
-        ran = subprocess.run(words, cwd=room, stdout=subprocess.PIPE, stderr=errors, timeout=LONGEST)
-    finally:
-        os.close(errors)
-    with os.fdopen(terminal, "rb"):
-        return ran.returncode, ran.stdout.decode(), read_terminal(terminal)
+        return run_in_pipes(words, cwd=room, timeout=LONGEST)
+    status, errors, output = run_on_terminal(words, "stderr", room, LONGEST)
+    return status, output, errors
 
 
 def check(case, room, program):
@@ -177,18 +156,12 @@ def check(case, room, program):
 
 
 def main():
-    parser = argparse.ArgumentParser(description=__doc__.splitlines()[0])
-    parser.add_argument("--program", default=str(TOP / "bin/custody"), help="the program [default: bin/custody]")
-    parser.add_argument("--only", action="append", choices=CASES, help="only this case")
-    options = parser.parse_args()
-    program = os.path.abspath(options.program)
-    need_commands("mount", "setpriv")
-    if os.getuid() != 0:
-        stop("it mounts file systems and runs commands as nobody, so it has to be root")
-    if subprocess.run([*USERS["nobody"], program, "-V"], cwd="/", capture_output=True).returncode != 0:
-        stop(f"the user nobody cannot run {program}: copy it to another folder, and name it after --program")
-    with scene(program) as room:
-        return summary([judge(name, lambda: check(CASES[name], room, program)) for name in options.only or CASES])
+    """Runs the cases."""
+    options = arguments(__doc__, CASES).parse_args()
+    if subprocess.run([*USERS["nobody"], options.program, "-V"], cwd="/", capture_output=True).returncode != 0:
+        stop(f"the user nobody cannot run {options.program}: copy it to another folder, and name it after --program")
+    with scene(options.program) as room:
+        return judge_each(CASES, options, lambda name: check(CASES[name], room, options.program))
 
 
 if __name__ == "__main__":

@@ -1,7 +1,4 @@
-#!/usr/bin/env python3
 """Tries `custody serve` on a disk that gets full, and again with room.
-
-    tools/try_full.py [--program FILE] [--only NAME]... [--rounds N]
 
 Each round mounts a small file system in memory for the database, and a file that takes a part of it. Requests, and
 commands by the control socket, go on until the disk is full of objects, locks, tokens or all of them; then every write
@@ -10,18 +7,13 @@ that a command over the files says why it fails. Then the file is removed, and e
 at once, without a restart. What was acknowledged is compared with what is stored before the kill, after it, with room
 again, and by sqlite3 at the end. A reply that is neither the right one nor a refusal of the store fails the check, and
 so does a refusal whose cause the server does not report, or reports within a second of the last report.
-
-Each check prints one line. The last line counts the checks; the status is 1 if one failed. It needs Linux, root,
-python3 and sqlite3, and takes about a minute. Without --program it is bin/custody.
 """
-import argparse
 import collections
 import contextlib
 import math
 import os
 import random
 import re
-import shutil
 import signal
 import subprocess
 import sys
@@ -30,11 +22,10 @@ import threading
 import time
 from pathlib import Path
 
-sys.dont_write_bytecode = True
-from control import issue_words, over_files, restart
-from needs import need_commands, stop
-from try_server import TOP, Server, judge, require, summary
-from work import REMOVALS, WRITES, Killed, Work, compare_all, policy_of
+from tests.studio.checks import arguments, judge_each, require
+from tests.studio.control import ControlledServer, issue_words
+from tests.studio.tables import read_copy
+from tests.studio.work import REMOVALS, WRITES, Killed, Work, compare_all
 
 MIB = 1 << 20
 SIZE = 48 * MIB
@@ -83,6 +74,7 @@ class Stream:
         self.thread.start()
 
     def read(self, reading):
+        """Reads the lines."""
         with open(reading, encoding="utf-8") as stream:
             for line in stream:
                 # A server that is killed may have written a part of its last line.
@@ -90,17 +82,15 @@ class Stream:
                     self.lines.append((time.monotonic(), line[:-1]))
 
 
-class DiskServer(Server):
+class DiskServer(ControlledServer):
     """A server whose database is in the folder `disk` of its folder, and whose error streams are kept."""
 
-    def __init__(self, *words):
+    def __init__(self, program, room):
         self.streams = []
-        super().__init__(*words)
-
-    def files(self):
-        return ["--db", f"{self.room}/disk/custody.db", "--policy", f"{self.room}/policy.toml"]
+        super().__init__(program, room, more=["--explain"], database="disk/custody.db")
 
     def error_stream(self):
+        """A new stream."""
         self.streams.append(Stream())
         return open(self.streams[-1].writing, "wb")
 
@@ -131,29 +121,26 @@ def check_command(server):
     status, errors = 0, ""
     for _ in range(COMMANDS):
         if status == 0:
-            status, _, errors = over_files(server, *issue_words("bob"), "--explain", with_policy=True)
-    want = f"custody: store G2\n{server.files()[1]}: the disk is full: make room, and run the command again\n"
+            status, _, errors = server.over_files(*issue_words("bob"), "--explain", with_policy=True)
+    want = f"custody: store G2\n{server.database}: the disk is full: make room, and run the command again\n"
     require((status, errors) == (1, want), f"on the full disk a command ended with {status} and printed {errors!r}")
 
 
 def check_rows(work):
     """What sqlite3 finds in a copy of the database of a server that is killed."""
     work.server.end(signal.SIGKILL)
-    with tempfile.TemporaryDirectory() as copy:
-        for file in Path(work.server.room, "disk").glob("custody.db*"):
-            shutil.copy(file, copy)
-        question = "PRAGMA integrity_check; SELECT used, made FROM repos; SELECT count(*) FROM uploads WHERE done = 0;"
-        ran = subprocess.run(["sqlite3", f"{copy}/custody.db", question], check=True, capture_output=True, text=True)
-    used = sum(map(len, work.objects.values()))
-    want = f"ok\n{used}|{work.made}\n0\n"
-    require(ran.stdout == want, f"sqlite3 prints {ran.stdout!r}, not {want!r}")
+    question = "PRAGMA integrity_check; SELECT used, made FROM repos; SELECT count(*) FROM uploads WHERE done = 0;"
+    printed = read_copy(work.server.database, question)
+    used = sum(map(len, work.stored.objects.values()))
+    want = f"ok\n{used}|{work.stored.made}\n0\n"
+    require(printed == want, f"sqlite3 prints {printed!r}, not {want!r}")
     work.server.start()
 
 
 def report_line(server, count):
     """The line about the cause of this many refusals."""
     requests = "1 request was" if count == 1 else f"{count} requests were"
-    return f"custody: {requests} refused: {server.files()[1]}: the disk is full: make room, then push again"
+    return f"custody: {requests} refused: {server.database}: the disk is full: make room, then push again"
 
 
 def check_start(server, lines):
@@ -179,11 +166,11 @@ def check_start(server, lines):
 
 
 def check_errors(server):
-    """The same after each start but the first, which has another command line, once the server has ended."""
+    """The same after each start, once the server has ended."""
     server.end(signal.SIGKILL)
     for stream in server.streams:
         stream.thread.join()
-    found = sum((check_start(server, stream.lines) for stream in server.streams[1:]), collections.Counter())
+    found = sum((check_start(server, stream.lines) for stream in server.streams), collections.Counter())
     require(found["reports"], "the server reported no cause")
     return found
 
@@ -209,7 +196,7 @@ def play(work, names, left, is_killed):
     compare_all(work, "after the last report")
     found = check_start(work.server, work.server.streams[-1].lines)
     require(not found["unreported"], f"{found['unreported']} refusals are not reported after a second")
-    require(not Path(f"{work.server.files()[1]}-probe").exists(), "the file is left with which the room was tried")
+    require(not Path(f"{work.server.database}-probe").exists(), "the file is left with which the room was tried")
     for name in ("other", "rest"):
         os.unlink(f"{disk}/{name}")
     for name in WRITES + REMOVALS:
@@ -224,8 +211,7 @@ def check(names, left, options):
     rounds = -(-options.rounds // len(CHECKS))
     for number in range(rounds):
         with tempfile.TemporaryDirectory() as room, small_disk(f"{room}/disk", SIZE):
-            with DiskServer(options.program, room, policy_of(["studio/film"])) as server:
-                restart(server, "--explain")
+            with DiskServer(options.program, room) as server:
                 work = Work(server, random.random())
                 play(work, names, left, number % 2 == 1)
                 done, refused, errors = done + work.done, refused + work.refused, errors + check_errors(server)
@@ -244,17 +230,11 @@ CHECKS = {
 
 
 def main():
-    parser = argparse.ArgumentParser(description=__doc__.splitlines()[0])
-    parser.add_argument("--program", default=str(TOP / "bin/custody"), help="the program [default: bin/custody]")
-    parser.add_argument("--only", action="append", choices=CHECKS, help="only this check")
+    """Runs the checks."""
+    parser = arguments(__doc__, CHECKS)
     parser.add_argument("--rounds", type=int, default=20, help="how often a disk is filled, by all checks together")
     options = parser.parse_args()
-    options.program = os.path.abspath(options.program)
-    need_commands("sqlite3", "mount")
-    if os.getuid() != 0:
-        stop("it mounts file systems, so it has to be root")
-    names = options.only or list(CHECKS)
-    return summary([judge(name, lambda: check(*CHECKS[name], options)) for name in names])
+    return judge_each(CHECKS, options, lambda name: check(*CHECKS[name], options))
 
 
 if __name__ == "__main__":

@@ -1,15 +1,8 @@
-#!/usr/bin/env python3
 """Tries `custody migrate` on database files of version 1, and `custody retire` on what it leaves.
 
-    try_migration.py [--program FILE] [--files FOLDER] [--rounds N] [--only NAME]...
-
-The files are those that tools/version_1_files.py makes with a program of version 1. Each check works on a copy and
-prints one line; the rows are read with the command sqlite3, from a copy too, and compared with those of the files'
-text. The last line counts the checks; the status is 1 if one failed. It needs python3 and sqlite3, and takes some
-seconds. Without --program it is bin/custody.
+The files are those that tests/server/version_1_files.py makes with a program of version 1. Each check works on a copy;
+the rows are read with the command sqlite3, from a copy too, and compared with those of the files' text.
 """
-import argparse
-import os
 import random
 import shutil
 import subprocess
@@ -18,13 +11,12 @@ import tempfile
 import time
 from pathlib import Path
 
-sys.dont_write_bytecode = True
-from needs import need_commands
-from try_server import TOP, judge, require, summary
-from version_1_files import NOW, POLICY, message, put
+from tests.studio.checks import arguments, judge_each, require
+from tests.studio.policy import FILM, GAME, MAIN, open_policy
+from tests.studio.program import TOP, Files, content, message, put
+from tests.studio.tables import read_copy, sqlite3
 
 ABC = "ba7816bf8f01cfea414140de5dae2223b00361a396177a9cb410ff61f20015ad"
-FILM, GAME = "studio/film", "studio/game"
 TABLES = ["repos", "tokens", "uploads", "chunks", "locks", "sqlite_sequence"]
 # What the lists of the film print, before and after.
 OBJECTS = f"""{ABC} 3
@@ -35,59 +27,45 @@ LOCKS = """1 refs/heads/main ann 2016-05-17T15:49:06Z art/hero.psd
 2 refs/heads/main bob 2016-05-17T15:49:06Z art/b c.psd
 4 refs/heads/release/1 bob 2016-05-17T15:49:06Z art/hero.psd
 """
-REFUSED = ("", "custody: store G1\n", 1)
+# These commands read the policy.
+WITH_POLICY = ["session", "serve", "authenticate", "pushcheck"]
+REFUSED = (1, "", "custody: store G1\n")
 
 
-class Database:
+class Database(Files):
     """A copy of a database in a folder of its own, and the program."""
 
     def __init__(self, options, room, name="version_1.db"):
-        self.program, self.room, self.path = options.program, room, f"{room}/db"
-        Path(room, "policy").write_text(POLICY, encoding="utf-8")
+        super().__init__(options.program, room, open_policy(repos=(FILM, GAME), quota=1_000_000), "db")
         for end in ("", "-wal"):
             found = Path(options.files, name + end)
             if found.exists():
-                shutil.copy(found, self.path + end)
+                shutil.copy(found, self.database + end)
 
-    def words(self, name, *more):
-        return [self.program, name, "--db", self.path, *more]
-
-    def run(self, name, *more, given=b""):
-        """What a command prints, on standard output and the error stream, and its status."""
-        ran = subprocess.run(self.words(name, *more), input=given, capture_output=True, check=False)
-        return ran.stdout.decode(), ran.stderr.decode(), ran.returncode
-
-    def expect(self, want, name, *more):
-        came = self.run(name, *more)
+    def expect(self, want, name, *more, with_policy=False):
+        """Requires the status, the output and the error stream of a command."""
+        came = self.over_files(name, *more, with_policy=with_policy)
         require(came == want, f"{name} {' '.join(more)} gave {came}, and not {want}")
 
-    def session(self, *requests):
-        """The replies to the requests."""
-        words = ["--policy", f"{self.room}/policy", "--now", str(NOW)]
-        return self.run("session", *words, given=b"".join(requests))[0]
+    def reply(self, request):
+        """The reply to a request, as a text."""
+        return self.session(request).decode()
 
     def sql(self, statement):
         """What sqlite3 prints, of a copy."""
-        with tempfile.TemporaryDirectory() as copy:
-            for end in ("", "-wal"):
-                if os.path.exists(self.path + end):
-                    shutil.copy(self.path + end, f"{copy}/db{end}")
-            return sqlite3(f"{copy}/db", statement)
+        return read_copy(self.database, statement)
 
     def rows(self):
         """The rows of all tables but those that `migrate` makes."""
         return {table: self.sql(all_of(table)) for table in TABLES}
 
     def version(self):
+        """The version, and what sqlite3 says of the file."""
         return self.sql("SELECT * FROM meta; PRAGMA integrity_check;")
 
 
-def sqlite3(path, statement):
-    ran = subprocess.run(["sqlite3", path], input=statement, capture_output=True, text=True, check=True)
-    return ran.stdout
-
-
 def all_of(table):
+    """The statements that print the rows of a table."""
     return f".mode quote\nSELECT * FROM {table} ORDER BY 1, 2;\n"
 
 
@@ -110,8 +88,7 @@ def is_migrated(database, wanted):
 def check_refused(options, room):
     """Each command refuses the file, and leaves it byte for byte."""
     database = Database(options, room)
-    before = Path(database.path).read_bytes()
-    policy = ["--policy", f"{room}/policy"]
+    before = Path(database.database).read_bytes()
     commands = [
         ["objects", "--repo", FILM],
         ["locks", "--repo", FILM],
@@ -119,30 +96,30 @@ def check_refused(options, room):
         ["check"],
         ["sweep"],
         ["prune"],
-        ["session", *policy],
-        ["serve", *policy, "--listen", "127.0.0.1:0"],
-        ["authenticate", *policy, "--user", "ann", FILM, "download"],
-        ["pushcheck", *policy, "--user", "ann", "--repo", FILM, "--ref", "refs/heads/main"],
+        ["session"],
+        ["serve", "--listen", "127.0.0.1:0"],
+        ["authenticate", "--user", "ann", FILM, "download"],
+        ["pushcheck", "--user", "ann", "--repo", FILM, "--ref", MAIN],
     ]
     for name, *more in commands:
-        database.expect(REFUSED, name, *more)
-        require(Path(database.path).read_bytes() == before, f"{name} changed the file")
+        database.expect(REFUSED, name, *more, with_policy=name in WITH_POLICY)
+        require(Path(database.database).read_bytes() == before, f"{name} changed the file")
     return f"{len(commands)} commands refuse a file of version 1"
 
 
 def check_rows(options, room):
     """All rows are kept, and the commands print them."""
     database = Database(options, room)
-    database.expect(("migrated from version 1\n", "", 0), "migrate")
-    database.expect(("already version 2\n", "", 0), "migrate")
+    database.expect((0, "migrated from version 1\n", ""), "migrate")
+    database.expect((0, "already version 2\n", ""), "migrate")
     is_migrated(database, rows_of_text(options))
-    database.expect((OBJECTS, "", 0), "objects", "--repo", FILM)
-    database.expect((LOCKS, "", 0), "locks", "--repo", FILM)
-    database.expect(("checked 5 objects\n", "", 0), "check")
-    reply = database.session(message("a", "GET", FILM, f"content/{ABC}"))
+    database.expect((0, OBJECTS, ""), "objects", "--repo", FILM)
+    database.expect((0, LOCKS, ""), "locks", "--repo", FILM)
+    database.expect((0, "checked 5 objects\n", ""), "check")
+    reply = database.reply(message("GET", content(ABC)))
     require(reply.endswith("\r\n\r\nabc"), f"the object is {reply!r}")
-    database.expect(("swept 1 uploads\n", "", 0), "sweep")
-    database.expect(("pruned 2 tokens\n", "", 0), "prune")
+    database.expect((0, "swept 1 uploads\n", ""), "sweep")
+    database.expect((0, "pruned 2 tokens\n", ""), "prune")
     return "each row is as it was"
 
 
@@ -150,27 +127,26 @@ def check_log(options, room):
     """A file whose rows are in its log."""
     database = Database(options, room, "version_1_log.db")
     before = database.rows()
-    database.expect(("migrated from version 1\n", "", 0), "migrate")
+    database.expect((0, "migrated from version 1\n", ""), "migrate")
     is_migrated(database, before)
-    database.expect((f"{ABC} 3\n", "", 0), "objects", "--repo", FILM)
+    database.expect((0, f"{ABC} 3\n", ""), "objects", "--repo", FILM)
     return "rows that are in the log alone are kept"
 
 
 def check_retire(options, room):
     """An object of the file is retired."""
     database = Database(options, room)
-    database.run("migrate")
-    database.expect((f"retired {ABC}\n", "", 0), "retire", "--repo", FILM, ABC)
-    database.expect((f"already retired {ABC}\n", "", 0), "retire", "--repo", FILM, ABC)
-    database.expect(("", "custody: no such object\n", 1), "retire", "--repo", GAME, ABC)
-    database.expect(("", "custody: bad value for OID\n", 2), "retire", "--repo", FILM, "abc")
-    asked = [message("a", "GET", FILM, f"content/{ABC}"), put("a", FILM, b"abc")]
-    replies = [database.session(it) for it in asked]
+    database.over_files("migrate")
+    database.expect((0, f"retired {ABC}\n", ""), "retire", "--repo", FILM, ABC)
+    database.expect((0, f"already retired {ABC}\n", ""), "retire", "--repo", FILM, ABC)
+    database.expect((1, "", "custody: no such object\n"), "retire", "--repo", GAME, ABC)
+    database.expect((2, "", "custody: bad value for OID\n"), "retire", "--repo", FILM, "abc")
+    replies = [database.reply(it) for it in (message("GET", content(ABC)), put(b"abc"))]
     require(all(it.startswith("HTTP/1.1 410 Gone\r\n") for it in replies), f"the replies are {replies}")
     require("\r\nConnection: close\r\n" in replies[1], f"the reply to the upload is {replies[1]!r}")
     used = database.sql("SELECT used FROM repos WHERE name = 'studio/film'; SELECT * FROM retired;")
     require(used == f"70000\n{FILM}|{ABC}\n", f"used and retired are {used!r}")
-    database.expect(("checked 4 objects\n", "", 0), "check")
+    database.expect((0, "checked 4 objects\n", ""), "check")
     return "it is 410 from then on"
 
 
@@ -179,12 +155,12 @@ def check_killed(options, room):
     wanted, old, new = rows_of_text(options), "1|1\nok\n", "1|2\nok\n"
     count = 0
     begun = time.monotonic()
-    Database(options, room).run("migrate")
+    Database(options, room).over_files("migrate")
     longest = time.monotonic() - begun
     for _ in range(options.rounds):
         with tempfile.TemporaryDirectory() as place:
             database = Database(options, place)
-            child = subprocess.Popen(database.words("migrate"), stdout=subprocess.DEVNULL)
+            child = subprocess.Popen([options.program, "migrate", *database.files()[:2]], stdout=subprocess.DEVNULL)
             time.sleep(random.random() * longest)
             child.kill()
             child.wait()
@@ -192,7 +168,7 @@ def check_killed(options, room):
             require(version in (old, new), f"version and state are {version!r}")
             count += version == old
             require(database.rows() == wanted, "rows differ after a kill")
-            require(database.run("migrate")[2] == 0, "the command could not be run again")
+            require(database.over_files("migrate")[0] == 0, "the command could not be run again")
             is_migrated(database, wanted)
     return f"{options.rounds} times, of which {count} left version 1"
 
@@ -200,10 +176,10 @@ def check_killed(options, room):
 def check_schema(options, room):
     """A new database and a migrated one have the same definitions."""
     migrated = Database(options, room)
-    migrated.run("migrate")
+    migrated.over_files("migrate")
     with tempfile.TemporaryDirectory() as place:
         new = Database(options, place, "none")
-        new.expect(("already version 2\n", "", 0), "migrate")
+        new.expect((0, "already version 2\n", ""), "migrate")
         schemas = [it.sql("SELECT name, sql FROM sqlite_schema ORDER BY name;") for it in (migrated, new)]
     require(schemas[0] == schemas[1], f"the definitions are {schemas}")
     return "a new database and a migrated one have the same definitions"
@@ -219,22 +195,19 @@ CHECKS = {
 }
 
 
-def run(name, options):
-    """Runs a check in a folder of its own, and prints its line. Returns whether it passed."""
+def run(check, options):
+    """Runs a check in a folder of its own. Returns what it found."""
     with tempfile.TemporaryDirectory() as room:
-        return judge(name, lambda: CHECKS[name](options, room))
+        return check(options, room)
 
 
 def main():
-    parser = argparse.ArgumentParser(description=__doc__.splitlines()[0])
-    parser.add_argument("--program", default=str(TOP / "bin/custody"), help="the program [default: bin/custody]")
+    """Runs the checks."""
+    parser = arguments(__doc__, CHECKS)
     parser.add_argument("--files", default=str(TOP / "crates/program_tests/data"), help="the folder of the files")
     parser.add_argument("--rounds", type=int, default=20, help="how often the command is killed")
-    parser.add_argument("--only", action="append", choices=CHECKS, help="only this check")
     options = parser.parse_args()
-    options.program = os.path.abspath(options.program)
-    need_commands("sqlite3")
-    return summary([run(name, options) for name in options.only or list(CHECKS)])
+    return judge_each(CHECKS, options, lambda name: run(CHECKS[name], options))
 
 
 if __name__ == "__main__":

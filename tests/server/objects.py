@@ -1,53 +1,25 @@
-#!/usr/bin/env python3
 """Tries `custody serve` with objects, and reads what it stored with the command sqlite3.
 
-    tools/try_objects.py [--program FILE] [--only NAME]...
-
-Each check starts a server on a new database and a free port of this machine, and prints one line. A database is read
-by sqlite3 while the server is killed, from a copy, and then by a server again. The names of objects come from the
-command sha256sum. The last line counts the checks; the status is 1 if one failed. It needs Linux, python3, sqlite3 and
-sha256sum, and takes about two minutes. Without --program it is bin/custody.
+Each check starts a server on a new database and a free port of this machine. A database is read by sqlite3 while the
+server is killed, from a copy, and then by a server again. The names of objects come from the command sha256sum.
 """
-import argparse
-import shutil
 import signal
 import subprocess
 import sys
+import tempfile
 import time
 from pathlib import Path
 
-sys.dont_write_bytecode = True
-from needs import need_commands
-from try_server import TOP, message, require, run_all
-from version_1_files import has_begun
+from tests.studio.checks import arguments, judge_each, require
+from tests.studio.policy import FILM, GAME, open_policy
+from tests.studio.program import CHUNK, Server, content, lock, message, target
+from tests.studio.tables import has_begun, read_copy
 
-POLICY = """base = "https://lfs.example"
-token_seconds = 86400
-
-[[repo]]
-name = "studio/film"
-default_ref = "refs/heads/main"
-quota = 1000000000
-
-[[repo]]
-name = "studio/game"
-default_ref = "refs/heads/main"
-quota = 1000000000
-
-[[row]]
-effect = "allow"
-users = ["ann"]
-repos = ["*"]
-refs = ["*"]
-paths = ["*"]
-rights = ["pull", "push", "list", "lock"]
-"""
-CHUNK = 65_536
 SIZES = [0, 1, CHUNK - 1, CHUNK, CHUNK + 1, 256 << 20]
 HELLO = "2cf24dba5fb0a30e26e83b2ac5b9e29e1b161e5c1fa7425e73043362938b9824"
 
 
-def name_of(path):
+def sum_of(path):
     """The SHA-256 of the file, by sha256sum."""
     found = subprocess.run(["sha256sum", path], check=True, capture_output=True, text=True)
     return found.stdout.split()[0]
@@ -61,65 +33,49 @@ def file_of(server, size):
         left = size
         while left > 0:
             left -= out.write(pattern[:left])
-    return path, name_of(path)
+    return path, sum_of(path)
 
 
-def content(repo, oid):
-    return f"/{repo}.git/info/lfs/content/{oid}"
-
-
-def head(method, target, length, letter="a"):
-    return message(method, target, letter=letter, more=f"Content-Length: {length}\r\n")
-
-
-def put(server, oid, data, repo="studio/film", letter="a", step=1 << 30):
-    """Uploads the data, at most `step` bytes a write, and returns the status."""
+def upload(server, oid, data, repo=FILM, token="a", step=1 << 30):
+    """Uploads the data, at most `step` bytes a write. Returns the status."""
     with server.client(600) as client:
-        text = head("PUT", content(repo, oid), len(data), letter) + data
+        text = message("PUT", content(oid, repo), data, token)
         for at in range(0, len(text), step):
             client.send(text[at : at + step])
         return client.reply()[0]
 
 
-def get(server, oid, repo="studio/film", letter="a"):
-    """Downloads the object, and returns the status and the body."""
-    with server.client(600) as client:
-        return client.ask(message("GET", content(repo, oid), letter=letter))
+def get(server, oid, repo=FILM, token="a"):
+    """Downloads the object. Returns the status and the body."""
+    return server.ask(message("GET", content(oid, repo), token=token), 600)
 
 
 def verify(server, oid, size):
-    """Asks whether the object is stored, and returns the status."""
-    with server.client(600) as client:
-        return client.ask(message("POST", "/studio/film.git/info/lfs/verify", {"oid": oid, "size": size}))[0]
+    """Asks whether the object is stored. Returns the status."""
+    return server.ask(message("POST", target("verify"), {"oid": oid, "size": size}), 600)[0]
 
 
 def stored(server, question):
     """The lines that sqlite3 prints for the question, on a copy of the database. The server is killed and started."""
     server.end(signal.SIGKILL)
-    copy = Path(f"{server.room}/copy")
-    shutil.rmtree(copy, ignore_errors=True)
-    copy.mkdir()
-    for file in Path(server.room).glob("custody.db*"):
-        shutil.copy(file, copy)
-    text = f"PRAGMA integrity_check; {question}"
-    found = subprocess.run(["sqlite3", f"{copy}/custody.db", text], check=True, capture_output=True, text=True)
+    lines = read_copy(server.database, f"PRAGMA integrity_check; {question}").split()
     server.start()
-    lines = found.stdout.split()
     require(lines[:1] == ["ok"], f"sqlite3 says {lines[:1]} of the database")
     return lines[1:]
 
 
 def expect_stored(server, question, want):
+    """Requires that sqlite3 prints these lines for the question."""
     found = stored(server, question)
     require(found == want, f"{question} prints {found}, not {want}")
 
 
-# For each upload: its repository, size, whether it is an object, and the number, the last number and the bytes of its chunks.
+# For each upload: its repository, size, whether it is an object; the number, last number and bytes of its chunks.
 UPLOADS = """SELECT repo, size, done, count(n), coalesce(max(n), -1), coalesce(sum(length(bytes)), 0)
 FROM uploads LEFT JOIN chunks ON upload = id GROUP BY id ORDER BY id;"""
 
 
-def row(size, repo="studio/film"):
+def row(size, repo=FILM):
     """The line of UPLOADS for an object of this size."""
     count = -(-size // CHUNK)
     return f"{repo}|{size}|1|{count}|{count - 1}|{size}"
@@ -131,18 +87,19 @@ def check_sizes(server, _):
         path, oid = file_of(server, size)
         require(get(server, oid)[0] == 404, f"an object of {size} bytes exists before its upload")
         require(verify(server, oid, size) == 404, f"an object of {size} bytes is verified before its upload")
-        require(put(server, oid, Path(path).read_bytes()) == 200, f"an upload of {size} bytes was refused")
+        require(upload(server, oid, Path(path).read_bytes()) == 200, f"an upload of {size} bytes was refused")
         require(verify(server, oid, size) == 200, f"an object of {size} bytes is not verified")
         status, data = get(server, oid)
         Path(path).write_bytes(data)
-        require((status, name_of(path)) == (200, oid), f"an object of {size} bytes came back with {status}, as {name_of(path)}")
+        require((status, sum_of(path)) == (200, oid),
+                f"an object of {size} bytes came back with {status}, as {sum_of(path)}")
     expect_stored(server, UPLOADS, [row(size) for size in SIZES])
     expect_stored(server, "SELECT name, used FROM repos;", [f"studio/film|{sum(SIZES)}"])
     expect_stored(server, "SELECT DISTINCT length(bytes) FROM chunks ORDER BY 1;", ["1", str(CHUNK - 1), str(CHUNK)])
     for size in SIZES:
         path, oid = file_of(server, size)
         Path(path).write_bytes(get(server, oid)[1])
-        require(name_of(path) == oid, f"an object of {size} bytes differs after a restart")
+        require(sum_of(path) == oid, f"an object of {size} bytes differs after a restart")
     return f"{len(SIZES)} objects of up to {SIZES[-1]} bytes, each as it was uploaded, before and after restarts"
 
 
@@ -151,9 +108,10 @@ def check_bytes(server, _):
     for size in SIZES[:-1]:
         path, oid = file_of(server, size)
         data = Path(path).read_bytes()
-        require(put(server, oid, bytes(size) + b"x", step=1) == 422, f"other bytes than those of {size} bytes were not refused")
+        require(upload(server, oid, bytes(size) + b"x", step=1) == 422,
+                f"other bytes than those of {size} bytes were not refused")
         require(get(server, oid)[0] == 404, f"an object of {size} bytes exists before its upload")
-        require(put(server, oid, data, step=1) == 200, f"an upload of {size} bytes was refused")
+        require(upload(server, oid, data, step=1) == 200, f"an upload of {size} bytes was refused")
         require(get(server, oid) == (200, data), f"an object of {size} bytes differs")
     expect_stored(server, UPLOADS, [row(size) for size in SIZES[:-1]])
     return f"{len(SIZES) - 1} objects of up to {SIZES[-2]} bytes"
@@ -168,16 +126,16 @@ def check_cut(server, _):
     cuts = sorted({*range(0, size, 10_000), *(edge for edge in edges if 0 <= edge < size)})
     for cut in cuts:
         with server.client() as client:
-            client.send(head("PUT", content("studio/film", oid), size) + data[:cut])
+            client.send(message("PUT", content(oid), data[:cut], length=size))
             client.socket.shutdown(1)
             require(client.socket.recv(1) == b"", f"an upload that was cut after {cut} bytes got a reply")
         expect_stored(server, UPLOADS, [])
         expect_stored(server, "SELECT count(*) FROM chunks;", ["0"])
         expect_stored(server, "SELECT count(*) FROM repos;", ["0"])
         require(get(server, oid)[0] == 404, f"an upload that was cut after {cut} bytes is served")
-    require(put(server, HELLO, b"hello") == 200, "the next upload was refused")
+    require(upload(server, HELLO, b"hello") == 200, "the next upload was refused")
     expect_stored(server, UPLOADS, [row(5)])
-    require(put(server, oid, data) == 200, "the upload was refused")
+    require(upload(server, oid, data) == 200, "the upload was refused")
     require(get(server, oid) == (200, data), "the object differs")
     expect_stored(server, UPLOADS, [row(5), row(size)])
     return f"{len(cuts)} uploads that were cut left no object, and nothing of their bytes"
@@ -187,27 +145,22 @@ def stop_after_first_chunk(server):
     """Kills the server once it has stored the first of two chunks of an upload. Returns the name of the object."""
     path, oid = file_of(server, 2 * CHUNK)
     with server.client() as client:
-        client.send(head("PUT", content("studio/film", oid), 2 * CHUNK) + Path(path).read_bytes()[:CHUNK])
+        client.send(message("PUT", content(oid), Path(path).read_bytes()[:CHUNK], length=2 * CHUNK))
         begun = time.monotonic()
-        while not has_begun(server.room, "custody.db"):
+        while not has_begun(server.database):
             require(time.monotonic() - begun < 10, "the first chunk was not stored within 10 s")
             time.sleep(0.01)
         server.end(signal.SIGKILL)
     return oid
 
 
-def over_files(server, *words, given=b""):
-    """What a command prints over the files of a server that has ended."""
-    return subprocess.run([server.program, *words], input=given, check=True, capture_output=True).stdout.decode()
-
-
 def check_stopped(server, _):
     """A server that is killed after the first of two chunks: the upload is not served, and is removed."""
     oid = stop_after_first_chunk(server)
-    replied = over_files(server, "session", *server.files(), given=message("GET", content("studio/film", oid)))
+    _, replied, _ = server.over_files("session", given=message("GET", content(oid)), with_policy=True)
     require(replied.startswith("HTTP/1.1 404 ") and '"X1: ' in replied, f"a session replied {replied!r}")
-    printed = [over_files(server, "sweep", *server.files()[:2]) for _ in range(2)]
-    require(printed == ["swept 1 uploads\n", "swept 0 uploads\n"], f"sweep printed {printed}")
+    swept = [server.over_files("sweep") for _ in range(2)]
+    require(swept == [(0, f"swept {count} uploads\n", "") for count in (1, 0)], f"sweep gave {swept}")
     server.start()
     expect_stored(server, "SELECT (SELECT count(*) FROM uploads), (SELECT count(*) FROM chunks);", ["0|0"])
     require(stop_after_first_chunk(server) == oid, "another upload")
@@ -216,43 +169,41 @@ def check_stopped(server, _):
     require(status == 404 and b'"X1: ' in body, f"a server that was started again replied {status} {body!r}")
     expect_stored(server, "SELECT (SELECT count(*) FROM uploads), (SELECT count(*) FROM chunks);", ["0|0"])
     data = Path(f"{server.room}/content").read_bytes()
-    require(put(server, oid, data) == 200 and get(server, oid) == (200, data), "the object is not stored by a later upload")
+    is_stored = upload(server, oid, data) == 200 and get(server, oid) == (200, data)
+    require(is_stored, "the object is not stored by a later upload")
     return "X1 after each stop; sweep printed 1 and then 0 uploads, and a server removes it before its first connection"
 
 
 def check_repositories(server, _):
     """Two repositories with the same object."""
-    words = ["authenticate", *server.files(), "--user", "ann", "--random", f"{server.room}/second", "studio/game", "upload"]
-    Path(f"{server.room}/second").write_bytes(b"\xbb" * 32)
     server.end(signal.SIGTERM)
-    subprocess.run([server.program, *words], check=True, stdout=subprocess.DEVNULL)
+    server.issue("b", repo=GAME)
     server.start()
     path, oid = file_of(server, 100_000)
     data = Path(path).read_bytes()
-    require(put(server, oid, data) == 200, "the first upload was refused")
-    require(get(server, oid, "studio/game", "b")[0] == 404, "an object of another repository is served")
-    require(get(server, oid, "studio/game", "a")[0] == 404, "a token of another repository is accepted")
-    require(put(server, oid, data, "studio/game", "b") == 200, "the second upload was refused")
-    for repo, letter in (("studio/film", "a"), ("studio/game", "b")):
-        require(get(server, oid, repo, letter) == (200, data), f"the object of {repo} differs")
-    expect_stored(server, UPLOADS, [row(100_000), row(100_000, "studio/game")])
+    require(upload(server, oid, data) == 200, "the first upload was refused")
+    require(get(server, oid, GAME, "b")[0] == 404, "an object of another repository is served")
+    require(get(server, oid, GAME, "a")[0] == 404, "a token of another repository is accepted")
+    require(upload(server, oid, data, GAME, "b") == 200, "the second upload was refused")
+    for repo, token in ((FILM, "a"), (GAME, "b")):
+        require(get(server, oid, repo, token) == (200, data), f"the object of {repo} differs")
+    expect_stored(server, UPLOADS, [row(100_000), row(100_000, GAME)])
     expect_stored(server, "SELECT name, used FROM repos ORDER BY name;", ["studio/film|100000", "studio/game|100000"])
     return "two repositories store the same object, each for itself"
 
 
 def check_refused(server, _):
     """Uploads that are refused, before their content and after it, and an upload of what is stored."""
-    require(put(server, HELLO, b"abc") == 422, "other bytes were not refused")
-    require(put(server, HELLO, b"hello", letter="c") == 401, "an unknown token was not refused")
-    lock = message("POST", "/studio/film.git/info/lfs/locks", {"path": "art/hero.psd"})
-    require(put(server, "xyz", lock) == 422, "an upload without a name was not refused")
+    require(upload(server, HELLO, b"abc") == 422, "other bytes were not refused")
+    require(upload(server, HELLO, b"hello", token="c") == 401, "an unknown token was not refused")
+    require(upload(server, "xyz", lock("art/hero.psd")) == 422, "an upload without a name was not refused")
     # The bytes of another name are removed; the other requests began no upload.
     expect_stored(server, UPLOADS, [])
     expect_stored(server, "SELECT count(*) FROM locks; SELECT count(*) FROM chunks;", ["0", "0"])
     require(get(server, HELLO)[0] == 404, "an incomplete upload was served")
     for data in (b"hello", b"hello"):
-        require(put(server, HELLO, data) == 200, "an upload was refused")
-    require(put(server, HELLO, b"jello") == 422, "other bytes were not refused")
+        require(upload(server, HELLO, data) == 200, "an upload was refused")
+    require(upload(server, HELLO, b"jello") == 422, "other bytes were not refused")
     require(get(server, HELLO) == (200, b"hello"), "the object differs")
     expect_stored(server, UPLOADS, [row(5)])
     return "refused uploads left no object, and an object that was uploaded twice has one row"
@@ -268,13 +219,19 @@ CHECKS = {
 }
 
 
+def run(check, options):
+    """Runs a check on a new database. Returns what it measured."""
+    policy = open_policy(["ann"], (FILM, GAME))
+    with tempfile.TemporaryDirectory() as room, Server(options.program, room, policy) as server:
+        result = check(server, options)
+        require(server.child.poll() is None, "the server has ended")
+        return result
+
+
 def main():
-    parser = argparse.ArgumentParser(description=__doc__.splitlines()[0])
-    parser.add_argument("--program", default=str(TOP / "bin/custody"), help="the program [default: bin/custody]")
-    parser.add_argument("--only", action="append", choices=CHECKS, help="only this check")
-    arguments = parser.parse_args()
-    need_commands("sqlite3", "sha256sum")
-    return run_all(CHECKS, arguments, POLICY)
+    """Runs the checks."""
+    options = arguments(__doc__, CHECKS).parse_args()
+    return judge_each(CHECKS, options, lambda name: run(CHECKS[name], options))
 
 
 if __name__ == "__main__":

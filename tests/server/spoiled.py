@@ -1,17 +1,13 @@
-#!/usr/bin/env python3
 """Tries `custody` on spoiled databases: what it refuses, what `custody check` finds, and what nothing finds.
 
-    tools/try_spoiled.py [--program FILE] [--only NAME]... [--count N] [--seed N] [--list]
-
-Each database is a copy of a good one (tools/spoiled_files.py) with one flipped bit, 4,096 zeros, a cut end, a log of
-another moment or no log. `objects`, `locks`, `check` and `serve` each get a copy of their own. The check fails if one
-of them is ended by a signal, takes longer than 20 seconds, or prints a line or a status that docs/COMMANDS.md does not
-state; if the server sends bytes that do not have the object's name, and `check` does not name it as damaged; or if
-`check` names an object that is served whole. If the program has the command `repair`, it has to remove what `check`
-names, and the server then stores the same objects again.
+Each database is a copy of a good one with one flipped bit, 4,096 zeros, a cut end, a log of another moment or no log.
+`objects`, `locks`, `check` and `serve` each get a copy of their own. The check fails if one of them is ended by a
+signal, takes longer than 20 seconds, or prints a line or a status that docs/COMMANDS.md does not state; if the server
+sends bytes that do not have the object's name, and `check` does not name it as damaged; or if `check` names an object
+that is served whole. `repair` has to remove what `check` names, and the server then stores the same objects again.
 
 What is shown then is compared with the rows of the good database, and with what Python's sqlite3 reads. Each check
-prints one line, with how many databases were
+prints how many databases were
 
     refused     by one of the commands or in a reply (G1, G2, S1)
     named       `check` names a damaged object
@@ -20,15 +16,12 @@ prints one line, with how many databases were
     changed     something else has changed, and nothing says so; the tables follow, and how many of these the command
                 `PRAGMA integrity_check` of sqlite3 finds
 
-and how many of those that are not refused sqlite3 refuses or reads otherwise.
+and how many of those that are not refused sqlite3 refuses or reads otherwise. With --list a line comes before it for
+each that has changed, or is older for another reason than its log.
 
-With --list a line comes before it for each that has changed, or is older for another reason than its log. The check `dump` copies the rows of databases without one
-page into a new file, as docs/OPERATING.md says (A spoiled database): only rows of that page's table may be missing, and
-`check` names the objects that are not whole. The last line counts the checks; the status is 1 if one failed. It needs
-Linux, the command sqlite3, and python3 with sqlite3 and dbstat, and takes two minutes. Without --program it is
-bin/custody.
+The check `dump` copies the rows of databases without one page into a new file, as docs/OPERATING.md says (A spoiled
+database): only rows of that page's table may be missing, and `check` names the objects that are not whole.
 """
-import argparse
 import collections
 import contextlib
 import datetime
@@ -37,21 +30,19 @@ import json
 import os
 import random
 import re
-import select
 import signal
-import socket
 import subprocess
 import sys
 import tempfile
 from dataclasses import dataclass, field
 from pathlib import Path
 
-sys.dont_write_bytecode = True
-from control import token_of, with_token
-from needs import has_command, need_commands
-from spoiled_files import (CONTENTS, FILM, LETTERS, MEMORY, PAGE, POLICY, REPOS, RETIRED, TABLES, TOKENS, WAYS, Maker,
-                           Spoiled, Spoiler, bytes_of, is_sound, name_of, rows_of, zero)
-from try_server import TOP, Client, Failed, judge, require, summary
+from tests.studio.checks import Failed, arguments, judge_each, require
+from tests.studio.control import ControlledServer, issue_words, token_of
+from tests.studio.policy import FILM
+from tests.studio.program import Closed, NotStarted, content, message, put, run, target
+from tests.studio.spoiled import (CONTENTS, LETTERS, MEMORY, PAGE, POLICY, REPOS, RETIRED, TABLES, TOKENS, WAYS, Maker,
+                                  Spoiled, Spoiler, bytes_of, is_sound, name_of_size, rows_of, zero)
 
 LONGEST = 20
 REFUSALS = ("custody: store G1\n", "custody: store G2\n")
@@ -67,10 +58,6 @@ STATUSES = {200, 201, 401, 403, 404, 409, 410, 422, 500, 507}
 UNNOTICED = [["changed"], ["changed", "older"]]
 # An object that is in no database, for trying an upload.
 NEW = 77
-
-
-def target(repo, rest):
-    return f"/{repo}.git/info/lfs/{rest}"
 
 
 def seconds_of(text):
@@ -90,12 +77,14 @@ class View:
     retired: dict = field(default_factory=dict)
 
     def key(self):
+        """What can be compared."""
         return self.objects, self.locks, self.tokens, self.retired
 
 
 def view_of(rows):
     """The view of these rows, if nothing is damaged."""
     def text(it):
+        """The text of some bytes."""
         return it.decode(errors="replace")
 
     now = datetime.datetime.now().timestamp()
@@ -115,54 +104,54 @@ def view_of(rows):
 
 
 def over(folder):
+    """The words that name the database of a folder."""
     return ["--db", f"{folder}/db"]
 
 
-class Running:
-    """A server over the database of a folder."""
+class SpoiledServer(ControlledServer):
+    """A server over the database of a folder, which it may refuse."""
+
+    patience = LONGEST
 
     def __init__(self, program, folder):
-        self.program, self.folder = program, folder
-        Path(folder, "policy").write_text(POLICY, encoding="utf-8")
-        with socket.create_server(("127.0.0.1", 0)) as free:
-            self.port = free.getsockname()[1]
-        words = [program, "serve", *over(folder), "--policy", f"{folder}/policy", "--control", f"{folder}/control"]
-        with open(f"{folder}/errors", "wb") as errors:
-            words += ["--listen", f"127.0.0.1:{self.port}"]
-            self.child = subprocess.Popen(words, stdout=subprocess.PIPE, stderr=errors)
-        require(select.select([self.child.stdout], [], [], LONGEST)[0], "serve prints nothing")
-        self.has_started = self.child.stdout.readline().startswith(b"listening on ")
+        super().__init__(program, folder, POLICY, database="db")
 
-    def errors(self):
-        return Path(self.folder, "errors").read_text(encoding="utf-8", errors="replace")
+    def issue(self, *_, **__):
+        """Changes nothing: the database has its tokens."""
 
-    def ask(self, data):
+    def start(self):
+        """Starts the server, unless it refuses the database."""
+        try:
+            super().start()
+            self.has_started = True
+        except NotStarted:
+            self.has_started = False
+
+    def reply(self, data):
         """The reply, or None if the connection was closed before its end."""
-        with Client(self.port, LONGEST) as client:
-            try:
-                status, body = client.ask(data)
-            except Failed:
-                return None
+        try:
+            status, body = self.ask(data, LONGEST)
+        except Closed:
+            return None
         require(status in STATUSES, f"a reply has the status {status}: {body[:100]!r}")
         require(status != 500 or b'"S1: ' in body, f"a reply with 500 is {body!r}")
         return status, body
 
     def socket(self):
-        return ["--via", f"{self.folder}/control"]
+        """The words that name the control socket."""
+        return ["--via", self.control()]
 
-    def issue(self, repo):
+    def new_token(self, repo):
         """A new token, by the control socket, or None."""
-        words = [self.program, "authenticate", *self.socket(), "--user", "ann", repo, "upload"]
-        ran = subprocess.run(words, capture_output=True, text=True, timeout=LONGEST, check=False)
-        require(ran.returncode == 0 or (ran.returncode, ran.stderr) == (1, REFUSALS[1]), f"authenticate gave {ran}")
-        return token_of(ran.stdout) if ran.returncode == 0 else None
+        ran = run(self.command(*issue_words(repo=repo)), timeout=LONGEST)
+        require(ran[0] == 0 or (ran[0], ran[2]) == (1, REFUSALS[1]), f"authenticate gave {ran}")
+        return token_of(ran[1]) if ran[0] == 0 else None
 
-    def end(self):
+    def close(self):
         """Ends the server, which ran until now. Returns whether it refused a request."""
         ended = self.child.poll()
         self.child.send_signal(signal.SIGTERM)
         self.child.wait(LONGEST)
-        self.child.stdout.close()
         if not self.has_started:
             require(self.child.returncode == 1 and self.errors() in REFUSALS,
                     f"serve ended with {self.child.returncode} and printed {self.errors()!r}")
@@ -184,6 +173,7 @@ class Trial:
         self.served = {}
 
     def copy(self):
+        """A folder with a copy of the database."""
         self.count += 1
         folder = Path(self.room, str(self.count))
         folder.mkdir()
@@ -192,14 +182,13 @@ class Trial:
 
     def run(self, place, name, *more):
         """What a command prints, or None if it refuses the database."""
-        ran = subprocess.run([self.program, name, *place, *more], capture_output=True, timeout=LONGEST, check=False)
-        output, errors = ran.stdout.decode(errors="replace"), ran.stderr.decode(errors="replace")
-        if ran.returncode == 1 and errors in REFUSALS:
+        status, output, errors = run([self.program, name, *place, *more], timeout=LONGEST)
+        if status == 1 and errors in REFUSALS:
             self.refused.add(name)
             return None
-        status = 1 if name == "check" and output.startswith("damaged ") else 0
-        is_stated = (ran.returncode, errors) == (status, "") and re.fullmatch(LINES[name], output)
-        require(is_stated, f"{name} ended with {ran.returncode} and printed {output[-300:]!r}, {errors!r}")
+        wanted = 1 if name == "check" and output.startswith("damaged ") else 0
+        is_stated = (status, errors) == (wanted, "") and re.fullmatch(LINES[name], output)
+        require(is_stated, f"{name} ended with {status} and printed {output[-300:]!r}, {errors!r}")
         return output
 
     def listed(self, place, name):
@@ -211,10 +200,12 @@ class Trial:
         return [(repo, *line.split(" ", 4)) for repo, text in found.items() for line in text.split("\n")[:-1]]
 
     def objects(self, place):
+        """The objects that are listed, or None if the command refuses the database."""
         lines = self.listed(place, "objects")
         return None if lines is None else {(repo, oid, int(size)) for repo, oid, size in lines}
 
     def locks(self, place):
+        """The locks that are listed, or None if the command refuses the database."""
         lines = self.listed(place, "locks")
         if lines is None:
             return None
@@ -235,14 +226,11 @@ class Trial:
 
     @contextlib.contextmanager
     def serving(self, folder):
-        server = Running(self.program, folder)
-        try:
+        """A server over the database of the folder."""
+        with SpoiledServer(self.program, folder) as server:
             yield server
-        except BaseException:
-            server.child.kill()
-            raise
-        if server.end():
-            self.refused.add("serve")
+            if server.close():
+                self.refused.add("serve")
 
     def serve(self):
         """Tries requests on a server."""
@@ -252,8 +240,9 @@ class Trial:
                 self.ask_all(server)
 
     def ask_all(self, server):
+        """Lists with each token, downloads of each object, and requests that write."""
         for letter, (_, repo, _, _) in TOKENS.items():
-            reply = server.ask(with_token(letter * 64, "GET", target(repo, "locks")))
+            reply = server.reply(message("GET", target("locks", repo), token=letter))
             require(reply is not None, "a list got no reply")
             self.view.tokens[letter] = reply[0]
         tokens = {repo: self.token(server, repo) for repo in REPOS}
@@ -270,13 +259,13 @@ class Trial:
     def token(self, server, repo):
         """A token to upload: that of the database, or a new one."""
         letter = LETTERS[repo]
-        return letter * 64 if self.view.tokens[letter] == 200 else server.issue(repo)
+        return letter if self.view.tokens[letter] == 200 else server.new_token(repo)
 
     def get(self, server, tokens, repo, oid):
         """The status and the bytes of a download; 200 and None if it was cut off."""
         if tokens[repo] is None:
             return 500, None
-        reply = server.ask(with_token(tokens[repo], "GET", target(repo, f"content/{oid}")))
+        reply = server.reply(message("GET", content(oid, repo), token=tokens[repo]))
         if reply is None:
             require("StoreFailed" in server.errors(), "a download was cut off, and the server did not report it")
             self.refused.add("get")
@@ -288,8 +277,9 @@ class Trial:
         """Requests that write, and those that follow them."""
         replies = []
 
-        def ask(method, rest, body=None, data=None):
-            replies.append(server.ask(with_token(token, method, target(FILM, rest), body, data)))
+        def ask(method, rest, body=None):
+            """A reply, which has to come."""
+            replies.append(server.reply(message(method, target(rest), body, token)))
             require(replies[-1] is not None, f"{method} {rest} got no reply")
             return replies[-1]
 
@@ -299,10 +289,11 @@ class Trial:
             require(ask("POST", "locks", {"path": "new/lock.psd"})[0] in (409, 500), "a path was locked twice")
             require(ask("POST", f"locks/{number}/unlock", {})[0] in (200, 500), "a new lock was not released")
         ask("POST", "locks/verify", {})
-        ask("POST", "objects/batch", {"operation": "download", "objects": [{"oid": name_of(5), "size": 5}]})
-        if ask("PUT", f"content/{name_of(NEW)}", data=bytes_of(NEW))[0] == 200:
-            require(ask("GET", f"content/{name_of(NEW)}")[1] == bytes_of(NEW), "a new object is served otherwise")
-            require(ask("POST", "verify", {"oid": name_of(NEW), "size": NEW})[0] == 200, "a new object is not verified")
+        ask("POST", "objects/batch", {"operation": "download", "objects": [{"oid": name_of_size(5), "size": 5}]})
+        if ask("PUT", f"content/{name_of_size(NEW)}", bytes_of(NEW))[0] == 200:
+            require(ask("GET", f"content/{name_of_size(NEW)}")[1] == bytes_of(NEW), "a new object is served otherwise")
+            verified, _ = ask("POST", "verify", {"oid": name_of_size(NEW), "size": NEW})
+            require(verified == 200, "a new object is not verified")
         if any(status == 500 for status, _ in replies):
             self.refused.add("serve")
 
@@ -363,12 +354,12 @@ class Trial:
 
     def store_again(self, server, removed):
         """The removed objects are stored again, and all that are known are served whole."""
-        tokens = {repo: server.issue(repo) for repo in REPOS}
+        tokens = {repo: server.new_token(repo) for repo in REPOS}
         require(None not in tokens.values(), "after repair, no token is issued")
         for repo, oid in sorted(removed):
             if repo in REPOS and oid in CONTENTS:
-                put = with_token(tokens[repo], "PUT", target(repo, f"content/{oid}"), data=CONTENTS[oid])
-                require(server.ask(put) == (200, b""), f"after repair, {oid} is not stored again")
+                reply = server.reply(put(CONTENTS[oid], tokens[repo], repo))
+                require(reply == (200, b""), f"after repair, {oid} is not stored again")
         names = {name for name, is_whole in self.served.items() if is_whole} | removed
         for repo, oid in sorted(it for it in names if it[0] in REPOS and it[1] in CONTENTS):
             data = self.get(server, tokens, repo, oid)[1]
@@ -430,8 +421,7 @@ def try_one(options, good, spoiled, repo):
             trial.require_same()
             trial.require_named()
             before = set(trial.refused)
-            if options.can_repair:
-                trial.repair()
+            trial.repair()
             trial.refused = before
             rows = rows_of(trial.copy())
             kind, tables = verdict(trial, good, rows)
@@ -508,29 +498,27 @@ def check_dump(options, good):
     many = [number for number, whose in good.pages.items() if whose.endswith("overflow")]
     chosen = few + random.Random(options.seed).sample(many, min(options.count // 10, len(many)))
     found = collections.Counter(dumped(options.program, good, number) for number in sorted(chosen))
-    return f"{len(chosen)} databases without a page: " + ", ".join(f"{count} {kind}" for kind, count in found.most_common())
+    kinds = ", ".join(f"{count} {kind}" for kind, count in found.most_common())
+    return f"{len(chosen)} databases without a page: {kinds}"
 
 
 def judged(options, good, name):
+    """The check of this name."""
     return check_dump(options, good) if name == "dump" else check(options, good, name)
 
 
 def main():
-    parser = argparse.ArgumentParser(description=__doc__.splitlines()[0])
-    parser.add_argument("--program", default=str(TOP / "bin/custody"), help="the program [default: bin/custody]")
-    parser.add_argument("--only", action="append", choices=[*WAYS, "dump"], help="only this check")
+    """Makes the good database, and runs the checks."""
+    names = [*WAYS, "dump"]
+    parser = arguments(__doc__, names)
     parser.add_argument("--count", type=int, default=200, help="how many databases, in all ways together")
     parser.add_argument("--seed", type=int, default=1, help="for the same databases again")
     parser.add_argument("--list", action="store_true", help="a line for each that has changed")
     options = parser.parse_args()
-    options.program = os.path.abspath(options.program)
-    options.can_repair = has_command(options.program, "repair")
-    need_commands("sqlite3", "sed")
     with tempfile.TemporaryDirectory(dir=MEMORY) as room:
         good = Maker(options.program, room).make()
-    print(f"{len(good.moments[-1].log)} bytes of log, {len(good.whole.file)} bytes of file with it; "
-          f"repair is {'tried too' if options.can_repair else 'not a command of this program'}")
-    return summary([judge(name, lambda: judged(options, good, name)) for name in options.only or [*WAYS, "dump"]])
+    print(f"{len(good.moments[-1].log)} bytes of log, {len(good.whole.file)} bytes of file with it")
+    return judge_each(names, options, lambda name: judged(options, good, name))
 
 
 if __name__ == "__main__":

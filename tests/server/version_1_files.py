@@ -1,7 +1,6 @@
-#!/usr/bin/env python3
 """Makes database files of version 1 with a program of that version, for trying `custody migrate`.
 
-    version_1_files.py PROGRAM [FOLDER]
+    python3 -m tests.server.version_1_files PROGRAM [FOLDER]
 
 PROGRAM is one that still makes files of version 1, as bin/custody builds it at commit 34ebb2b. FOLDER is
 crates/program_tests/data if none is given. Four files are written into it:
@@ -20,164 +19,68 @@ Nothing in them depends on the time or the machine, except how the pages lie in 
                      the game: an empty object, hello, and an upload of 100,000 times y that a stop cut off, with its
                      first chunk
     locks            the film: three, of two users and on two refs, and a fourth that was released; the game: one
-
-It needs python3 and sqlite3, and takes a second.
 """
-import hashlib
+import os
 import re
-import shutil
-import socket
 import subprocess
 import sys
 import tempfile
 import time
 from pathlib import Path
 
-sys.dont_write_bytecode = True
-from needs import need_commands, program_given, stop
+from tests.studio.checks import stop
+from tests.studio.policy import FILM, GAME, MAIN, open_policy
+from tests.studio.program import CHUNK, LAST, NOW, TOP, Client, Files, free_port, lock, message, put, target
+from tests.studio.tables import has_begun, sqlite3
 
-TOP = Path(__file__).resolve().parent.parent
-POLICY = """base = "https://lfs.example"
-token_seconds = 86400
-
-[[repo]]
-name = "studio/film"
-default_ref = "refs/heads/main"
-quota = 1000000
-
-[[repo]]
-name = "studio/game"
-default_ref = "refs/heads/main"
-quota = 1000000
-
-[[row]]
-effect = "allow"
-users = ["ann", "bob"]
-repos = ["*"]
-refs = ["*"]
-paths = ["*"]
-rights = ["pull", "push", "list", "lock"]
-"""
-NOW, LAST = 1463500146, 253402300799
 # Each token's letter: user, repository, operation, when it is issued.
 TOKENS = {
-    "a": ("ann", "studio/film", "upload", LAST - 86400),
-    "b": ("bob", "studio/film", "upload", NOW),
-    "c": ("ann", "studio/game", "upload", LAST - 86400),
-    "d": ("bob", "studio/game", "download", NOW),
+    "a": ("ann", FILM, "upload", LAST - 86400),
+    "b": ("bob", FILM, "upload", NOW),
+    "c": ("ann", GAME, "upload", LAST - 86400),
+    "d": ("bob", GAME, "download", NOW),
 }
-CHUNK = 65_536
 CUT_OFF = b"y" * 100_000
-
-
-def message(letter, method, repo, rest, body=b""):
-    """A request with the token of 64 times the letter."""
-    lines = [f"{method} /{repo}.git/info/lfs/{rest} HTTP/1.1", f"Authorization: Bearer {letter * 64}"]
-    lines += [f"Content-Length: {len(body)}"] if method != "GET" else []
-    return "".join(it + "\r\n" for it in [*lines, ""]).encode() + body
-
-
-def put(letter, repo, content):
-    return message(letter, "PUT", repo, f"content/{hashlib.sha256(content).hexdigest()}", content)
-
-
-def lock(letter, repo, path, ref="refs/heads/main"):
-    body = f'{{"path":"{path}","ref":{{"name":"{ref}"}}}}'
-    return message(letter, "POST", repo, "locks", body.encode())
-
-
 # The requests of one session.
 REQUESTS = [
-    put("a", "studio/film", b""),
-    put("a", "studio/film", b"abc"),
-    put("b", "studio/film", b"x" * 70_000),
-    put("c", "studio/game", b"hello"),
-    put("c", "studio/game", b""),
-    lock("a", "studio/film", "art/hero.psd"),
-    lock("b", "studio/film", "art/b c.psd"),
-    lock("a", "studio/film", "art/tree.psd"),
-    lock("b", "studio/film", "art/hero.psd", "refs/heads/release/1"),
-    message("a", "POST", "studio/film", "locks/3/unlock", b"{}"),
-    lock("c", "studio/game", "levels/1.map"),
+    put(b"", "a", FILM),
+    put(b"abc", "a", FILM),
+    put(b"x" * 70_000, "b", FILM),
+    put(b"hello", "c", GAME),
+    put(b"", "c", GAME),
+    lock("art/hero.psd", "a", FILM, MAIN),
+    lock("art/b c.psd", "b", FILM, MAIN),
+    lock("art/tree.psd", "a", FILM, MAIN),
+    lock("art/hero.psd", "b", FILM, "refs/heads/release/1"),
+    message("POST", target("locks/3/unlock"), {}, "a"),
+    lock("levels/1.map", "c", GAME, MAIN),
 ]
 # Those of the session of the smaller database.
-FEW_REQUESTS = [put("a", "studio/film", b"abc"), lock("a", "studio/film", "art/hero.psd")]
+FEW_REQUESTS = [put(b"abc", "a", FILM), lock("art/hero.psd", "a", FILM, MAIN)]
 
 
-def files(room, name):
-    return ["--db", f"{room}/{name}", "--policy", f"{room}/policy"]
-
-
-def token_words(room, name, letter):
-    """The words that issue a token, whose random bytes are in a file of the letter's name."""
-    user, repo, operation, now = TOKENS[letter]
-    more = ["--user", user, "--now", str(now), "--random", f"{room}/{letter}", repo, operation]
-    return ["authenticate", *files(room, name), *more]
-
-
-def session_words(room, name):
-    return ["session", *files(room, name), "--now", str(NOW)]
-
-
-def serve_words(room, name, port):
-    return ["serve", *files(room, name), "--listen", f"127.0.0.1:{port}"]
-
-
-def prepare(room):
-    """The policy, and the random bytes of the tokens."""
-    Path(room, "policy").write_text(POLICY, encoding="utf-8")
-    for letter in TOKENS:
-        Path(room, letter).write_bytes(bytes([int(letter * 2, 16)]) * 32)
-
-
-def run(program, words, given=b""):
-    """What the program prints."""
-    ran = subprocess.run([program, *words], input=given, stdout=subprocess.PIPE, stderr=subprocess.PIPE, check=False)
-    if ran.returncode:
-        stop(f"{words[0]} ended with status {ran.returncode}: {ran.stderr.decode()}")
-    return ran.stdout
-
-
-def are_granted(replies, requests):
-    """Whether each request was answered with 200 or 201."""
-    statuses = re.findall(rb"HTTP/1.1 (\d+) ", replies)
-    return len(statuses) == len(requests) and set(statuses) <= {b"200", b"201"}
-
-
-def has_begun(room, name):
-    """Whether the database has the first chunk of an upload that is not complete. A copy is read, beside the server."""
-    with tempfile.TemporaryDirectory() as copy:
-        for end in ("", "-wal"):
-            shutil.copy(f"{room}/{name}{end}", f"{copy}/db{end}")
-        return sqlite3(f"{copy}/db", "SELECT count(*) FROM uploads, chunks WHERE upload = id AND done = 0") == "1\n"
-
-
-def begin_upload(room, name, port):
+def begin_upload(port, database):
     """A connection to the server at the port, with an upload of which the server has stored the first chunk."""
-    client = socket.create_connection(("127.0.0.1", port), timeout=60)
-    client.sendall(put("c", "studio/game", CUT_OFF)[: CHUNK + 1000])
+    client = Client(port)
+    client.send(put(CUT_OFF, "c", GAME)[: CHUNK + 1000])
     for _ in range(300):
-        if has_begun(room, name):
+        if has_begun(database):
             return client
         time.sleep(0.1)
     return stop("the server stored nothing of an upload")
 
 
-def stop_within_upload(program, room, name):
+def stop_within_upload(files):
     """Kills a server that has stored the first chunk of an upload."""
-    with socket.create_server(("127.0.0.1", 0)) as free:
-        port = free.getsockname()[1]
-    with subprocess.Popen([program, *serve_words(room, name, port)], stdout=subprocess.PIPE) as child:
+    port = free_port()
+    words = [files.program, "serve", *files.files(), "--listen", f"127.0.0.1:{port}"]
+    with subprocess.Popen(words, stdout=subprocess.PIPE) as child:
         try:
             child.stdout.readline()
-            client = begin_upload(room, name, port)
+            client = begin_upload(port, files.database)
         finally:
             child.kill()
         client.close()
-
-
-def sqlite3(path, statement):
-    return subprocess.run(["sqlite3", path, statement], check=True, stdout=subprocess.PIPE, text=True).stdout
 
 
 def repeated(byte, size):
@@ -197,24 +100,30 @@ def text_of(path):
     """The statements that make the database's rows anew. Long contents are one letter, and are written as expressions."""
 
     def short(found):
+        """An expression in the place of a long content."""
         content = bytes.fromhex(found[1])
         return repeated(chr(content[0]), len(content)) if set(content) <= set(b"xy") else found[0]
 
     return re.sub(r"X'([0-9a-f]{128,})'", short, sqlite3(path, ".dump"))
 
 
+def fill(files, letters, requests):
+    """Issues the tokens, and sends the requests in one session."""
+    for letter in letters:
+        user, repo, operation, now = TOKENS[letter]
+        files.issue(letter, "--now", str(now), user=user, repo=repo, operation=operation)
+    replies = re.findall(rb"HTTP/1.1 (\d+) ", files.session(b"".join(requests)))
+    if len(replies) != len(requests) or not set(replies) <= {b"200", b"201"}:
+        stop(f"a request was refused: {replies}")
+
+
 def make(program, room):
     """The two databases."""
-    prepare(room)
-    for letter in TOKENS:
-        run(program, token_words(room, "full", letter))
-    if not are_granted(run(program, session_words(room, "full"), b"".join(REQUESTS)), REQUESTS):
-        stop("a request of the session was refused")
-    stop_within_upload(program, room, "full")
-    for letter in "ab":
-        run(program, token_words(room, "log", letter))
-    if not are_granted(run(program, session_words(room, "log"), b"".join(FEW_REQUESTS)), FEW_REQUESTS):
-        stop("a request of the second session was refused")
+    policy = open_policy(repos=(FILM, GAME), quota=1_000_000)
+    full = Files(program, room, policy, "full")
+    fill(full, TOKENS, REQUESTS)
+    stop_within_upload(full)
+    fill(Files(program, room, policy, "log"), "ab", FEW_REQUESTS)
 
 
 def keep(room, folder):
@@ -229,12 +138,14 @@ def keep(room, folder):
 
 
 def main():
-    program = program_given()
-    need_commands("sqlite3")
+    """Makes the files."""
+    if len(sys.argv) < 2:
+        stop("the first argument is a program that makes files of version 1")
+    program = os.path.abspath(sys.argv[1])
     folder = Path(sys.argv[2]) if len(sys.argv) > 2 else TOP / "crates" / "program_tests" / "data"
     with tempfile.TemporaryDirectory() as room:
         make(program, room)
-        if sqlite3(f"{room}/full", "SELECT version FROM meta") != "1\n":
+        if sqlite3(f"{room}/full", "SELECT version FROM meta;") != "1\n":
             stop("the program does not make files of version 1")
         keep(room, folder)
     return 0

@@ -1,34 +1,23 @@
-"""A good database, and spoiled copies of it, for tools/try_spoiled.py.
+"""A good database, and spoiled copies of it.
 
 The good one has three repositories with objects of no byte to three chunks, locks of two users on two refs, tokens, an
 expired one, and two names that were removed for good. Its first half is in the file, and the rest in the log, as a
 program that was killed leaves them. What was stored after each request is kept too, and the files of some moments.
 """
 import contextlib
-import hashlib
 import random
 import shutil
 import sqlite3
-import subprocess
 import tempfile
 from dataclasses import dataclass, field
 from pathlib import Path
 
-from needs import stop
-from version_1_files import CHUNK, LAST, NOW, are_granted, lock, message, put
+from tests.studio.checks import stop
+from tests.studio.policy import ART, FILM, GAME, MAIN, open_policy
+from tests.studio.program import CHUNK, LAST, NOW, Files, lock, message, name_of, put, target
 
-FILM, GAME, ART = REPOS = ["studio/film", "studio/game", "studio/art"]
-POLICY = 'base = "https://lfs.example"\ntoken_seconds = 86400\n' + "".join(
-    f'\n[[repo]]\nname = "{repo}"\ndefault_ref = "refs/heads/main"\nquota = 100000000\n' for repo in REPOS
-) + """
-[[row]]
-effect = "allow"
-users = ["ann", "bob"]
-repos = ["*"]
-refs = ["*"]
-paths = ["*"]
-rights = ["pull", "push", "list", "lock"]
-"""
+REPOS = [FILM, GAME, ART]
+POLICY = open_policy(repos=REPOS, quota=100_000_000)
 # Each token's letter: user, repository, operation, when it is issued.
 TOKENS = {
     "a": ("ann", FILM, "upload", LAST - 86400),
@@ -47,25 +36,38 @@ TABLES = ["meta", "repos", "tokens", "uploads", "chunks", "locks", "retired", "s
 
 
 def bytes_of(size):
+    """An object of this size."""
     return random.Random(size).randbytes(size)
 
 
-def name_of(size):
-    return hashlib.sha256(bytes_of(size)).hexdigest()
+def name_of_size(size):
+    """Its name."""
+    return name_of(bytes_of(size))
 
 
 def put_size(repo, size):
-    return put(LETTERS[repo], repo, bytes_of(size))
+    """Its upload."""
+    return put(bytes_of(size), LETTERS[repo], repo)
 
 
 # What is stored, by its name.
-CONTENTS = {name_of(it): bytes_of(it) for it in (0, 1, 5, 100, 1_000, 5_000, 10_000, 20_000, CHUNK, CHUNK + 1,
-                                                 2 * CHUNK, 150_000)}
+SIZES = [0, 1, 5, 100, 1_000, 5_000, 10_000, 20_000, CHUNK, CHUNK + 1, 2 * CHUNK, 150_000]
+CONTENTS = {name_of_size(it): bytes_of(it) for it in SIZES}
 
 
-def locks_of(letter, numbers, ref="refs/heads/main"):
-    repo = TOKENS[letter][1]
-    return [lock(letter, repo, f"art/{number:02}.psd", ref) for number in numbers]
+def lock_of(letter, path, ref=MAIN):
+    """A request for a lock of the repository of a token."""
+    return lock(path, letter, TOKENS[letter][1], ref)
+
+
+def locks_of(letter, numbers, ref=MAIN):
+    """Requests for locks of paths with these numbers."""
+    return [lock_of(letter, f"art/{number:02}.psd", ref) for number in numbers]
+
+
+def unlock(letter, number):
+    """A request that releases a lock of the film."""
+    return message("POST", target(f"locks/{number}/unlock"), {}, letter)
 
 
 # What is in the file at the end: requests, and names that are removed for good.
@@ -75,10 +77,10 @@ FIRST = [
     put_size(ART, 5),
     *locks_of("a", range(1, 12)),
     *locks_of("b", range(12, 20), "refs/heads/release/1"),
-    lock("b", FILM, "art/" + "\u00e9" * 510),
-    message("b", "POST", FILM, "locks/13/unlock", b"{}"),
+    lock_of("b", "art/" + "\u00e9" * 510),
+    unlock("b", 13),
     *locks_of("c", range(3)),
-    ("retire", FILM, name_of(20_000)),
+    ("retire", FILM, name_of_size(20_000)),
 ]
 # What is in the log alone.
 SECOND = [
@@ -86,13 +88,13 @@ SECOND = [
     put_size(GAME, 2 * CHUNK),
     put_size(ART, 10_000),
     *locks_of("b", range(30, 36)),
-    message("a", "POST", FILM, "locks/2/unlock", b"{}"),
-    message("a", "POST", FILM, "locks/3/unlock", b"{}"),
+    unlock("a", 2),
+    unlock("a", 3),
     *locks_of("e", range(2)),
-    ("retire", GAME, name_of(5_000)),
-    lock("a", FILM, "art/last.psd"),
+    ("retire", GAME, name_of_size(5_000)),
+    lock_of("a", "art/last.psd"),
 ]
-RETIRED = [(FILM, name_of(20_000)), (GAME, name_of(5_000))]
+RETIRED = [(FILM, name_of_size(20_000)), (GAME, name_of_size(5_000))]
 
 
 @dataclass
@@ -116,7 +118,7 @@ class Good:
 
 
 @contextlib.contextmanager
-def copied(folder):
+def opened(folder):
     """A connection of Python's sqlite3 to a copy of the database."""
     with tempfile.TemporaryDirectory(dir=MEMORY) as copy:
         for file in Path(folder).glob("db*"):
@@ -127,7 +129,7 @@ def copied(folder):
 
 def rows_of(folder):
     """The rows of each table, or None if sqlite3 cannot read one of them."""
-    with copied(folder) as base:
+    with opened(folder) as base:
         base.text_factory = bytes
         try:
             if not base.execute("SELECT * FROM sqlite_schema").fetchall():
@@ -139,7 +141,7 @@ def rows_of(folder):
 
 def is_sound(folder):
     """Whether `PRAGMA integrity_check` finds nothing."""
-    with copied(folder) as base:
+    with opened(folder) as base:
         try:
             return base.execute("PRAGMA integrity_check").fetchall() == [("ok",)]
         except (sqlite3.Error, UnicodeError):
@@ -148,42 +150,30 @@ def is_sound(folder):
 
 def pages_of(folder):
     """The table or index of each page of the database; pages of none are not in it."""
-    with copied(folder) as base:
+    with opened(folder) as base:
         try:
             return dict(base.execute("SELECT pageno, name || ', ' || pagetype FROM dbstat").fetchall())
         except sqlite3.Error as fault:
             return stop(f"Python's sqlite3 has no dbstat: {fault}")
 
 
-class Maker:
+class Maker(Files):
     """Makes the good database with the program."""
 
     def __init__(self, program, room):
-        self.program, self.room, self.good = program, room, Good()
-        Path(room, "policy").write_text(POLICY, encoding="utf-8")
-
-    def run(self, name, *more, given=b"", with_policy=True):
-        policy = ["--policy", f"{self.room}/policy"] if with_policy else []
-        words = [self.program, name, "--db", f"{self.room}/db", *policy, *more]
-        ran = subprocess.run(words, input=given, capture_output=True, check=False)
-        if ran.returncode:
-            stop(f"{name} ended with status {ran.returncode}: {ran.stderr.decode()}")
-        return ran.stdout
-
-    def issue(self, letter):
-        user, repo, operation, now = TOKENS[letter]
-        Path(self.room, letter).write_bytes(bytes([int(letter * 2, 16)]) * 32)
-        more = ["--user", user, "--now", str(now), "--random", f"{self.room}/{letter}"]
-        self.run("authenticate", *more, repo, operation)
+        super().__init__(program, room, POLICY, "db")
+        self.good = Good()
 
     def step(self, request):
         """Answers a request, or removes an object for good."""
         if isinstance(request, tuple):
-            self.run("retire", "--repo", *request[1:], with_policy=False)
+            status, _, errors = self.over_files("retire", "--repo", *request[1:])
+            if status != 0:
+                stop(f"retire ended with status {status}: {errors}")
         else:
-            replies = self.run("session", "--now", str(NOW), given=request)
-            if not are_granted(replies, [request]):
-                stop(f"a request was refused: {replies!r}")
+            reply = self.session(request)
+            if not reply.startswith((b"HTTP/1.1 200 ", b"HTTP/1.1 201 ")):
+                stop(f"a request was refused: {reply!r}")
         self.good.states.append(rows_of(self.room))
 
     def moment(self):
@@ -199,8 +189,9 @@ class Maker:
         base.close()
 
     def make(self):
-        for letter in TOKENS:
-            self.issue(letter)
+        """The good database."""
+        for letter, (user, repo, operation, now) in TOKENS.items():
+            self.issue(letter, "--now", str(now), user=user, repo=repo, operation=operation)
             self.good.states.append(rows_of(self.room))
         for number, request in enumerate(FIRST):
             self.step(request)
@@ -243,10 +234,12 @@ class Spoiled:
 
 
 def flip(data, at, bit):
+    """The data with one bit changed."""
     return data[:at] + bytes([data[at] ^ 1 << bit]) + data[at + 1 :]
 
 
 def zero(data, at):
+    """The data with zeros for a page."""
     return data[:at] + bytes(len(data[at : at + PAGE])) + data[at + PAGE :]
 
 
@@ -258,15 +251,18 @@ class Spoiler:
         self.last = good.moments[-1]
 
     def whose(self, number):
+        """The table or index of a page."""
         return self.good.pages.get(number, "a free page")
 
     def whose_of_file(self, moment, at):
+        """Whose a byte of the file is."""
         number = at // PAGE + 1
         if number in frames_of(moment.log):
             return "a page that is in the log too"
         return "the head of the file" if at < 100 else self.whose(number)
 
     def whose_of_log(self, at):
+        """Whose a byte of the log is."""
         if at < LOG_HEAD:
             return "the head of the log"
         frame, within = divmod(at - LOG_HEAD, FRAME_HEAD + PAGE)
@@ -285,7 +281,7 @@ class Spoiler:
         return moment, (self.random.choice(numbers) - 1) * PAGE
 
     def file_bit(self):
-        """In half of the cases a bit of a byte that is not zero: most bytes of a page are room that is free."""
+        """One bit of the file, in half of the cases of a byte that is not zero: most bytes of a page are free."""
         moment, at = self.page()
         used = [it for it in range(PAGE) if moment.file[at + it]] if self.random.random() < 0.5 else []
         at, bit = at + self.random.choice(used or range(PAGE)), self.random.randrange(8)
@@ -293,37 +289,45 @@ class Spoiler:
         return Spoiled(what, whose, flip(moment.file, at, bit), moment.log, moment)
 
     def file_page(self):
+        """Zeros for a page of the file."""
         moment, at = self.page()
         what, whose = f"zeros from byte {at} of the file", self.whose_of_file(moment, at + 100)
         return Spoiled(what, whose, zero(moment.file, at), moment.log, moment)
 
     def file_cut(self):
+        """A file that is cut short."""
         moment, at = self.page()
         size = self.random.choice([0, at, at + self.random.randrange(PAGE)])
         return Spoiled(f"a file of {size} bytes", "the end of the file", moment.file[:size], moment.log, moment)
 
     def log_bit(self):
+        """One bit of the log."""
         at, bit = self.random.randrange(len(self.last.log)), self.random.randrange(8)
         return self.of_log(f"bit {bit} of byte {at} of the log", self.whose_of_log(at), flip(self.last.log, at, bit))
 
     def log_page(self):
+        """Zeros for 4,096 bytes of the log."""
         at = self.random.randrange(len(self.last.log)) // PAGE * PAGE
         return self.of_log(f"zeros from byte {at} of the log", self.whose_of_log(at), zero(self.last.log, at))
 
     def log_cut(self):
+        """A log that is cut short."""
         size = self.random.randrange(len(self.last.log))
         return self.of_log(f"a log of {size} bytes", "the end of the log", self.last.log[:size])
 
     def of_log(self, what, whose, log):
+        """The last file with this log."""
         return Spoiled(what, whose, self.last.file, log, self.last)
 
     def other_log(self):
+        """The file of one moment with the log of another."""
         one, other = self.random.sample(range(len(self.good.moments)), 2)
         moment = self.good.moments[one]
         what = f"the file of moment {one} and the log of moment {other}"
         return Spoiled(what, "the log", moment.file, self.good.moments[other].log, moment)
 
     def no_log(self):
+        """The file of a moment without its log."""
         number = self.random.randrange(len(self.good.moments))
         moment = self.good.moments[number]
         return Spoiled(f"the file of moment {number} without its log", "the log", moment.file, None, moment)
