@@ -52,7 +52,7 @@ class Trial(Workroom):
 
     def __init__(self, options, room, checks):
         super().__init__(room, options.show)
-        self.check, self.program, self.port = checks.expect, options.program, free_port()
+        self.check, self.program, self.count, self.port = checks.expect, options.program, options.files, free_port()
         self.set_up_git()
         base = f"http://127.0.0.1:{self.port}"
         self.policy = policy([*(repo(*it) for it in QUOTAS.items()), *ROWS], base, repos=())
@@ -112,16 +112,16 @@ class Trial(Workroom):
         return clone
 
 
-def sizes():
-    """200 sizes of 1 byte to 50 MB: most are small, a few are large."""
+def sizes(count):
+    """Sizes of 1 byte to 50 MB: most are small, a few are large."""
     few = [1, 2, 3, 65_535, 65_536, 65_537, 1_000_000, 5_000_000, 50_000_000]
-    return few + [1_000 + 997 * n for n in range(200 - len(few))]
+    return few + [1_000 + 997 * n for n in range(count - len(few))]
 
 
-def write_files(clone, seed):
+def write_files(clone, seed, count):
     """Writes the files, whose bytes depend on the seed. Returns the digest of each by its name."""
     source, digests = random.Random(seed), {}
-    for number, size in enumerate(sizes()):
+    for number, size in enumerate(sizes(count)):
         content, name = source.randbytes(size), f"{number:03}.bin"
         clone.path(name).write_bytes(content)
         digests[name] = name_of(content)
@@ -137,7 +137,7 @@ def transfer(trial, transfers):
     """Pushes and clones all files with this number of transfers at a time."""
     print(f"{transfers} transfers at a time", flush=True)
     ann = trial.new("ann", "studio/film", transfers)
-    digests = write_files(ann, transfers)
+    digests = write_files(ann, transfers, trial.count)
     ann.commit("files")
     branch = f"work-{transfers}"
     status, _ = ann.tried("push", "origin", f"HEAD:refs/heads/{branch}")
@@ -279,6 +279,7 @@ def try_all(trial):
 
 def main():
     parser = arguments(__doc__)
+    parser.add_argument("--files", type=int, default=200, help="how many files are pushed: 9 or more [default: 200]")
     parser.add_argument("--show", action="store_true", help="print each command and what the client prints")
     options = parser.parse_args()
     checks = Checks()
