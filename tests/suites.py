@@ -88,7 +88,7 @@ SUITES = [
     Suite("objects", "tests.server.objects", "Objects of 0 bytes to 256 MiB are stored whole, and cut ones are not.",
           2, ("sqlite3",), quick=only("stopped", "repositories", "refused")),
     Suite("transfers", "tests.server.transfers", "Git LFS pushes, clones and fetches 200 files of 1 byte to 50 MB.",
-          1, ("git", "git-lfs"), quick=("--files", "20")),
+          1, ("git", "git-lfs"), quick=("--files", "8")),
     Suite("load", "tests.server.load", "200 clients through nginx and 50 without it push, pull and lock.",
           2, ("nginx", "openssl", "iproute2")),
     Suite("full", "tests.server.full", "A server on a full disk loses nothing, and goes on once it has room.",

@@ -115,7 +115,7 @@ class Trial(Workroom):
 def sizes(count):
     """Sizes of 1 byte to 50 MB: most are small, a few are large."""
     few = [1, 2, 3, 65_535, 65_536, 65_537, 1_000_000, 5_000_000, 50_000_000]
-    return few + [1_000 + 997 * n for n in range(count - len(few))]
+    return (few + [1_000 + 997 * n for n in range(count - len(few))])[:count]
 
 
 def write_files(clone, seed, count):
@@ -279,7 +279,7 @@ def try_all(trial):
 
 def main():
     parser = arguments(__doc__)
-    parser.add_argument("--files", type=int, default=200, help="how many files are pushed: 9 or more [default: 200]")
+    parser.add_argument("--files", type=int, default=200, help="how many files are pushed; the ninth one is the largest [default: 200]")
     parser.add_argument("--show", action="store_true", help="print each command and what the client prints")
     options = parser.parse_args()
     checks = Checks()
