@@ -1,422 +1,113 @@
+<<<<<<< HEAD
 #!/usr/bin/env python3
 """Runs in the container of tools/try_security.sh, as root: installs the package in /try/022 as docs/operating/install.md says, and
 tries what that page says of security against the real systemd, nginx, sshd and Git LFS.
+=======
+"""Tries on a whole machine what the pages say of security: a container with Debian 12, in which the package is installed.
+>>>>>>> site
 
-It prints a line for each check, what it measured, and `N passed, M failed`. Its status is 1 if a check failed.
+The container has systemd, nginx, sshd, Git and Git LFS, shares the kernel, and has a network of its own; it runs
+tests/site/container. A check fails if somebody can read, write or ask more than the pages say, if one client can take
+what others need, or if the package is another one when it is made with another umask.
 """
 import contextlib
-import glob
-import hashlib
-import json
 import os
-import pwd
-import re
 import shutil
-import socket
-import sqlite3
-import ssl
-import stat
 import subprocess
 import sys
 import tempfile
-import threading
 import time
 from pathlib import Path
 
-HOME = Path("/var/lib/custody")
-CONTROL = "/run/custody/control"
-EXAMPLES = Path("/usr/share/doc/custody/examples")
-API = "/studio/film.git/info/lfs"
-CERTIFICATE, KEY = "/etc/ssl/certs/lfs.example.pem", "/etc/ssl/private/lfs.example.key"
-POLICY = """base = "https://lfs.example"
-token_seconds = 3600
+from tests.studio.checks import arguments, stop
+from tests.studio.program import TOP
 
-[[repo]]
-name = "studio/film"
-default_ref = "refs/heads/main"
-quota = 50000000000
-
-[[row]]
-effect = "allow"
-users = ["ann", "bob"]
-repos = ["studio/film"]
-refs = ["*"]
-paths = ["*"]
-rights = ["pull", "push", "list", "lock"]
-"""
-UNREACHABLE = '{"message":"the LFS server is not reachable now; try again in a minute"}'
-
-
-class Counts:
-    passed = failed = 0
-
-
-def check(holds, what, text=""):
-    """Counts a check, and prints it."""
-    if holds:
-        Counts.passed += 1
-    else:
-        Counts.failed += 1
-    print(f"{'ok  ' if holds else 'FAIL'} {what}", flush=True)
-    if not holds and text:
-        print("     " + str(text).strip()[:1500].replace("\n", "\n     "), flush=True)
-    return holds
-
-
-def measured(text):
-    print(f"     {text}", flush=True)
-
-
-def run(*words, given=None, user=None, seconds=120, environment=None, folder=None):
-    """Runs a command, as the user. Returns its status and what it printed."""
-    words = ["runuser", "-u", user, "--", *words] if user else list(words)
-    ran = subprocess.run([str(it) for it in words], input=given, stdout=subprocess.PIPE, stderr=subprocess.STDOUT, text=True,
-                         errors="replace", timeout=seconds, check=False, cwd=folder,
-                         env=dict(os.environ, **(environment or {})))
-    return ran.returncode, ran.stdout
-
-
-def must(*words, **more):
-    status, text = run(*words, **more)
-    if status:
-        sys.exit(f"try_security.py: {' '.join(map(str, words))} ended with {status}\n{text}")
-    return text
-
-
-def wait_until(holds, seconds=20):
-    """Whether the condition came to hold in time."""
-    end = time.monotonic() + seconds
-    while time.monotonic() < end:
-        if holds():
-            return True
-        time.sleep(0.1)
-    return holds()
-
-
-def mode_of(path):
-    """Owner and mode of a file, as `custody 0600`."""
-    found = os.lstat(path)
-    return f"{pwd.getpwuid(found.st_uid).pw_name} {stat.S_IMODE(found.st_mode):04o}"
-
-
-def write(path, text, mode=0o644):
-    path = Path(path)
-    path.parent.mkdir(parents=True, exist_ok=True)
-    path.write_text(text)
-    path.chmod(mode)
-
-
-# The package and the unit.
-
-
-def listing(mask):
-    """The modes, owners and names of what is in the package that was made with this umask."""
-    found = glob.glob(f"/try/{mask}/*.deb")
-    if not found:
-        return [Path(f"/try/{mask}/log").read_text().strip()]
-    lines = must("dpkg-deb", "--contents", found[0]).splitlines()
-    return [(it.split()[0], it.split()[1], it.split()[-1]) for it in lines]
-
-
-def try_package():
-    """Item by item: modes, installation, owners."""
-    plain = listing("022")
-    for mask in ("007", "077"):
-        check(listing(mask) == plain, f"tools/package.sh makes the same package with the umask {mask}",
-              "\n".join(map(str, [it for it in listing(mask) if it not in plain])))
-    status, text = run("dpkg", "-i", glob.glob("/try/022/*.deb")[0])
-    check(status == 0, "the package installs", text)
-    write("/etc/custody/policy.toml", POLICY)
-
-
-def active():
-    return run("systemctl", "is-active", "custody")[1].strip() == "active"
-
-
-def listening(port=8080):
-    with socket.socket() as probe:
-        return probe.connect_ex(("127.0.0.1", port)) == 0
-
-
-def serving():
-    """The address is bound before the database is open, and the control socket is made after it."""
-    return listening() and os.path.exists(CONTROL) and active()
-
-
-def start():
-    """Starts the server. Whether it serves."""
-    run("systemctl", "reset-failed", "custody")
-    run("systemctl", "start", "custody")
-    return wait_until(serving)
-
-
-def start_at_once():
-    """Starts the server. Whether it serves, and systemd did not have to start it again."""
-    return start() and must("systemctl", "show", "-P", "NRestarts", "custody").strip() == "0"
-
-
-def journal():
-    return run("journalctl", "-u", "custody", "--no-pager", "-n", "8", "-o", "cat")[1]
-
-
-def stop():
-    run("systemctl", "stop", "custody")
-
-
-def process():
-    return int(must("systemctl", "show", "-P", "MainPID", "custody"))
-
-
-def database():
-    """The database that the unit names."""
-    return Path(re.search(r"--db (\S+)", Path("/lib/systemd/system/custody.service").read_text())[1])
-
-
-def try_unit():
-    """First start, restart, stop, and a start without the log."""
-    check(start_at_once(), "the unit's first start, with no database", journal())
-    if not serving():
-        sys.exit("the server does not start")
-    before = process()
-    run("systemctl", "restart", "custody")
-    check(wait_until(serving) and process() != before, "the unit restarts")
-    stop()
-    check(run("systemctl", "is-failed", "custody")[0] != 0 and not listening(), "and stops, without a failure")
-    log = Path(f"{database()}-wal")
-    log.unlink(missing_ok=True)
-    check(start_at_once() and log.exists(), "it starts from a database that was restored without its log", journal())
-    status, text = run("custody", "check", "--via", CONTROL)
-    check(status == 0, f"and its objects are whole: {text.strip()}", text)
-
-
-def try_earlier():
-    """A database where earlier packages had it is moved, with its log, by the installation."""
-    stop()
-    files = [database(), Path(f"{database()}-wal")]
-    before = [it.read_bytes() for it in files]
-    for file in files:
-        file.rename(HOME / file.name)
-    must("dpkg", "-i", glob.glob("/try/022/*.deb")[0])
-    after = [it.read_bytes() if it.exists() else b"" for it in files]
-    started = start()
-    check(after == before and started and database().parent != HOME,
-          "the package moves the database of an earlier one, and its log",
-          [str(it) for it in HOME.rglob("*")])
-
-
-def try_confinement():
-    """What the unit withholds from the server."""
-    number = process()
-    limits = Path(f"/proc/{number}/limits").read_text()
-    check(re.search(r"Max core file size +0 +0 ", limits), "the server leaves no core dump")
-    state = dict(re.findall(r"^(\w+):\t(.*)$", Path(f"/proc/{number}/status").read_text(), re.M))
-    check(state["Seccomp"] == "2" and state["NoNewPrivs"] == "1" and int(state["CapEff"], 16) == 0,
-          "it has a filter of system calls, and no capabilities", state)
-    allowed = []
-    for folder in (HOME, HOME / ".ssh", "/etc/custody", "/etc/ssh", "/srv/git", "/var/spool", "/usr/lib/custody", "/home"):
-        if run("nsenter", "-t", number, "-m", "--", "setpriv", "--reuid", "custody", "--regid", "custody", "--clear-groups",
-               "touch", f"{folder}/try")[0] == 0:
-            allowed.append(str(folder))
-            Path(folder, "try").unlink()
-    check(not allowed, "it can write neither its home, nor the keys, the policy, the Git repositories or the programs", allowed)
-
-
-NEIGHBOUR = """import ctypes, sys
-text = ctypes.create_string_buffer(b"before")
-print(ctypes.addressof(text), flush=True)
-sys.stdin.readline()
-print(text.value.decode(), flush=True)
-"""
-INTRUDER = """import ctypes, os, sys
-libc = ctypes.CDLL(None, use_errno=True)
-class Piece(ctypes.Structure):
-    _fields_ = [("start", ctypes.c_void_p), ("size", ctypes.c_size_t)]
-text = ctypes.create_string_buffer(b"after!")
-mine, other = Piece(ctypes.addressof(text), 6), Piece(int(sys.argv[2]), 6)
-for call in (libc.process_vm_writev, libc.process_vm_readv):
-    print(call(int(sys.argv[1]), ctypes.byref(mine), 1, ctypes.byref(other), 1, 0), os.strerror(ctypes.get_errno()))
+BASE = "/var/cache/custody-bookworm"
+# What Debian has in the container.
+INSIDE = ("systemd,systemd-sysv,dbus,nginx-light,openssh-server,git,git-lfs,curl,openssl,python3,procps,iproute2,"
+          "ca-certificates")
+MASKS = ("022", "007", "077")
+UNIT = """[Unit]
+After=multi-user.target
+[Service]
+Type=oneshot
+WorkingDirectory=/try
+Environment=PYTHONDONTWRITEBYTECODE=1
+ExecStart=/usr/bin/python3 -u -m tests.site.container
+ExecStopPost=/bin/sh -c 'echo $EXIT_STATUS > /try/status; systemctl --no-block poweroff'
+StandardOutput=file:/try/output
+StandardError=inherit
+TimeoutStartSec=3600
 """
 
 
-def try_neighbours():
-    """A program with all that the unit allows, and a process of the same user outside of it, as a session of SSH is."""
-    for name, text in (("neighbour", NEIGHBOUR), ("intruder", INTRUDER)):
-        write(f"/usr/local/lib/{name}.py", text)
-    unit = Path("/lib/systemd/system/custody.service").read_text()
-    with subprocess.Popen(["setpriv", "--reuid", "custody", "--regid", "custody", "--clear-groups", "python3",
-                           "/usr/local/lib/neighbour.py"], stdin=subprocess.PIPE, stdout=subprocess.PIPE, text=True) as child:
-        words = f"/usr/bin/python3 /usr/local/lib/intruder.py {child.pid} {child.stdout.readline().strip()}"
-        lines = [it for it in unit.splitlines()
-                 if not re.match("Exec|Restart|RuntimeDir|StateDir|WorkingDir|MemoryDeny|WantedBy|\\[Install|After|Doc", it)]
-        lines += ["[Service]", "Type=oneshot", f"ExecStart={words}", "StandardOutput=truncate:/try/intruder"]
-        write("/etc/systemd/system/intruder.service", "\n".join(lines) + "\n")
-        must("systemctl", "daemon-reload")
-        run("systemctl", "start", "intruder")
-        seen = child.communicate("now\n")[0].strip()
-    log = Path("/try/intruder").read_text()
-    check(seen == "before" and log.splitlines() == 2 * ["-1 Operation not permitted"],
-          "nor can it read or write the memory of another process of its user", f"{seen}: {log}")
+def install_debian(base):
+    """Debian in a folder, if it is not there yet."""
+    if base.is_dir():
+        return
+    print(f"Debian is being installed into {base}", flush=True)
+    new, log = Path(f"{base}.new"), f"{base}.log"
+    shutil.rmtree(new, ignore_errors=True)
+    words = ["debootstrap", "--variant=minbase", f"--include={INSIDE}", "bookworm", str(new)]
+    with open(log, "wb") as output:
+        if subprocess.run(words, stdout=output, stderr=output, check=False).returncode:
+            stop(f"debootstrap failed: {log}")
+    new.rename(base)
 
 
-def try_modes():
-    """Files of the server, their owners and modes."""
-    folder = database().parent
-    check(folder != HOME and mode_of(folder) == "custody 0700", "the database has a folder of its own, 0700", folder)
-    check(mode_of(HOME).startswith("root "), "the home of custody is root's", mode_of(HOME))
-    modes = {str(it): mode_of(it) for it in (database(), f"{database()}-wal", CONTROL)}
-    check(set(modes.values()) == {"custody 0600"}, "the database, its log and the control socket are 0600", modes)
-    check(mode_of("/run/custody") == "custody 0700", "the folder of the control socket is 0700")
-    outside = Path("/var/tmp/outside")
-    shutil.rmtree(outside, ignore_errors=True)
-    outside.mkdir(mode=0o755)
-    shutil.chown(outside, "custody", "custody")
-    for mask in ("000", "022"):
-        must("sh", "-c", f"umask {mask} && custody prune --db {outside}/{mask}.db", user="custody")
-    modes = {it.name: mode_of(it) for it in outside.iterdir()}
-    check(set(modes.values()) == {"custody 0600"}, "a database that is made outside the unit is 0600, whatever the umask", modes)
-
-
-# SSH.
-
-
-def sshd_setting(user, name):
-    """What sshd uses for a user, by its own test mode."""
-    text = must("sshd", "-T", "-C", f"user={user},host=localhost,addr=127.0.0.1,laddr=127.0.0.1,lport=22")
-    return re.search(rf"^{name} (.*)$", text, re.M)[1]
-
-
-def keys_file():
-    """The file in which sshd looks for the keys of custody, the first one."""
-    name = sshd_setting("custody", "authorizedkeysfile").split()[0]
-    return Path(name.replace("%u", "custody").replace("%h", str(HOME))) if name[0] in "/%" else HOME / name
-
-
-def ssh_words(user):
-    return ["ssh", "-i", f"/try/key-{user}", "-o", "IdentitiesOnly=yes", "-o", "BatchMode=yes", "-o",
-            "StrictHostKeyChecking=accept-new", "-o", "LogLevel=ERROR"]
-
-
-def over_ssh(user, command, *more):
-    return run(*ssh_words(user), *more, "custody@lfs.example", command)
-
-
-def set_up_ssh():
-    for user in ("ann", "bob", "stranger", "thief"):
-        must("ssh-keygen", "-q", "-t", "ed25519", "-N", "", "-f", f"/try/key-{user}")
-    if check((EXAMPLES / "sshd-custody.conf").exists(), "the package has a configuration for sshd"):
-        shutil.copy(EXAMPLES / "sshd-custody.conf", "/etc/ssh/sshd_config.d/custody.conf")
-    must("systemctl", "restart", "ssh")
-    wait_until(lambda: listening(22))
-    if not keys_file().is_relative_to("/etc"):
-        (HOME / ".ssh").mkdir(mode=0o700, exist_ok=True)
-        shutil.chown(HOME / ".ssh", "custody", "custody")
-    lines = [f'restrict,command="/usr/lib/custody/forced-command {user}" {Path(f"/try/key-{user}.pub").read_text()}'
-             for user in ("ann", "bob")]
-    write(keys_file(), "".join(lines))
-    must("install", "-d", "-o", "custody", "-g", "custody", "/srv/git/studio")
-    must("git", "init", "-q", "--bare", "-b", "main", "/srv/git/studio/film.git", user="custody")
-
-
-def try_ssh():
-    """Keys, and what somebody over SSH can ask and learn."""
-    status, text = over_ssh("ann", "git-lfs-authenticate studio/film.git upload")
-    check(status == 0 and "Bearer" in text, "a user gets a token over SSH", text)
-    status, text = over_ssh("stranger", "git-lfs-authenticate studio/film.git upload")
-    check(status == 255 and "Permission denied" in text, "a stranger gets nothing over SSH", text)
-    status, text = over_ssh("bob", "cat /etc/passwd")
-    check(status == 1 and "only git-lfs-authenticate" in text, "no other command runs", text)
-    status, text = over_ssh("ann", "git-lfs-authenticate studio/none.git upload")
-    check(status == 1 and text.startswith("custody: R1: no such repository\n"), "a repository that the policy lacks is R1", text)
-    check(sshd_setting("custody", "disableforwarding") == "yes" and sshd_setting("custody", "permittty") == "no",
-          "sshd forwards nothing for custody, and gives no terminal, whatever a key's line says")
-    check(".ssh/authorized_keys" in sshd_setting("root", "authorizedkeysfile"), "and reads the keys of others where it did")
-    check(mode_of(keys_file()).startswith("root "), "the keys are root's", f"{keys_file()}: {mode_of(keys_file())}")
-    # The server was taken over: it writes a key wherever it can, as its own user and in its own view of the files.
-    line = f'command="/usr/lib/custody/forced-command ann" {Path("/try/key-thief.pub").read_text()}'
-    for place in {keys_file(), HOME / ".ssh/authorized_keys", HOME / ".ssh/authorized_keys2"}:
-        script = f'mkdir -p {place.parent} && cat >> {place}'
-        run("nsenter", "-t", process(), "-m", "--", "setpriv", "--reuid", "custody", "--regid", "custody", "--clear-groups",
-            "sh", "-c", f"umask 077; {script}", given=line)
-    status, text = over_ssh("thief", "git-lfs-authenticate studio/film.git upload")
-    check(status == 255, "a server that was taken over cannot add itself a key", text)
-
-
-def token(user="ann", operation="upload"):
-    text = must("custody", "authenticate", "--via", CONTROL, "--user", user, "studio/film", operation)
-    return json.loads(text)["header"]["Authorization"].split()[1]
-
-
-# nginx.
-
-
-class Reply:
-    """The status, the fields and the body of a reply."""
-
-    def __init__(self, data):
-        head, _, self.body = data.partition(b"\r\n\r\n")
-        lines = head.decode("latin-1").split("\r\n")
-        self.status = int(lines[0].split()[1]) if lines[0].startswith("HTTP/") else 0
-        self.fields = {name.lower(): value.strip() for name, _, value in (it.partition(":") for it in lines[1:])}
-        self.text = self.body.decode("utf-8", "replace")
-
-    def __str__(self):
-        return f"{self.status} {self.fields} {self.text[:300]}"
-
-
-def connect(plain=False, protocol="http/1.1", source=None):
-    """A connection to nginx, or to the server itself."""
-    raw = socket.create_connection(("127.0.0.1", 8080 if plain else 443), timeout=20, source_address=source)
-    if plain:
-        return raw
-    context = ssl.create_default_context(cafile=CERTIFICATE)
-    context.set_alpn_protocols([protocol])
-    return context.wrap_socket(raw, server_hostname="lfs.example")
-
-
-def head_of(method, target, fields):
-    lines = [f"{method} {target} HTTP/1.1", "Host: lfs.example", *(f"{name}: {value}" for name, value in fields)]
-    return ("\r\n".join(lines) + "\r\n\r\n").encode("latin-1")
-
-
-def reply_of(connection, seconds=20):
-    """Reads one reply, or what has come of it in time."""
-    connection.settimeout(seconds)
-    data = b""
-    try:
-        while True:
-            piece = connection.recv(65536)
-            data += piece
-            head, end, body = data.partition(b"\r\n\r\n")
-            length = re.search(rb"(?i)\ncontent-length: *(\d+)", head)
-            if not piece or (end and length and len(body) >= int(length[1])):
-                break
-    except (TimeoutError, ssl.SSLError, OSError):
-        pass
-    return Reply(data)
-
-
-def ask(method, target, fields=(), body=b"", plain=False, seconds=60):
-    """One request, whole, and its reply."""
-    with connect(plain) as connection:
-        length = [("Content-Length", len(body))] if method in ("PUT", "POST") else []
+@contextlib.contextmanager
+def root_over(base):
+    """A root whose changes are in a folder of its own."""
+    with tempfile.TemporaryDirectory(prefix="custody-security.", dir="/var/tmp") as work:
+        root, upper, layer = (Path(work, name) for name in ("root", "upper", "layer"))
+        for folder in (root, upper, layer):
+            folder.mkdir()
+        words = ["mount", "-t", "overlay", "overlay", "-o", f"lowerdir={base},upperdir={upper},workdir={layer}", root]
+        if subprocess.run(words, check=False).returncode:
+            stop("no overlay file system can be mounted")
         try:
-            connection.sendall(head_of(method, target, [*fields, *length]) + body)
-        except OSError:
-            pass
-        return reply_of(connection, seconds)
+            yield root
+        finally:
+            subprocess.run(["umount", root], check=False)
 
 
-def bearer(text):
-    return [("Authorization", f"Bearer {text}")]
+def make_packages(tree, program, folder):
+    """The package of the tree, made with three umasks."""
+    environment = {**os.environ, **({} if program == str(TOP / "bin/custody") else {"CUSTODY": program})}
+    script = next(it for it in (tree / "deploy/package.sh", tree / "tools/package.sh") if it.exists())
+    for mask in MASKS:
+        place = folder / mask
+        place.mkdir()
+        with open(place / "log", "wb") as log:
+            subprocess.run(["sh", "-c", f'umask {mask} && "$0" "$1"', script, place], stdout=log, stderr=log,
+                           env=environment, check=False)
 
 
-def begun(method, target, fields, length, sent):
-    """A connection on which a request of this length has begun, and how much of its body was sent."""
-    connection = connect()
-    connection.sendall(head_of(method, target, [*fields, ("Content-Length", length)]))
-    piece = b"x" * 65536
-    connection.settimeout(2)
+def prepare(root, options):
+    """What the container needs: the packages, the checks, and a unit that runs them when it has booted."""
+    folder = root / "try"
+    folder.mkdir()
+    make_packages(options.tree, options.program, folder)
+    for name in ("studio", "site/container"):
+        shutil.copytree(TOP / "tests" / name, folder / "tests" / name, ignore=shutil.ignore_patterns("__pycache__"))
+    for name in ("tests", "tests/site"):
+        shutil.copy(TOP / name / "__init__.py", folder / name)
+    (folder / "output").touch()
+    system = root / "etc/systemd/system"
+    (system / "try.service").write_text(UNIT, encoding="utf-8")
+    wanted = system / "graphical.target.wants"
+    wanted.mkdir(parents=True, exist_ok=True)
+    (wanted / "try.service").symlink_to("../try.service")
+
+
+def boot(root, log):
+    """Boots the container. Prints what the checks print, until it is off."""
+    words = ["systemd-nspawn", "--quiet", "-D", root, "-M", "custody-security", "--register=no", "--keep-unit",
+             "--private-network", "--console=pipe", "-b"]
+    with open(log, "wb") as output:
+        container = subprocess.Popen(words, stdin=subprocess.DEVNULL, stdout=output, stderr=output)
     try:
+<<<<<<< HEAD
         while sent > 0:
             sent -= connection.send(piece[:sent])
     except (TimeoutError, OSError):
@@ -913,13 +604,37 @@ def try_group():
 PARTS = [try_package, try_unit, try_earlier, try_confinement, try_neighbours, set_up_ssh, set_up_nginx, try_modes, try_ssh,
          try_no_token, try_streams, try_limits, try_prefix, try_fields, try_log, try_given_up, try_unreachable, try_several,
          try_full_spool, try_client, try_hook, try_locks_page, try_wrong_names, measure_growth, try_full_disk, try_group]
+=======
+        with open(root / "try/output", encoding="utf-8", errors="replace") as printed:
+            is_over = False
+            while not is_over:
+                is_over = container.poll() is not None
+                print(printed.read(), end="", flush=True)
+                time.sleep(0.2)
+    finally:
+        if container.poll() is None:
+            container.terminate()
+            container.wait()
+>>>>>>> site
 
 
 def main():
-    for part in PARTS:
-        part()
-    print(f"{Counts.passed} passed, {Counts.failed} failed")
-    return 1 if Counts.failed else 0
+    parser = arguments(__doc__)
+    parser.add_argument("--tree", default=TOP, type=lambda it: Path(it).resolve(), metavar="FOLDER",
+                        help="the tree whose package is tried, if not this one: an older state has to fail")
+    parser.add_argument("--base", default=BASE, type=Path, metavar="FOLDER",
+                        help=f"the folder with Debian, made if it does not exist [default: {BASE}]")
+    options = parser.parse_args()
+    install_debian(options.base)
+    with root_over(options.base) as root:
+        prepare(root, options)
+        log = root.parent / "boot"
+        boot(root, log)
+        status = root / "try/status"
+        if not status.exists() or not status.read_text().strip():
+            print("\n".join(log.read_text(errors="replace").splitlines()[-20:]), file=sys.stderr)
+            stop("the container did not run the checks")
+        return int(status.read_text().strip() != "0")
 
 
 if __name__ == "__main__":
