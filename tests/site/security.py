@@ -1,4 +1,4 @@
-"""Tries on a whole machine what the pages say of security: a container with Debian 12, in which the package is installed.
+"""Tries what the pages say of security on a whole machine: a container with Debian 12, which has the package.
 
 The container has systemd, nginx, sshd, Git and Git LFS, shares the kernel, and has a network of its own; it runs
 tests/site/container. A check fails if somebody can read, write or ask more than the pages say, if one client can take
