@@ -3,6 +3,7 @@
 # needs dpkg-deb, pandoc, gzip, strip (of binutils), awk and git, and a program that bin/custody has built; what is missing
 # is named, and no package is made. `lintian` then has nothing to report but how the program was compiled.
 # usage: deploy/package.sh [FOLDER]      the package is written to the folder, or to this one
+# CUSTODY has the path of another program, if one is to be packaged.
 set -eu
 unset CDPATH
 # The modes of a package's folders and files are those that it installs, whoever makes it.
@@ -15,7 +16,7 @@ for command in dpkg-deb pandoc gzip strip awk git; do
 done
 folder=$(cd -- "${1:-.}" && pwd)
 top=$(cd -- "$(dirname -- "$0")/.." && pwd)
-program=$top/crates/custody/out/custody
+program=${CUSTODY:-$top/crates/custody/out/custody}
 if ! [ -x "$program" ]; then
     echo "package.sh: there is no program $program: bin/custody builds it" >&2
     exit 2

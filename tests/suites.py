@@ -6,6 +6,7 @@ from dataclasses import dataclass
 
 # Each Debian package, and the command, module of Python or folder by which it is found.
 PACKAGES = {
+    "binutils": "strip",
     "chromium": "chromium",
     "chromium-driver": "chromedriver",
     "curl": "curl",
@@ -87,7 +88,7 @@ SUITES = [
     Suite("objects", "tests.server.objects", "Objects of 0 bytes to 256 MiB are stored whole, and cut ones are not.",
           2, ("sqlite3",), quick=only("stopped", "repositories", "refused")),
     Suite("transfers", "tests.server.transfers", "Git LFS pushes, clones and fetches 200 files of 1 byte to 50 MB.",
-          2, ("git", "git-lfs")),
+          1, ("git", "git-lfs"), quick=("--files", "8")),
     Suite("load", "tests.server.load", "200 clients through nginx and 50 without it push, pull and lock.",
           2, ("nginx", "openssl", "iproute2")),
     Suite("full", "tests.server.full", "A server on a full disk loses nothing, and goes on once it has room.",
@@ -99,15 +100,15 @@ SUITES = [
     Suite("migration", "tests.server.migration", "Database files of version 1 are migrated whole, or not at all.",
           1, ("sqlite3",), quick=("--rounds", "5")),
     Suite("client", "tests.site.client", "Two users of Git LFS lock, list, release and push over SSH.",
-          1, ("git", "git-lfs")),
+          1, ("git", "git-lfs"), quick=()),
     Suite("site", "tests.site.site", "A whole site does what the handbook says, with nginx, sshd and Git LFS.",
-          10, ("nginx", "openssh-server", "openssl", "git", "git-lfs", "curl", "sqlite3")),
+          10, ("nginx", "openssh-server", "openssl", "git", "git-lfs", "curl")),
     Suite("page", "tests.site.page", "The page with the locks works in a browser.",
           1, ("nginx", "openssl", "chromium", "chromium-driver", "python3-selenium")),
     Suite("mirror", "tests.site.mirror", "The programs `mirror` and `unlock` copy objects and release locks.",
-          5, ("curl", "git", "git-lfs")),
+          5, ("curl", "git", "git-lfs"), quick=only("words", "git_lfs", "ssh")),
     Suite("security", "tests.site.security", "A machine with the package keeps out what the handbook says.",
-          3, ("debootstrap", "systemd-container", "pandoc", "git"), root=True),
+          5, ("debootstrap", "systemd-container", "binutils", "pandoc", "git"), root=True),
     Suite("allocations", "tests/allocations/refuse.sh", "Each allocation that is refused gets a stated reply.",
           120, ("rt",)),
 ]

@@ -1,32 +1,22 @@
-#!/usr/bin/env python3
 """Tries `custody serve` under the load of many clients, through nginx and without it.
-
-    tools/try_load.py [--program FILE] [--only NAME]... [--seconds N]
 
 Each client has a user, a token and an address of its own (127.0.1.1 and so on), and pushes, pulls and locks in turn
 without a pause: a batch with an upload and its verification, a batch with a download, and a lock that is made, listed,
-verified and released. 200 of them use nginx with examples/nginx-site in a temporary folder, over TLS and one connection
-each; 50 use the server itself, with a connection for each push, pull or lock. Every reply has to be the right one, and
-the memory of the server may not grow: its highest in the last fifth of the time is at most 8 MiB more than in the second
-fifth. No connection may break off.
+verified and released. 200 of them use nginx with deploy/nginx/site, over TLS and one connection each; 50 use the server
+itself, with a connection for each push, pull or lock. Every reply has to be the right one, and the memory of the server
+may not grow: its highest in the last fifth of the time is at most 8 MiB more than in the second fifth. No connection
+may break off.
 
 Each check prints one line: the requests, those that were refused with the status, the waits, the memory, how far the
 queue of the server's port was filled, and the kernel's counters of connections that found it full, which count those
-of other programs on this machine too. The last line counts the checks; the status is 1 if one failed. It needs Linux,
-python3, nginx, openssl and ss, 4 GB of disk and 1 GB of memory, and takes twice the seconds. Without --program it is
-bin/custody.
+of other programs on this machine too.
 """
-import argparse
 import collections
 import contextlib
-import hashlib
-import http.client
 import json
 import multiprocessing
-import os
 import random
 import re
-import ssl
 import subprocess
 import sys
 import tempfile
@@ -34,45 +24,16 @@ import threading
 import time
 from pathlib import Path
 
-sys.dont_write_bytecode = True
-from control import issue_words, token_of
-from needs import need_commands
-from try_server import TOP, judge, require, summary
-from try_site import Site
+from tests.studio.checks import Checks, arguments, judge_each, require
+from tests.studio.policy import WORK, row
+from tests.studio.program import name_of, target
+from tests.studio.site import Site, connection_to
 
-API = "/studio/film.git/info/lfs"
-POLICY = """base = "@base"
-token_seconds = 86400
-
-[[repo]]
-name = "studio/film"
-default_ref = "refs/heads/main"
-quota = 100000000000
-
-[[row]]
-effect = "allow"
-users = ["*"]
-repos = ["studio/film"]
-refs = ["*"]
-paths = ["*"]
-rights = ["pull", "push", "list", "lock"]
-"""
+ROWS = (row("allow", ["*"], WORK),)
 SIZES = [0, 100, 1_000, 5_000, 5_000, 20_000, 20_000, 70_000, 150_000]
 PROCESSES = 4
 GROWTH = 8192
 COUNTERS = ["ListenOverflows", "ListenDrops", "TCPReqQFullDrop", "TCPSynRetrans"]
-
-
-class LoadSite(Site):
-    """nginx and the server, for many users."""
-
-    def write_policy(self, _):
-        self.write("policy.toml", POLICY.replace("@base", self.base))
-
-    def token(self, user):
-        status, text = self.via(*issue_words(user))
-        require(status == 0, f"no token was issued: {text}")
-        return token_of(text)
 
 
 class Refused(Exception):
@@ -94,7 +55,7 @@ class User:
         if body is not None:
             data = json.dumps(body).encode()
         begun = time.monotonic()
-        reply = self.reply(method, API + rest, data)
+        reply = self.reply(method, target(rest), data)
         text = reply.read()
         self.times[name].append(time.monotonic() - begun)
         if reply.status in (429, 500, 502, 503, 504):
@@ -102,53 +63,60 @@ class User:
         require(reply.status == want, f"{name} got {reply.status}: {text[:200]!r}")
         return json.loads(text) if name != "get" and text else text
 
-    def reply(self, method, target, data):
+    def reply(self, method, where, data):
+        """The reply to a request, over the connection that there is, or a new one."""
         if self.connection is None:
             self.connection = self.connect(self.address)
-        self.connection.request(method, target, data, {"Authorization": f"Bearer {self.token}"})
+        self.connection.request(method, where, data, {"Authorization": f"Bearer {self.token}"})
         return self.connection.getresponse()
 
     def batch(self, operation, oid, size):
+        """The actions of a batch with one object."""
         body = {"operation": operation, "objects": [{"oid": oid, "size": size}]}
-        found = self.ask("batch", "POST", "/objects/batch", body)["objects"]
+        found = self.ask("batch", "POST", "objects/batch", body)["objects"]
         require(len(found) == 1 and (found[0]["oid"], found[0]["size"]) == (oid, size), f"a batch got {found}")
         return found[0]["actions"]
 
     def push(self):
+        """A batch, an upload and its verification."""
         self.count += 1
         data = self.random.randbytes(self.random.choice(SIZES)) + f"{self.name} {self.count}".encode()
-        oid = hashlib.sha256(data).hexdigest()
+        oid = name_of(data)
         require(set(self.batch("upload", oid, len(data))) == {"upload", "verify"}, "a batch lacks an action")
-        require(self.ask("put", "PUT", f"/content/{oid}", data=data) == b"", "an upload got a body")
-        self.ask("verify", "POST", "/verify", {"oid": oid, "size": len(data)})
+        require(self.ask("put", "PUT", f"content/{oid}", data=data) == b"", "an upload got a body")
+        self.ask("verify", "POST", "verify", {"oid": oid, "size": len(data)})
         self.stored = [*self.stored[-20:], (oid, data)]
 
     def pull(self):
+        """A batch and a download of something that was stored."""
         if not self.stored:
             return
         oid, data = self.random.choice(self.stored)
         require(set(self.batch("download", oid, len(data))) == {"download"}, "a batch lacks the action")
-        require(self.ask("get", "GET", f"/content/{oid}") == data, "a download has other bytes")
+        require(self.ask("get", "GET", f"content/{oid}") == data, "a download has other bytes")
 
     def lock(self):
+        """A lock that is made, listed, verified and released."""
         self.count += 1
         path = f"{self.name}/{self.count}.psd"
-        made = self.ask("lock", "POST", "/locks", {"path": path}, want=201)["lock"]
+        made = self.ask("lock", "POST", "locks", {"path": path}, want=201)["lock"]
         require((made["path"], made["owner"]["name"]) == (path, self.name), f"a lock is {made}")
-        listed = self.ask("list", "GET", f"/locks?path={path.replace('/', '%2F')}")
+        listed = self.ask("list", "GET", f"locks?path={path.replace('/', '%2F')}")
         require(listed == {"locks": [made]}, f"a list is {listed}, and not of {made}")
-        found = self.ask("verify locks", "POST", "/locks/verify", {})
+        found = self.ask("verify locks", "POST", "locks/verify", {})
         owners = [{it["owner"]["name"] for it in found[side]} for side in ("ours", "theirs")]
         require(owners[0] <= {self.name} and self.name not in owners[1], f"locks are split as {owners}")
-        gone = self.ask("unlock", "POST", f"/locks/{made['id']}/unlock", {})
+        gone = self.ask("unlock", "POST", f"locks/{made['id']}/unlock", {})
         require(gone == {"lock": made}, f"an unlock got {gone}, and not {made}")
 
     def close(self):
+        """Closes the connection, if there is one."""
         if self.connection:
             self.connection.close()
         self.connection = None
 
     def act(self):
+        """A push, a pull or a lock."""
         try:
             self.random.choice([self.push, self.push, self.pull, self.pull, self.lock])()
         except Refused as refused:
@@ -160,6 +128,7 @@ class User:
             self.close()
 
     def run(self, end):
+        """Acts until the moment."""
         while time.monotonic() < end:
             self.act()
         self.close()
@@ -206,12 +175,13 @@ class Watch(threading.Thread):
 
     def run(self):
         while not self.ends.wait(1):
-            self.memory.append(memory_of(self.site.server.pid))
+            self.memory.append(memory_of(self.site.server.child.pid))
             self.proxy += [memory_of(child.pid) for child in self.site.children]
-            waiting, self.room = queue_of(self.site.http)
+            waiting, self.room = queue_of(self.site.server.port)
             self.queue.append(waiting)
 
     def end(self):
+        """Ends the watch. Returns the queue and the counters, as a text."""
         self.ends.set()
         self.join()
         after = counters()
@@ -226,7 +196,7 @@ class Watch(threading.Thread):
 
 def load(site, connect, keeps, count, seconds):
     """What each of the users measured, and the watch."""
-    users = [User(number, site.token(f"user-{number}"), connect, keeps) for number in range(count)]
+    users = [User(number, site.server.token(user=f"user-{number}"), connect, keeps) for number in range(count)]
     results, watch = multiprocessing.Queue(), Watch(site)
     end = time.monotonic() + seconds
     parts = [users[it::PROCESSES] for it in range(PROCESSES)]
@@ -249,6 +219,7 @@ def proxy_says(site):
 
 
 def names_of(counter):
+    """What was counted, as a text."""
     return ", ".join(f"{count} of {name}" for name, count in counter.most_common()) or "none"
 
 
@@ -275,7 +246,7 @@ def report(site, found, watch):
         parts.append(f"nginx: at most {max(watch.proxy)} KiB, errors: {names_of(errors)}")
         if sum(statuses.values()) != total:
             faults.append(f"nginx logged {sum(statuses.values())} requests: {names_of(statuses)}")
-    errors = re.findall(r"[A-Z]\w+Failed|StoreRefused|custody: [a-z].*", Path(site.room, "custody.log").read_text())
+    errors = re.findall(r"[A-Z]\w+Failed|StoreRefused|custody: [a-z].*", site.server.errors())
     parts.append(f"the server reported: {names_of(collections.Counter(errors))}")
     text = "; ".join(parts)
     require(not faults, f"{text}; failures: {faults[:5]}")
@@ -287,25 +258,16 @@ def report(site, found, watch):
 def check(options, count, with_proxy):
     """Many clients for the time that is asked for."""
     with tempfile.TemporaryDirectory() as room, contextlib.ExitStack() as held:
-        site = LoadSite(options.program, room)
-        site.write_policy(0)
-        site.start_server()
+        site = Site(options.program, room, ROWS, Checks())
         held.callback(site.end)
         if with_proxy:
             site.start_nginx()
-            context = ssl.create_default_context(cafile=f"{room}/tls.pem")
-
-            def connect(address):
-                return http.client.HTTPSConnection("localhost", site.https, timeout=120, context=context,
-                                                   source_address=(address, 0))
-        else:
-
-            def connect(address):
-                return http.client.HTTPConnection("127.0.0.1", site.http, timeout=120, source_address=(address, 0))
-
-        return report(site, *load(site, connect, with_proxy, count, options.seconds))
+        port, certificate = (site.https, site.certificate) if with_proxy else (site.server.port, None)
+        return report(site, *load(site, lambda source: connection_to(port, certificate, source), with_proxy, count,
+                                  options.seconds))
 
 
+# The clients, and whether they use nginx.
 CHECKS = {
     "through-nginx": (200, True),
     "without-nginx": (50, False),
@@ -313,16 +275,11 @@ CHECKS = {
 
 
 def main():
-    parser = argparse.ArgumentParser(description=__doc__.splitlines()[0])
-    parser.add_argument("--program", default=str(TOP / "bin/custody"), help="the program [default: bin/custody]")
-    parser.add_argument("--only", action="append", choices=CHECKS, help="only this check")
+    parser = arguments(__doc__, CHECKS)
     parser.add_argument("--seconds", type=int, default=60, help="for how long, each check")
     options = parser.parse_args()
-    options.program = os.path.abspath(options.program)
-    os.environ["PATH"] += ":/usr/sbin"
-    need_commands("nginx", "openssl", "ss")
     multiprocessing.set_start_method("fork")
-    return summary([judge(name, lambda: check(options, *CHECKS[name])) for name in options.only or list(CHECKS)])
+    return judge_each(CHECKS, options, lambda name: check(options, *CHECKS[name]))
 
 
 if __name__ == "__main__":

@@ -1,14 +1,9 @@
-#!/usr/bin/env python3
-"""Tries examples/mirror and examples/unlock with real servers.
+"""Tries deploy/programs/mirror and deploy/programs/unlock with real servers, each part with new databases.
 
-    tools/try_mirror.py [PROGRAM] [--only NAME]...
-
-Each part starts servers on new databases and free ports of this machine, and prints a line for each check. The last line
-is `N passed, M failed`; the status is 1 if a check failed. The bytes of files are compared with their names by the command
-sha256sum. It needs Linux, python3, sha256sum, curl, git and git-lfs, 4 GB in the folder for temporary files, and takes
-about ten minutes. Without PROGRAM it is bin/custody.
+A check fails if an object is not copied, is copied with other bytes (the command sha256sum compares them with its
+name), is copied twice or brought back; if a run that is killed, or whose server ends, leaves what the next one cannot
+complete; if a token is on a command line or in a file; or if the words that are printed are not those that are stated.
 """
-import argparse
 import contextlib
 import hashlib
 import http.server
@@ -26,20 +21,17 @@ import threading
 import time
 from pathlib import Path
 
-sys.dont_write_bytecode = True
-from control import token_of, with_token
-from needs import need_commands
-from policies import FILM, WORK, policy, row
-from try_server import Client, Failed, require
-from try_site import TOP, Site, free_port
+from tests.studio.checks import Checks, arguments, require
+from tests.studio.clone import Clone, Workroom
+from tests.studio.policy import FILM, GAME, MAIN, WORK, row
+from tests.studio.program import LAST, TOP, free_port, put
+from tests.studio.site import SiteServer, placed
 
-GAME, MAIN = "studio/game", "refs/heads/main"
 ROWS = (
     row("allow", ["ann"], ["force"], repos=["*"]),
     row("allow", ["ann", "bob"], WORK, repos=["*"]),
     row("allow", ["mirror"], ["pull", "push"], repos=["*"]),
 )
-LARGE_QUOTA = 100_000_000_000
 DONE = re.compile(r"copied (\d+) objects, (\d+) bytes; (\d+) were there\n")
 TOKEN = re.compile(rb"(?<![0-9a-f])[0-9a-f]{64}(?![0-9a-f])")
 # In the place of ssh: it writes down its words, and does what sshd does for the key of ann.
@@ -50,32 +42,17 @@ SSH_ORIGINAL_COMMAND=$words exec sh @room/forced-command ann
 """
 
 
-class Place(Site):
-    """A server with a control socket, in a folder of its own; without nginx and sshd."""
+class Place(SiteServer):
+    """A server of two repositories, in a folder of its own."""
 
     def __init__(self, program, room):
         os.mkdir(room)
-        super().__init__(program, room)
-        self.base, self.socket = f"http://127.0.0.1:{self.http}", f"{room}/control"
-        self.write_policy(3600)
-        self.start_server()
+        super().__init__(program, room, ROWS, repos=(FILM, GAME))
 
-    def write_policy(self, seconds, quota=LARGE_QUOTA):
-        self.write("policy.toml", policy(self.base, ROWS, seconds, quota, (FILM, GAME)))
-
-    def set_policy(self, seconds=3600, quota=LARGE_QUOTA):
-        self.write_policy(seconds, quota)
+    def change_policy(self, **more):
+        """Writes the policy, and has the server read it."""
+        self.set_policy(self.policy(**more))
         require(self.via("reload")[0] == 0, "the policy was not read")
-
-    def listed(self, repo=FILM):
-        """The sizes of the objects that the server lists, by name."""
-        return {oid: int(size) for oid, size in map(str.split, self.via("objects", "--repo", repo)[1].splitlines())}
-
-    def locks(self):
-        return self.via("locks", "--repo", FILM)[1].splitlines()
-
-    def token(self, user="ann"):
-        return token_of(self.via("authenticate", "--user", user, FILM, "upload")[1])
 
     def digests(self):
         """The first digits of the SHA-256 of each token that the server has, also of those that have expired."""
@@ -83,68 +60,64 @@ class Place(Site):
 
     def put(self, sizes, token):
         """Pushes an object of random bytes for each of the sizes."""
-        with Client(self.http, 600) as client:
+        with self.client(600) as client:
             for size in sizes:
-                data = os.urandom(size)
-                target = f"/{FILM}.git/info/lfs/content/{hashlib.sha256(data).hexdigest()}"
-                status, _ = client.ask(with_token(token, "PUT", target, data=data))
+                status, _ = client.ask(put(os.urandom(size), token))
                 require(status == 200, f"an upload got {status}")
 
-    def lock(self, path, token, ref=MAIN):
-        with Client(self.http) as client:
-            target = f"/{FILM}.git/info/lfs/locks"
-            status, _ = client.ask(with_token(token, "POST", target, {"path": path, "ref": {"name": ref}}))
+    def make_lock(self, path, token, ref=MAIN):
+        """Locks a path."""
+        status = self.lock(path, token, ref)
         require(status == 201, f"a lock got {status}")
 
     def is_whole(self):
-        return self.via("check", "--quiet") == (0, "")
+        """Whether `custody check` finds each object whole."""
+        return self.via("check", "--quiet") == (0, "", "")
 
     @contextlib.contextmanager
-    def database(self):
+    def opened(self):
         """The database, while the server is stopped."""
         require(self.via("stop")[0] == 0, "the server was not stopped")
-        self.server.wait()
-        with contextlib.closing(sqlite3.connect(self.database_file, isolation_level=None)) as found:
+        self.child.wait()
+        with contextlib.closing(sqlite3.connect(self.database, isolation_level=None)) as found:
             yield found
-        self.start_server()
+        self.start()
 
 
 class Trial:
-    """The folder of a part with its servers, and the checks of all parts."""
+    """The folder of a part with its servers, and the programs with the checks of their lines."""
 
-    def __init__(self, program):
-        self.program, self.room, self.places = program, None, []
-        self.passed = self.failed = 0
+    def __init__(self, program, checks):
+        self.program, self.checks, self.room, self.places = program, checks, None, []
         self.numbers = itertools.count()
-        self.environment = dict(os.environ, CUSTODY=program)
 
-    check = Site.check
+    def check(self, is_met, what, text=""):
+        """One check."""
+        return self.checks.expect(is_met, what, text)
 
     @contextlib.contextmanager
     def part(self):
-        with tempfile.TemporaryDirectory() as self.room:
-            try:
-                yield
-            finally:
-                for place in self.places:
-                    place.end()
-                self.places = []
+        """A folder for a part, whose servers end with it."""
+        with tempfile.TemporaryDirectory() as self.room, contextlib.ExitStack() as self.places:
+            yield
 
     def place(self, sizes=()):
         """A new server, with objects of these sizes."""
-        place = Place(self.program, f"{self.room}/server-{next(self.numbers)}")
-        self.places.append(place)
+        place = self.places.enter_context(Place(self.program, f"{self.room}/server-{next(self.numbers)}"))
         place.put(sizes, place.token())
         return place
 
     def folder(self):
+        """A new folder."""
         path = f"{self.room}/folder-{next(self.numbers)}"
         os.mkdir(path)
         return path
 
     def start(self, *words, repo=FILM, **more):
-        return subprocess.Popen([TOP / "examples/mirror", *words[:-2], repo, *words[-2:]], stdout=subprocess.PIPE,
-                                stderr=subprocess.PIPE, text=True, env={**self.environment, **more})
+        """Starts the mirror, with more variables of the environment."""
+        return subprocess.Popen([TOP / "deploy/programs/mirror", *words[:-2], repo, *words[-2:]],
+                                stdout=subprocess.PIPE, stderr=subprocess.PIPE, text=True,
+                                env={**os.environ, "CUSTODY": self.program, **more})
 
     def mirror(self, *words, **more):
         """Runs the mirror. Returns its status, its output and its error stream."""
@@ -159,8 +132,11 @@ class Trial:
         self.check(holds and byte_count in (None, int(found[2])), what, f"{ran}")
 
     def unlock(self, place, *words, **more):
-        environment = {**self.environment, "CUSTODY_URL": place.base, "CUSTODY_VIA": place.socket, **more}
-        ran = subprocess.run([TOP / "examples/unlock", *words], capture_output=True, text=True, env=environment)
+        """Runs unlock. Returns its status, its output and its error stream."""
+        environment = {**os.environ, "CUSTODY": self.program, "CUSTODY_URL": place.base, "CUSTODY_VIA": place.control(),
+                       **more}
+        ran = subprocess.run([TOP / "deploy/programs/unlock", *words], check=False, capture_output=True, text=True,
+                             env=environment)
         return ran.returncode, ran.stdout, ran.stderr
 
 
@@ -175,7 +151,8 @@ def stored(folder):
     files = sorted(Path(folder, "objects").glob("*/*/*"))
     if not files:
         return {}
-    lines = subprocess.run(["sha256sum", "--", *files], stdout=subprocess.PIPE, text=True, check=True).stdout.splitlines()
+    lines = subprocess.run(["sha256sum", "--", *files], stdout=subprocess.PIPE, text=True,
+                           check=True).stdout.splitlines()
     for line, file in zip(lines, files, strict=True):
         oid = line.split()[0]
         require(file == Path(folder, "objects", oid[:2], oid[2:4], oid), f"{file} has the bytes of {oid}")
@@ -188,6 +165,7 @@ def others(folder):
 
 
 def wait_until(holds, what):
+    """Waits until the condition holds: 60 seconds at most."""
     begun = time.monotonic()
     while not holds():
         require(time.monotonic() - begun < 60, f"{what} within 60 s")
@@ -195,14 +173,15 @@ def wait_until(holds, what):
 
 
 def count_files(folder):
+    """How many objects the folder has."""
     return sum(1 for _ in Path(folder).glob("objects/*/*/*"))
 
 
 def try_folder(trial):
     """A folder, while others push and lock."""
     place, folder, is_over = trial.place(mixed(300)), trial.folder(), threading.Event()
-    before, token = place.listed(), place.token("bob")
-    place.lock("art/first lock.psd", token)
+    before, token = place.objects(), place.token(user="bob")
+    place.make_lock("art/first lock.psd", token)
     first = place.locks()
 
     def work():
@@ -210,26 +189,26 @@ def try_folder(trial):
             if is_over.is_set():
                 return
             place.put([20_000], token)
-            place.lock(f"art/{number}.psd", token)
+            place.make_lock(f"art/{number}.psd", token)
 
     worker = threading.Thread(target=work)
     worker.start()
-    ran = trial.mirror(place.socket, folder)
+    ran = trial.mirror(place.control(), folder)
     is_over.set()
     worker.join()
-    found, pushed, copied = stored(folder), len(place.listed()) - 300, int(DONE.fullmatch(ran[1])[1])
-    trial.check(ran[0] == 0 and ran[2] == "" and before.items() <= found.items() <= place.listed().items()
+    found, pushed, copied = stored(folder), len(place.objects()) - 300, int(DONE.fullmatch(ran[1])[1])
+    trial.check(ran[0] == 0 and ran[2] == "" and before.items() <= found.items() <= place.objects().items()
                 and len(found) == copied,
                 f"{copied} objects, while {pushed} were pushed and locked: {ran[1].strip()}", f"{ran}")
     written = Path(folder, "locks.txt").read_text(encoding="utf-8").splitlines()
     trial.check(first == written[:1] and set(written) <= set(place.locks()),
                 f"{len(written)} of {len(place.locks())} locks")
-    trial.mirror(place.socket, folder)
-    count = len(place.listed())
-    trial.expect("a run without new objects copies nothing", trial.mirror(place.socket, folder), 0, count, 0)
+    trial.mirror(place.control(), folder)
+    count = len(place.objects())
+    trial.expect("a run without new objects copies nothing", trial.mirror(place.control(), folder), 0, count, 0)
     place.put(range(1, 11), token)
-    trial.expect("ten new objects are copied", trial.mirror(place.socket, folder), 10, count, sum(range(1, 11)))
-    trial.check(stored(folder) == place.listed() and others(folder) == {"lock", "locks.txt"},
+    trial.expect("ten new objects are copied", trial.mirror(place.control(), folder), 10, count, sum(range(1, 11)))
+    trial.check(stored(folder) == place.objects() and others(folder) == {"lock", "locks.txt"},
                 "the folder has each, and no other file")
 
 
@@ -237,20 +216,20 @@ def try_words(trial):
     """Words that are wrong, and places that do not exist."""
     place, folder = trial.place(), trial.folder()
     for status, words in [
-        (2, ("film", place.socket)),
-        (2, (place.socket, "film")),
+        (2, ("film", place.control())),
+        (2, (place.control(), "film")),
         (2, ("ssh://custody@localhost", folder)),
         (2, (folder, "ssh://-oProxyCommand=x/")),
-        (1, (place.socket, f"{folder}/none")),
-        (1, (folder, place.socket)),
+        (1, (place.control(), f"{folder}/none")),
+        (1, (folder, place.control())),
     ]:
         ran = trial.mirror(*words)
         trial.check(ran[0] == status and ran[2] and "Traceback" not in ran[2],
                     f"status {status}: {ran[2].splitlines()[-1]}", f"{ran}")
-    ran = trial.mirror(place.socket, folder, repo="film")
+    ran = trial.mirror(place.control(), folder, repo="film")
     trial.check(ran[0] == 2, f"status 2: {ran[2].splitlines()[-1]}", f"{ran}")
     place.put([5], place.token())
-    ran = trial.mirror("--user", "eve", place.socket, folder)
+    ran = trial.mirror("--user", "eve", place.control(), folder)
     trial.check(ran[0] == 1 and "P0: no policy row allows pull" in ran[2], f"a user without rights: {ran[2].strip()}",
                 f"{ran}")
     trial.check(stored(folder) == {} and others(folder) == {"lock", "locks.txt"}, "and no object is copied")
@@ -259,26 +238,25 @@ def try_words(trial):
 def try_git_lfs(trial):
     """Git LFS itself: its store is copied to a server, and a copy of that is its store."""
     place, folder = trial.place(), trial.folder()
-    room, store = place.room, f"{place.room}/ann/.git/lfs"
-    place.run("git", "lfs", "install", "--skip-repo")
-    place.run("git", "init", "-q", "-b", "main", f"{room}/ann")
-    for name, value in (("user.name", "ann"), ("user.email", "ann@studio.example")):
-        place.git("ann", "config", name, value)
-    place.git("ann", "lfs", "track", "*.psd")
-    place.git("ann", "add", ".gitattributes")
-    place.add_files("ann", "art", 20, 100_000)
-    trial.expect("the store of a clone is copied to a server", trial.mirror(store, place.socket, repo=GAME), 20, 0)
-    trial.expect("and from there to a folder", trial.mirror(place.socket, folder, repo=GAME), 20, 0)
-    same = place.run("diff", "-r", f"{store}/objects", f"{folder}/objects", may_fail=True)
+    room = Workroom(place.room, trial.checks)
+    room.set_up_git()
+    ann, bob = Clone(room, "ann", "ann", {}), Clone(room, "bob", "bob", {"lfs.storage": folder})
+    ann.begin(f"{room.room}/none")
+    ann.git("lfs", "track", "*.psd")
+    ann.git("add", ".gitattributes")
+    ann.add_files("art", 20, 100_000)
+    store = f"{ann.folder}/.git/lfs"
+    trial.expect("the store of a clone is copied to a server", trial.mirror(store, place.control(), repo=GAME), 20, 0)
+    trial.expect("and from there to a folder", trial.mirror(place.control(), folder, repo=GAME), 20, 0)
+    same = room.run("diff", "-r", f"{store}/objects", f"{folder}/objects", may_fail=True)
     trial.check(same == (0, ""), "whose files are those of the clone", same[1])
-    place.environment["GIT_LFS_SKIP_SMUDGE"] = "1"
-    place.run("git", "clone", "-q", f"{room}/ann", f"{room}/bob")
-    place.git("bob", "config", "lfs.storage", folder)
-    status, text = place.git("bob", "lfs", "checkout", may_fail=True)
-    same = place.run("diff", "-r", f"{room}/ann/art", f"{room}/bob/art", may_fail=True)
+    room.environment["GIT_LFS_SKIP_SMUDGE"] = "1"
+    require(bob.take(ann.folder)[0] == 0, "the repository was not cloned")
+    status, text = bob.tried("lfs", "checkout")
+    same = room.run("diff", "-r", ann.path("art"), bob.path("art"), may_fail=True)
     trial.check(status == 0 and same == (0, ""), "with lfs.storage, git lfs checkout takes the files from it",
                 text + same[1])
-    status, text = place.git("bob", "lfs", "fsck", may_fail=True)
+    status, text = bob.tried("lfs", "fsck")
     trial.check(status == 0, f"git lfs fsck: {text.strip()}", text)
 
 
@@ -299,105 +277,105 @@ def try_killed(trial):
     """Runs that are killed."""
     place, folder = trial.place(mixed(600)), trial.folder()
     begun = time.monotonic()
-    trial.mirror(place.socket, trial.folder())
-    seconds, listed = time.monotonic() - begun, place.listed()
+    trial.mirror(place.control(), trial.folder())
+    seconds, listed = time.monotonic() - begun, place.objects()
 
     def look():
         require(stored(folder).items() <= listed.items(), "an object that the server does not have")
         require(others(folder) <= {"lock", "locks.txt", "objects/arriving"}, f"{others(folder)}")
         return len(stored(folder)), "objects/arriving" in others(folder)
 
-    found = kill_often(trial, (place.socket, folder), seconds, look)
+    found = kill_often(trial, (place.control(), folder), seconds, look)
     counts = [count for count, _ in found]
     trial.check(0 < counts[-1] < 600, f"killed ten times on the way to a folder, with {counts} whole objects in it")
     trial.check(any(it for _, it in found), f"{sum(it for _, it in found)} of them left a file without a name")
-    trial.expect("the next run copies the rest", trial.mirror(place.socket, folder), 600 - counts[-1], counts[-1])
+    trial.expect("the next run copies the rest", trial.mirror(place.control(), folder), 600 - counts[-1], counts[-1])
     trial.check(stored(folder) == listed and others(folder) == {"lock", "locks.txt"},
                 "each is whole, and nothing else is there")
     back = trial.place()
 
     def look_back():
-        require(back.listed().items() <= listed.items() and back.is_whole(), "the server has a wrong object")
-        return len(back.listed())
+        require(back.objects().items() <= listed.items() and back.is_whole(), "the server has a wrong object")
+        return len(back.objects())
 
-    counts = kill_often(trial, (folder, back.socket), 2 * seconds, look_back)
+    counts = kill_often(trial, (folder, back.control()), 2 * seconds, look_back)
     trial.check(0 < counts[-1] < 600, f"killed ten times on the way back, with {counts} whole objects there")
-    trial.expect("the next run copies the rest", trial.mirror(folder, back.socket), 600 - counts[-1], counts[-1])
-    trial.check(back.listed() == listed and back.is_whole(),
+    trial.expect("the next run copies the rest", trial.mirror(folder, back.control()), 600 - counts[-1], counts[-1])
+    trial.check(back.objects() == listed and back.is_whole(),
                 "the new server lists the same, and `custody check` finds all whole")
 
 
 def try_servers(trial):
     """From one server to another."""
     place, other = trial.place(mixed(100)), trial.place()
-    trial.expect("a server is copied to another", trial.mirror(place.socket, other.socket), 100, 0,
-                 sum(place.listed().values()))
-    trial.check(other.listed() == place.listed() and other.is_whole(), "which lists the same, all whole")
-    trial.expect("a second run copies nothing", trial.mirror(place.socket, other.socket), 0, 100, 0)
+    trial.expect("a server is copied to another", trial.mirror(place.control(), other.control()), 100, 0,
+                 sum(place.objects().values()))
+    trial.check(other.objects() == place.objects() and other.is_whole(), "which lists the same, all whole")
+    trial.expect("a second run copies nothing", trial.mirror(place.control(), other.control()), 0, 100, 0)
     folder, full = trial.folder(), trial.folder()
-    trial.mirror(place.socket, full)
+    trial.mirror(place.control(), full)
     trial.expect("a folder is copied to another", trial.mirror(full, folder), 100, 0)
-    trial.check(stored(folder) == place.listed(), "which has the same")
+    trial.check(stored(folder) == place.objects(), "which has the same")
 
 
 def try_one_run(trial):
     """A second run in the same folder."""
     place, folder = trial.place(mixed(300)), trial.folder()
-    ran = trial.start(place.socket, folder)
+    ran = trial.start(place.control(), folder)
     wait_until(lambda: count_files(folder) > 0, "an object")
-    status, output, errors = trial.mirror(place.socket, folder)
+    status, output, errors = trial.mirror(place.control(), folder)
     trial.check((status, output) == (1, "") and "another run" in errors, f"a second run: {errors.strip()}", errors)
-    trial.check(ran.communicate()[1] == "" and ran.returncode == 0 and stored(folder) == place.listed(),
+    trial.check(ran.communicate()[1] == "" and ran.returncode == 0 and stored(folder) == place.objects(),
                 "the first one passes")
 
 
 def try_tokens(trial):
     """Tokens that are removed, and tokens that live for 2 seconds."""
     place, folder = trial.place([10_000] * 1000), trial.folder()
-    place.via("prune", "--now", "253402300799")
-    trial.expect("1000 objects are copied", trial.mirror(place.socket, trial.folder()), 1000, 0)
+    place.via("prune", "--now", str(LAST))
+    trial.expect("1000 objects are copied", trial.mirror(place.control(), trial.folder()), 1000, 0)
     trial.check(len(place.digests()) == 1, "with one token")
     other = trial.folder()
-    ran = trial.start(place.socket, other)
+    ran = trial.start(place.control(), other)
     wait_until(lambda: count_files(other) > 20, "20 objects")
-    status, text = place.via("prune", "--now", "253402300799")
+    status, text, _ = place.via("prune", "--now", str(LAST))
     require(status == 0 and count_files(other) < 900, "the tokens were not removed in time")
     output, errors = ran.communicate()
     trial.expect(f"and all of them, if meanwhile: {text.strip()}", (ran.returncode, output, errors), 1000, 0)
     trial.check(len(place.digests()) == 1, "with one more token")
-    place.set_policy(seconds=2)
+    place.change_policy(seconds=2)
     ways = [(place, folder, [place]), (folder, trial.place(), []), (place, trial.place(), [place])]
     for source, target, servers in ways:
         if isinstance(target, Place):
-            target.set_policy(seconds=2)
+            target.change_policy(seconds=2)
             servers = [*servers, target]
         before, begun = [len(it.digests()) for it in servers], time.monotonic()
-        ran = trial.mirror(*(it.socket if isinstance(it, Place) else it for it in (source, target)))
+        ran = trial.mirror(*(it.control() if isinstance(it, Place) else it for it in (source, target)))
         taken, issued = time.monotonic() - begun, [len(it.digests()) - count for it, count in zip(servers, before)]
         # At most one for each of 10 groups, and one each time that one has expired.
         holds = ran[0] == 0 and taken > 2 and all(1 < it <= 10 + taken for it in issued)
         trial.check(holds, f"1000 objects in {taken:.1f} s, with {issued} tokens of 2 seconds: {ran[1].strip()}",
                     f"{ran}")
-        found = stored(target) if target is folder else target.listed()
-        trial.check(found == place.listed() and len(found) == 1000, "each is there")
+        found = stored(target) if target is folder else target.objects()
+        trial.check(found == place.objects() and len(found) == 1000, "each is there")
 
 
 def try_restarts(trial):
     """Servers that are ended within a run, and started again."""
     place, folder = trial.place(mixed(300)), trial.folder()
-    trial.mirror(place.socket, folder)
+    trial.mirror(place.control(), folder)
     for kind, is_back in itertools.product((signal.SIGTERM, signal.SIGKILL), (False, True)):
         target = trial.place() if is_back else trial.folder()
         server = target if is_back else place
-        ran = trial.start(*((folder, target.socket) if is_back else (place.socket, target)))
-        wait_until(lambda: (len(target.listed()) if is_back else count_files(target)) > 20, "20 objects")
-        server.end_server(kind)
+        ran = trial.start(*((folder, target.control()) if is_back else (place.control(), target)))
+        wait_until(lambda: (len(target.objects()) if is_back else count_files(target)) > 20, "20 objects")
+        server.end(kind)
         is_within = ran.poll() is None
         time.sleep(2)
-        server.start_server()
+        server.start()
         output, errors = ran.communicate()
-        found = target.listed() if is_back else stored(target)
-        trial.check(is_within and ran.returncode == 0 and errors == "" and found == place.listed(),
+        found = target.objects() if is_back else stored(target)
+        trial.check(is_within and ran.returncode == 0 and errors == "" and found == place.objects(),
                     f"{'TO' if is_back else 'FROM'} is ended by {kind.name}, and started 2 s later: {output.strip()}",
                     errors)
 
@@ -405,18 +383,18 @@ def try_restarts(trial):
 def try_no_server(trial):
     """A server that ends within a run, and is started after it."""
     place, folder = trial.place(mixed(300)), trial.folder()
-    ran, begun = trial.start(place.socket, folder), time.monotonic()
+    ran, begun = trial.start(place.control(), folder), time.monotonic()
     wait_until(lambda: count_files(folder) > 20, "20 objects")
-    place.end_server()
+    place.end(signal.SIGTERM)
     output, errors = ran.communicate()
     is_sentence = errors.startswith("mirror: ") and errors.count("\n") == 1
     trial.check(ran.returncode == 1 and DONE.fullmatch(output) and is_sentence,
                 f"the run ends after {time.monotonic() - begun:.0f} s: {errors.strip()}", f"{output}{errors}")
     count = len(stored(folder))
-    place.start_server()
-    trial.expect(f"the next run copies what was missing, {300 - count} objects", trial.mirror(place.socket, folder),
+    place.start()
+    trial.expect(f"the next run copies what was missing, {300 - count} objects", trial.mirror(place.control(), folder),
                  300 - count, count)
-    trial.check(stored(folder) == place.listed(), "each is there")
+    trial.check(stored(folder) == place.objects(), "each is there")
 
 
 def named(ran):
@@ -427,26 +405,26 @@ def named(ran):
 def try_damaged(trial):
     """Damaged objects, in a folder and in a server."""
     place, folder, other = trial.place([*mixed(100), 200_000, 200_000]), trial.folder(), trial.place()
-    listed = place.listed()
-    trial.mirror(place.socket, folder)
+    listed = place.objects()
+    trial.mirror(place.control(), folder)
     oids = [oid for oid, size in listed.items() if size == 200_000]
     flipped, cut = (Path(folder, "objects", oid[:2], oid[2:4], oid) for oid in oids)
     data = flipped.read_bytes()
     flipped.write_bytes(data[:100_000] + bytes([data[100_000] ^ 1]) + data[100_001:])
     os.truncate(cut, 100_000)
-    ran = trial.mirror(folder, other.socket)
+    ran = trial.mirror(folder, other.control())
     lines = {f"mirror: damaged {oid}" for oid in oids}
     trial.check(ran[0] == 1 and set(ran[2].splitlines()) == lines, f"two damaged files: {ran[1].strip()}", f"{ran}")
     rest = listed.items() - {(oid, 200_000) for oid in oids}
-    trial.check(other.listed().items() == rest and other.is_whole(), "all others are stored, and whole")
+    trial.check(other.objects().items() == rest and other.is_whole(), "all others are stored, and whole")
     chunk = "WHERE n = 1 AND upload = (SELECT id FROM uploads WHERE oid = ?)"
-    with place.database() as database:
+    with place.opened() as database:
         for text, oid in zip(("UPDATE chunks SET bytes = zeroblob(length(bytes))", "DELETE FROM chunks"), oids):
             require(database.execute(f"{text} {chunk}", (oid,)).rowcount == 1, "no chunk was changed")
     new = trial.folder()
-    ran = trial.mirror(place.socket, new)
+    ran = trial.mirror(place.control(), new)
     lines = [f"mirror: damaged {oids[0]}",
-             f"mirror: {oids[1]}: 127.0.0.1:{place.http}: the connection ended within a reply"]
+             f"mirror: {oids[1]}: 127.0.0.1:{place.port}: the connection ended within a reply"]
     trial.check(ran[0] == 1 and sorted(ran[2].splitlines()) == sorted(lines),
                 f"of a server, one of zeros and one without its end: {ran[1].strip()}", f"{ran}")
     trial.check(stored(new).items() == rest, "all others are in the folder, and whole")
@@ -455,39 +433,39 @@ def try_damaged(trial):
 def try_quota(trial):
     """A server whose quota is too small."""
     place, folder, other = trial.place([100_000] * 150), trial.folder(), trial.place()
-    trial.mirror(place.socket, folder)
+    trial.mirror(place.control(), folder)
     # Room for 20 objects of the batch, and then for an object that is larger than the rest of the room.
-    other.set_policy(quota=2_050_000)
-    ran = trial.mirror(folder, other.socket)
-    count, rules = len(other.listed()), set(re.findall(r"[A-Z]\d+: .*", ran[2]))
-    trial.check(ran[0] == 1 and named(ran) == set(place.listed()) - set(other.listed()) and count == 20,
+    other.change_policy(quota=2_050_000)
+    ran = trial.mirror(folder, other.control())
+    count, rules = len(other.objects()), set(re.findall(r"[A-Z]\d+: .*", ran[2]))
+    trial.check(ran[0] == 1 and named(ran) == set(place.objects()) - set(other.objects()) and count == 20,
                 f"{ran[1].strip()}; {rules}", f"{ran}")
     trial.check(rules == {"B5: the quota does not hold the object", "X3: the quota does not hold the object"},
                 "with the rules' own words")
-    other.set_policy()
-    trial.expect("the next run, with room, copies the others", trial.mirror(folder, other.socket), 130, 20)
-    trial.check(other.listed() == place.listed() and other.is_whole(), "each is there, and whole")
+    other.change_policy()
+    trial.expect("the next run, with room, copies the others", trial.mirror(folder, other.control()), 130, 20)
+    trial.check(other.objects() == place.objects() and other.is_whole(), "each is there, and whole")
 
 
 def try_retired(trial):
     """Objects that are removed within a run."""
     place, folder = trial.place(mixed(300)), trial.folder()
-    listed = place.listed()
-    ran, last = trial.start(place.socket, folder), max(listed)
+    listed = place.objects()
+    ran, last = trial.start(place.control(), folder), max(listed)
     wait_until(lambda: count_files(folder) > 0, "an object")
-    status, _ = place.via("retire", "--repo", FILM, last)
+    status, _, _ = place.via("retire", "--repo", FILM, last)
     require(status == 0 and count_files(folder) < 200, "the object was not removed in time")
     output, errors = ran.communicate()
     trial.check(ran.returncode == 1 and errors == f"mirror: {last}: B6: the object was removed by its owner\n",
                 errors.strip(), output)
     trial.check(stored(folder).items() == listed.items() - {(last, listed[last])},
                 f"the others are copied: {output.strip()}")
-    trial.expect("the next run does not ask for it", trial.mirror(place.socket, folder), 0, 299, 0)
+    trial.expect("the next run does not ask for it", trial.mirror(place.control(), folder), 0, 299, 0)
     back = trial.place()
     kept = next(iter(stored(folder)))
-    trial.mirror(folder, back.socket)
+    trial.mirror(folder, back.control())
     require(back.via("retire", "--repo", FILM, kept)[0] == 0, "it was not removed")
-    ran = trial.mirror(folder, back.socket)
+    ran = trial.mirror(folder, back.control())
     trial.check(ran[0] == 1 and named(ran) == {kept} and "B6" in ran[2],
                 "an object that was removed in TO is not brought back", f"{ran}")
 
@@ -522,17 +500,17 @@ def tokens_in(texts, digests):
 def try_secrets(trial):
     """Tokens on command lines and in files."""
     place, folder, other = trial.place([20_000] * 300), trial.folder(), trial.place()
-    token = place.token("bob")
+    token = place.token(user="bob")
     for number in range(20):
-        place.lock(f"art/{number}.psd", token)
+        place.make_lock(f"art/{number}.psd", token)
     with Watch() as watch:
-        for words in ((place.socket, folder), (folder, other.socket)):
+        for words in ((place.control(), folder), (folder, other.control())):
             require(trial.mirror(*words)[0] == 0, "a run failed")
         released = [trial.unlock(place, "ann", FILM, f"art/{number}.psd")[0] for number in range(20)]
     digests = {*place.digests(), *other.digests()}
     seen = b" ".join(watch.seen)
     require(tokens_in([token.encode()], digests) == [token.encode()], "a token is not found by its digest")
-    require(all(it in seen for it in (b"examples/mirror", b"authenticate", b"curl")), "not all was seen")
+    require(all(it in seen for it in (b"deploy/programs/mirror", b"authenticate", b"curl")), "not all was seen")
     require(released == [0] * 20, "a lock was not released")
     trial.check(not tokens_in(watch.seen, digests) and b"Bearer" not in seen,
                 f"no token in {len(watch.seen)} command lines")
@@ -543,14 +521,16 @@ def try_secrets(trial):
 def try_ssh(trial):
     """A server that is reached by SSH."""
     place, folder, remote = trial.place(mixed(50)), trial.folder(), trial.place()
-    remote.write("forced-command", remote.here((TOP / "examples/forced-command").read_text()))
-    remote.write("bin/ssh", SSH.replace("@room", remote.room), 0o755)
+    room = Workroom(remote.room, trial.checks)
+    forced = (TOP / "deploy/programs/forced-command").read_text(encoding="utf-8")
+    room.write("forced-command", placed(forced, remote.room, remote.port))
+    room.write("bin/ssh", SSH.replace("@room", remote.room), 0o755)
     Path(remote.room, "bin/custody").symlink_to(remote.program)
-    path = {"PATH": remote.environment["PATH"]}
+    path = {"PATH": room.environment["PATH"]}
     trial.expect("a server is copied to one by SSH",
-                 trial.mirror(place.socket, "ssh://custody@lfs.example:2222", **path), 50, 0)
-    trial.check(remote.listed() == place.listed() and remote.is_whole(), "which lists the same, all whole")
-    trial.mirror(place.socket, folder)
+                 trial.mirror(place.control(), "ssh://custody@lfs.example:2222", **path), 50, 0)
+    trial.check(remote.objects() == place.objects() and remote.is_whole(), "which lists the same, all whole")
+    trial.mirror(place.control(), folder)
     trial.expect("a folder has nothing new for it", trial.mirror(folder, "ssh://custody@lfs.example", **path), 0, 50, 0)
     asked = Path(remote.room, "asked").read_text().splitlines()
     words = f"custody@lfs.example git-lfs-authenticate {FILM} upload"
@@ -582,14 +562,15 @@ class Busy(http.server.BaseHTTPRequestHandler):
 def try_busy(trial):
     """A proxy that asks to wait."""
     place, folder = trial.place([1_000]), trial.folder()
-    trial.mirror(place.socket, folder)
+    trial.mirror(place.control(), folder)
     with http.server.HTTPServer(("127.0.0.1", 0), Busy) as proxy:
         threading.Thread(target=proxy.serve_forever).start()
         proxy.replies = [429, 502, 200]
         line = {"expires_in": 60, "header": {}, "href": f"http://127.0.0.1:{proxy.server_port}/x"}
-        place.write("bin/ssh", f"#!/bin/sh\necho '{json.dumps(line)}'\n", 0o755)
+        room = Workroom(place.room, trial.checks)
+        room.write("bin/ssh", f"#!/bin/sh\necho '{json.dumps(line)}'\n", 0o755)
         begun = time.monotonic()
-        ran = trial.mirror(folder, "ssh://custody@lfs.example", PATH=place.environment["PATH"])
+        ran = trial.mirror(folder, "ssh://custody@lfs.example", PATH=room.environment["PATH"])
         taken = time.monotonic() - begun
         proxy.shutdown()
     trial.expect("429 and 502 are waited for", ran, 0, 1, 0)
@@ -599,9 +580,9 @@ def try_busy(trial):
 def try_unlock(trial):
     """The release of locks."""
     place = trial.place()
-    token, spaced, twice = place.token("bob"), "art/a hero  of two.psd", "art/twice.psd"
+    token, spaced, twice = place.token(user="bob"), "art/a hero  of two.psd", "art/twice.psd"
     for path, ref in ((spaced, MAIN), ("art/a hero", MAIN), (twice, MAIN), (twice, "refs/heads/dev")):
-        place.lock(path, token, ref)
+        place.make_lock(path, token, ref)
     moments = {line.split(" ", 4)[4]: line.split()[3] for line in place.locks()}
     for status, words, text in [
         (1, ("mirror", FILM, spaced), "unlock: P0: no policy row allows force\n"),
@@ -630,6 +611,7 @@ def try_unlock(trial):
 
 
 def timed(trial, what, words, count):
+    """A run that copies so many objects, with its time."""
     begun = time.monotonic()
     ran = trial.mirror(*words)
     trial.expect(f"{what}: {time.monotonic() - begun:.1f} s", ran, count, 0)
@@ -638,33 +620,26 @@ def timed(trial, what, words, count):
 def try_times(trial):
     """How long copies take."""
     place, folder, back = trial.place([10_000] * 1000), trial.folder(), trial.place()
-    timed(trial, "1000 objects of 10 KB to a folder", (place.socket, folder), 1000)
-    timed(trial, "and back", (folder, back.socket), 1000)
-    trial.check(stored(folder) == back.listed() == place.listed() and back.is_whole(), "each is whole")
+    timed(trial, "1000 objects of 10 KB to a folder", (place.control(), folder), 1000)
+    timed(trial, "and back", (folder, back.control()), 1000)
+    trial.check(stored(folder) == back.objects() == place.objects() and back.is_whole(), "each is whole")
     place, folder = trial.place([1 << 28] * 4), trial.folder()
-    timed(trial, "1 GiB in four objects to a folder", (place.socket, folder), 4)
-    trial.check(stored(folder) == place.listed(), "each is whole")
+    timed(trial, "1 GiB in four objects to a folder", (place.control(), folder), 4)
+    trial.check(stored(folder) == place.objects(), "each is whole")
 
 
 PARTS = {name.removeprefix("try_"): part for name, part in list(globals().items()) if name.startswith("try_")}
 
 
 def main():
-    parser = argparse.ArgumentParser(description=__doc__.splitlines()[0])
-    parser.add_argument("program", nargs="?", default=TOP / "bin/custody")
-    parser.add_argument("--only", action="append", choices=PARTS, help="only this part")
-    options = parser.parse_args()
-    need_commands("sha256sum", "curl", "git", "git-lfs", "diff")
-    trial = Trial(os.path.abspath(options.program))
+    options = arguments(__doc__, PARTS).parse_args()
+    checks = Checks()
+    trial = Trial(options.program, checks)
     for name in options.only or PARTS:
         print(f"{name}: {PARTS[name].__doc__}", flush=True)
         with trial.part():
-            try:
-                PARTS[name](trial)
-            except (Failed, OSError, subprocess.SubprocessError) as fault:
-                trial.check(False, f"{name} ends: {fault}")
-    print(f"{trial.passed} passed, {trial.failed} failed")
-    return 1 if trial.failed else 0
+            checks.part(name, lambda: PARTS[name](trial))
+    return checks.end()
 
 
 if __name__ == "__main__":

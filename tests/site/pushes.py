@@ -1,13 +1,15 @@
-"""What tools/try_site.py tries of pushes: examples/pre-receive and examples/forced-command, with the real git.
+"""What the suite of the site tries of pushes: deploy/programs/pre-receive and forced-command, with the real git.
 
-Each push goes past the client's own checks: without the hook of Git LFS (--no-verify), or without its verification of locks.
+Each push goes past the client's own checks: without the hook of Git LFS (--no-verify), or without its verification of
+locks.
 """
 import os
+import signal
 import subprocess
 import time
 from pathlib import Path
 
-from policies import WORK, row
+from tests.studio.policy import FILM, WORK, row
 
 ROWS = (
     row("deny", ["bob"], ["push"], refs=["refs/heads/main", "refs/heads/release/"], paths=["final/"]),
@@ -24,19 +26,22 @@ class Pushes:
     """A clone of bob, which starts each change from what the server has."""
 
     def __init__(self, site):
-        self.site, self.folder = site, f"{site.room}/pushing"
-        site.check(site.clone("bob", "pushing")[0] == 0, "bob has a clone to push from")
+        self.site, self.clone = site, site.clone("bob", "pushing")
+        site.expect(self.clone.take(site.remote())[0] == 0, "bob has a clone to push from")
 
     def git(self, *words, may_fail=False):
-        return self.site.git("pushing", "--no-replace-objects", *words, may_fail=may_fail)
+        """Runs Git in the clone, which takes each object for what it is."""
+        return self.clone.git("--no-replace-objects", *words, may_fail=may_fail)
 
     def start(self):
+        """Goes to what the server has."""
         self.git("fetch", "-q", "--prune", "origin")
         self.git("checkout", "-q", "-f", "-B", "main", "origin/main")
         self.git("clean", "-q", "-f", "-d", "-x")
 
     def write(self, name, text):
-        path = os.path.join(os.fsencode(self.folder), name if isinstance(name, bytes) else name.encode())
+        """Writes a file, also where Git LFS has made one read-only. A name may be bytes."""
+        path = os.path.join(os.fsencode(self.clone.folder), os.fsencode(name))
         os.makedirs(os.path.dirname(path), exist_ok=True)
         if os.path.exists(path):
             os.chmod(path, 0o644)
@@ -44,37 +49,42 @@ class Pushes:
             file.write(text)
 
     def commit(self):
-        self.git("add", "-A")
-        self.git("commit", "-q", "-m", "A change")
+        """Commits all that has changed."""
+        self.clone.commit("A change")
 
     def heads(self):
         """The refs of the server."""
-        return self.site.run("git", "-C", f"{self.site.room}/git/studio/film.git", "for-each-ref")[1]
+        return self.site.run("git", "-C", f"{self.site.room}/git/{FILM}.git", "for-each-ref")[1]
+
+    def push(self, *push):
+        """Pushes without the client's hook. Returns the status, what was printed, and whether a ref moved."""
+        before = self.heads()
+        status, text = self.git("push", "--no-verify", "origin", *(push or ["main"]), may_fail=True)
+        return status, text, self.heads() != before
 
     def refused(self, what, words, *push):
         """A push is refused whole, with these words."""
-        before = self.heads()
-        status, text = self.git("push", "--no-verify", "origin", *(push or ["main"]), may_fail=True)
-        self.site.check(status != 0 and all(it in text for it in words) and self.heads() == before, what, text)
+        status, text, has_moved = self.push(*push)
+        self.site.expect(status != 0 and all(it in text for it in words) and not has_moved, what, text)
 
     def passes(self, what, *push):
-        before = self.heads()
-        status, text = self.git("push", "--no-verify", "origin", *(push or ["main"]), may_fail=True)
-        self.site.check(status == 0 and self.heads() != before, what, text)
+        """A push is taken."""
+        status, text, has_moved = self.push(*push)
+        self.site.expect(status == 0 and has_moved, what, text)
 
 
 def try_locked(site, pushes):
     """Whatever changes a path that ann has locked is refused, and nothing of the push is taken."""
-    site.git("ann", "pull", "-q")
+    site.ann.git("pull", "-q")
     for name in ("art/1.psd", "art/2.psd"):
-        site.check("Locked" in site.git("ann", "lfs", "lock", name, may_fail=True)[1], f"ann locks {name}")
+        site.expect("Locked" in site.ann.tried("lfs", "lock", name)[1], f"ann locks {name}")
     locked = "art/1.psd: ann has locked it"
     pushes.start()
     pushes.write("art/1.psd", "a hero of bob")
     pushes.commit()
     status, text = pushes.git("-c", "lfs.locksverify=false", "push", "origin", "main", may_fail=True)
-    site.check(status != 0 and locked in text and "Nothing was pushed" in text,
-               "a client that verifies no locks is refused", text)
+    site.expect(status != 0 and locked in text and "Nothing was pushed" in text,
+                "a client that verifies no locks is refused", text)
     pushes.refused("and one that runs no hook", [locked])
     pushes.git("branch", "-f", "side", "origin/main")
     pushes.refused("with all that it pushes", [locked], "main", "side")
@@ -98,13 +108,13 @@ def try_locked(site, pushes):
 
 def try_history(site, pushes):
     """Pushes that move a ref back, or add one, or remove one."""
-    site.git("ann", "pull", "-q", "--rebase")
-    site.git("ann", "lfs", "unlock", "art/2.psd")
-    Path(site.room, "ann/art/2.psd").chmod(0o644)
-    Path(site.room, "ann/art/2.psd").write_bytes(b"ann's ship")
-    site.git("ann", "commit", "-q", "-a", "-m", "A ship")
-    site.git("ann", "push", "-q", "origin", "main")
-    site.git("ann", "lfs", "lock", "art/2.psd")
+    site.ann.git("pull", "-q", "--rebase")
+    site.ann.git("lfs", "unlock", "art/2.psd")
+    site.ann.path("art/2.psd").chmod(0o644)
+    site.ann.path("art/2.psd").write_bytes(b"ann's ship")
+    site.ann.git("commit", "-q", "-a", "-m", "A ship")
+    site.ann.git("push", "-q", "origin", "main")
+    site.ann.git("lfs", "lock", "art/2.psd")
     pushes.start()
     pushes.git("reset", "-q", "--hard", "HEAD~1")
     pushes.refused("a force push that takes a locked path back", ["art/2.psd: ann has locked it"], "+main")
@@ -138,14 +148,15 @@ def try_rows(site, pushes):
     pushes.refused("a path that a row denies", ["final/cut.txt: row 1 of the policy denies it"])
     pushes.refused("a new branch below release/", ["final/cut.txt: row 1"], "main:refs/heads/release/1")
     pushes.passes("the same path on a branch that the row does not name", "main:refs/heads/idea")
-    site.git("ann", "pull", "-q", "--rebase")
-    Path(site.room, "ann/final").mkdir()
-    Path(site.room, "ann/final/cut.txt").write_text("ann's")
-    site.git("ann", "add", "final")
-    site.git("ann", "commit", "-q", "-m", "A cut")
-    site.git("ann", "push", "-q", "origin", "main", "main:refs/heads/release/2")
+    site.ann.git("pull", "-q", "--rebase")
+    site.ann.path("final").mkdir()
+    site.ann.path("final/cut.txt").write_text("ann's")
+    site.ann.git("add", "final")
+    site.ann.git("commit", "-q", "-m", "A cut")
+    site.ann.git("push", "-q", "origin", "main", "main:refs/heads/release/2")
     pushes.refused("the removal of a branch with such a path", ["final/cut.txt: row 1"], ":release/2")
-    pushes.refused("a tag, which changes no path", ["refs/tags/one", "this branch or tag: row 2 of the policy denies it"],
+    pushes.refused("a tag, which changes no path",
+                   ["refs/tags/one", "this branch or tag: row 2 of the policy denies it"],
                    "origin/main:refs/tags/one")
     pushes.refused("a branch with a character that the server does not take", ["A-Z a-z 0-9"], "main:refs/heads/idea#2")
     blob = pushes.git("rev-parse", "HEAD:final/cut.txt")[1].strip()
@@ -178,7 +189,8 @@ def try_many(site, pushes):
         pushes.commit()
         began = time.monotonic()
         pushes.passes(f"{count} paths are pushed")
-        print(f"     in {time.monotonic() - began:.2f} s, {without_hook(site, pushes, count):.2f} s without the hook", flush=True)
+        print(f"     in {time.monotonic() - began:.2f} s, {without_hook(site, pushes, count):.2f} s without the hook",
+              flush=True)
     last = sorted(f"many-10001/{it}.txt" for it in range(10_001))[-1]
     site.lock("ann", last)
     pushes.start()
@@ -186,9 +198,9 @@ def try_many(site, pushes):
         pushes.write(f"many-10001/{number}.txt", "again")
     pushes.commit()
     pushes.refused("10001 paths, the last of which is locked", [f"{last}: ann has locked it"])
-    authorization = site.authorization("ann")
+    token = site.server.token()
     for number in range(30):
-        site.post(authorization, "locks", {"path": f"many-1000/{number}.txt"})
+        site.server.lock(f"many-1000/{number}.txt", token)
     pushes.start()
     pushes.git("rm", "-q", "-r", "many-1000")
     pushes.commit()
@@ -211,22 +223,24 @@ def without_hook(site, pushes, count):
 
 def try_users(site, pushes):
     """The policy is asked before Git is served."""
-    status, text = site.clone("vera", "vera")
-    site.check("Cloning" in text or status == 0, "vera, who may only pull, clones", text)
-    status, text = site.git("vera", "push", "--no-verify", "origin", "main:refs/heads/vera", may_fail=True)
-    site.check(status != 0 and "does not let vera push to studio/film" in text, "and may not push", text)
-    status, text = site.clone("carl", "carl")
-    site.check(status != 0 and "does not let carl pull from studio/film" in text, "carl, whom no row names, may not clone", text)
+    vera, carl = site.clone("vera"), site.clone("carl")
+    status, text = vera.take(site.remote())
+    site.expect("Cloning" in text or status == 0, "vera, who may only pull, clones", text)
+    vera.fails("and may not push", "does not let vera push to studio/film", "push", "--no-verify", "origin",
+               "main:refs/heads/vera")
+    status, text = carl.take(site.remote())
+    site.expect(status != 0 and "does not let carl pull from studio/film" in text,
+                "carl, whom no row names, may not clone", text)
     site.run("git", "init", "-q", "--bare", f"{site.room}/git/other/film.git")
-    remote = site.remote().replace("studio/film", "other/film")
-    words = ["git", "-c", f"core.sshCommand={site.ssh_command('vera')}", "ls-remote", remote]
+    words = ["git", "-c", f"core.sshCommand={site.ssh_command('vera')}", "ls-remote", site.remote("other/film")]
     status, text = site.run(*words, may_fail=True)
-    site.check(status != 0 and "does not let vera pull from other/film" in text, "nor vera another owner's repository", text)
+    site.expect(status != 0 and "does not let vera pull from other/film" in text,
+                "nor vera another owner's repository", text)
     policy = Path(site.room, "policy.toml")
     whole = policy.read_text()
     policy.write_text("no policy")
     status, text = pushes.git("fetch", "origin", may_fail=True)
-    site.check(status != 0 and "The policy has no answer" in text, "without a policy nobody is served", text)
+    site.expect(status != 0 and "The policy has no answer" in text, "without a policy nobody is served", text)
     policy.write_text(whole)
 
 
@@ -235,31 +249,31 @@ def try_silence(site, pushes):
     pushes.start()
     pushes.write("notes.txt", "of bob, again")
     pushes.commit()
-    site.end_server()
+    site.server.end(signal.SIGTERM)
     pushes.refused("no push passes while the server is down", ["the Git LFS server is not running"])
-    site.start_server()
+    site.server.start()
     hook = Path(site.room, "lib/pre-receive")
     text = hook.read_text()
     hook.write_text(text.replace("PATIENCE = 300", "PATIENCE = 1"))
-    held = subprocess.Popen([site.program, "hold", "--via", f"{site.room}/control", "--seconds", "20"], stdin=subprocess.PIPE,
-                            stdout=subprocess.PIPE)
-    held.stdout.readline()
-    pushes.refused("nor while it does not answer", ["did not answer"])
-    held.communicate()
+    words = site.server.command("hold", "--seconds", "20")
+    with subprocess.Popen(words, stdin=subprocess.PIPE, stdout=subprocess.PIPE) as held:
+        held.stdout.readline()
+        pushes.refused("nor while it does not answer", ["did not answer"])
+        held.communicate()
     hook.write_text(text)
     pushes.passes("it passes when the server is there again")
     bare = f"{site.room}/git/studio/film.git"
-    status, text = site.run("git", "-C", pushes.folder, "push", "--no-verify", bare, "main:refs/heads/local", may_fail=True)
-    site.check(status != 0 and "did not come over SSH" in text, "a push by a path says that nobody knows whose it is", text)
+    status, text = pushes.clone.tried("push", "--no-verify", bare, "main:refs/heads/local")
+    site.expect(status != 0 and "did not come over SSH" in text, "a push by a path says that nobody knows whose it is",
+                text)
 
 
 def try_pushes(site):
-    site.write_policy(3600, ROWS)
-    site.reload()
+    """Pushes under a policy of their own."""
+    site.change_policy(rows=ROWS)
     pushes = Pushes(site)
     for part in (try_locked, try_history, try_rows, try_many, try_users, try_silence):
         part(site, pushes)
-    site.write_policy(3600)
-    site.reload()
+    site.change_policy()
     site.release_all()
-    site.git("ann", "pull", "-q", "--rebase")
+    site.ann.git("pull", "-q", "--rebase")

@@ -47,6 +47,13 @@ class Checks:
         except (Failed, OSError, subprocess.SubprocessError) as fault:
             return self.expect(False, f"{name}: {fault}")
 
+    def part(self, name, act):
+        """Calls what makes checks of its own. If it cannot go on, that is one more check, which failed."""
+        try:
+            act()
+        except (Failed, OSError, subprocess.SubprocessError) as fault:
+            self.expect(False, f"{name} ends: {fault}")
+
     def end(self):
         """Prints how many checks passed. Returns the status of the suite."""
         print(f"{self.passed} passed, {self.failed} failed", flush=True)

@@ -6,9 +6,9 @@ from tests.studio.policy import FILM
 from tests.studio.program import Server, run
 
 
-def issue_words(user="ann", repo=FILM):
-    """The words that issue a token to upload."""
-    return ["authenticate", "--user", user, repo, "upload"]
+def issue_words(user="ann", repo=FILM, operation="upload"):
+    """The words that issue a token."""
+    return ["authenticate", "--user", user, repo, operation]
 
 
 def token_of(line):
@@ -19,8 +19,8 @@ def token_of(line):
 class ControlledServer(Server):
     """A server with a control socket. `more` has further words of `serve`."""
 
-    def __init__(self, program, room, policy=None, idle=10, more=(), database="custody.db"):
-        super().__init__(program, room, policy, idle, ["--control", f"{room}/control", *more], database)
+    def __init__(self, program, room, policy=None, idle=10, more=(), database="custody.db", port=None):
+        super().__init__(program, room, policy, idle, ["--control", f"{room}/control", *more], database, port)
 
     def command(self, name, *more):
         """The words of a command by the socket."""
@@ -30,8 +30,8 @@ class ControlledServer(Server):
         """Runs a command by the socket. Returns the status, the output and the error stream."""
         return run(self.command(name, *more), given)
 
-    def token(self, repo=FILM):
-        """A new token of ann, by the socket."""
-        status, output, errors = self.via(*issue_words(repo=repo))
+    def token(self, repo=FILM, user="ann"):
+        """A new token of the user, by the socket."""
+        status, output, errors = self.via(*issue_words(user, repo))
         require(status == 0, f"no token was issued: {errors}")
         return token_of(output)

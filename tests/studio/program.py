@@ -2,6 +2,7 @@
 import contextlib
 import hashlib
 import json
+import random
 import select
 import signal
 import socket
@@ -14,14 +15,18 @@ from tests.studio.policy import FILM, open_policy
 
 TOP = Path(__file__).resolve().parent.parent.parent
 CHUNK = 65_536
+# Linux gives its clients ports from 32,768 on.
+PORTS = (20_000, 32_768)
 # A moment that is long past, and the last one that there is.
 NOW, LAST = 1_463_500_146, 253_402_300_799
 
 
 def free_port():
-    """A port of this machine that nobody listens on."""
-    with socket.create_server(("127.0.0.1", 0)) as probe:
-        return probe.getsockname()[1]
+    """A port of this machine that nobody listens on, and that the system gives to no client by itself."""
+    while True:
+        port = random.randrange(*PORTS)
+        with contextlib.suppress(OSError), socket.create_server(("127.0.0.1", port)):
+            return port
 
 
 def target(rest, repo=FILM):
@@ -154,9 +159,9 @@ class Files:
 
     def issue(self, letter, *more, user="ann", repo=FILM, operation="upload"):
         """Stores the token of 64 times the letter. No server may run."""
-        random = Path(f"{self.room}/random")
-        random.write_bytes(bytes.fromhex(letter * 64))
-        words = ["authenticate", *self.files(), "--user", user, "--random", str(random), *more, repo, operation]
+        digits = Path(f"{self.room}/random")
+        digits.write_bytes(bytes.fromhex(letter * 64))
+        words = ["authenticate", *self.files(), "--user", user, "--random", str(digits), *more, repo, operation]
         subprocess.run([self.program, *words], check=True, stdout=subprocess.DEVNULL)
 
     def session_words(self, now=NOW):
@@ -177,12 +182,15 @@ class Server(Files):
 
     # After how many seconds without a line a start has failed.
     patience = 60
+    # The letter of the first token, or none if nobody has a token at first.
+    letter = "a"
 
-    def __init__(self, program, room, policy=None, idle=10, more=(), database="custody.db"):
+    def __init__(self, program, room, policy=None, idle=10, more=(), database="custody.db", port=None):
         super().__init__(program, room, policy, database)
         self.idle, self.more = idle, list(more)
-        self.issue("a")
-        self.port = free_port()
+        if self.letter:
+            self.issue(self.letter)
+        self.port = port or free_port()
         self.start()
 
     def control(self):
@@ -193,17 +201,20 @@ class Server(Files):
         """The file that the server writes its faults to."""
         return open(f"{self.room}/errors", "ab")
 
+    def words(self):
+        """The words that run the server."""
+        address = f"127.0.0.1:{self.port}"
+        return [self.program, "serve", *self.files(), "--listen", address, "--idle", str(self.idle), *self.more]
+
     def start(self):
         """Starts the server, and waits until it listens."""
-        address = f"127.0.0.1:{self.port}"
-        words = [self.program, "serve", *self.files(), "--listen", address, "--idle", str(self.idle), *self.more]
         with self.error_stream() as errors:
-            self.child = subprocess.Popen(words, stdout=subprocess.PIPE, stderr=errors)
+            self.child = subprocess.Popen(self.words(), stdout=subprocess.PIPE, stderr=errors)
         if not select.select([self.child.stdout], [], [], self.patience)[0]:
             self.child.kill()
             raise OSError("the server prints nothing")
         line = self.child.stdout.readline()
-        if line != f"listening on {address}\n".encode():
+        if line != f"listening on 127.0.0.1:{self.port}\n".encode():
             raise NotStarted(f"the server printed {line!r}")
 
     def end(self, kind=signal.SIGKILL):
