@@ -51,8 +51,8 @@ class Trial(Workroom):
     """A server, its repositories, and the users' clones."""
 
     def __init__(self, options, room, checks):
-        super().__init__(room, options.show)
-        self.check, self.program, self.count, self.port = checks.expect, options.program, options.files, free_port()
+        super().__init__(room, checks, options.show)
+        self.program, self.count, self.port = options.program, options.files, free_port()
         self.set_up_git()
         base = f"http://127.0.0.1:{self.port}"
         self.policy = policy([*(repo(*it) for it in QUOTAS.items()), *ROWS], base, repos=())
@@ -82,7 +82,7 @@ class Trial(Workroom):
         with TransferServer(self.program, self.room, self.policy, more=["--requests", "1000000"],
                             port=self.port) as server:
             yield
-            self.check(server.child.poll() is None, "the server still runs")
+            self.expect(server.child.poll() is None, "the server still runs")
             server.end(signal.SIGTERM)
 
     def remote(self, name):
@@ -140,24 +140,20 @@ def transfer(trial, transfers):
     digests = write_files(ann, transfers, trial.count)
     ann.commit("files")
     branch = f"work-{transfers}"
-    status, _ = ann.tried("push", "origin", f"HEAD:refs/heads/{branch}")
-    trial.check(status == 0, f"{len(digests)} files are pushed")
+    ann.passes(f"{len(digests)} files are pushed", "push", "origin", f"HEAD:refs/heads/{branch}")
     trial.run("git", "symbolic-ref", "HEAD", f"refs/heads/{branch}", folder=f"{trial.room}/studio/film.git")
     _, bob = trial.clone("bob", "studio/film", transfers)
-    trial.check(digests_in(bob) == digests, "a clone has the same bytes")
+    trial.expect(digests_in(bob) == digests, "a clone has the same bytes")
     status, text = bob.tried("lfs", "fsck")
-    trial.check(status == 0 and "OK" in text, "git lfs fsck finds nothing")
+    trial.expect(status == 0 and "OK" in text, "git lfs fsck finds nothing", text)
     bob.path("000.bin").write_bytes(b"changed by bob %d" % transfers)
     bob.git("commit", "-q", "-a", "-m", "a change")
-    status, _ = bob.tried("push", "origin", f"HEAD:refs/heads/{branch}")
-    trial.check(status == 0, "a change is pushed")
+    bob.passes("a change is pushed", "push", "origin", f"HEAD:refs/heads/{branch}")
     status, _ = ann.tried("pull", "-q", "--ff-only", "origin", branch)
-    trial.check(status == 0 and digests_in(ann) == digests_in(bob), "and pulled")
+    trial.expect(status == 0 and digests_in(ann) == digests_in(bob), "and pulled")
     shutil.rmtree(ann.path(".git/lfs/objects"))
-    status, text = ann.tried("lfs", "fetch", "--all", "origin")
-    trial.check(status == 0, "git lfs fetch fetches all objects again")
-    status, text = ann.tried("lfs", "push", "--all", "origin")
-    trial.check(status == 0, "objects that are there are not pushed again")
+    ann.passes("git lfs fetch fetches all objects again", "lfs", "fetch", "--all", "origin")
+    ann.passes("objects that are there are not pushed again", "lfs", "push", "--all", "origin")
 
 
 def refusals(trial):
@@ -167,17 +163,15 @@ def refusals(trial):
     bob.git("checkout", "-q", "-b", "release")
     bob.path("001.bin").write_bytes(b"a release")
     bob.git("commit", "-q", "-a", "-m", "a release")
-    status, text = bob.tried("push", "origin", "release")
-    trial.check(status != 0 and "P1: policy row 1 denies push" in text, "a push that the policy denies by its ref")
+    bob.fails("a push that the policy denies by its ref", "P1: policy row 1 denies push", "push", "origin", "release")
     ann = trial.new("ann", "studio/small", 1)
     ann.path("large.bin").write_bytes(random.Random(1).randbytes(100_001))
     ann.commit("too large")
-    status, text = ann.tried("push", "origin", "HEAD:refs/heads/main")
-    trial.check(status != 0 and "B5: the quota does not hold the object" in text, "a push over the quota")
+    ann.fails("a push over the quota", "B5: the quota does not hold the object", "push", "origin",
+              "HEAD:refs/heads/main")
     ann.path("large.bin").write_bytes(random.Random(1).randbytes(100_000))
     ann.git("commit", "-q", "-a", "--amend", "-m", "as large as the quota")
-    status, text = ann.tried("push", "origin", "HEAD:refs/heads/main")
-    trial.check(status == 0, "a push that fills the quota")
+    ann.passes("a push that fills the quota", "push", "origin", "HEAD:refs/heads/main")
 
 
 def push_two(trial):
@@ -193,7 +187,7 @@ def push_two(trial):
 def retire(trial, name):
     """Removes the object for good, while no server runs."""
     ran = trial.custody("retire", "--repo", "studio/gone", name)
-    trial.check(ran == (0, f"retired {name}\n"), "an object is removed for good")
+    trial.expect(ran == (0, f"retired {name}\n"), "an object is removed for good")
 
 
 def has_object(clone, name):
@@ -204,16 +198,15 @@ def has_object(clone, name):
 def fetch_removed(trial, digests):
     """What the client does about an object that is removed for good, as it downloads."""
     status, bob = trial.clone("bob", "studio/gone", 1)
-    trial.check(status == 128 and not bob.path("hero.bin").exists(), "a clone stops at the file")
+    trial.expect(status == 128 and not bob.path("hero.bin").exists(), "a clone stops at the file")
     status, bob = trial.clone("bob", "studio/gone", 2, "lfs.skipdownloaderrors=true")
     found = digests_in(bob)
-    trial.check(status == 0 and found["tree.bin"] == digests["tree.bin"], "one that skips errors has the other file")
+    trial.expect(status == 0 and found["tree.bin"] == digests["tree.bin"], "one that skips errors has the other file")
     pointer = bob.path("hero.bin").read_bytes()
-    trial.check(pointer.startswith(b"version https://git-lfs"), "and the pointer of this one")
+    trial.expect(pointer.startswith(b"version https://git-lfs"), "and the pointer of this one")
     shutil.rmtree(bob.path(".git/lfs/objects"))
-    status, text = bob.tried("lfs", "pull")
-    trial.check(status == 2 and REASON in text, "git lfs pull says why")
-    trial.check(has_object(bob, digests["tree.bin"]), "and fetches the other file")
+    bob.fails("git lfs pull says why", REASON, "lfs", "pull", status=2)
+    trial.expect(has_object(bob, digests["tree.bin"]), "and fetches the other file")
 
 
 def commit_file(ann, name):
@@ -225,22 +218,19 @@ def commit_file(ann, name):
 def push_removed(trial, ann):
     """What it does as it uploads: `ann` has two files, of which one is removed for good."""
     commit_file(ann, "all")
-    status, text = ann.tried("lfs", "push", "--all", "origin")
-    trial.check(status == 2 and REASON in text, "git lfs push --all of the same file is refused")
+    ann.fails("git lfs push --all of the same file is refused", REASON, "lfs", "push", "--all", "origin", status=2)
     ann.git("push", "-q", "--no-verify", "origin", "HEAD:refs/heads/main")
     _, bob = trial.clone("bob", "studio/gone", 3, "lfs.skipdownloaderrors=true")
-    trial.check(bob.path("all.bin").exists() and digests_in(bob)["all.bin"] == digests_in(ann)["all.bin"],
-                "and uploads the other files")
+    trial.expect(bob.path("all.bin").exists() and digests_in(bob)["all.bin"] == digests_in(ann)["all.bin"],
+                 "and uploads the other files")
     commit_file(ann, "another")
-    status, _ = ann.tried("push", "origin", "HEAD:refs/heads/main")
-    trial.check(status == 0, "another file is pushed")
+    ann.passes("another file is pushed", "push", "origin", "HEAD:refs/heads/main")
     # Without what it knows of the remote, the client asks for every object of the branch.
     ann.git("update-ref", "-d", "refs/remotes/origin/main")
     ann.git("commit", "-q", "--amend", "-m", "the same files")
-    status, text = ann.tried("push", "-f", "origin", "HEAD:refs/heads/again")
-    trial.check(status == 1 and REASON in text, "git push of the same file is refused")
+    ann.fails("git push of the same file is refused", REASON, "push", "-f", "origin", "HEAD:refs/heads/again", status=1)
     _, text = ann.git("ls-remote", "origin")
-    trial.check("again" not in text, "and moves no ref")
+    trial.expect("again" not in text, "and moves no ref")
 
 
 def remove_from_branch(trial, ann):
@@ -250,11 +240,9 @@ def remove_from_branch(trial, ann):
     ann.git("commit", "-q", "-m", "without it")
     ann.git("push", "-q", "-f", "origin", "HEAD:refs/heads/main")
     status, bob = trial.clone("bob", "studio/gone", 4)
-    trial.check(status == 0, "a branch without the file is cloned")
-    status, text = bob.tried("checkout", "origin/before")
-    trial.check(status == 128 and REASON in text, "a checkout of a commit with the file stops")
-    status, _ = bob.tried("-c", "lfs.skipdownloaderrors=true", "checkout", "-f", "origin/before")
-    trial.check(status == 0, "one that skips errors does not")
+    trial.expect(status == 0, "a branch without the file is cloned")
+    bob.fails("a checkout of a commit with the file stops", REASON, "checkout", "origin/before", status=128)
+    bob.passes("one that skips errors does not", "-c", "lfs.skipdownloaderrors=true", "checkout", "-f", "origin/before")
 
 
 def removed(trial, ann, digests):
@@ -279,7 +267,7 @@ def try_all(trial):
 
 def main():
     parser = arguments(__doc__)
-    parser.add_argument("--files", type=int, default=200, help="how many files are pushed; the ninth one is the largest [default: 200]")
+    parser.add_argument("--files", type=int, default=200, help="how many files are pushed [default: 200]")
     parser.add_argument("--show", action="store_true", help="print each command and what the client prints")
     options = parser.parse_args()
     checks = Checks()

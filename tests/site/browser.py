@@ -128,7 +128,7 @@ class Page:
         return self.at("question").text
 
     def release(self, path, *answers):
-        """Clicks on the button, and then on the answer of each question. Returns what was asked, and the status line."""
+        """Clicks on the button, and on the answer of each question. Returns what was asked, and the status line."""
         self.button(path).click()
         questions = []
         for answer in answers:

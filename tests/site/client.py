@@ -1,4 +1,4 @@
-"""Two users of the real Git LFS lock, list, verify and release paths of a repository that they reach over SSH, and push.
+"""Two users of the real Git LFS lock, list, verify and release paths of a repository over SSH, and push to it.
 
 A script takes the place of sshd, and runs deploy/programs/forced-command for one of the two users; each request by HTTP
 goes to a `custody session` of its own, so that no server runs. For each command of a user its status, what it prints,
@@ -81,8 +81,8 @@ class Studio(Workroom):
     """The folder with the stand-ins, and the clones of ann and bob."""
 
     def __init__(self, options, room, checks):
-        super().__init__(room, options.show)
-        self.checks, port = checks, free_port()
+        super().__init__(room, checks, options.show)
+        port = free_port()
         self.set_up_git()
         self.make_bare("film")
         policy = (TOP / "examples/policy.toml").read_text(encoding="utf-8").replace(BASE, f"http://127.0.0.1:{port}")
@@ -127,7 +127,7 @@ class Studio(Workroom):
         is_met = is_met and (prints is None or text.splitlines() == list(prints)) and all(it in text for it in says)
         name = clone.settings["user.name"]
         what = "; ".join([*(prints or ()), *says][:2]).replace("\n", "; ") or "nothing"
-        self.checks.expect(is_met, f"{name}: git {words}: {what}", seen)
+        self.expect(is_met, f"{name}: git {words}: {what}", seen)
         return text
 
 
@@ -170,8 +170,8 @@ def check_json(studio, user, text, wanted):
     listed = json.loads(text)
     locks = listed if isinstance(listed, list) else [*listed["ours"], *listed["theirs"]]
     found = [f"{it['path']} {it['owner']['name']}" for it in locks]
-    studio.checks.expect(found == wanted and all(MOMENT.fullmatch(it["locked_at"]) for it in locks),
-                         f"{user}: the list is {', '.join(wanted)}, each with its moment", text)
+    studio.expect(found == wanted and all(MOMENT.fullmatch(it["locked_at"]) for it in locks),
+                  f"{user}: the list is {', '.join(wanted)}, each with its moment", text)
 
 
 def try_pushes(studio):
@@ -247,8 +247,8 @@ def try_pages(studio):
     for option, request, mark in (("", "GET locks 200", ""), (" --verify", VERIFIED, "O ")):
         text = told(ann, f"lfs locks{option}", request, request, says=[f"ID:{MORE + 6}"])
         found = sorted(re.sub(r"\t+| +\t", "\t", re.sub(r"(\S) +\t", r"\1\t", it)) for it in text.splitlines())
-        studio.checks.expect(found == [f"{mark}{it}" for it in lines],
-                             f"ann: git lfs locks{option}: lines with a lock: {MORE}", text)
+        studio.expect(found == [f"{mark}{it}" for it in lines],
+                      f"ann: git lfs locks{option}: lines with a lock: {MORE}", text)
 
 
 def try_rights(studio):

@@ -131,8 +131,7 @@ def try_locks(site, book):
     book.edit(FORCE, row("allow", ["ann", "zoe"], WORK))
     printed = book.run("A user who leaves")
     site.expect("\nbob upload " in printed, "his tokens are listed, until they expire", printed)
-    status, text = site.bob.tried("fetch")
-    site.expect(status != 0 and "Permission denied" in text, "bob's key opens nothing any more", text)
+    site.bob.fails("bob's key opens nothing any more", "Permission denied", "fetch")
     book.run("A user who leaves", 1)
     site.expect("bob" not in book.locks() and "art/2.psd" in book.locks(), "his locks are released, and ann's stays",
                 book.locks())
@@ -253,8 +252,8 @@ def try_move(site, book, second):
     here, there = site.server.objects(), second.objects()
     site.expect(there == here and len(here) == count + 3, f"the second server has the same {count + 3} objects",
                 str(there)[:300])
-    status, text = site.ann.tried("push", "--no-verify", "origin", "main:refs/heads/late")
-    site.expect(status != 0 and "row 1 of the policy denies it" in text, "the first server takes no push", text)
+    site.ann.fails("the first server takes no push", "row 1 of the policy denies it", "push", "--no-verify", "origin",
+                   "main:refs/heads/late")
     moved = Clone(site, "moved", "ann", {"core.sshCommand": site.ssh_command("second-ann")})
     status, text = moved.take(site.remote())
     same = site.run("diff", "-r", "-x", ".git", site.ann.folder, moved.folder, may_fail=True)

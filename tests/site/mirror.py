@@ -238,7 +238,7 @@ def try_words(trial):
 def try_git_lfs(trial):
     """Git LFS itself: its store is copied to a server, and a copy of that is its store."""
     place, folder = trial.place(), trial.folder()
-    room = Workroom(place.room)
+    room = Workroom(place.room, trial.checks)
     room.set_up_git()
     ann, bob = Clone(room, "ann", "ann", {}), Clone(room, "bob", "bob", {"lfs.storage": folder})
     ann.begin(f"{room.room}/none")
@@ -521,7 +521,7 @@ def try_secrets(trial):
 def try_ssh(trial):
     """A server that is reached by SSH."""
     place, folder, remote = trial.place(mixed(50)), trial.folder(), trial.place()
-    room = Workroom(remote.room)
+    room = Workroom(remote.room, trial.checks)
     forced = (TOP / "deploy/programs/forced-command").read_text(encoding="utf-8")
     room.write("forced-command", placed(forced, remote.room, remote.port))
     room.write("bin/ssh", SSH.replace("@room", remote.room), 0o755)
@@ -567,7 +567,7 @@ def try_busy(trial):
         threading.Thread(target=proxy.serve_forever).start()
         proxy.replies = [429, 502, 200]
         line = {"expires_in": 60, "header": {}, "href": f"http://127.0.0.1:{proxy.server_port}/x"}
-        room = Workroom(place.room)
+        room = Workroom(place.room, trial.checks)
         room.write("bin/ssh", f"#!/bin/sh\necho '{json.dumps(line)}'\n", 0o755)
         begun = time.monotonic()
         ran = trial.mirror(folder, "ssh://custody@lfs.example", PATH=room.environment["PATH"])

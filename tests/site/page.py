@@ -35,6 +35,7 @@ POLICY = (
 )
 MARKUP = "art/<script>document.title='x'</script><img src=x onerror=alert(1)>.psd"
 REVERSED = "art/hero\u202edsp.exe"
+NO_FORCE = "art/shot10.psd: P0: no policy row allows force"
 RELEASE, OTHER = "refs/heads/release/1.0", "refs/heads/other"
 FIRST = [("ann", "art/hero.psd", MAIN), ("bob", "art/ship.psd", MAIN), ("ann", "art/tree 2.psd", RELEASE),
          ("bob", MARKUP, MAIN), ("ann", REVERSED, MAIN), ("ann", "art/shot10.psd", MAIN), ("bob", "art/shot9.psd",
@@ -318,7 +319,7 @@ def try_force(site, page):
     page.enter(site.server.line("bob"))
     page.name_branches("main")
     questions, words = page.release("art/shot10.psd", "confirm")
-    site.expect(words == "art/shot10.psd: P0: no policy row allows force" and "Release the lock of ann?" in questions[0],
+    site.expect(words == NO_FORCE and "Release the lock of ann?" in questions[0],
                 "bob may not release ann's lock", f"{questions} {words}")
     page.picture("refusal")
     site.expect("art/shot10.psd" in site.paths() & page.shown(), "which stays")
@@ -363,14 +364,15 @@ def try_rights(site, page):
     site.expect(sorted(page.rows()) == sorted(expected(site, {MAIN})) and page.status() == "",
                 "who may not push has the list with its branches", f"{page.rows()} {page.status()}")
     questions, words = page.release("art/shot10.psd", "confirm", "confirm")
-    site.expect(words == "art/shot10.psd: P0: no policy row allows force" and "Release the lock of ann?" in questions[1],
+    site.expect(words == NO_FORCE and "Release the lock of ann?" in questions[1],
                 "and is refused after the question of force", f"{questions} {words}")
     page.enter(site.server.line("ann", "download"))
     site.expect(sorted(page.rows()) == sorted(expected(site, {MAIN})) and page.status() == "",
                 "a download token shows the list",
                 f"{page.rows()} {page.status()}")
     _, words = page.release("art/shot10.psd", "confirm")
-    site.expect(words == "art/shot10.psd: A5: the token does not cover this" and "art/shot10.psd" in site.paths() & page.shown(),
+    site.expect(words == "art/shot10.psd: A5: the token does not cover this"
+                and "art/shot10.psd" in site.paths() & page.shown(),
                 "and releases nothing", words)
     page.enter(site.server.line("eve"))
     denied = "P1: policy row 1 denies pull"

@@ -226,8 +226,8 @@ def try_users(site, pushes):
     vera, carl = site.clone("vera"), site.clone("carl")
     status, text = vera.take(site.remote())
     site.expect("Cloning" in text or status == 0, "vera, who may only pull, clones", text)
-    status, text = vera.tried("push", "--no-verify", "origin", "main:refs/heads/vera")
-    site.expect(status != 0 and "does not let vera push to studio/film" in text, "and may not push", text)
+    vera.fails("and may not push", "does not let vera push to studio/film", "push", "--no-verify", "origin",
+               "main:refs/heads/vera")
     status, text = carl.take(site.remote())
     site.expect(status != 0 and "does not let carl pull from studio/film" in text,
                 "carl, whom no row names, may not clone", text)

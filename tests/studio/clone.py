@@ -14,8 +14,8 @@ SHOWN = 12
 class Workroom:
     """A folder, and the environment of the commands that run in it: no setting of this machine's users is theirs."""
 
-    def __init__(self, room, shows=False):
-        self.room, self.shows = room, shows
+    def __init__(self, room, checks, shows=False):
+        self.room, self.checks, self.shows = room, checks, shows
         self.environment = {
             **os.environ,
             "PATH": f"{room}/bin:{os.environ['PATH']}",
@@ -24,6 +24,10 @@ class Workroom:
             "GIT_CONFIG_NOSYSTEM": "1",
             "GIT_TERMINAL_PROMPT": "0",
         }
+
+    def expect(self, is_met, what, text=""):
+        """One check."""
+        return self.checks.expect(is_met, what, text)
 
     def write(self, name, text, mode=0o644):
         """Writes a file with this mode. Returns its path."""
@@ -75,6 +79,16 @@ class Clone:
     def tried(self, *words):
         """The same, of what may fail."""
         return self.git(*words, may_fail=True)
+
+    def passes(self, what, *words):
+        """One check: Git succeeds."""
+        status, text = self.tried(*words)
+        self.place.expect(status == 0, what, text)
+
+    def fails(self, what, says, *words, status=None):
+        """One check: Git fails and says this, with the status if one is given."""
+        found, text = self.tried(*words)
+        self.place.expect(found != 0 and status in (None, found) and says in text, what, text)
 
     def path(self, name):
         """The path of a file."""

@@ -115,18 +115,14 @@ class Site(Workroom):
     """The server in a folder; with nginx and sshd before it once they are started, and users with keys and clones."""
 
     def __init__(self, program, room, rows, checks, shows=False):
-        super().__init__(room, shows)
-        self.checks, self.children = checks, []
+        super().__init__(room, checks, shows)
+        self.children = []
         self.https, self.ssh = free_port(), free_port()
         self.certificate = f"{room}/tls.pem"
         # Git LFS 3.3 does not read http.sslCAInfo.
         self.environment |= {"GIT_SSL_CAINFO": self.certificate, "SSL_CERT_FILE": self.certificate}
         Path(room, "state").mkdir()
         self.server = SiteServer(program, room, rows, f"https://localhost:{self.https}", database="state/custody.db")
-
-    def expect(self, is_met, what, text=""):
-        """One check."""
-        return self.checks.expect(is_met, what, text)
 
     # nginx and sshd.
 

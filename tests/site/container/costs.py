@@ -49,7 +49,8 @@ def try_wrong_names(count=24, size=32_000_000):
         time.sleep(0.1)
     served = results.count(422)
     check(served <= 16 and served + results.count(429) == count and waits and max(waits) < 10_000,
-          f"of {count} uploads of {size // 1_000_000} MB under a wrong name with one token at once, {served} were taken",
+          f"of {count} uploads of {size // 1_000_000} MB under a wrong name with one token at once, {served} were "
+          "taken",
           results)
     taken = time.monotonic() - began
     measured(f"they took {taken:.1f} s; another user waited {max(waits):.1f} s at most, of {len(waits)} requests")
