@@ -53,7 +53,7 @@ class Studio(Site):
         return result
 
     def wait_for_objects(self, count):
-        """Waits until the server has so many objects."""
+        """Waits until the server has at least this many objects."""
         while self.count() < count:
             time.sleep(0.02)
 
