@@ -16,7 +16,7 @@ from pathlib import Path
 
 from tests.site.handbook import try_handbook
 from tests.site.pushes import try_pushes
-from tests.studio.checks import Checks, arguments
+from tests.studio.checks import Checks, arguments, require
 from tests.studio.clone import same_files
 from tests.studio.policy import FILM, WORK, row
 from tests.studio.program import LAST, TOP, content
@@ -26,6 +26,8 @@ ROWS = (row("allow", ["ann"], ["force"]), row("allow", ["ann", "bob"], WORK))
 # Who has a key that sshd knows. The rows name the first two.
 USERS = ("ann", "bob", "vera", "carl")
 PUSH = ("push", "-q", "origin", "main")
+# How many seconds a push may take until it has stored something.
+PATIENCE = 120
 
 
 class Studio(Site):
@@ -54,7 +56,9 @@ class Studio(Site):
 
     def wait_for_objects(self, count):
         """Waits until the server has at least this many objects."""
+        begun = time.monotonic()
         while self.count() < count:
+            require(time.monotonic() - begun < PATIENCE, f"{count} objects within {PATIENCE} s")
             time.sleep(0.02)
 
 
@@ -303,6 +307,14 @@ PARTS = {it.__name__.removeprefix("try_"): it for it in (
     try_handbook, try_status, try_other_requests, try_large_files)}
 
 
+def try_parts(site, names):
+    """Sets up the site, and tries these parts."""
+    site.set_up(USERS)
+    push_and_clone(site)
+    for name in names:
+        site.checks.part(name, lambda: PARTS[name](site))
+
+
 def main():
     parser = arguments(__doc__)
     parser.add_argument("--gib", type=int, default=1, choices=range(1, 5), help="the GiB of the largest files")
@@ -310,15 +322,8 @@ def main():
                         help=f"only this part: {', '.join(PARTS)}")
     options = parser.parse_args()
     checks = Checks()
-    with tempfile.TemporaryDirectory() as room:
-        site = Studio(options, room, checks)
-        try:
-            site.set_up(USERS)
-            push_and_clone(site)
-            for name in options.part or PARTS:
-                checks.part(name, lambda: PARTS[name](site))
-        finally:
-            site.end()
+    with tempfile.TemporaryDirectory() as room, Studio(options, room, checks) as site:
+        checks.part("the site", lambda: try_parts(site, options.part or PARTS))
     return checks.end()
 
 
