@@ -60,7 +60,7 @@ class Suite:
 
     def needs(self):
         """What the suite needs, as a text."""
-        return ", ".join([*(["root"] if self.root else []), *self.packages]) or "nothing more"
+        return ", ".join([*(["root"] if self.root else []), *self.packages]) or "python3 alone"
 
 
 def only(*checks):
@@ -72,9 +72,9 @@ SUITES = [
     Suite("sessions", "tests.agree.sessions", "Random streams of requests get the replies that the protocol states.",
           1, quick=("--seconds", "5")),
     Suite("foresights", "tests.agree.foresights", "`custody foresee` prints the replies that the protocol states.",
-          1, quick=("--seconds", "5")),
+          1, quick=("--messages", "100")),
     Suite("walks", "tests.agree.walks", "Pages of locks that change show each lock that is there at every page.",
-          1, quick=("--seconds", "5")),
+          2, quick=("--seconds", "5", "--locks", "300")),
     Suite("policies", "tests.agree.policies", "Random policy files have the faults that the policy's page states.",
           1, quick=("--seconds", "5")),
     Suite("schemas", "tests.agree.schemas", "Requests and replies fit the JSON schemas of the Git LFS client.",
@@ -84,7 +84,9 @@ SUITES = [
                     *only("pipelined", "keep-alive", "one-connection", "idle-end", "early-reply", "reset", "killed",
                           "terminated", "load"))),
     Suite("control", "tests.server.control", "Commands by the control socket act beside the clients of a server.",
-          5, ("strace",)),
+          5, ("strace",), quick=("--rounds", "5", "--tokens", "20", *only(
+              "same-words", "only-the-user", "stale", "no-server", "terminal", "idle-client", "under-load", "damaged",
+              "hold-over", "stop", "reload", "status", "killed"))),
     Suite("objects", "tests.server.objects", "Objects of 0 bytes to 256 MiB are stored whole, and cut ones are not.",
           2, ("sqlite3",), quick=only("stopped", "repositories", "refused")),
     Suite("transfers", "tests.server.transfers", "Git LFS pushes, clones and fetches 200 files of 1 byte to 50 MB.",
@@ -94,7 +96,7 @@ SUITES = [
     Suite("full", "tests.server.full", "A server on a full disk loses nothing, and goes on once it has room.",
           2, ("sqlite3",), root=True),
     Suite("spoiled", "tests.server.spoiled", "The program shows no spoiled object as whole, and names each.",
-          2, ("sqlite3",), quick=("--count", "20", *only("random"))),
+          2, ("sqlite3",), quick=("--count", "20")),
     Suite("causes", "tests.server.causes", "A fault of the system is printed with its cause.",
           1, root=True),
     Suite("migration", "tests.server.migration", "Database files of version 1 are migrated whole, or not at all.",

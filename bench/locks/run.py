@@ -6,18 +6,18 @@ the caller, at most 100 times. A Lock request costs at 100,000 locks at most 2 t
 that is held, which finds it (L1), and on a new one, which makes a lock that the next request releases. A list of one
 path has no bar: it reads all locks of the repository.
 
-It needs Linux, python3 and a program that bin/custody has built, and takes about ten minutes, most of which fill the
-databases, through `custody session`. A session gets the same kind of request many times, and the processor time that
+A session gets the same kind of request many times, and the processor time that
 it has used is read each time when some of the replies arrive. What it used between the first of these moments and the
 last but one, by the number of replies between, is the time of a request: so starting, and opening the database, which
 reads all of it, do not count. Of several rounds it is the median. It prints each time in microseconds, with the lowest
 and the highest, then each ratio with its bar, and ends with status 1 if one is above its bar.
 
-    bench/locks/run.py [ROUNDS [PROGRAM]]
+    bench/locks/run.py [--rounds N] [--locks N] [--program FILE]
+
+It takes about ten minutes, most of which fill the databases, through `custody session`.
 """
-import json
+import copy
 import os
-import shutil
 import statistics
 import subprocess
 import sys
@@ -25,68 +25,46 @@ import tempfile
 import time
 from pathlib import Path
 
-TOP = Path(__file__).resolve().parent.parent.parent
-SIZES = (100, 100_000)
-NOW = "1463500146"
-REPO = "studio/film"
-MAIN, SIDE = "refs/heads/main", "refs/heads/side"
-POLICY = """base = "https://lfs.example"
-token_seconds = 3600
+# The root of the repository.
+sys.path.insert(0, str(Path(__file__).resolve().parents[2]))
+from tests.studio.checks import arguments
+from tests.studio.policy import MAIN, policy, row
+from tests.studio.program import NOW, Files, lock, message, target
+from tests.studio.tables import copied
 
-[[repo]]
-name = "studio/film"
-default_ref = "refs/heads/main"
-quota = 1000000
-
-[[row]]
-effect = "allow"
-users = ["ann", "bob"]
-repos = ["*"]
-refs = ["*"]
-paths = ["*"]
-rights = ["pull", "push", "lock"]
-
-[[row]]
-effect = "allow"
-users = ["ann"]
-repos = ["*"]
-refs = ["*"]
-paths = ["*"]
-rights = ["list"]
-
-[[row]]
-effect = "allow"
-users = ["bob"]
-repos = ["*"]
-refs = ["*"]
-paths = ["shown/"]
-rights = ["list"]
-"""
+FEW = 100
+SIDE = "refs/heads/side"
+POLICY = policy([
+    row("allow", ["ann", "bob"], ["pull", "push", "lock"]),
+    row("allow", ["ann"], ["list"]),
+    row("allow", ["bob"], ["list"], paths=["shown/"]),
+])
 
 
-class Bench:
-    """The program, and the folder that it works in."""
+class Database(Files):
+    """A database with a number of locks: each hundredth on the side ref and in the folder that bob may list."""
 
-    def __init__(self, program, room):
-        self.program, self.room = program, room
-        self.policy = f"{room}/policy.toml"
-        Path(self.policy).write_text(POLICY)
+    def __init__(self, program, room, size):
+        super().__init__(program, room, POLICY, f"{size}.db")
+        self.size = size
+        for user, letter in (("ann", "a"), ("bob", "b")):
+            self.issue(letter, "--now", str(NOW), user=user)
+        begun = time.time()
+        for start in range(1, size + 1, 10_000):
+            numbers = range(start, min(start + 10_000, size + 1))
+            replies, _ = self.served(b"".join(lock_of(it) for it in numbers))
+            if replies.count(b"HTTP/1.1 201 ") != len(numbers):
+                sys.exit("a lock was not made")
+        print(f"{size} locks were made in {time.time() - begun:.0f} seconds", flush=True)
 
-    def issue(self, database, user, letter):
-        """Stores a token of the user: 64 times the letter."""
-        Path(f"{self.room}/random").write_bytes(bytes([int(letter * 2, 16)]) * 32)
-        words = ["authenticate", "--db", database, "--policy", self.policy, "--now", NOW, "--user", user]
-        words += ["--random", f"{self.room}/random", REPO, "upload"]
-        subprocess.run([self.program, *words], check=True, stdout=subprocess.DEVNULL)
-
-    def session(self, database, stream):
+    def served(self, stream):
         """Serves the stream. Returns the replies, and at each moment at which some arrived: how many bytes had
         arrived, and the processor time in seconds that the program had used."""
         asked = f"{self.room}/asked"
         Path(asked).write_bytes(stream)
-        words = [self.program, "session", "--db", database, "--policy", self.policy, "--now", NOW]
         replies, moments = bytearray(), []
-        with open(asked, "rb") as given, subprocess.Popen(words, stdin=given, stdout=subprocess.PIPE) as child:
+        with open(asked, "rb") as given, subprocess.Popen(self.session_words(), stdin=given,
+                                                        stdout=subprocess.PIPE) as child:
             # The clock of another process, as clock_getcpuclockid(3) makes it.
             clock = ~child.pid << 3 | 2
             while piece := os.read(child.stdout.fileno(), 1 << 16):
@@ -96,29 +74,6 @@ class Bench:
             sys.exit(f"a session ended with status {child.returncode}")
         return bytes(replies), moments
 
-    def filled(self, size):
-        """A database with this many locks: each hundredth on the side ref and in the folder that bob may list."""
-        database = f"{self.room}/{size}.db"
-        self.issue(database, "ann", "a")
-        self.issue(database, "bob", "b")
-        begun = time.time()
-        for start in range(1, size + 1, 10_000):
-            stream = b"".join(lock(held_path(it), held_ref(it)) for it in range(start, min(start + 10_000, size + 1)))
-            replies, _ = self.session(database, stream)
-            if replies.count(b"HTTP/1.1 201 ") != min(10_000, size + 1 - start):
-                sys.exit("a lock was not made")
-        print(f"{size} locks were made in {time.time() - begun:.0f} seconds", flush=True)
-        return database
-
-    def copied(self, database):
-        """A copy of the database, which a session may change."""
-        copy = f"{self.room}/copy.db"
-        for end in ("", "-wal"):
-            Path(copy + end).unlink(missing_ok=True)
-            if os.path.exists(database + end):
-                shutil.copyfile(database + end, copy + end)
-        return copy
-
 
 def held_path(number):
     """The path of the lock of this id."""
@@ -126,41 +81,39 @@ def held_path(number):
 
 
 def held_ref(number):
+    """The ref of the lock of this id."""
     return SIDE if number % 100 == 0 else MAIN
 
 
-def request(letter, method, rest, body=None):
-    data = b"" if body is None else json.dumps(body).encode()
-    length = "" if body is None else f"Content-Length: {len(data)}\r\n"
-    head = f"{method} /{REPO}.git/info/lfs/{rest} HTTP/1.1\r\nAuthorization: Bearer {letter * 64}\r\n{length}\r\n"
-    return head.encode() + data
-
-
-def lock(path, ref):
-    return request("a", "POST", "locks", {"path": path, "ref": {"name": ref}})
+def lock_of(number):
+    """A request for the lock of this id."""
+    return lock(held_path(number), "a", ref=held_ref(number))
 
 
 def listed(letter, start):
-    return lambda size, _: [request(letter, "GET", f"locks?limit=100&cursor={start(size)}")]
+    """Lists of a user, from where a page is to begin."""
+    return lambda size, _: [message("GET", target(f"locks?limit=100&cursor={start(size)}"), token=letter)]
 
 
 def listed_path(size, turn):
-    return [request("a", "GET", f"locks?path={held_path(turn * 37 % size + 1)}")]
+    """A list of one path."""
+    return [message("GET", target(f"locks?path={held_path(turn * 37 % size + 1)}"))]
 
 
 def verified(ref, start):
+    """Verifications of the locks of a ref."""
     body = lambda size: {"cursor": str(start(size)), "limit": 100, "ref": {"name": ref}}
-    return lambda size, _: [request("a", "POST", "locks/verify", body(size))]
+    return lambda size, _: [message("POST", target("locks/verify"), body(size))]
 
 
 def found(size, turn):
-    number = turn * 37 % size + 1
-    return [lock(held_path(number), held_ref(number))]
+    """A lock of a path that is held."""
+    return [lock_of(turn * 37 % size + 1)]
 
 
 def made(size, turn):
-    unlock = request("a", "POST", f"locks/{size + turn + 1}/unlock", {})
-    return [lock(f"new/{turn:06d}/hero.psd", MAIN), unlock]
+    """A new lock, and its release."""
+    return [lock(f"new/{turn:06d}/hero.psd", ref=MAIN), message("POST", target(f"locks/{size + turn + 1}/unlock"), {})]
 
 
 # Where a page begins that has locks before and after it, if there are as many.
@@ -175,7 +128,7 @@ ASKED = [
     ("found by its path", found, (60_000, 60_000), ["409"]),
     ("made and released", made, (2000, 2000), ["201", "200"]),
 ]
-# Each ratio: what at 100,000 locks, over what at 100, and the bar.
+# Each ratio: what at many locks, over what at few, and the bar.
 BARS = [
     ("list", "list", 4),
     ("verify", "verify", 4),
@@ -186,38 +139,43 @@ BARS = [
 ]
 
 
-def time_of(bench, database, size, asked):
-    """The processor time of a turn, in microseconds."""
-    name, requests, turns, statuses = asked
-    turns = turns[SIZES.index(size)]
-    stream = b"".join(it for turn in range(turns) for it in requests(size, turn))
-    replies, moments = bench.session(bench.copied(database), stream)
+def time_of(database, turns, asked):
+    """The processor time of a turn, in microseconds, over a copy of the database."""
+    name, requests, _, statuses = asked
+    stream = b"".join(it for turn in range(turns) for it in requests(database.size, turn))
+    with tempfile.TemporaryDirectory() as folder:
+        other = copy.copy(database)
+        other.database = copied(database.database, folder)
+        replies, moments = other.served(stream)
     if any(replies.count(f"HTTP/1.1 {it} ".encode()) != turns for it in statuses):
-        sys.exit(f"{name} at {size} locks: a reply has another status")
+        sys.exit(f"{name} at {database.size} locks: a reply has another status")
     (first, begun), (last, ended) = moments[0], moments[-2]
     return (ended - begun) / (last - first) * len(replies) / turns * 1e6
 
 
 def main():
-    rounds = int(sys.argv[1]) if len(sys.argv) > 1 else 7
-    program = os.path.abspath(sys.argv[2]) if len(sys.argv) > 2 else str(TOP / "crates/custody/out/custody")
-    times = {}
+    """Times each kind of request at each size."""
+    parser = arguments(__doc__)
+    parser.add_argument("--rounds", type=int, default=7, help="how often each is measured [default: 7]")
+    parser.add_argument("--locks", type=int, default=100_000, help="how many locks are many [default: 100000]")
+    options = parser.parse_args()
+    times, few, many = {}, FEW, options.locks
     with tempfile.TemporaryDirectory() as room:
-        bench = Bench(program, room)
-        databases = {size: bench.filled(size) for size in SIZES}
-        for _ in range(rounds):
+        databases = [Database(options.program, room, size) for size in (few, many)]
+        for _ in range(options.rounds):
             for asked in ASKED:
-                for size in SIZES:
-                    times.setdefault((asked[0], size), []).append(time_of(bench, databases[size], size, asked))
-    for (name, size), found_times in times.items():
-        low, mid, high = min(found_times), statistics.median(found_times), max(found_times)
-        print(f"{name} at {size} locks: {mid:.0f} us ({low:.0f} to {high:.0f})")
+                for database, turns in zip(databases, asked[2]):
+                    took = time_of(database, turns, asked)
+                    times.setdefault((asked[0], database.size), []).append(took)
+    for (name, size), it in times.items():
+        print(f"{name} at {size} locks: {statistics.median(it):.0f} us ({min(it):.0f} to {max(it):.0f})")
     is_met = True
     for name, base, bar in BARS:
-        ratio = statistics.median(times[name, SIZES[1]]) / statistics.median(times[base, SIZES[0]])
-        print(f"{name} at {SIZES[1]} locks over {base} at {SIZES[0]}: {ratio:.2f} (at most {bar})")
+        ratio = statistics.median(times[name, many]) / statistics.median(times[base, few])
+        print(f"{name} at {many} locks over {base} at {few}: {ratio:.2f} (at most {bar})")
         is_met = is_met and ratio <= bar
     return 0 if is_met else 1
 
 
-sys.exit(main())
+if __name__ == "__main__":
+    sys.exit(main())

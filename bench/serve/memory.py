@@ -8,12 +8,11 @@ listens, the memory after it, the time that a processor worked for the start, an
 clock and by the processor's work, relative to the environment without settings. The second says more on a busy
 machine. No bar: docs/OPERATING.md has the table, and says what the unit takes by it.
 
-It needs Linux, python3, a program that bin/custody has built, and 2 GB of memory; jemalloc is tried if Debian's
-libjemalloc2 is there. It takes 25 seconds for each environment and round, and longer on a busy machine.
+    bench/serve/memory.py [--mb N] [--rounds N] [--program FILE]
 
-    bench/serve/memory.py [--mb N] [--rounds N] [PROGRAM]
+It needs 2 GB of memory; jemalloc is tried if Debian's libjemalloc2 is there. It takes 25 seconds for each environment
+and round, and longer on a busy machine.
 """
-import argparse
 import os
 import shutil
 import statistics
@@ -22,8 +21,8 @@ import tempfile
 import time
 from pathlib import Path
 
-from large import Content, get, highest, put, restart, words_of
-from run import TOP, start_custody
+from servers import Content, Custody, download, upload
+from tests.studio.checks import arguments
 
 JEMALLOC = "/usr/lib/x86_64-linux-gnu/libjemalloc.so.2"
 SIZE = 64 << 20
@@ -49,60 +48,55 @@ def copy_files(server, one, other):
         shutil.copyfile(f"{server.room}/{one}{end}", f"{server.room}/{other}{end}")
 
 
-def worked(server):
-    """The seconds that a processor has worked for the server."""
-    fields = Path(f"/proc/{server.child.pid}/stat").read_text().rsplit(")", 1)[1].split()
-    return (int(fields[11]) + int(fields[12])) / os.sysconf("SC_CLK_TCK")
-
-
-def measure(server, words, environment):
+def measure(server, environment):
     """Memory in KiB: the highest, and that at the start, later and after some locks; the work of the start; the seconds
     and the work of an upload, and of a download. The database is the same for each."""
     server.stop()
     copy_files(server, "kept.db", "custody.db")
     os.environ.update(environment)
     try:
-        restart(server, words)
+        server.restart()
     finally:
         for name in environment:
             del os.environ[name]
-    memory, start = [highest(server), server.memory()], worked(server)
+    memory, start = [server.highest(), server.memory()], server.processor_time()
     time.sleep(SETTLE)
     memory.append(server.memory())
-    with server.connect() as client:
+    with server.client() as client:
         for _ in range(LOCKS):
             server.lock(client)
     memory.append(server.memory())
-    content, before = Content(SIZE), worked(server)
-    up = put(server, content)
-    between = worked(server)
-    down = statistics.median(get(server, content) for _ in range(DOWNLOADS))
-    return *memory, start, up, down, between - before, (worked(server) - between) / DOWNLOADS
+    content, before = Content(SIZE), server.processor_time()
+    up = upload(server, content)
+    between = server.processor_time()
+    down = statistics.median(download(server, content) for _ in range(DOWNLOADS))
+    return *memory, start, up, down, between - before, (server.processor_time() - between) / DOWNLOADS
+
+
+def measured(options):
+    """The rows of each environment."""
+    tried = {name: it for name, it in ENVIRONMENTS.items() if "LD_PRELOAD" not in it or Path(JEMALLOC).exists()}
+    rows = {name: [] for name in tried}
+    with tempfile.TemporaryDirectory() as room, Custody(options.program, room) as server:
+        for _ in range(max(1, options.mb * 1_000_000 // SIZE)):
+            upload(server, Content(SIZE))
+        server.stop()
+        copy_files(server, "custody.db", "kept.db")
+        server.restart()
+        for _ in range(options.rounds):
+            for name, environment in tried.items():
+                rows[name].append(measure(server, environment))
+    return rows
 
 
 def main():
-    parser = argparse.ArgumentParser(description=__doc__.splitlines()[0])
+    """Measures, and prints the medians."""
+    parser = arguments(__doc__)
     parser.add_argument("--mb", type=int, default=336, help="how much the database holds [default: 336]")
     parser.add_argument("--rounds", type=int, default=5, help="how often each is measured [default: 5]")
-    parser.add_argument("program", nargs="?", default=str(TOP / "bin/custody"))
-    options = parser.parse_args()
-    with tempfile.TemporaryDirectory() as room:
-        server = start_custody(options.program, room)
-        try:
-            for _ in range(max(1, options.mb * 1_000_000 // SIZE)):
-                put(server, Content(SIZE))
-            server.stop()
-            copy_files(server, "custody.db", "kept.db")
-            words = words_of(options.program, server)
-            restart(server, words)
-            tried = {name: it for name, it in ENVIRONMENTS.items() if "LD_PRELOAD" not in it or Path(JEMALLOC).exists()}
-            rows = {name: [] for name in tried}
-            for _ in range(options.rounds):
-                for name, environment in tried.items():
-                    rows[name].append(measure(server, words, environment))
-        finally:
-            server.stop()
-    print(f"{'settings':32} {'highest':>8} {'at start':>8} {'later':>8} {'locks':>8} {'work':>8}   PUT and GET, by clock and by work")
+    rows = measured(parser.parse_args())
+    heads = " ".join(f"{it:>8}" for it in ("highest", "at start", "later", "locks", "work"))
+    print(f"{'settings':32} {heads}   PUT and GET, by clock and by work")
     plain = None
     for name, found in rows.items():
         *memory, start = (statistics.median(column) for column in list(zip(*found))[:5])

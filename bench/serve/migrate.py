@@ -6,30 +6,26 @@ command sqlite3 makes it of a file that the server made. Its definitions have to
 crates/program_tests/data/version_1.sql. After `migrate`, `custody check` reads every byte of the object. It prints the
 times, the memory and the size of the log, and ends with status 1 if a command prints something else than it should.
 
-It needs Linux, python3, sqlite3, 10 GB of disk, 6 GB of memory and a program that bin/custody has built, and takes some
-minutes.
+    bench/serve/migrate.py [--mb N].. [--program FILE]
 
-    bench/serve/migrate.py [--mb N]... [PROGRAM]
+It needs sqlite3, 10 GB of disk and 6 GB of memory, and takes some minutes.
 """
-import argparse
 import os
 import subprocess
 import sys
 import tempfile
 import time
 
-from large import Content, log_size, put
-from run import TOP, start_custody
+from servers import Content, Custody, upload
+from tests.studio.checks import arguments
+from tests.studio.policy import FILM
+from tests.studio.program import TOP
+from tests.studio.tables import sqlite3
 
 DEFINITION = ("CREATE TABLE meta (one INTEGER PRIMARY KEY CHECK (one = 1), "
               "version INTEGER NOT NULL CHECK (version = 1)) STRICT")
 FIXTURE = TOP / "crates/program_tests/data/version_1.sql"
 DEFINITIONS = "SELECT name, sql FROM sqlite_schema ORDER BY name;"
-
-
-def sqlite3(path, statements):
-    ran = subprocess.run(["sqlite3", path], input=statements, capture_output=True, text=True, check=True)
-    return ran.stdout
 
 
 def to_version_1(path):
@@ -57,29 +53,28 @@ def measured(words, wanted):
 
 def try_size(program, size):
     """Times the migration of a file with an object of this size."""
-    with tempfile.TemporaryDirectory() as room:
-        server, content = start_custody(program, room), Content(size)
-        put(server, content)
+    content = Content(size)
+    commands = [
+        (["migrate"], "migrated from version 1\n"),
+        (["objects", "--repo", FILM], f"{content.name} {size}\n"),
+        (["check"], "checked 1 objects\n"),
+    ]
+    with tempfile.TemporaryDirectory() as room, Custody(program, room) as server:
+        upload(server, content)
         server.stop()
-        to_version_1(f"{server.room}/custody.db")
-        words = ["--db", f"{server.room}/custody.db"]
-        commands = [
-            (["migrate"], "migrated from version 1\n"),
-            (["objects", "--repo", "studio/film"], f"{content.name} {size}\n"),
-            (["check"], "checked 1 objects\n"),
-        ]
+        to_version_1(server.database)
         for (name, *more), wanted in commands:
-            print(f"{size >> 20} MiB: {name} took {measured([program, name, *words, *more], wanted)}; "
-                  f"log {log_size(server)} bytes", flush=True)
+            took = measured([program, name, "--db", server.database, *more], wanted)
+            print(f"{size >> 20} MiB: {name} took {took}; log {server.log_size()} bytes", flush=True)
 
 
 def main():
-    parser = argparse.ArgumentParser()
+    """Times each size."""
+    parser = arguments(__doc__)
     parser.add_argument("--mb", type=int, action="append", help="the size of an object, in MiB [default: 1024 and 4096]")
-    parser.add_argument("program", nargs="?", default=str(TOP / "crates/custody/out/custody"))
-    args = parser.parse_args()
-    for mebibytes in args.mb or [1024, 4096]:
-        try_size(os.path.abspath(args.program), mebibytes << 20)
+    options = parser.parse_args()
+    for mebibytes in options.mb or [1024, 4096]:
+        try_size(options.program, mebibytes << 20)
     return 0
 
 

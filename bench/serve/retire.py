@@ -7,48 +7,28 @@ the sizes of the database before the removal and after the last upload, and ends
 1 MB. Pages that are in the log alone count too: the file gets them later. At last it times `custody migrate` and
 `custody objects` over the file, which both open it.
 
-It needs Linux, python3, 10 GB of disk, 6 GB of memory and a program that bin/custody has built, and takes some minutes.
+    bench/serve/retire.py [--mb N] [--program FILE]
 
-    bench/serve/retire.py [--mb N] [PROGRAM]
+It needs 10 GB of disk and 6 GB of memory, and takes some minutes.
 """
-import argparse
-import os
-import subprocess
 import sys
 import tempfile
 import time
 from pathlib import Path
 
-from large import Content, highest, log_size, put, restart, words_of
-from run import TOP, start_custody
+from servers import Content, Custody, upload
+from tests.studio.checks import arguments
+from tests.studio.policy import FILM
+from tests.studio.spoiled import FRAME_HEAD, LOG_HEAD, PAGE
 
 MORE = 1e6
-PAGE = 4096
-LOG_HEAD, FRAME_HEAD = 32, 24
-
-
-def timed(words):
-    """What a command prints, and how long it takes."""
-    begun = time.monotonic()
-    ran = subprocess.run(words, capture_output=True, text=True, check=False)
-    if ran.returncode != 0:
-        sys.exit(f"{words[1]} ended with {ran.stderr!r}")
-    return ran.stdout, time.monotonic() - begun
-
-
-def processor_time(server):
-    """The seconds that the server has used of a processor."""
-    return time.clock_gettime(~server.child.pid << 3 | 2)
-
-
-def file_size(server):
-    return Path(f"{server.room}/custody.db").stat().st_size
 
 
 def database_size(server):
-    """The size that the file has once the whole log is copied into it: as the last commit in the log says, if there is one."""
-    size = file_size(server)
-    log = Path(f"{server.room}/custody.db-wal").read_bytes()
+    """The size that the file has once the whole log is copied into it: as the last commit in the log says, if there is
+    one."""
+    size = server.file_size()
+    log = Path(f"{server.database}-wal").read_bytes()
     for at in range(LOG_HEAD, len(log) - FRAME_HEAD, FRAME_HEAD + PAGE):
         if log[at + 8 : at + 16] != log[16:24]:
             break
@@ -57,34 +37,41 @@ def database_size(server):
     return size
 
 
+def retire(server, name):
+    """Removes the object, and prints what that takes."""
+    memory, log, used, begun = server.memory(), server.log_size(), server.processor_time(), time.monotonic()
+    ran = server.via("retire", "--repo", FILM, name)
+    took, used = time.monotonic() - begun, server.processor_time() - used
+    if ran != (0, f"retired {name}\n", ""):
+        sys.exit(f"retire gave {ran}")
+    print(f"retired in {took:.2f} s ({used:.2f} s of the processor); memory {memory} KiB before, {server.memory()} KiB "
+          f"after, {server.highest()} KiB at most; log {log} bytes before and {server.log_size()} after; "
+          f"file {server.file_size()} bytes", flush=True)
+
+
 def main():
-    parser = argparse.ArgumentParser()
-    parser.add_argument("--mb", type=int, default=4096, help="the size of the object, in MiB")
-    parser.add_argument("program", nargs="?", default=str(TOP / "crates/custody/out/custody"))
-    args = parser.parse_args()
-    program = os.path.abspath(args.program)
-    with tempfile.TemporaryDirectory() as room:
-        control = f"{room}/control"
-        server = start_custody(program, room, control)
-        first = Content(args.mb << 20)
-        print(f"stored {args.mb} MiB in {put(server, first):.2f} s", flush=True)
-        memory, log, before = server.memory(), log_size(server), database_size(server)
-        used = processor_time(server)
-        printed, took = timed([program, "retire", "--via", control, "--repo", "studio/film", first.name])
-        used = processor_time(server) - used
-        if printed != f"retired {first.name}\n":
-            sys.exit(f"retire printed {printed!r}")
-        print(f"retired in {took:.2f} s ({used:.2f} s of the processor); memory {memory} KiB before, {server.memory()} KiB after, {highest(server)} KiB at most; "
-              f"log {log} bytes before and {log_size(server)} after; file {file_size(server)} bytes", flush=True)
+    """Times the removal, and compares the sizes."""
+    parser = arguments(__doc__)
+    parser.add_argument("--mb", type=int, default=4096, help="the size of the object, in MiB [default: 4096]")
+    options = parser.parse_args()
+    with tempfile.TemporaryDirectory() as room, Custody(options.program, room) as server:
+        first = Content(options.mb << 20)
+        print(f"stored {options.mb} MiB in {upload(server, first):.2f} s", flush=True)
+        before = database_size(server)
+        retire(server, first.name)
         server.stop()
-        restart(server, words_of(program, server))
-        print(f"stored {args.mb} MiB again in {put(server, Content(args.mb << 20)):.2f} s", flush=True)
+        server.restart()
+        print(f"stored {options.mb} MiB again in {upload(server, Content(first.size)):.2f} s", flush=True)
         server.stop()
         after = database_size(server)
-        print(f"database {before} bytes after the first object and {after} after the second; file {file_size(server)}, log {log_size(server)}")
-        for command in (["migrate"], ["objects", "--repo", "studio/film"]):
-            _, took = timed([program, command[0], "--db", f"{server.room}/custody.db", *command[1:]])
-            print(f"{command[0]} took {took:.2f} s")
+        print(f"database {before} bytes after the first object and {after} after the second; "
+              f"file {server.file_size()}, log {server.log_size()}")
+        for name, *more in (["migrate"], ["objects", "--repo", FILM]):
+            begun = time.monotonic()
+            status, _, errors = server.over_files(name, *more)
+            if status != 0:
+                sys.exit(f"{name} ended with {errors!r}")
+            print(f"{name} took {time.monotonic() - begun:.2f} s")
     return 0 if after <= before + MORE else 1
 
 

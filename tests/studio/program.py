@@ -85,9 +85,9 @@ class Client:
         """Sends all of the bytes."""
         self.socket.sendall(data)
 
-    def more(self):
+    def more(self, most=1 << 16):
         """Reads some bytes of a reply."""
-        piece = self.socket.recv(1 << 16)
+        piece = self.socket.recv(most)
         if not piece:
             raise Closed("the server closed the connection before a reply")
         self.rest += piece
@@ -104,8 +104,10 @@ class Client:
         """The status and the body of the next reply."""
         lines, length = self.head()
         while len(self.rest) < length:
-            self.more()
-        body, self.rest = bytes(self.rest[:length]), self.rest[length:]
+            self.more(1 << 20)
+        with memoryview(self.rest) as view:
+            body = bytes(view[:length])
+        del self.rest[:length]
         return int(lines[0].split(b" ")[1]), body
 
     def ask(self, data):
