@@ -19,7 +19,8 @@ FIRST = "docs/README.md"
 PAGES = {
     "CHANGELOG.md": f"{DOCUMENTS}/CHANGELOG.md",
     **{f"docs/{name}": f"{DOCUMENTS}/{name}" for name in ("README.md", "COMMANDS.md", "POLICY.md", "PROTOCOL.md")},
-    **{f"docs/operating/{page.name}": f"{DOCUMENTS}/operating/{page.name}" for page in (TOP / "docs/operating").glob("*.md")},
+    **{f"docs/operating/{page.name}": f"{DOCUMENTS}/operating/{page.name}"
+       for page in (TOP / "docs/operating").glob("*.md")},
     **{f"docs/measured/{name}.md": f"{DOCUMENTS}/measured/{name}.md"
        for name in ("client", "full-and-spoiled", "large-objects", "load", "memory", "site")},
 }
@@ -46,6 +47,7 @@ def path_of(target, page):
 
 
 def is_local(target):
+    """Whether a link leads to a file, and not to a site or into its own page."""
     return not re.match(r"[a-z]+:|#", target)
 
 
@@ -63,6 +65,7 @@ def link_of(link, page):
 
 
 def text_of(page):
+    """The text of a page, with the links of the package."""
     text = (TOP / page).read_text()
     if page == FIRST:
         text = ROW.sub(lambda row: row[0] if path_of(row[1], page) in PLACES else "", text)
@@ -80,6 +83,7 @@ def faults(root):
 
 
 def main(root):
+    """Writes the pages, and returns the status."""
     for page, place in PAGES.items():
         Path(root + place).parent.mkdir(parents=True, exist_ok=True)
         Path(root + place).write_text(text_of(page))

@@ -15,6 +15,7 @@ import sys
 
 
 def git(*words):
+    """What Git prints."""
     return subprocess.run(["git", *words], check=True, capture_output=True, text=True).stdout
 
 
@@ -66,6 +67,7 @@ def definitions(commit):
 
 
 def main():
+    """Prints what differs."""
     old, new = sys.argv[1], sys.argv[2] if len(sys.argv) > 2 else "HEAD"
     before, after = contracts(old), contracts(new)
     print(f"{len(before)} public functions in {old}, {len(after)} in {new}")

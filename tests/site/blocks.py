@@ -1,8 +1,8 @@
 """Runs each block of commands in the pages of docs/operating, on a site of this machine.
 
-The commands are those of the pages, with the paths of the site, and stand-ins for systemctl, runuser and apt. The blocks
-of the runbook are tried by the suite `site`, and one that makes a user of the machine by the suite `security`. A check
-fails if a command fails, or if it does not do what its page says; and if a page has a block that nothing here knows.
+The commands are those of the pages, with the paths of the site, and stand-ins for systemctl, runuser and apt. The
+blocks of the runbook are tried by the suite `site`, and one that makes a user of the machine by the suite `security`.
+A check fails if a command fails, or does not do what its page says; and if a page has a block that nothing here knows.
 """
 import json
 import re
@@ -88,8 +88,8 @@ def try_copies(site, book):
     site.expect("checked 1 objects" in printed, "the copy of the running server is whole", printed)
     book.do("backup", 1)
     copy = Path(site.room, "backup/custody.db")
-    status, printed = site.run(site.server.program, "check", "--db", copy)
-    site.expect(status == 0 and printed == "checked 1 objects\n", "the copy of a stopped server is one whole file", printed)
+    printed = site.run(site.server.program, "check", "--db", copy)[1]
+    site.expect(printed == "checked 1 objects\n", "the copy of a stopped server is one whole file", printed)
     printed = book.do("backup", 2)
     site.expect("already version 2" in printed, "an upgrade migrates what is of version 1 alone", printed)
 
@@ -106,7 +106,7 @@ def try_questions(site, book):
     asked = book.all["troubleshooting", 3][1].split("$ cat > message\n")[1].split("$ ")[0]
     body = '{"path":"hero.psd"}'
     asked = asked.replace("Bearer 5f0c...", json.loads(line)["header"]["Authorization"])
-    asked = asked.replace("Content-Length: 23", f"Content-Length: {len(body)}").replace('{"path":"art/hero.psd"}\n', body)
+    asked = asked.replace("Length: 23", f"Length: {len(body)}").replace('{"path":"art/hero.psd"}\n', body)
     site.write("message", asked.replace("\n", "\r\n"))
     printed = site.run("sh", "-e", "-c", foresee)[1]
     site.expect(printed.startswith("409 L1\n"), "the reply that ann would get is foreseen", printed)

@@ -68,7 +68,7 @@ def root_over(base):
 def make_packages(tree, program, folder):
     """The package of the tree, made with three umasks."""
     environment = {**os.environ, **({} if program == str(TOP / "bin/custody") else {"CUSTODY": program})}
-    script = next(it for it in (tree / "deploy/package.sh", tree / "tools/package.sh") if it.exists())
+    script = next(it for it in (tree / "deploy/package.sh", tree / "tools" / "package.sh") if it.exists())
     for mask in MASKS:
         place = folder / mask
         place.mkdir()
