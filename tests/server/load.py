@@ -12,7 +12,6 @@ queue of the server's port was filled, and the kernel's counters of connections 
 of other programs on this machine too.
 """
 import collections
-import contextlib
 import json
 import multiprocessing
 import random
@@ -257,9 +256,7 @@ def report(site, found, watch):
 
 def check(options, count, with_proxy):
     """Many clients for the time that is asked for."""
-    with tempfile.TemporaryDirectory() as room, contextlib.ExitStack() as held:
-        site = Site(options.program, room, ROWS, Checks())
-        held.callback(site.end)
+    with tempfile.TemporaryDirectory() as room, Site(options.program, room, ROWS, Checks()) as site:
         if with_proxy:
             site.start_nginx()
         port, certificate = (site.https, site.certificate) if with_proxy else (site.server.port, None)

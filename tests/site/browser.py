@@ -29,6 +29,12 @@ class Page:
         self.browser.execute_cdp_cmd("Emulation.setTimezoneOverride", {"timezoneId": zone})
         self.resize(1100, 760)
 
+    def __enter__(self):
+        return self
+
+    def __exit__(self, *_):
+        self.browser.quit()
+
     def resize(self, width, height):
         """The window has this size."""
         size = {"width": width, "height": height, "deviceScaleFactor": 1, "mobile": False}

@@ -105,7 +105,7 @@ class Studio(Workroom):
         return clone
 
     def change_policy(self, change):
-        """Writes what the function makes of the policy's text. Each request reads the policy again."""
+        """Writes the policy's text, changed by the function. Each request reads the policy again."""
         self.policy.write_text(change(self.policy.read_text(encoding="utf-8")), encoding="utf-8")
 
     def told(self, clone, words, *asked, status=0, prints=None, says=(), issued=None):

@@ -611,7 +611,7 @@ def try_unlock(trial):
 
 
 def timed(trial, what, words, count):
-    """A run that copies so many objects, with its time."""
+    """A run that copies this many objects, with its time."""
     begun = time.monotonic()
     ran = trial.mirror(*words)
     trial.expect(f"{what}: {time.monotonic() - begun:.1f} s", ran, count, 0)

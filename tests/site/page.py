@@ -509,20 +509,12 @@ def main():
     if options.pictures:
         options.pictures.mkdir(parents=True, exist_ok=True)
     checks = Checks()
-    with tempfile.TemporaryDirectory() as room:
-        site = Studio(options.program, room, POLICY, checks)
-        try:
-            site.start_nginx()
-            try_nginx(site)
-            try_bodies(site)
-            try_nginx_without_default(site)
-            page = Page(site.server.base, ZONE, options.pictures)
-            try:
-                checks.part("the page", lambda: try_page(site, page))
-            finally:
-                page.browser.quit()
-        finally:
-            site.end()
+    with tempfile.TemporaryDirectory() as room, Studio(options.program, room, POLICY, checks) as site:
+        site.start_nginx()
+        for part in (try_nginx, try_bodies, try_nginx_without_default):
+            checks.part(part.__name__, lambda: part(site))
+        with Page(site.server.base, ZONE, options.pictures) as page:
+            checks.part("the page", lambda: try_page(site, page))
     return checks.end()
 
 

@@ -52,6 +52,18 @@ class Pushes:
         """Commits all that has changed."""
         self.clone.commit("A change")
 
+    def change(self, name, text):
+        """Commits a file on what the server has."""
+        self.start()
+        self.write(name, text)
+        self.commit()
+
+    def command(self, *words):
+        """Commits what a command of Git does to what the server has."""
+        self.start()
+        self.git(*words)
+        self.commit()
+
     def heads(self):
         """The refs of the server."""
         return self.site.run("git", "-C", f"{self.site.room}/git/{FILM}.git", "for-each-ref")[1]
@@ -79,30 +91,20 @@ def try_locked(site, pushes):
     for name in ("art/1.psd", "art/2.psd"):
         site.expect("Locked" in site.ann.tried("lfs", "lock", name)[1], f"ann locks {name}")
     locked = "art/1.psd: ann has locked it"
-    pushes.start()
-    pushes.write("art/1.psd", "a hero of bob")
-    pushes.commit()
+    pushes.change("art/1.psd", "a hero of bob")
     status, text = pushes.git("-c", "lfs.locksverify=false", "push", "origin", "main", may_fail=True)
     site.expect(status != 0 and locked in text and "Nothing was pushed" in text,
                 "a client that verifies no locks is refused", text)
     pushes.refused("and one that runs no hook", [locked])
     pushes.git("branch", "-f", "side", "origin/main")
     pushes.refused("with all that it pushes", [locked], "main", "side")
-    pushes.start()
-    pushes.git("rm", "-q", "art/1.psd")
-    pushes.commit()
+    pushes.command("rm", "-q", "art/1.psd")
     pushes.refused("the removal of a locked path", [locked])
-    pushes.start()
-    pushes.git("mv", "-f", "art/3.psd", "art/1.psd")
-    pushes.commit()
+    pushes.command("mv", "-f", "art/3.psd", "art/1.psd")
     pushes.refused("a rename over a locked path", [locked])
-    pushes.start()
-    pushes.git("mv", "art/1.psd", "art/elsewhere.psd")
-    pushes.commit()
+    pushes.command("mv", "art/1.psd", "art/elsewhere.psd")
     pushes.refused("a rename of a locked path", [locked])
-    pushes.start()
-    pushes.write("notes.txt", "of bob")
-    pushes.commit()
+    pushes.change("notes.txt", "of bob")
     pushes.passes("a push of other paths passes")
 
 
@@ -118,9 +120,7 @@ def try_history(site, pushes):
     pushes.start()
     pushes.git("reset", "-q", "--hard", "HEAD~1")
     pushes.refused("a force push that takes a locked path back", ["art/2.psd: ann has locked it"], "+main")
-    pushes.start()
-    pushes.write("aside.txt", "bob's")
-    pushes.commit()
+    pushes.change("aside.txt", "bob's")
     pushes.git("push", "-q", "--no-verify", "origin", "main")
     pushes.git("reset", "-q", "--hard", "HEAD~1")
     pushes.passes("one that takes other paths back", "+main")
@@ -142,9 +142,7 @@ def try_history(site, pushes):
 
 def try_rows(site, pushes):
     """What the rows of the policy say of paths, branches and tags."""
-    pushes.start()
-    pushes.write("final/cut.txt", "bob's")
-    pushes.commit()
+    pushes.change("final/cut.txt", "bob's")
     pushes.refused("a path that a row denies", ["final/cut.txt: row 1 of the policy denies it"])
     pushes.refused("a new branch below release/", ["final/cut.txt: row 1"], "main:refs/heads/release/1")
     pushes.passes("the same path on a branch that the row does not name", "main:refs/heads/idea")
@@ -170,13 +168,9 @@ def try_rows(site, pushes):
     pushes.commit()
     pushes.passes("odd paths pass where the rows let them")
     for name in ODD_NAMES:
-        pushes.start()
-        pushes.write(b"final/" + name, "odd")
-        pushes.commit()
+        pushes.change(b"final/" + name, "odd")
         pushes.refused(f"final/{name[:20]!r} is denied by the row of its folder", ["row 1 of the policy denies it"])
-    pushes.start()
-    pushes.git("rm", "-q", "-r", "odd")
-    pushes.commit()
+    pushes.command("rm", "-q", "-r", "odd")
     pushes.passes("odd paths are removed")
 
 
@@ -201,9 +195,7 @@ def try_many(site, pushes):
     token = site.server.token()
     for number in range(30):
         site.server.lock(f"many-1000/{number}.txt", token)
-    pushes.start()
-    pushes.git("rm", "-q", "-r", "many-1000")
-    pushes.commit()
+    pushes.command("rm", "-q", "-r", "many-1000")
     pushes.refused("of 30 locked paths 20 are named", ["many-1000/0.txt: ann has locked it", "and 10 more"])
 
 
@@ -246,9 +238,7 @@ def try_users(site, pushes):
 
 def try_silence(site, pushes):
     """A server that does not answer."""
-    pushes.start()
-    pushes.write("notes.txt", "of bob, again")
-    pushes.commit()
+    pushes.change("notes.txt", "of bob, again")
     site.server.end(signal.SIGTERM)
     pushes.refused("no push passes while the server is down", ["the Git LFS server is not running"])
     site.server.start()

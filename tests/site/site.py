@@ -16,7 +16,7 @@ from pathlib import Path
 
 from tests.site.handbook import try_handbook
 from tests.site.pushes import try_pushes
-from tests.studio.checks import Checks, arguments
+from tests.studio.checks import Checks, arguments, require
 from tests.studio.clone import same_files
 from tests.studio.policy import FILM, WORK, row
 from tests.studio.program import LAST, TOP, content
@@ -26,6 +26,8 @@ ROWS = (row("allow", ["ann"], ["force"]), row("allow", ["ann", "bob"], WORK))
 # Who has a key that sshd knows. The rows name the first two.
 USERS = ("ann", "bob", "vera", "carl")
 PUSH = ("push", "-q", "origin", "main")
+# How many seconds a push may take until it has stored something.
+PATIENCE = 120
 
 
 class Studio(Site):
@@ -53,8 +55,10 @@ class Studio(Site):
         return result
 
     def wait_for_objects(self, count):
-        """Waits until the server has so many objects."""
+        """Waits until the server has at least this many objects."""
+        begun = time.monotonic()
         while self.count() < count:
+            require(time.monotonic() - begun < PATIENCE, f"{count} objects within {PATIENCE} s")
             time.sleep(0.02)
 
 
@@ -73,22 +77,18 @@ def push_and_clone(site):
 
 def try_locks(site):
     """Locks that are made, listed, broken and released, and a push of a locked path."""
-    status, text = site.ann.tried("lfs", "lock", "art/1.psd")
-    site.expect("Locked art/1.psd" in text, "ann locks a path", text)
+    site.ann.passes("ann locks a path", "lfs", "lock", "art/1.psd", says="Locked art/1.psd")
     site.bob.fails("bob is refused the same path", "L1", "lfs", "lock", "art/1.psd")
-    status, text = site.bob.tried("lfs", "lock", "art/2.psd")
-    site.expect("Locked art/2.psd" in text, "bob locks another", text)
+    site.bob.passes("bob locks another", "lfs", "lock", "art/2.psd", says="Locked art/2.psd")
     status, text = site.ann.tried("lfs", "locks")
     site.expect("art/1.psd" in text and "art/2.psd" in text, "ann lists both locks", text)
     site.bob.fails("bob may not break ann's lock", "P0", "lfs", "unlock", "--force", "art/1.psd")
-    status, text = site.ann.tried("lfs", "unlock", "--force", "art/2.psd")
-    site.expect("Unlocked art/2.psd" in text, "ann breaks bob's lock", text)
+    site.ann.passes("ann breaks bob's lock", "lfs", "unlock", "--force", "art/2.psd", says="Unlocked art/2.psd")
     site.bob.path("art/1.psd").chmod(0o644)
     site.bob.path("art/1.psd").write_bytes(b"bob's hero")
     site.bob.git("commit", "-q", "-a", "-m", "A hero")
     site.bob.fails("bob's push of the locked path is stopped", "art/1.psd", *PUSH)
-    status, text = site.ann.tried("lfs", "unlock", "art/1.psd")
-    site.expect("Unlocked art/1.psd" in text, "ann releases the lock", text)
+    site.ann.passes("ann releases the lock", "lfs", "unlock", "art/1.psd", says="Unlocked art/1.psd")
     site.bob.passes("bob's push passes", *PUSH)
     status, text = site.ann.tried("pull", "-q")
     site.expect(same_files(site.ann, site.bob, "art"), "ann pulls it", text)
@@ -303,6 +303,14 @@ PARTS = {it.__name__.removeprefix("try_"): it for it in (
     try_handbook, try_status, try_other_requests, try_large_files)}
 
 
+def try_parts(site, names):
+    """Sets up the site, and tries these parts."""
+    site.set_up(USERS)
+    push_and_clone(site)
+    for name in names:
+        site.checks.part(name, lambda: PARTS[name](site))
+
+
 def main():
     parser = arguments(__doc__)
     parser.add_argument("--gib", type=int, default=1, choices=range(1, 5), help="the GiB of the largest files")
@@ -310,15 +318,8 @@ def main():
                         help=f"only this part: {', '.join(PARTS)}")
     options = parser.parse_args()
     checks = Checks()
-    with tempfile.TemporaryDirectory() as room:
-        site = Studio(options, room, checks)
-        try:
-            site.set_up(USERS)
-            push_and_clone(site)
-            for name in options.part or PARTS:
-                checks.part(name, lambda: PARTS[name](site))
-        finally:
-            site.end()
+    with tempfile.TemporaryDirectory() as room, Studio(options, room, checks) as site:
+        checks.part("the site", lambda: try_parts(site, options.part or PARTS))
     return checks.end()
 
 

@@ -80,10 +80,10 @@ class Clone:
         """The same, of what may fail."""
         return self.git(*words, may_fail=True)
 
-    def passes(self, what, *words):
-        """One check: Git succeeds."""
+    def passes(self, what, *words, says=""):
+        """One check: Git succeeds, and says this."""
         status, text = self.tried(*words)
-        self.place.expect(status == 0, what, text)
+        self.place.expect(status == 0 and says in text, what, text)
 
     def fails(self, what, says, *words, status=None):
         """One check: Git fails and says this, with the status if one is given."""

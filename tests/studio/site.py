@@ -240,7 +240,10 @@ class Site(Workroom):
         for line in self.server.locks():
             self.server.ask(message("POST", target(f"locks/{line.split()[0]}/unlock"), {"force": True}, token))
 
-    def end(self):
+    def __enter__(self):
+        return self
+
+    def __exit__(self, *_):
         """Ends nginx, sshd and the server."""
         for child in self.children:
             child.terminate()

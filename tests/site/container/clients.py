@@ -22,7 +22,7 @@ def git(user, *words):
 
 
 def set_up_client(user):
-    """The settings that the handbook asks of a client."""
+    """The settings that the pages ask of a client."""
     Path(f"/try/{user}/film").mkdir(parents=True)
     for name, value in (("user.name", user), ("user.email", f"{user}@studio.example"), ("lfs.locksverify", "true"),
                         ("lfs.concurrenttransfers", "8"), ("init.defaultBranch", "main")):

@@ -23,7 +23,7 @@ def listing(mask):
 
 
 def try_package():
-    """Item by item: modes, installation, owners."""
+    """Modes and owners in the package, and its installation."""
     plain = listing("022")
     for mask in ("007", "077"):
         check(listing(mask) == plain, f"deploy/package.sh makes the same package with the umask {mask}",
