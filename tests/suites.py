@@ -41,12 +41,13 @@ def is_installed(package):
 
 @dataclass(frozen=True)
 class Suite:
-    """A row of the table. `quick` has the arguments of the short form, if there is one."""
+    """A row of the table. It takes seconds if it takes 0 minutes; `quick` has the arguments of its short form, if there
+    is one."""
 
     name: str
     module: str
     sentence: str
-    minutes: float
+    minutes: int
     packages: tuple = ()
     root: bool = False
     quick: tuple = None
@@ -62,6 +63,10 @@ class Suite:
         """What the suite needs, as a text."""
         return ", ".join([*(["root"] if self.root else []), *self.packages]) or "python3 alone"
 
+    def time(self):
+        """How long it takes, as a text."""
+        return {0: "seconds", 1: "about a minute"}.get(self.minutes, f"about {self.minutes} minutes")
+
 
 def only(*checks):
     """The arguments for these checks alone."""
@@ -74,17 +79,17 @@ SUITES = [
     Suite("foresights", "tests.agree.foresights", "`custody foresee` prints the replies that the protocol states.",
           1, quick=("--messages", "100")),
     Suite("walks", "tests.agree.walks", "Pages of locks that change show each lock that is there at every page.",
-          2, quick=("--seconds", "5", "--locks", "300")),
+          1, quick=("--seconds", "5", "--locks", "300")),
     Suite("policies", "tests.agree.policies", "Random policy files have the faults that the policy's page states.",
           1, quick=("--seconds", "5")),
     Suite("schemas", "tests.agree.schemas", "Requests and replies fit the JSON schemas of the Git LFS client.",
-          1, ("golang-github-git-lfs-git-lfs-dev", "python3-jsonschema")),
+          0, ("golang-github-git-lfs-git-lfs-dev", "python3-jsonschema")),
     Suite("serve", "tests.server.serve", "A server has clients that are slow, silent, busy, gone or many.",
-          3, quick=("--rounds", "1", "--connections", "200", "--requests", "20000",
+          4, quick=("--rounds", "1", "--connections", "200", "--requests", "20000",
                     *only("pipelined", "keep-alive", "one-connection", "idle-end", "early-reply", "reset", "killed",
                           "terminated", "load"))),
     Suite("control", "tests.server.control", "Commands by the control socket act beside the clients of a server.",
-          5, ("strace",), quick=("--rounds", "5", "--tokens", "20", *only(
+          4, ("strace",), quick=("--rounds", "5", "--tokens", "20", *only(
               "same-words", "only-the-user", "stale", "no-server", "terminal", "idle-client", "under-load", "damaged",
               "hold-over", "stop", "reload", "status", "killed"))),
     Suite("objects", "tests.server.objects", "Objects of 0 bytes to 256 MiB are stored whole, and cut ones are not.",
@@ -94,13 +99,13 @@ SUITES = [
     Suite("load", "tests.server.load", "200 clients through nginx and 50 without it push, pull and lock.",
           2, ("nginx", "openssl", "iproute2")),
     Suite("full", "tests.server.full", "A server on a full disk loses nothing, and goes on once it has room.",
-          2, ("sqlite3",), root=True),
+          1, ("sqlite3",), root=True),
     Suite("spoiled", "tests.server.spoiled", "The program shows no spoiled object as whole, and names each.",
           2, ("sqlite3",), quick=("--count", "20")),
     Suite("causes", "tests.server.causes", "A fault of the system is printed with its cause.",
-          1, root=True),
+          0, root=True),
     Suite("migration", "tests.server.migration", "Database files of version 1 are migrated whole, or not at all.",
-          1, ("sqlite3",), quick=("--rounds", "5")),
+          0, ("sqlite3",), quick=("--rounds", "5")),
     Suite("client", "tests.site.client", "Two users of Git LFS lock, list, release and push over SSH.",
           1, ("git", "git-lfs"), quick=()),
     Suite("site", "tests.site.site", "A whole site does what the pages say, with nginx, sshd and Git LFS.",

@@ -20,7 +20,7 @@ import tempfile
 import time
 from pathlib import Path
 
-from tests.studio.checks import Failed, arguments, beside, judge_each, require
+from tests.studio.checks import Failed, arguments, beside, judge_on_server, require
 from tests.studio.control import ControlledServer
 from tests.studio.policy import ART, FILM, GAME, MAIN, open_policy
 from tests.studio.program import LOCKS, content, lock, message, name_of, put, run
@@ -525,21 +525,14 @@ CHECKS = {
 }
 
 
-def tried(check, options):
-    """Tries a check on a new database. Returns what it measured."""
-    with tempfile.TemporaryDirectory() as room, ControlledServer(options.program, room, open_policy(["ann"])) as server:
-        result = check(server, options)
-        require(server.child.poll() is None, "the server has ended")
-        return result
-
-
 def main():
     """Runs the checks."""
     parser = arguments(__doc__, CHECKS)
     parser.add_argument("--tokens", type=int, default=200, help="how many tokens are issued beside 8 clients")
     parser.add_argument("--rounds", type=int, default=200, help="how often a server is killed")
     options = parser.parse_args()
-    return judge_each(CHECKS, options, lambda name: tried(CHECKS[name], options))
+    policy = open_policy(["ann"])
+    return judge_on_server(CHECKS, options, lambda program, room: ControlledServer(program, room, policy))
 
 
 if __name__ == "__main__":

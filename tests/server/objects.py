@@ -6,11 +6,10 @@ server is killed, from a copy, and then by a server again. The names of objects 
 import signal
 import subprocess
 import sys
-import tempfile
 import time
 from pathlib import Path
 
-from tests.studio.checks import arguments, judge_each, require
+from tests.studio.checks import arguments, judge_on_server, require
 from tests.studio.policy import FILM, GAME, open_policy
 from tests.studio.program import CHUNK, Server, content, lock, message, target
 from tests.studio.tables import has_begun, read_copy
@@ -219,19 +218,11 @@ CHECKS = {
 }
 
 
-def run(check, options):
-    """Runs a check on a new database. Returns what it measured."""
-    policy = open_policy(["ann"], (FILM, GAME))
-    with tempfile.TemporaryDirectory() as room, Server(options.program, room, policy) as server:
-        result = check(server, options)
-        require(server.child.poll() is None, "the server has ended")
-        return result
-
-
 def main():
     """Runs the checks."""
     options = arguments(__doc__, CHECKS).parse_args()
-    return judge_each(CHECKS, options, lambda name: run(CHECKS[name], options))
+    policy = open_policy(["ann"], (FILM, GAME))
+    return judge_on_server(CHECKS, options, lambda program, room: Server(program, room, policy))
 
 
 if __name__ == "__main__":

@@ -12,10 +12,9 @@ import resource
 import signal
 import socket
 import sys
-import tempfile
 import time
 
-from tests.studio.checks import Failed, arguments, beside, judge_each, require, within
+from tests.studio.checks import Failed, arguments, beside, judge_on_server, require, within
 from tests.studio.policy import policy, row, WORK
 from tests.studio.program import LOCKS, Server, lock, message, put
 
@@ -344,14 +343,6 @@ CHECKS = {
 }
 
 
-def run(check, options):
-    """Runs a check on a new database. Returns what it measured."""
-    with tempfile.TemporaryDirectory() as room, Server(options.program, room) as server:
-        result = check(server, options)
-        require(server.child.poll() is None, "the server has ended")
-        return result
-
-
 def main():
     """Runs the checks."""
     parser = arguments(__doc__, CHECKS)
@@ -359,7 +350,7 @@ def main():
     parser.add_argument("--connections", type=int, default=10_000, help="how many connections the check `load` makes")
     parser.add_argument("--requests", type=int, default=1_000_000, help="how many requests the check `load` sends")
     options = parser.parse_args()
-    return judge_each(CHECKS, options, lambda name: run(CHECKS[name], options))
+    return judge_on_server(CHECKS, options, Server)
 
 
 if __name__ == "__main__":

@@ -4,6 +4,7 @@ import contextlib
 import os
 import subprocess
 import sys
+import tempfile
 import threading
 
 from tests.studio.program import TOP
@@ -66,6 +67,20 @@ def judge_each(names, options, act):
     for name in options.only or names:
         checks.judge(name, lambda: act(name))
     return checks.end()
+
+
+def judge_on_server(checks, options, start):
+    """Judges each of the checks on a server that is started for it in a folder, and runs at its end. Returns the status
+    of the suite."""
+
+    def act(name):
+        """What the check measured."""
+        with tempfile.TemporaryDirectory() as room, start(options.program, room) as server:
+            result = checks[name](server, options)
+            require(server.child.poll() is None, "the server has ended")
+            return result
+
+    return judge_each(checks, options, act)
 
 
 @contextlib.contextmanager
