@@ -47,7 +47,7 @@ def batches(server, rounds, operation, names, count):
 
 
 def pages(server, rounds, count):
-    """The times of pages with so many locks."""
+    """The times of pages with a number of locks."""
     with server.client() as client:
         found = [ask(client, "GET", f"locks?limit={count}") for _ in range(rounds)]
     if any(len(answer["locks"]) != count for answer, _ in found):

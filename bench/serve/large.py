@@ -6,9 +6,9 @@ their SHA-256. Then, of `custody` alone: the start over a database with 4 GiB, t
 of an upload of 4 GiB that lacks its last byte, once as its client closes the connection, and once after the server was
 killed, with what the log grows by and how long the next request waits.
 
-It prints the times, the speeds, the memory and each bar, and ends with status 1 if one is not met: a byte of 4 GiB has at
-least 0.9 of the speed of one of 256 MiB, or of the peer's ratio of the two if its disk slows the peer down too; and an
-upload and a download of it raise the memory by 4 MB and 2.5 MB a GB at most.
+It prints the times, the speeds, the memory and each bar, and ends with status 1 if one is not met: a byte of 4 GiB has
+at least 0.9 of the speed of one of 256 MiB, or of the peer's ratio of the two if its disk slows the peer down too; and
+an upload and a download of it raise the memory by 4 MB and 2.5 MB a GB at most.
 
     bench/serve/large.py [--mb N] [--program FILE]
 
@@ -54,9 +54,9 @@ def transfers(server, contents):
         after_put = server.memory()
         down = download(server, content)
         speeds["PUT", size], speeds["GET", size] = size / up, size / down
-        print(f"{server.name}, {size >> 20} MiB: up in {up:.2f} s ({size / up / 1e6:.0f} MB/s), down in {down:.2f} s "
-              f"({size / down / 1e6:.0f} MB/s); memory {before} KiB before, {after_put} KiB after the PUT, "
-              f"{server.memory()} KiB after the GET", flush=True)
+        up, down = (f"in {it:.2f} s ({size / it / 1e6:.0f} MB/s)" for it in (up, down))
+        print(f"{server.name}, {size >> 20} MiB: up {up}, down {down}; memory {before} KiB before, {after_put} KiB "
+              f"after the PUT, {server.memory()} KiB after the GET", flush=True)
     return speeds
 
 
@@ -75,8 +75,8 @@ def removals(server, content):
     begun, before = server.restart(), server.log_size()
     print(f"killed, {size}: started in {begun:.2f} s, memory {server.memory()} KiB", flush=True)
     waited = ask(server)
-    print(f"killed: the next request took {waited:.2f} s; memory {server.memory()} KiB, {server.highest()} KiB at most; "
-          f"log {before} and then {server.log_size()} bytes", flush=True)
+    print(f"killed: the next request took {waited:.2f} s; memory {server.memory()} KiB, {server.highest()} KiB at "
+          f"most; log {before} and then {server.log_size()} bytes", flush=True)
 
 
 def is_even(speeds, of_peer, large):

@@ -71,7 +71,7 @@ def try_size(program, size):
 def main():
     """Times each size."""
     parser = arguments(__doc__)
-    parser.add_argument("--mb", type=int, action="append", help="the size of an object, in MiB [default: 1024 and 4096]")
+    parser.add_argument("--mb", type=int, action="append", help="an object's size in MiB [default: 1024 and 4096]")
     options = parser.parse_args()
     for mebibytes in options.mb or [1024, 4096]:
         try_size(options.program, mebibytes << 20)

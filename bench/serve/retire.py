@@ -1,11 +1,11 @@
 #!/usr/bin/env python3
-"""Times `custody retire` of a large object beside a server, and whether the database grows when as much is stored again.
+"""Times `custody retire` of a large object beside a server, and measures whether the database grows after that.
 
 The server gets an object, which an operator removes by the control socket: the time, the server's memory before, after
 and at most, and the log. Then the server is stopped and started, and gets another object of the same size. It prints
-the sizes of the database before the removal and after the last upload, and ends with status 1 if it grew by more than
-1 MB. Pages that are in the log alone count too: the file gets them later. At last it times `custody migrate` and
-`custody objects` over the file, which both open it.
+the sizes of the database before the removal and after the last upload, and ends with status 1 if it grew by over 1 MB.
+Pages that are in the log alone count too: the file gets them later. At last it times `custody migrate` and `custody
+objects` over the file, which both open it.
 
     bench/serve/retire.py [--mb N] [--program FILE]
 

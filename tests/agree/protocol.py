@@ -16,21 +16,9 @@ OBJECT_LIMIT, LONGEST_PAGE, USUAL_PAGE = 1000, 500, 100
 LARGEST_OBJECT, LARGEST_FORM, LAST_ID = 4294967296, 1048576, 4294967295
 JSON_TYPE = "application/vnd.git-lfs+json"
 PHRASES = {
-    200: "OK",
-    201: "Created",
-    400: "Bad Request",
-    401: "Unauthorized",
-    403: "Forbidden",
-    404: "Not Found",
-    405: "Method Not Allowed",
-    406: "Not Acceptable",
-    409: "Conflict",
-    410: "Gone",
-    411: "Length Required",
-    413: "Content Too Large",
-    422: "Unprocessable Content",
-    501: "Not Implemented",
-    507: "Insufficient Storage",
+    200: "OK", 201: "Created", 400: "Bad Request", 401: "Unauthorized", 403: "Forbidden", 404: "Not Found",
+    405: "Method Not Allowed", 406: "Not Acceptable", 409: "Conflict", 410: "Gone", 411: "Length Required",
+    413: "Content Too Large", 422: "Unprocessable Content", 501: "Not Implemented", 507: "Insufficient Storage",
 }
 RULES = {
     "H1": (400, "bad request head"),
@@ -116,16 +104,19 @@ class Number:
 
 
 def is_name(text):
+    """Whether a text is the name of an object."""
     return re.fullmatch(r"[0-9a-f]{64}", text) is not None
 
 
 def is_ref(text):
+    """Whether a text is the name of a ref."""
     body = text.encode()
     good = re.fullmatch(rb"refs/[A-Za-z0-9/._-]*", body) and len(body) <= 255
     return bool(good) and ".." not in text and "" not in text.split("/")
 
 
 def is_path(text):
+    """Whether a text is a path."""
     body = text.encode()
     clean = all(it >= 0x20 and it not in (0x7F, 0x5C) for it in body)
     return 1 <= len(body) <= 1024 and clean and not {"", ".", ".."} & set(text.split("/"))
@@ -140,12 +131,14 @@ def lock_id(text):
 
 
 def strict_number(text):
+    """A number of a body; one that is too large is no number."""
     if math.isinf(float(text)):
         raise ValueError
     return Number(text)
 
 
 def no_constant(_):
+    """NaN and the infinities are no numbers."""
     raise ValueError
 
 
@@ -201,11 +194,13 @@ def optional_ref(value):
 
 
 def in_range(*tests):
+    """Refuses the request unless all tests are met."""
     if not all(tests):
         raise Refused("J2")
 
 
 def good_ref(ref):
+    """Whether there is no ref, or one with a good name."""
     return ref is None or is_ref(ref)
 
 
@@ -216,6 +211,7 @@ def escaped(text):
 
 
 def message(code, text):
+    """The body of a refusal."""
     return f'{{"message":"{code}: {text}"}}'
 
 
@@ -234,6 +230,7 @@ def read_query(query, known):
 
 
 def read_batch(parameter, query, body):
+    """What a Batch asks."""
     value = read_body(body)
     operation = needed(value, "operation", str)
     transfers = optional(value, "transfers", [str])
@@ -248,17 +245,20 @@ def read_batch(parameter, query, body):
 
 
 def read_get(parameter, query, body):
+    """What a Get asks."""
     in_range(is_name(parameter))
     return {"name": parameter}
 
 
 def read_put(parameter, query, body):
+    """What a Put asks."""
     ref = read_query(query, ["ref"])["ref"]
     in_range(is_name(parameter), good_ref(ref))
     return {"name": parameter, "ref": ref}
 
 
 def read_verify(parameter, query, body):
+    """What a Verify asks."""
     value = read_body(body)
     name, size = needed(value, "oid", str), needed(value, "size", Number).as_size()
     ref = read_query(query, ["ref"])["ref"]
@@ -267,6 +267,7 @@ def read_verify(parameter, query, body):
 
 
 def read_lock(parameter, query, body):
+    """What a Lock asks."""
     value = read_body(body)
     path, ref = needed(value, "path", str), optional_ref(value)
     in_range(is_path(path), good_ref(ref))
@@ -274,6 +275,7 @@ def read_lock(parameter, query, body):
 
 
 def read_list(parameter, query, body):
+    """What a List asks."""
     asked = read_query(query, ["path", "id", "refspec", "cursor", "limit"])
     path, ident, ref, limit = asked["path"], asked["id"], asked["refspec"], asked["limit"]
     in_range(path is None or is_path(path), ident is None or lock_id(ident), good_ref(ref))
@@ -283,6 +285,7 @@ def read_list(parameter, query, body):
 
 
 def read_verify_locks(parameter, query, body):
+    """What a Verify locks asks."""
     value = read_body(body)
     ref, cursor, limit = optional_ref(value), optional(value, "cursor", str), optional(value, "limit", Number)
     in_range(good_ref(ref), limit is None or limit.as_limit() is not None)
@@ -290,6 +293,7 @@ def read_verify_locks(parameter, query, body):
 
 
 def read_unlock(parameter, query, body):
+    """What an Unlock asks."""
     value = read_body(body)
     force, ref = optional(value, "force", bool), optional_ref(value)
     in_range(lock_id(parameter), good_ref(ref))
@@ -324,6 +328,7 @@ class Head:
         self.closes = found["minor"] == b"0" or b"close" in words
 
     def all(self, name):
+        """The values of the fields with a name."""
         return [value for it, value in self.fields if it == name]
 
     def length(self):
@@ -384,12 +389,14 @@ def holds(entries, text):
 
 
 def lock_text(lock):
+    """A lock as JSON."""
     at = time.strftime("%Y-%m-%dT%H:%M:%SZ", time.gmtime(lock["at"]))
     owner = f'{{"name":"{lock["owner"]}"}}'
     return f'{{"id":"{lock["id"]}","locked_at":"{at}","owner":{owner},"path":"{escaped(lock["path"])}"}}'
 
 
 def locks_text(locks):
+    """A list of locks as JSON."""
     return "[" + ",".join(map(lock_text, locks)) + "]"
 
 
@@ -456,6 +463,7 @@ class Server:
         self.ask(403 if self.decide(user, repo, "pull")[0] else 404, user, repo, "push", ref)
 
     def caller(self, head):
+        """The caller, by the token."""
         values = head.all(b"authorization")
         found = values and re.fullmatch(rb"(?i:bearer) ([\x21-\x7e]+)", values[0])
         if not found:
@@ -482,12 +490,15 @@ class Server:
         return caller, asked
 
     def total(self, repo):
+        """How many bytes a repository stores."""
         return sum(len(it) for (name, _), it in self.objects.items() if name == repo)
 
     def fits(self, repo, size):
+        """Whether the quota has room for an object."""
         return self.total(repo) + size <= self.repos[repo]["quota"]
 
     def sees(self, user, lock):
+        """Whether a user sees a lock."""
         place = lock["repo"], lock["ref"], lock["path"]
         rights = any(self.decide(user, place[0], it, place[1], place[2])[0] for it in ("list", "lock", "force"))
         return lock["owner"] == user or rights or self.decide(user, place[0], "push", place[1])[0]
@@ -495,6 +506,7 @@ class Server:
     # ---- each request: the status, the body and its type
 
     def answer_batch(self, caller, repo, asked):
+        """The reply to a Batch."""
         ref = asked["ref"] or self.repos[repo]["ref"]
         if asked["operation"] == "download":
             self.ask(404, caller["user"], repo, "pull")
@@ -541,6 +553,7 @@ class Server:
         return None
 
     def answer_get(self, caller, repo, asked):
+        """The reply to a Get."""
         self.ask(404, caller["user"], repo, "pull")
         if (repo, asked["name"]) in self.retired:
             raise Refused("X4")
@@ -557,12 +570,14 @@ class Server:
             raise Refused("X3")
 
     def finish_put(self, repo, asked, body):
+        """The reply to a Put, once its body is read."""
         if hashlib.sha256(body).hexdigest() != asked["name"]:
             raise Refused("X2")
         self.objects.setdefault((repo, asked["name"]), body)
         return 200, "", ""
 
     def answer_verify(self, caller, repo, asked):
+        """The reply to a Verify."""
         self.ask_push(caller["user"], repo, asked["ref"] or self.repos[repo]["ref"])
         stored = self.objects.get((repo, asked["name"]))
         if stored is None:
@@ -572,6 +587,7 @@ class Server:
         return 200, "", ""
 
     def answer_lock(self, caller, repo, asked):
+        """The reply to a Lock."""
         ref, path = asked["ref"] or self.repos[repo]["ref"], asked["path"]
         self.ask(403, caller["user"], repo, "lock", ref, path)
         for lock in self.locks.values():
@@ -585,6 +601,7 @@ class Server:
         return 201, '{"lock":' + lock_text(lock) + "}"
 
     def answer_list(self, caller, repo, asked):
+        """The reply to a List."""
         user = caller["user"]
         self.ask(403, user, repo, "pull")
         wanted = [(key, asked[key]) for key in ("path", "id", "ref") if asked[key] is not None]
@@ -599,6 +616,7 @@ class Server:
         return 200, '{"locks":' + locks_text(locks) + ("," + following if following else "") + "}"
 
     def answer_verify_locks(self, caller, repo, asked):
+        """The reply to a Verify locks."""
         ref = asked["ref"] or self.repos[repo]["ref"]
         self.ask(403, caller["user"], repo, "push", ref)
         shown = [it for it in self.locks.values() if it["repo"] == repo and it["ref"] == ref]
@@ -609,6 +627,7 @@ class Server:
         return 200, "{" + front + '"ours":' + locks_text(ours) + ',"theirs":' + locks_text(theirs) + "}"
 
     def answer_unlock(self, caller, repo, asked):
+        """The reply to an Unlock."""
         user, lock = caller["user"], self.locks.get((repo, asked["id"]))
         if lock is None or not self.sees(user, lock):
             raise Refused("L2")
@@ -741,8 +760,8 @@ class Server:
 
 
 def read_message(stream):
-    """The whole message at the front of a stream, as its head, repository, parameter, request and body; None if it is cut
-    off, or refused before its token is looked at."""
+    """The whole message at the front of a stream, as its head, repository, parameter, request and body; None if it is
+    cut off, or refused before its token is looked at."""
     found = HEAD.match(stream)
     if not found or found.end() > HEAD_LIMIT or not is_utf8(found["target"]):
         return None
@@ -761,6 +780,7 @@ def read_message(stream):
 
 
 def is_utf8(text):
+    """Whether some bytes are UTF-8."""
     try:
         text.decode()
     except UnicodeDecodeError:

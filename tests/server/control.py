@@ -253,6 +253,7 @@ def check_hold(server, _):
     made, faults = [], []
 
     def lock_on(number, is_over):
+        """Locks paths, until it is over or a lock is refused."""
         for count in range(10_000):
             path = f"art/{number}/{count}"
             if is_over.is_set() or faults:

@@ -38,6 +38,7 @@ def check_keep_alive(server, _):
     times, clients, faults = [], [], []
 
     def act(number):
+        """Locks a path over a new connection, which is kept."""
         try:
             begun = time.monotonic()
             client = server.client()
@@ -128,8 +129,8 @@ def check_crowd(server, _):
                     times.append(time.monotonic() - begun)
     median = sorted(times)[len(times) // 2]
     require(counts["whole"] == 1 and counts["busy"] >= 20, "the busy client was not served to its end")
-    return (f"{within(max(times), 0.1, 'the slowest of 100 locks beside 451 clients')}, the median {median * 1e3:.1f} ms; "
-            f"the busy client had {counts['busy']} replies")
+    slowest = within(max(times), 0.1, "the slowest of 100 locks beside 451 clients")
+    return f"{slowest}, the median {median * 1e3:.1f} ms; the busy client had {counts['busy']} replies"
 
 
 def check_late(server, _):
@@ -137,6 +138,7 @@ def check_late(server, _):
     counts, faults = collections.Counter(), []
 
     def ask(delay, number):
+        """Locks paths, each some time after its connection began."""
         try:
             for round in range(10):
                 with server.client() as client:
@@ -171,7 +173,8 @@ def check_many(server, _):
         for _ in range(200):
             open_clients.enter_context(server.client())
         time.sleep(0.5)
-        return f"{result}, with {files} files; {within(server.time_of_lock('art/two'), 1, 'one with room for 40 files')}"
+        few = within(server.time_of_lock("art/two"), 1, "one with room for 40 files")
+    return f"{result}, with {files} files; {few}"
 
 
 def check_expiry(server, _):

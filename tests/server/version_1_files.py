@@ -97,7 +97,8 @@ def repeated(byte, size):
 
 
 def text_of(path):
-    """The statements that make the database's rows anew. Long contents are one letter, and are written as expressions."""
+    """The statements that make the database's rows anew. A long content is one letter, and is written as an
+    expression."""
 
     def short(found):
         """An expression in the place of a long content."""
