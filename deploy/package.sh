@@ -1,14 +1,14 @@
 #!/bin/sh
 # Makes a Debian package of the program, its manual page, the unit for systemd, the programs of the site and the documents. It
-# needs dpkg-deb, pandoc, gzip, strip (of binutils), awk and git, and a program that bin/custody has built; what is missing
-# is named, and no package is made. `lintian` then has nothing to report but how the program was compiled.
+# needs dpkg-deb, pandoc, gzip, strip (of binutils), awk, git and python3, and a program that bin/custody has built; what is
+# missing is named, and no package is made. `lintian` then has nothing to report but how the program was compiled.
 # usage: deploy/package.sh [FOLDER]      the package is written to the folder, or to this one
 # CUSTODY has the path of another program, if one is to be packaged.
 set -eu
 unset CDPATH
 # The modes of a package's folders and files are those that it installs, whoever makes it.
 umask 022
-for command in dpkg-deb pandoc gzip strip awk git; do
+for command in dpkg-deb pandoc gzip strip awk git python3; do
     if ! command -v "$command" > /dev/null; then
         echo "package.sh: $command is missing: install it first" >&2
         exit 2
@@ -52,8 +52,7 @@ cat > "$root/etc/custody/authorized_keys" << 'END'
 # One line for each key, with the name of its user (sshd(8), AUTHORIZED_KEYS FILE FORMAT):
 # restrict,command="/usr/lib/custody/forced-command ann" ssh-ed25519 AAAA... ann@studio
 END
-install -m 644 "$top/docs/OPERATING.md" "$top/docs/COMMANDS.md" "$top/docs/POLICY.md" "$top/docs/PROTOCOL.md" \
-    "$top/docs/locks.png" "$top/CHANGELOG.md" "$documents"
+install -m 644 "$top/docs/locks.png" "$documents"
 
 # The licence, in Debian's form: the text is a field, so its empty lines have a dot.
 {
@@ -69,6 +68,9 @@ END
     echo 'License: Expat'
     sed -e '1,/^Copyright/d' "$top/LICENSE" | sed -e 1d -e 's/^$/./' -e 's/^/ /'
 } > "$documents/copyright"
+
+# The pages, whose links lead to files of the package.
+"$top/deploy/package_pages.py" "$root"
 
 # CHANGELOG.md in Debian's form. A version has the date on which it was released after its number, in parentheses; one that
 # is unreleased has that of the commit.
@@ -99,8 +101,8 @@ changes | gzip -9 -n > "$documents/changelog.gz"
 
   Until then the server and all other commands say "custody: store G1", and
   leave the database as it is. There is no way back but the copy: an earlier
-  package cannot read a database of version 2. OPERATING.md, Upgrading, has the
-  commands.
+  package cannot read a database of version 2. Upgrading, in
+  /usr/share/doc/custody/operating/backup.md, has the commands.
 
   The policy that the package installs is empty. If you changed
   /etc/custody/policy.toml, dpkg asks which one to take: keep yours, which is the
@@ -109,8 +111,9 @@ changes | gzip -9 -n > "$documents/changelog.gz"
 
   The forced command asks the policy before it serves Git: without a row that
   allows a user pull, or push, in a repository, Git is refused there too. Look
-  at the rows before the upgrade. OPERATING.md, Pushes of Git, has a hook by
-  which locks and rows hold at a push. The site for nginx has a new page.
+  at the rows before the upgrade. Pushes of Git, in
+  /usr/share/doc/custody/operating/ssh-and-git.md, has a hook by which locks and
+  rows hold at a push. The site for nginx has a new page.
 
 END
     printf ' -- %s  %s\n' "$maintainer" "$(git -C "$top" log -1 --format=%aD)"
@@ -177,10 +180,11 @@ if [ "$1" = configure ]; then
     fi
     if [ -n "${2:-}" ] && [ -f "$home/db/custody.db" ]; then
         echo 'custody: if the server says "custody: store G1" after its start, its database is one of an earlier version:' >&2
-        echo 'custody: copy it, and run "custody migrate" (OPERATING.md, Upgrading)' >&2
+        echo 'custody: copy it, and run "custody migrate" (/usr/share/doc/custody/operating/backup.md, Upgrading)' >&2
     fi
     if [ -f "$home/.ssh/authorized_keys" ]; then
-        echo "custody: move the keys from $home/.ssh to /etc/custody/authorized_keys (OPERATING.md, The users)" >&2
+        echo "custody: move the keys from $home/.ssh to /etc/custody/authorized_keys" >&2
+        echo 'custody: (/usr/share/doc/custody/operating/backup.md, From an earlier package)' >&2
     fi
 fi
 END

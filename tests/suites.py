@@ -105,6 +105,8 @@ SUITES = [
           1, ("git", "git-lfs"), quick=()),
     Suite("site", "tests.site.site", "A whole site does what the pages say, with nginx, sshd and Git LFS.",
           10, ("nginx", "openssh-server", "openssl", "git", "git-lfs", "curl")),
+    Suite("blocks", "tests.site.blocks", "Each block of commands in the operating pages runs, and does what it says.",
+          1, ("nginx", "openssh-server", "openssl", "git", "git-lfs", "sqlite3")),
     Suite("page", "tests.site.page", "The page with the locks works in a browser.",
           1, ("nginx", "openssl", "chromium", "chromium-driver", "python3-selenium")),
     Suite("mirror", "tests.site.mirror", "The programs `mirror` and `unlock` copy objects and release locks.",

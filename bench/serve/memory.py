@@ -6,7 +6,7 @@ resident memory is read as it says that it listens, 15 seconds later, and after 
 sent to it and fetched four times. It prints the medians of several rounds: the highest memory until the server
 listens, the memory after it, the time that a processor worked for the start, and the times of the transfers by a
 clock and by the processor's work, relative to the environment without settings. The second says more on a busy
-machine. No bar: docs/OPERATING.md has the table, and says what the unit takes by it.
+machine. No bar: docs/measured/memory.md has the table, and docs/operating/capacity.md what the unit takes by it.
 
     bench/serve/memory.py [--mb N] [--rounds N] [--program FILE]
 
