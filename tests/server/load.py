@@ -173,6 +173,7 @@ class Watch(threading.Thread):
         self.before = counters()
 
     def run(self):
+        """Reads until it is ended."""
         while not self.ends.wait(1):
             self.memory.append(memory_of(self.site.server.child.pid))
             self.proxy += [memory_of(child.pid) for child in self.site.children]
@@ -272,6 +273,7 @@ CHECKS = {
 
 
 def main():
+    """Runs the suite."""
     parser = arguments(__doc__, CHECKS)
     parser.add_argument("--seconds", type=int, default=60, help="for how long, each check")
     options = parser.parse_args()

@@ -265,6 +265,7 @@ def try_all(trial):
 
 
 def main():
+    """Runs the suite."""
     parser = arguments(__doc__)
     parser.add_argument("--files", type=int, default=200, help="how many files are pushed [default: 200]")
     parser.add_argument("--show", action="store_true", help="print each command and what the client prints")

@@ -269,6 +269,7 @@ def try_all(studio):
 
 
 def main():
+    """Runs the suite."""
     parser = arguments(__doc__)
     parser.add_argument("--show", action="store_true", help="print each command and what the client prints")
     options = parser.parse_args()

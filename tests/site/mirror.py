@@ -185,6 +185,7 @@ def try_folder(trial):
     first = place.locks()
 
     def work():
+        """Pushes and locks until the run is over."""
         for number in itertools.count():
             if is_over.is_set():
                 return
@@ -281,6 +282,7 @@ def try_killed(trial):
     seconds, listed = time.monotonic() - begun, place.objects()
 
     def look():
+        """What the folder has: a part of what the server has."""
         require(stored(folder).items() <= listed.items(), "an object that the server does not have")
         require(others(folder) <= {"lock", "locks.txt", "objects/arriving"}, f"{others(folder)}")
         return len(stored(folder)), "objects/arriving" in others(folder)
@@ -295,6 +297,7 @@ def try_killed(trial):
     back = trial.place()
 
     def look_back():
+        """What the new server has: a part of what the folder has."""
         require(back.objects().items() <= listed.items() and back.is_whole(), "the server has a wrong object")
         return len(back.objects())
 
@@ -478,6 +481,7 @@ class Watch(threading.Thread):
         self.seen, self.is_over = set(), False
 
     def run(self):
+        """Reads until it is ended."""
         while not self.is_over:
             for number in filter(str.isdigit, os.listdir("/proc")):
                 with contextlib.suppress(OSError):
@@ -545,6 +549,7 @@ class Busy(http.server.BaseHTTPRequestHandler):
     """In the place of nginx: refuses two batches, and replies to the third one that all is stored."""
 
     def do_POST(self):
+        """Replies to a batch."""
         batch = json.loads(self.rfile.read(int(self.headers["Content-Length"])))
         status = self.server.replies.pop(0)
         body = b"<html>" if status == 502 else json.dumps({"message": "too many", "objects": batch["objects"]}).encode()
@@ -556,7 +561,7 @@ class Busy(http.server.BaseHTTPRequestHandler):
         self.wfile.write(body)
 
     def log_message(self, *_):
-        pass
+        """Prints nothing."""
 
 
 def try_busy(trial):
@@ -632,6 +637,7 @@ PARTS = {name.removeprefix("try_"): part for name, part in list(globals().items(
 
 
 def main():
+    """Runs the suite."""
     options = arguments(__doc__, PARTS).parse_args()
     checks = Checks()
     trial = Trial(options.program, checks)

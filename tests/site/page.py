@@ -503,6 +503,7 @@ def try_page(site, page):
 
 
 def main():
+    """Runs the suite."""
     parser = arguments(__doc__)
     parser.add_argument("--pictures", type=Path, metavar="FOLDER", help="pictures of the page go to this folder")
     options = parser.parse_args()

@@ -114,6 +114,7 @@ def boot(root, log):
 
 
 def main():
+    """Runs the suite."""
     parser = arguments(__doc__)
     parser.add_argument("--tree", default=TOP, type=lambda it: Path(it).resolve(), metavar="FOLDER",
                         help="the tree whose package is tried, if not this one: an older state has to fail")

@@ -49,6 +49,7 @@ class Studio(Site):
         thread.start()
 
         def result():
+            """What the push ended with."""
             thread.join()
             return ran[0]
 
@@ -134,6 +135,7 @@ def try_restart(site):
     before = site.count()
 
     def restart():
+        """Kills the server once it has stored something, and starts it again."""
         site.wait_for_objects(before + 20)
         site.server.end(signal.SIGKILL)
         site.server.start()
@@ -312,6 +314,7 @@ def try_parts(site, names):
 
 
 def main():
+    """Runs the suite."""
     parser = arguments(__doc__)
     parser.add_argument("--gib", type=int, default=1, choices=range(1, 5), help="the GiB of the largest files")
     parser.add_argument("--part", action="append", choices=PARTS, metavar="NAME",

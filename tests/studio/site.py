@@ -244,6 +244,9 @@ class Site(Workroom):
         return self
 
     def __exit__(self, *_):
+        self.end()
+
+    def end(self):
         """Ends nginx, sshd and the server."""
         for child in self.children:
             child.terminate()

@@ -20,6 +20,7 @@ PARTS = [try_package, try_unit, try_earlier, try_confinement, try_neighbours, se
 
 
 def main():
+    """Runs each part."""
     for part in PARTS:
         CHECKS.part(part.__name__, part)
     return CHECKS.end()

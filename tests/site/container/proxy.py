@@ -125,6 +125,7 @@ def try_prefix():
     must("systemctl", "restart", "nginx")
 
     def begin(source, number):
+        """A request that is not whole, from this address, and the status that it gets at once."""
         raw = socket.create_connection(("fd00:9::9", 443), timeout=20, source_address=(source, 0))
         connection = ssl.create_default_context(cafile=CERTIFICATE).wrap_socket(raw, server_hostname="lfs.example")
         length = [("Content-Length", 1000)]
@@ -148,6 +149,7 @@ def try_fields():
     text = token()
 
     def passes(count):
+        """Whether a request with this many fields is served."""
         own = bearer(text) + [(f"X-{number}", "x") for number in range(count - 2)]
         return ask("GET", LOCKS, own).status == 200
 
@@ -178,6 +180,7 @@ def try_given_up():
     asked = []
 
     def serve(listener):
+        """Closes the first connection, and replies on the second."""
         for number in range(2):
             with listener.accept()[0] as connection:
                 if number:
@@ -247,6 +250,7 @@ def try_full_spool():
 def try_locks_page():
     """The page with the locks needs no token, and nothing beside it does without one."""
     def fetch(path):
+        """The reply of nginx, with its head."""
         return run("curl", "-s", "-i", "--cacert", CERTIFICATE, f"https://lfs.example{path}")[1]
 
     text = fetch("/locks")
