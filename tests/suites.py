@@ -1,7 +1,8 @@
 """The suites: what each tries, what it needs, how long it takes, and the arguments of its short form."""
-import importlib.util
 import os
 import shutil
+import subprocess
+import sys
 from dataclasses import dataclass
 
 # Each Debian package, and the command, module of Python or folder by which it is found.
@@ -29,13 +30,16 @@ PACKAGES = {
 # A short form needs no other package than these, and not root.
 QUICK = {"git", "git-lfs", "sqlite3"}
 PATH = os.environ.get("PATH", os.defpath) + ":/usr/sbin:/sbin"
+# The Python that finds Debian's modules: one that is first on the PATH may be another.
+DEBIANS_PYTHON = "/usr/bin/python3"
 
 
 def is_installed(package):
     """Whether the package is there."""
     found = PACKAGES[package]
     if found.startswith("module "):
-        return importlib.util.find_spec(found.removeprefix("module ")) is not None
+        words = [DEBIANS_PYTHON, "-c", f"import {found.removeprefix('module ')}"]
+        return shutil.which(DEBIANS_PYTHON) and subprocess.run(words, capture_output=True, check=False).returncode == 0
     return os.path.isdir(found) if found.startswith("/") else shutil.which(found, path=PATH) is not None
 
 
@@ -58,6 +62,10 @@ class Suite:
         if packages:
             return f"{', '.join(packages)} {'is' if len(packages) == 1 else 'are'} not installed"
         return "only root can run it" if self.root and os.geteuid() != 0 else None
+
+    def python(self):
+        """The Python that runs the suite."""
+        return DEBIANS_PYTHON if any(it.startswith("python3-") for it in self.packages) else sys.executable
 
     def needs(self):
         """What the suite needs, as a text."""
