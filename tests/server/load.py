@@ -19,13 +19,12 @@ import re
 import subprocess
 import sys
 import tempfile
-import threading
 import time
 from pathlib import Path
 
-from tests.studio.checks import Checks, arguments, judge_each, require
+from tests.studio.checks import Checks, arguments, beside, judge_each, require
 from tests.studio.policy import WORK, row
-from tests.studio.program import name_of, target
+from tests.studio.program import memory_of, name_of, target
 from tests.studio.site import Site, connection_to
 
 ROWS = (row("allow", ["*"], WORK),)
@@ -54,20 +53,16 @@ class User:
         if body is not None:
             data = json.dumps(body).encode()
         begun = time.monotonic()
-        reply = self.reply(method, target(rest), data)
+        if self.connection is None:
+            self.connection = self.connect(self.address)
+        self.connection.request(method, target(rest), data, {"Authorization": f"Bearer {self.token}"})
+        reply = self.connection.getresponse()
         text = reply.read()
         self.times[name].append(time.monotonic() - begun)
         if reply.status in (429, 500, 502, 503, 504):
             raise Refused(str(reply.status))
         require(reply.status == want, f"{name} got {reply.status}: {text[:200]!r}")
         return json.loads(text) if name != "get" and text else text
-
-    def reply(self, method, where, data):
-        """The reply to a request, over the connection that there is, or a new one."""
-        if self.connection is None:
-            self.connection = self.connect(self.address)
-        self.connection.request(method, where, data, {"Authorization": f"Bearer {self.token}"})
-        return self.connection.getresponse()
 
     def batch(self, operation, oid, size):
         """The actions of a batch with one object."""
@@ -135,19 +130,15 @@ class User:
 
 def work(users, end, results):
     """Runs users, each in a thread, and adds what they measured."""
-    threads = [threading.Thread(target=user.run, args=(end,)) for user in users]
-    for thread in threads:
-        thread.start()
-    for thread in threads:
-        thread.join()
+    with beside(*(lambda _, user=user: user.run(end) for user in users)):
+        pass
     results.put([(dict(user.times), user.refused, user.faults) for user in users])
 
 
-def memory_of(process):
+def memory_with_children(process):
     """The resident memory of a process and of its children, in KiB."""
     children = Path(f"/proc/{process}/task/{process}/children").read_text().split()
-    lines = Path(f"/proc/{process}/status").read_text().splitlines()
-    return next(int(it.split()[1]) for it in lines if it.startswith("VmRSS:")) + sum(map(memory_of, children))
+    return memory_of(process) + sum(map(memory_with_children, children))
 
 
 def queue_of(port):
@@ -163,27 +154,24 @@ def counters():
     return {name: found[name] for name in COUNTERS}
 
 
-class Watch(threading.Thread):
-    """Reads the memory and the queue each second."""
+class Watch:
+    """The memory and the queue, which are read each second."""
 
     def __init__(self, site):
-        super().__init__()
-        self.site, self.ends = site, threading.Event()
+        self.site = site
         self.memory, self.proxy, self.queue, self.room = [], [], [], 0
         self.before = counters()
 
-    def run(self):
-        """Reads until it is ended."""
-        while not self.ends.wait(1):
-            self.memory.append(memory_of(self.site.server.child.pid))
-            self.proxy += [memory_of(child.pid) for child in self.site.children]
+    def run(self, is_over):
+        """Reads until the event."""
+        while not is_over.wait(1):
+            self.memory.append(self.site.server.memory())
+            self.proxy += [memory_with_children(child.pid) for child in self.site.children]
             waiting, self.room = queue_of(self.site.server.port)
             self.queue.append(waiting)
 
-    def end(self):
-        """Ends the watch. Returns the queue and the counters, as a text."""
-        self.ends.set()
-        self.join()
+    def says(self):
+        """The queue and the counters, as a text."""
         after = counters()
         counted = ", ".join(f"{name} {after[name] - self.before[name]}" for name in COUNTERS)
         return f"at most {max(self.queue)} waited at the port with room for {self.room}; {counted}"
@@ -203,8 +191,8 @@ def load(site, connect, keeps, count, seconds):
     workers = [multiprocessing.Process(target=work, args=(part, end, results)) for part in parts]
     for worker in workers:
         worker.start()
-    watch.start()
-    found = [it for _ in workers for it in results.get()]
+    with beside(watch.run):
+        found = [it for _ in workers for it in results.get()]
     for worker in workers:
         worker.join()
     return found, watch
@@ -231,7 +219,7 @@ def report(site, found, watch):
         for name, some in theirs.items():
             times[name] += some
         refused, faults = refused + theirs_refused, faults + theirs_faults
-    queue, waits = watch.end(), sorted(wait for some in times.values() for wait in some)
+    waits = sorted(wait for some in times.values() for wait in some)
     (early, late), total = watch.growth(), len(waits)
     counted = ", ".join(f"{len(times[name])} {name}" for name in sorted(times))
     parts = [
@@ -239,7 +227,7 @@ def report(site, found, watch):
         f"waits: median {waits[total // 2] * 1e3:.0f} ms, one of 100 longer than {waits[total * 99 // 100]:.2f} s, "
         f"longest {waits[-1]:.2f} s",
         f"memory {early} KiB, later {late} KiB (at most {GROWTH} more)",
-        queue,
+        watch.says(),
     ]
     if site.children:
         statuses, errors = proxy_says(site)

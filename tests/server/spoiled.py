@@ -35,12 +35,11 @@ import subprocess
 import sys
 import tempfile
 from dataclasses import dataclass, field
-from pathlib import Path
 
 from tests.studio.checks import Failed, arguments, judge_each, require
 from tests.studio.control import ControlledServer, issue_words, token_of
 from tests.studio.policy import FILM
-from tests.studio.program import Closed, NotStarted, content, message, put, run, target
+from tests.studio.program import Closed, NotStarted, content, message, name_of, put, run, target
 from tests.studio.spoiled import (CONTENTS, LETTERS, MEMORY, PAGE, POLICY, REPOS, RETIRED, TABLES, TOKENS, WAYS, Maker,
                                   Spoiled, Spoiler, bytes_of, is_sound, name_of_size, rows_of, zero)
 
@@ -112,12 +111,11 @@ class SpoiledServer(ControlledServer):
     """A server over the database of a folder, which it may refuse."""
 
     patience = LONGEST
+    # The database has its tokens.
+    letter = None
 
     def __init__(self, program, folder):
         super().__init__(program, folder, POLICY, database="db")
-
-    def issue(self, *_, **__):
-        """Changes nothing: the database has its tokens."""
 
     def start(self):
         """Starts the server, unless it refuses the database."""
@@ -166,7 +164,7 @@ class Trial:
 
     def __init__(self, program, spoiled, room):
         self.program, self.spoiled, self.room = program, spoiled, room
-        self.count, self.refused, self.view = 0, set(), View()
+        self.refused, self.view = set(), View()
         # What the lists print, by the socket and over files.
         self.printed, self.over_files = {}, {}
         # Whether each listed object is served whole; None if the server refused to serve it.
@@ -174,11 +172,9 @@ class Trial:
 
     def copy(self):
         """A folder with a copy of the database."""
-        self.count += 1
-        folder = Path(self.room, str(self.count))
-        folder.mkdir()
+        folder = tempfile.mkdtemp(dir=self.room)
         self.spoiled.put(folder)
-        return str(folder)
+        return folder
 
     def run(self, place, name, *more):
         """What a command prints, or None if it refuses the database."""
@@ -251,8 +247,7 @@ class Trial:
         wanted = {(repo, oid) for repo in REPOS for oid in CONTENTS} | {it[:2] for it in self.view.objects or ()}
         for repo, oid in sorted(wanted):
             status, data = self.get(server, tokens, repo, oid)
-            is_whole = data is not None and hashlib.sha256(data).hexdigest() == oid
-            self.served[repo, oid] = {200: is_whole, 500: None}.get(status, None)
+            self.served[repo, oid] = data is not None and name_of(data) == oid if status == 200 else None
         if tokens[FILM]:
             self.write(server, tokens[FILM])
 
@@ -492,7 +487,7 @@ def dumped(program, good, number):
     return f"without rows of {changed[0]}" if changed else "whole"
 
 
-def check_dump(options, good):
+def check_dump(options, good, _):
     """Databases without one page, whose rows the command sqlite3 copies into a new file."""
     few = [number for number, whose in good.pages.items() if not whose.endswith("overflow")]
     many = [number for number, whose in good.pages.items() if whose.endswith("overflow")]
@@ -500,11 +495,6 @@ def check_dump(options, good):
     found = collections.Counter(dumped(options.program, good, number) for number in sorted(chosen))
     kinds = ", ".join(f"{count} {kind}" for kind, count in found.most_common())
     return f"{len(chosen)} databases without a page: {kinds}"
-
-
-def judged(options, good, name):
-    """The check of this name."""
-    return check_dump(options, good) if name == "dump" else check(options, good, name)
 
 
 def main():
@@ -518,7 +508,8 @@ def main():
     with tempfile.TemporaryDirectory(dir=MEMORY) as room:
         good = Maker(options.program, room).make()
     print(f"{len(good.moments[-1].log)} bytes of log, {len(good.whole.file)} bytes of file with it")
-    return judge_each(names, options, lambda name: judged(options, good, name))
+    acts = {name: check for name in WAYS} | {"dump": check_dump}
+    return judge_each(names, options, lambda name: acts[name](options, good, name))
 
 
 if __name__ == "__main__":

@@ -2,12 +2,11 @@
 
 Two users have repositories whose remotes are reached over SSH. A script is in the place of sshd: it runs Git's own
 commands on the repositories of a temporary folder, and answers git-lfs-authenticate with the line that `custody
-authenticate` printed before the server was started. 200 files of 1 byte to 50 MB are pushed and cloned, with one
+authenticate` prints. 200 files of 1 byte to 50 MB are pushed and cloned, with one
 transfer at a time and with eight. Then one of two files is removed for good. A check fails if a file has other bytes
 than it was pushed with, or if the client ends otherwise, or without the words of the rule.
 """
 import contextlib
-import os
 import random
 import shutil
 import signal
@@ -17,34 +16,29 @@ from pathlib import Path
 
 from tests.studio.checks import Checks, arguments
 from tests.studio.clone import Clone, Workroom
-from tests.studio.policy import WORK, policy, repo, row
-from tests.studio.program import Server, free_port, name_of
+from tests.studio.policy import WORK, repo, row
+from tests.studio.program import name_of
+from tests.studio.site import SiteServer
 
+QUOTAS = {"studio/film": 2_000_000_000, "studio/small": 100_000, "studio/gone": 100_000}
+# The repositories, and the rows of the policy.
 ROWS = (
+    *(repo(*it) for it in QUOTAS.items()),
     row("deny", ["bob"], ["push"], repos=["*"], refs=["refs/heads/release"]),
     row("allow", ["ann", "bob"], WORK, repos=["studio/"]),
 )
-QUOTAS = {"studio/film": 2_000_000_000, "studio/small": 100_000, "studio/gone": 100_000}
-USERS = ["ann", "bob"]
 REASON = "B6: the object was removed by its owner"
 SSH = """#!/bin/sh
-user=@user
 for words in "$@"; do :; done
 case $words in
 git-receive-pack* | git-upload-pack*) exec git shell -c "$words" ;;
 git-lfs-authenticate*)
     set -- $words
-    exec cat "@room/tokens/$user-$(basename "$2" .git)-$3"
+    exec @program authenticate --via @room/control --user @user "studio/$(basename "$2" .git)" "$3"
     ;;
 esac
 exit 1
 """
-
-
-class TransferServer(Server):
-    """A server that serves many requests. Nobody but the users has a token."""
-
-    letter = None
 
 
 class Trial(Workroom):
@@ -52,35 +46,18 @@ class Trial(Workroom):
 
     def __init__(self, options, room, checks):
         super().__init__(room, checks, options.show)
-        self.program, self.count, self.port = options.program, options.files, free_port()
+        self.program, self.count = options.program, options.files
         self.set_up_git()
-        base = f"http://127.0.0.1:{self.port}"
-        self.policy = policy([*(repo(*it) for it in QUOTAS.items()), *ROWS], base, repos=())
-        self.write("policy.toml", self.policy)
-        os.mkdir(f"{room}/tokens")
-        for user in USERS:
-            for name in QUOTAS:
-                for operation in ("download", "upload"):
-                    self.issue(user, name, operation)
-            self.write(f"ssh-{user}", SSH.replace("@user", user).replace("@room", room), 0o755)
+        for user in ("ann", "bob"):
+            text = SSH.replace("@user", user).replace("@room", room).replace("@program", options.program)
+            self.write(f"ssh-{user}", text, 0o755)
         for name in QUOTAS:
             self.make_bare(name)
-
-    def custody(self, name, *words):
-        """Runs a command over the database. Returns its status and what it printed."""
-        return self.run(self.program, name, "--db", f"{self.room}/custody.db", *words)
-
-    def issue(self, user, name, operation):
-        """Stores the line that `custody authenticate` prints."""
-        words = ["--policy", f"{self.room}/policy.toml", "--user", user, name, operation]
-        line = self.custody("authenticate", *words)[1]
-        self.write(f"tokens/{user}-{name.split('/')[1]}-{operation}", line)
 
     @contextlib.contextmanager
     def served(self):
         """Runs the server meanwhile."""
-        with TransferServer(self.program, self.room, self.policy, more=["--requests", "1000000"],
-                            port=self.port) as server:
+        with SiteServer(self.program, self.room, ROWS, repos=()) as server:
             yield
             self.expect(server.child.poll() is None, "the server still runs")
             server.end(signal.SIGTERM)
@@ -98,15 +75,12 @@ class Trial(Workroom):
     def clone(self, user, name, transfers, *settings):
         """A new clone of the repository, with its files, by `git clone`. Returns the status too."""
         clone = self.folder(user, name, transfers)
-        status, _ = clone.take(self.remote(name), *settings)
-        clone.git("lfs", "install", "--local")
-        return status, clone
+        return clone.take(self.remote(name), *settings)[0], clone
 
     def new(self, user, name, transfers):
         """A new repository of the user, with nothing in it."""
         clone = self.folder(user, name, transfers, "new-")
         clone.begin(self.remote(name))
-        clone.git("lfs", "install", "--local")
         clone.git("lfs", "track", "*.bin")
         clone.git("add", ".gitattributes")
         return clone
@@ -145,8 +119,7 @@ def transfer(trial, transfers):
     _, bob = trial.clone("bob", "studio/film", transfers)
     trial.expect(digests_in(bob) == digests, "a clone has the same bytes")
     bob.passes("git lfs fsck finds nothing", "lfs", "fsck", says="OK")
-    bob.path("000.bin").write_bytes(b"changed by bob %d" % transfers)
-    bob.git("commit", "-q", "-a", "-m", "a change")
+    bob.change("000.bin", b"changed by bob %d" % transfers)
     bob.passes("a change is pushed", "push", "origin", f"HEAD:refs/heads/{branch}")
     status, _ = ann.tried("pull", "-q", "--ff-only", "origin", branch)
     trial.expect(status == 0 and digests_in(ann) == digests_in(bob), "and pulled")
@@ -160,8 +133,7 @@ def refusals(trial):
     print("refused", flush=True)
     bob = trial.folder("bob", "studio/film", 1)
     bob.git("checkout", "-q", "-b", "release")
-    bob.path("001.bin").write_bytes(b"a release")
-    bob.git("commit", "-q", "-a", "-m", "a release")
+    bob.change("001.bin", b"a release")
     bob.fails("a push that the policy denies by its ref", "P1: policy row 1 denies push", "push", "origin", "release")
     ann = trial.new("ann", "studio/small", 1)
     ann.path("large.bin").write_bytes(random.Random(1).randbytes(100_001))
@@ -183,17 +155,6 @@ def push_two(trial):
     return ann, digests_in(ann)
 
 
-def retire(trial, name):
-    """Removes the object for good, while no server runs."""
-    ran = trial.custody("retire", "--repo", "studio/gone", name)
-    trial.expect(ran == (0, f"retired {name}\n"), "an object is removed for good")
-
-
-def has_object(clone, name):
-    """Whether the client has the object."""
-    return clone.path(f".git/lfs/objects/{name[:2]}/{name[2:4]}/{name}").exists()
-
-
 def fetch_removed(trial, digests):
     """What the client does about an object that is removed for good, as it downloads."""
     status, bob = trial.clone("bob", "studio/gone", 1)
@@ -205,7 +166,7 @@ def fetch_removed(trial, digests):
     trial.expect(pointer.startswith(b"version https://git-lfs"), "and the pointer of this one")
     shutil.rmtree(bob.path(".git/lfs/objects"))
     bob.fails("git lfs pull says why", REASON, "lfs", "pull", status=2)
-    trial.expect(has_object(bob, digests["tree.bin"]), "and fetches the other file")
+    trial.expect(list(bob.path(".git/lfs/objects").rglob(digests["tree.bin"])), "and fetches the other file")
 
 
 def commit_file(ann, name):
@@ -244,13 +205,6 @@ def remove_from_branch(trial, ann):
     bob.passes("one that skips errors does not", "-c", "lfs.skipdownloaderrors=true", "checkout", "-f", "origin/before")
 
 
-def removed(trial, ann, digests):
-    """What the client does about an object that is removed for good."""
-    fetch_removed(trial, digests)
-    push_removed(trial, ann)
-    remove_from_branch(trial, ann)
-
-
 def try_all(trial):
     """Each part, of which the last one goes on from what is stored."""
     with trial.served():
@@ -259,9 +213,13 @@ def try_all(trial):
         refusals(trial)
         ann, digests = push_two(trial)
     print("removed for good", flush=True)
-    retire(trial, digests["hero.bin"])
+    name = digests["hero.bin"]
+    ran = trial.run(trial.program, "retire", "--db", f"{trial.room}/custody.db", "--repo", "studio/gone", name)
+    trial.equal(ran, (0, f"retired {name}\n"), "an object is removed for good")
     with trial.served():
-        removed(trial, ann, digests)
+        fetch_removed(trial, digests)
+        push_removed(trial, ann)
+        remove_from_branch(trial, ann)
 
 
 def main():

@@ -6,6 +6,8 @@ from selenium.webdriver.chrome.service import Service
 from selenium.webdriver.common.by import By
 from selenium.webdriver.common.keys import Keys
 
+from tests.studio.checks import comes_true
+
 ROWS = """return [...document.querySelectorAll("#rows tr")].filter(row => !row.hidden)
     .map(row => [...row.children].slice(0, 4).map(cell => cell.textContent))"""
 # The time from a typed letter to the frame after it.
@@ -60,12 +62,7 @@ class Page:
 
     def until(self, holds):
         """Whether this holds within 20 seconds."""
-        end = time.monotonic() + 20
-        while not holds():
-            if time.monotonic() > end:
-                return False
-            time.sleep(0.02)
-        return True
+        return comes_true(holds, 20, 0.02)
 
     def open(self):
         """Opens the page."""

@@ -1,7 +1,7 @@
 """Tries deploy/programs/mirror and deploy/programs/unlock with real servers, each part with new databases.
 
-A check fails if an object is not copied, is copied with other bytes (the command sha256sum compares them with its
-name), is copied twice or brought back; if a run that is killed, or whose server ends, leaves what the next one cannot
+A check fails if an object is not copied, is copied with other bytes than its name says, is copied twice or brought
+back; if a run that is killed, or whose server ends, leaves what the next one cannot
 complete; if a token is on a command line or in a file; or if the words that are printed are not those that are stated.
 """
 import contextlib
@@ -21,10 +21,10 @@ import threading
 import time
 from pathlib import Path
 
-from tests.studio.checks import Checks, arguments, require
-from tests.studio.clone import Clone, Workroom
+from tests.studio.checks import Checks, arguments, beside, comes_true, require
+from tests.studio.clone import Clone, Workroom, same_files
 from tests.studio.policy import FILM, GAME, MAIN, WORK, row
-from tests.studio.program import LAST, TOP, free_port, put
+from tests.studio.program import LAST, TOP, free_port, name_of, put, run
 from tests.studio.site import SiteServer, placed
 
 ROWS = (
@@ -46,7 +46,6 @@ class Place(SiteServer):
     """A server of two repositories, in a folder of its own."""
 
     def __init__(self, program, room):
-        os.mkdir(room)
         super().__init__(program, room, ROWS, repos=(FILM, GAME))
 
     def change_policy(self, **more):
@@ -74,70 +73,53 @@ class Place(SiteServer):
         """Whether `custody check` finds each object whole."""
         return self.via("check", "--quiet") == (0, "", "")
 
-    @contextlib.contextmanager
-    def opened(self):
-        """The database, while the server is stopped."""
-        require(self.via("stop")[0] == 0, "the server was not stopped")
-        self.child.wait()
-        with contextlib.closing(sqlite3.connect(self.database, isolation_level=None)) as found:
-            yield found
-        self.start()
 
-
-class Trial:
-    """The folder of a part with its servers, and the programs with the checks of their lines."""
+class Trial(contextlib.ExitStack):
+    """The folder of a part with its servers, which end with it, and the programs with the checks of their lines."""
 
     def __init__(self, program, checks):
-        self.program, self.checks, self.room, self.places = program, checks, None, []
-        self.numbers = itertools.count()
-
-    def check(self, is_met, what, text=""):
-        """One check."""
-        return self.checks.expect(is_met, what, text)
-
-    @contextlib.contextmanager
-    def part(self):
-        """A folder for a part, whose servers end with it."""
-        with tempfile.TemporaryDirectory() as self.room, contextlib.ExitStack() as self.places:
-            yield
-
-    def place(self, sizes=()):
-        """A new server, with objects of these sizes."""
-        place = self.places.enter_context(Place(self.program, f"{self.room}/server-{next(self.numbers)}"))
-        place.put(sizes, place.token())
-        return place
+        super().__init__()
+        self.program, self.checks, self.check = program, checks, checks.expect
+        self.room = self.enter_context(tempfile.TemporaryDirectory())
 
     def folder(self):
         """A new folder."""
-        path = f"{self.room}/folder-{next(self.numbers)}"
-        os.mkdir(path)
-        return path
+        return tempfile.mkdtemp(dir=self.room)
+
+    def place(self, sizes=()):
+        """A new server, with objects of these sizes."""
+        place = self.enter_context(Place(self.program, self.folder()))
+        place.put(sizes, place.token())
+        return place
 
     def start(self, *words, repo=FILM, **more):
-        """Starts the mirror, with more variables of the environment."""
-        return subprocess.Popen([TOP / "deploy/programs/mirror", *words[:-2], repo, *words[-2:]],
+        """Starts the mirror. The last two words are folders, servers or addresses; `more` has variables of the
+        environment."""
+        *options, source, to = [it.control() if isinstance(it, Place) else it for it in words]
+        return subprocess.Popen([TOP / "deploy/programs/mirror", *options, repo, source, to],
                                 stdout=subprocess.PIPE, stderr=subprocess.PIPE, text=True,
                                 env={**os.environ, "CUSTODY": self.program, **more})
 
     def mirror(self, *words, **more):
         """Runs the mirror. Returns its status, its output and its error stream."""
-        with self.start(*words, **more) as ran:
-            output, errors = ran.communicate()
-        return ran.returncode, output, errors
+        return end_of(self.start(*words, **more))
 
     def expect(self, what, ran, copied, there, byte_count=None):
         """Checks that a run ended well, with these numbers in its line."""
         found = DONE.fullmatch(ran[1])
         holds = ran[0] == 0 and ran[2] == "" and found and (int(found[1]), int(found[3])) == (copied, there)
-        self.check(holds and byte_count in (None, int(found[2])), what, f"{ran}")
+        self.check(holds and byte_count in (None, int(found[2])), what, ran)
 
     def unlock(self, place, *words, **more):
         """Runs unlock. Returns its status, its output and its error stream."""
-        environment = {**os.environ, "CUSTODY": self.program, "CUSTODY_URL": place.base, "CUSTODY_VIA": place.control(),
-                       **more}
-        ran = subprocess.run([TOP / "deploy/programs/unlock", *words], check=False, capture_output=True, text=True,
-                             env=environment)
-        return ran.returncode, ran.stdout, ran.stderr
+        environment = {"CUSTODY": self.program, "CUSTODY_URL": place.base, "CUSTODY_VIA": place.control()}
+        return run([TOP / "deploy/programs/unlock", *words], env={**os.environ, **environment, **more})
+
+
+def end_of(ran):
+    """Waits for the end of a run. Returns its status, its output and its error stream."""
+    output, errors = ran.communicate()
+    return ran.returncode, output, errors
 
 
 def mixed(count):
@@ -146,17 +128,23 @@ def mixed(count):
     return edges + [int(100 * 50_000 ** random.random()) for _ in range(count - len(edges))]
 
 
+def path_of(folder, oid):
+    """The file of an object in a folder."""
+    return Path(folder, "objects", oid[:2], oid[2:4], oid)
+
+
 def stored(folder):
-    """The sizes of the objects of a folder, by name; each has its name by sha256sum."""
-    files = sorted(Path(folder, "objects").glob("*/*/*"))
-    if not files:
-        return {}
-    lines = subprocess.run(["sha256sum", "--", *files], stdout=subprocess.PIPE, text=True,
-                           check=True).stdout.splitlines()
-    for line, file in zip(lines, files, strict=True):
-        oid = line.split()[0]
-        require(file == Path(folder, "objects", oid[:2], oid[2:4], oid), f"{file} has the bytes of {oid}")
+    """The sizes of the objects of a folder, by name; each has the bytes that its name says."""
+    files = list(Path(folder).glob("objects/*/*/*"))
+    for file in files:
+        oid = name_of(file.read_bytes())
+        require(file == path_of(folder, oid), f"{file} has the bytes of {oid}")
     return {file.name: file.stat().st_size for file in files}
+
+
+def objects_of(place):
+    """The sizes of the objects of a server or a folder, by name."""
+    return place.objects() if isinstance(place, Place) else stored(place)
 
 
 def others(folder):
@@ -166,10 +154,7 @@ def others(folder):
 
 def wait_until(holds, what):
     """Waits until the condition holds: 60 seconds at most."""
-    begun = time.monotonic()
-    while not holds():
-        require(time.monotonic() - begun < 60, f"{what} within 60 s")
-        time.sleep(0.005)
+    require(comes_true(holds, 60, 0.005), f"{what} within 60 s")
 
 
 def count_files(folder):
@@ -179,36 +164,31 @@ def count_files(folder):
 
 def try_folder(trial):
     """A folder, while others push and lock."""
-    place, folder, is_over = trial.place(mixed(300)), trial.folder(), threading.Event()
+    place, folder = trial.place(mixed(300)), trial.folder()
     before, token = place.objects(), place.token(user="bob")
     place.make_lock("art/first lock.psd", token)
     first = place.locks()
 
-    def work():
+    def work(is_over):
         """Pushes and locks until the run is over."""
-        for number in itertools.count():
-            if is_over.is_set():
-                return
+        for number in itertools.takewhile(lambda _: not is_over.is_set(), itertools.count()):
             place.put([20_000], token)
             place.make_lock(f"art/{number}.psd", token)
 
-    worker = threading.Thread(target=work)
-    worker.start()
-    ran = trial.mirror(place.control(), folder)
-    is_over.set()
-    worker.join()
+    with beside(work):
+        ran = trial.mirror(place, folder)
     found, pushed, copied = stored(folder), len(place.objects()) - 300, int(DONE.fullmatch(ran[1])[1])
     trial.check(ran[0] == 0 and ran[2] == "" and before.items() <= found.items() <= place.objects().items()
                 and len(found) == copied,
-                f"{copied} objects, while {pushed} were pushed and locked: {ran[1].strip()}", f"{ran}")
+                f"{copied} objects, while {pushed} were pushed and locked: {ran[1].strip()}", ran)
     written = Path(folder, "locks.txt").read_text(encoding="utf-8").splitlines()
     trial.check(first == written[:1] and set(written) <= set(place.locks()),
                 f"{len(written)} of {len(place.locks())} locks")
-    trial.mirror(place.control(), folder)
+    trial.mirror(place, folder)
     count = len(place.objects())
-    trial.expect("a run without new objects copies nothing", trial.mirror(place.control(), folder), 0, count, 0)
+    trial.expect("a run without new objects copies nothing", trial.mirror(place, folder), 0, count, 0)
     place.put(range(1, 11), token)
-    trial.expect("ten new objects are copied", trial.mirror(place.control(), folder), 10, count, sum(range(1, 11)))
+    trial.expect("ten new objects are copied", trial.mirror(place, folder), 10, count, sum(range(1, 11)))
     trial.check(stored(folder) == place.objects() and others(folder) == {"lock", "locks.txt"},
                 "the folder has each, and no other file")
 
@@ -216,23 +196,22 @@ def try_folder(trial):
 def try_words(trial):
     """Words that are wrong, and places that do not exist."""
     place, folder = trial.place(), trial.folder()
-    for status, words in [
-        (2, ("film", place.control())),
-        (2, (place.control(), "film")),
-        (2, ("ssh://custody@localhost", folder)),
-        (2, (folder, "ssh://-oProxyCommand=x/")),
-        (1, (place.control(), f"{folder}/none")),
-        (1, (folder, place.control())),
+    for status, repo, words in [
+        (2, FILM, ("film", place)),
+        (2, FILM, (place, "film")),
+        (2, FILM, ("ssh://custody@localhost", folder)),
+        (2, FILM, (folder, "ssh://-oProxyCommand=x/")),
+        (1, FILM, (place, f"{folder}/none")),
+        (1, FILM, (folder, place)),
+        (2, "film", (place, folder)),
     ]:
-        ran = trial.mirror(*words)
+        ran = trial.mirror(*words, repo=repo)
         trial.check(ran[0] == status and ran[2] and "Traceback" not in ran[2],
-                    f"status {status}: {ran[2].splitlines()[-1]}", f"{ran}")
-    ran = trial.mirror(place.control(), folder, repo="film")
-    trial.check(ran[0] == 2, f"status 2: {ran[2].splitlines()[-1]}", f"{ran}")
+                    f"status {status}: {ran[2].splitlines()[-1]}", ran)
     place.put([5], place.token())
-    ran = trial.mirror("--user", "eve", place.control(), folder)
+    ran = trial.mirror("--user", "eve", place, folder)
     trial.check(ran[0] == 1 and "P0: no policy row allows pull" in ran[2], f"a user without rights: {ran[2].strip()}",
-                f"{ran}")
+                ran)
     trial.check(stored(folder) == {} and others(folder) == {"lock", "locks.txt"}, "and no object is copied")
 
 
@@ -247,16 +226,15 @@ def try_git_lfs(trial):
     ann.git("add", ".gitattributes")
     ann.add_files("art", 20, 100_000)
     store = f"{ann.folder}/.git/lfs"
-    trial.expect("the store of a clone is copied to a server", trial.mirror(store, place.control(), repo=GAME), 20, 0)
-    trial.expect("and from there to a folder", trial.mirror(place.control(), folder, repo=GAME), 20, 0)
+    trial.expect("the store of a clone is copied to a server", trial.mirror(store, place, repo=GAME), 20, 0)
+    trial.expect("and from there to a folder", trial.mirror(place, folder, repo=GAME), 20, 0)
     same = room.run("diff", "-r", f"{store}/objects", f"{folder}/objects", may_fail=True)
     trial.check(same == (0, ""), "whose files are those of the clone", same[1])
     room.environment["GIT_LFS_SKIP_SMUDGE"] = "1"
     require(bob.take(ann.folder)[0] == 0, "the repository was not cloned")
     status, text = bob.tried("lfs", "checkout")
-    same = room.run("diff", "-r", ann.path("art"), bob.path("art"), may_fail=True)
-    trial.check(status == 0 and same == (0, ""), "with lfs.storage, git lfs checkout takes the files from it",
-                text + same[1])
+    trial.check(status == 0 and same_files(ann, bob, "art"),
+                "with lfs.storage, git lfs checkout takes the files from it", text)
     status, text = bob.tried("lfs", "fsck")
     trial.check(status == 0, f"git lfs fsck: {text.strip()}", text)
 
@@ -268,8 +246,8 @@ def kill_often(trial, words, seconds, look):
         ran = trial.start(*words)
         time.sleep(random.uniform(0.2, 0.3 + seconds / 10))
         ran.kill()
-        ran.communicate()
-        require(ran.returncode == -signal.SIGKILL, f"a run ended with {ran.returncode} before it was killed")
+        status, _, _ = end_of(ran)
+        require(status == -signal.SIGKILL, f"a run ended with {status} before it was killed")
         found.append(look())
     return found
 
@@ -278,7 +256,7 @@ def try_killed(trial):
     """Runs that are killed."""
     place, folder = trial.place(mixed(600)), trial.folder()
     begun = time.monotonic()
-    trial.mirror(place.control(), trial.folder())
+    trial.mirror(place, trial.folder())
     seconds, listed = time.monotonic() - begun, place.objects()
 
     def look():
@@ -287,11 +265,11 @@ def try_killed(trial):
         require(others(folder) <= {"lock", "locks.txt", "objects/arriving"}, f"{others(folder)}")
         return len(stored(folder)), "objects/arriving" in others(folder)
 
-    found = kill_often(trial, (place.control(), folder), seconds, look)
+    found = kill_often(trial, (place, folder), seconds, look)
     counts = [count for count, _ in found]
     trial.check(0 < counts[-1] < 600, f"killed ten times on the way to a folder, with {counts} whole objects in it")
     trial.check(any(it for _, it in found), f"{sum(it for _, it in found)} of them left a file without a name")
-    trial.expect("the next run copies the rest", trial.mirror(place.control(), folder), 600 - counts[-1], counts[-1])
+    trial.expect("the next run copies the rest", trial.mirror(place, folder), 600 - counts[-1], counts[-1])
     trial.check(stored(folder) == listed and others(folder) == {"lock", "locks.txt"},
                 "each is whole, and nothing else is there")
     back = trial.place()
@@ -301,9 +279,9 @@ def try_killed(trial):
         require(back.objects().items() <= listed.items() and back.is_whole(), "the server has a wrong object")
         return len(back.objects())
 
-    counts = kill_often(trial, (folder, back.control()), 2 * seconds, look_back)
+    counts = kill_often(trial, (folder, back), 2 * seconds, look_back)
     trial.check(0 < counts[-1] < 600, f"killed ten times on the way back, with {counts} whole objects there")
-    trial.expect("the next run copies the rest", trial.mirror(folder, back.control()), 600 - counts[-1], counts[-1])
+    trial.expect("the next run copies the rest", trial.mirror(folder, back), 600 - counts[-1], counts[-1])
     trial.check(back.objects() == listed and back.is_whole(),
                 "the new server lists the same, and `custody check` finds all whole")
 
@@ -311,12 +289,11 @@ def try_killed(trial):
 def try_servers(trial):
     """From one server to another."""
     place, other = trial.place(mixed(100)), trial.place()
-    trial.expect("a server is copied to another", trial.mirror(place.control(), other.control()), 100, 0,
-                 sum(place.objects().values()))
+    trial.expect("a server is copied to another", trial.mirror(place, other), 100, 0, sum(place.objects().values()))
     trial.check(other.objects() == place.objects() and other.is_whole(), "which lists the same, all whole")
-    trial.expect("a second run copies nothing", trial.mirror(place.control(), other.control()), 0, 100, 0)
+    trial.expect("a second run copies nothing", trial.mirror(place, other), 0, 100, 0)
     folder, full = trial.folder(), trial.folder()
-    trial.mirror(place.control(), full)
+    trial.mirror(place, full)
     trial.expect("a folder is copied to another", trial.mirror(full, folder), 100, 0)
     trial.check(stored(folder) == place.objects(), "which has the same")
 
@@ -324,61 +301,55 @@ def try_servers(trial):
 def try_one_run(trial):
     """A second run in the same folder."""
     place, folder = trial.place(mixed(300)), trial.folder()
-    ran = trial.start(place.control(), folder)
+    ran = trial.start(place, folder)
     wait_until(lambda: count_files(folder) > 0, "an object")
-    status, output, errors = trial.mirror(place.control(), folder)
+    status, output, errors = trial.mirror(place, folder)
     trial.check((status, output) == (1, "") and "another run" in errors, f"a second run: {errors.strip()}", errors)
-    trial.check(ran.communicate()[1] == "" and ran.returncode == 0 and stored(folder) == place.objects(),
-                "the first one passes")
+    status, _, errors = end_of(ran)
+    trial.check((status, errors) == (0, "") and stored(folder) == place.objects(), "the first one passes")
 
 
 def try_tokens(trial):
     """Tokens that are removed, and tokens that live for 2 seconds."""
     place, folder = trial.place([10_000] * 1000), trial.folder()
     place.via("prune", "--now", str(LAST))
-    trial.expect("1000 objects are copied", trial.mirror(place.control(), trial.folder()), 1000, 0)
+    trial.expect("1000 objects are copied", trial.mirror(place, trial.folder()), 1000, 0)
     trial.check(len(place.digests()) == 1, "with one token")
     other = trial.folder()
-    ran = trial.start(place.control(), other)
+    ran = trial.start(place, other)
     wait_until(lambda: count_files(other) > 20, "20 objects")
     status, text, _ = place.via("prune", "--now", str(LAST))
     require(status == 0 and count_files(other) < 900, "the tokens were not removed in time")
-    output, errors = ran.communicate()
-    trial.expect(f"and all of them, if meanwhile: {text.strip()}", (ran.returncode, output, errors), 1000, 0)
+    trial.expect(f"and all of them, if meanwhile: {text.strip()}", end_of(ran), 1000, 0)
     trial.check(len(place.digests()) == 1, "with one more token")
-    place.change_policy(seconds=2)
-    ways = [(place, folder, [place]), (folder, trial.place(), []), (place, trial.place(), [place])]
-    for source, target, servers in ways:
-        if isinstance(target, Place):
-            target.change_policy(seconds=2)
-            servers = [*servers, target]
+    for source, to in ((place, folder), (folder, trial.place()), (place, trial.place())):
+        servers = [it for it in (source, to) if isinstance(it, Place)]
+        for server in servers:
+            server.change_policy(seconds=2)
         before, begun = [len(it.digests()) for it in servers], time.monotonic()
-        ran = trial.mirror(*(it.control() if isinstance(it, Place) else it for it in (source, target)))
+        ran = trial.mirror(source, to)
         taken, issued = time.monotonic() - begun, [len(it.digests()) - count for it, count in zip(servers, before)]
         # At most one for each of 10 groups, and one each time that one has expired.
         holds = ran[0] == 0 and taken > 2 and all(1 < it <= 10 + taken for it in issued)
-        trial.check(holds, f"1000 objects in {taken:.1f} s, with {issued} tokens of 2 seconds: {ran[1].strip()}",
-                    f"{ran}")
-        found = stored(target) if target is folder else target.objects()
-        trial.check(found == place.objects() and len(found) == 1000, "each is there")
+        trial.check(holds, f"1000 objects in {taken:.1f} s, with {issued} tokens of 2 seconds: {ran[1].strip()}", ran)
+        trial.check(objects_of(to) == place.objects() and len(place.objects()) == 1000, "each is there")
 
 
 def try_restarts(trial):
     """Servers that are ended within a run, and started again."""
     place, folder = trial.place(mixed(300)), trial.folder()
-    trial.mirror(place.control(), folder)
+    trial.mirror(place, folder)
     for kind, is_back in itertools.product((signal.SIGTERM, signal.SIGKILL), (False, True)):
-        target = trial.place() if is_back else trial.folder()
-        server = target if is_back else place
-        ran = trial.start(*((folder, target.control()) if is_back else (place.control(), target)))
-        wait_until(lambda: (len(target.objects()) if is_back else count_files(target)) > 20, "20 objects")
+        source, to = (folder, trial.place()) if is_back else (place, trial.folder())
+        server = to if is_back else source
+        ran = trial.start(source, to)
+        wait_until(lambda: (len(to.objects()) if is_back else count_files(to)) > 20, "20 objects")
         server.end(kind)
         is_within = ran.poll() is None
         time.sleep(2)
         server.start()
-        output, errors = ran.communicate()
-        found = target.objects() if is_back else stored(target)
-        trial.check(is_within and ran.returncode == 0 and errors == "" and found == place.objects(),
+        status, output, errors = end_of(ran)
+        trial.check(is_within and (status, errors) == (0, "") and objects_of(to) == place.objects(),
                     f"{'TO' if is_back else 'FROM'} is ended by {kind.name}, and started 2 s later: {output.strip()}",
                     errors)
 
@@ -386,16 +357,15 @@ def try_restarts(trial):
 def try_no_server(trial):
     """A server that ends within a run, and is started after it."""
     place, folder = trial.place(mixed(300)), trial.folder()
-    ran, begun = trial.start(place.control(), folder), time.monotonic()
+    ran, begun = trial.start(place, folder), time.monotonic()
     wait_until(lambda: count_files(folder) > 20, "20 objects")
     place.end(signal.SIGTERM)
-    output, errors = ran.communicate()
-    is_sentence = errors.startswith("mirror: ") and errors.count("\n") == 1
-    trial.check(ran.returncode == 1 and DONE.fullmatch(output) and is_sentence,
+    status, output, errors = end_of(ran)
+    trial.check(status == 1 and DONE.fullmatch(output) and re.fullmatch("mirror: .*\n", errors),
                 f"the run ends after {time.monotonic() - begun:.0f} s: {errors.strip()}", f"{output}{errors}")
     count = len(stored(folder))
     place.start()
-    trial.expect(f"the next run copies what was missing, {300 - count} objects", trial.mirror(place.control(), folder),
+    trial.expect(f"the next run copies what was missing, {300 - count} objects", trial.mirror(place, folder),
                  300 - count, count)
     trial.check(stored(folder) == place.objects(), "each is there")
 
@@ -409,44 +379,46 @@ def try_damaged(trial):
     """Damaged objects, in a folder and in a server."""
     place, folder, other = trial.place([*mixed(100), 200_000, 200_000]), trial.folder(), trial.place()
     listed = place.objects()
-    trial.mirror(place.control(), folder)
+    trial.mirror(place, folder)
     oids = [oid for oid, size in listed.items() if size == 200_000]
-    flipped, cut = (Path(folder, "objects", oid[:2], oid[2:4], oid) for oid in oids)
+    flipped, cut = (path_of(folder, oid) for oid in oids)
     data = flipped.read_bytes()
     flipped.write_bytes(data[:100_000] + bytes([data[100_000] ^ 1]) + data[100_001:])
     os.truncate(cut, 100_000)
-    ran = trial.mirror(folder, other.control())
+    ran = trial.mirror(folder, other)
     lines = {f"mirror: damaged {oid}" for oid in oids}
-    trial.check(ran[0] == 1 and set(ran[2].splitlines()) == lines, f"two damaged files: {ran[1].strip()}", f"{ran}")
+    trial.check(ran[0] == 1 and set(ran[2].splitlines()) == lines, f"two damaged files: {ran[1].strip()}", ran)
     rest = listed.items() - {(oid, 200_000) for oid in oids}
     trial.check(other.objects().items() == rest and other.is_whole(), "all others are stored, and whole")
     chunk = "WHERE n = 1 AND upload = (SELECT id FROM uploads WHERE oid = ?)"
-    with place.opened() as database:
+    place.end(signal.SIGTERM)
+    with contextlib.closing(sqlite3.connect(place.database, isolation_level=None)) as database:
         for text, oid in zip(("UPDATE chunks SET bytes = zeroblob(length(bytes))", "DELETE FROM chunks"), oids):
             require(database.execute(f"{text} {chunk}", (oid,)).rowcount == 1, "no chunk was changed")
+    place.start()
     new = trial.folder()
-    ran = trial.mirror(place.control(), new)
+    ran = trial.mirror(place, new)
     lines = [f"mirror: damaged {oids[0]}",
              f"mirror: {oids[1]}: 127.0.0.1:{place.port}: the connection ended within a reply"]
     trial.check(ran[0] == 1 and sorted(ran[2].splitlines()) == sorted(lines),
-                f"of a server, one of zeros and one without its end: {ran[1].strip()}", f"{ran}")
+                f"of a server, one of zeros and one without its end: {ran[1].strip()}", ran)
     trial.check(stored(new).items() == rest, "all others are in the folder, and whole")
 
 
 def try_quota(trial):
     """A server whose quota is too small."""
     place, folder, other = trial.place([100_000] * 150), trial.folder(), trial.place()
-    trial.mirror(place.control(), folder)
+    trial.mirror(place, folder)
     # Room for 20 objects of the batch, and then for an object that is larger than the rest of the room.
     other.change_policy(quota=2_050_000)
-    ran = trial.mirror(folder, other.control())
+    ran = trial.mirror(folder, other)
     count, rules = len(other.objects()), set(re.findall(r"[A-Z]\d+: .*", ran[2]))
     trial.check(ran[0] == 1 and named(ran) == set(place.objects()) - set(other.objects()) and count == 20,
-                f"{ran[1].strip()}; {rules}", f"{ran}")
+                f"{ran[1].strip()}; {rules}", ran)
     trial.check(rules == {"B5: the quota does not hold the object", "X3: the quota does not hold the object"},
                 "with the rules' own words")
     other.change_policy()
-    trial.expect("the next run, with room, copies the others", trial.mirror(folder, other.control()), 130, 20)
+    trial.expect("the next run, with room, copies the others", trial.mirror(folder, other), 130, 20)
     trial.check(other.objects() == place.objects() and other.is_whole(), "each is there, and whole")
 
 
@@ -454,46 +426,23 @@ def try_retired(trial):
     """Objects that are removed within a run."""
     place, folder = trial.place(mixed(300)), trial.folder()
     listed = place.objects()
-    ran, last = trial.start(place.control(), folder), max(listed)
+    ran, last = trial.start(place, folder), max(listed)
     wait_until(lambda: count_files(folder) > 0, "an object")
     status, _, _ = place.via("retire", "--repo", FILM, last)
     require(status == 0 and count_files(folder) < 200, "the object was not removed in time")
-    output, errors = ran.communicate()
-    trial.check(ran.returncode == 1 and errors == f"mirror: {last}: B6: the object was removed by its owner\n",
-                errors.strip(), output)
+    status, output, errors = end_of(ran)
+    trial.check((status, errors) == (1, f"mirror: {last}: B6: the object was removed by its owner\n"), errors.strip(),
+                output)
     trial.check(stored(folder).items() == listed.items() - {(last, listed[last])},
                 f"the others are copied: {output.strip()}")
-    trial.expect("the next run does not ask for it", trial.mirror(place.control(), folder), 0, 299, 0)
+    trial.expect("the next run does not ask for it", trial.mirror(place, folder), 0, 299, 0)
     back = trial.place()
     kept = next(iter(stored(folder)))
-    trial.mirror(folder, back.control())
+    trial.mirror(folder, back)
     require(back.via("retire", "--repo", FILM, kept)[0] == 0, "it was not removed")
-    ran = trial.mirror(folder, back.control())
+    ran = trial.mirror(folder, back)
     trial.check(ran[0] == 1 and named(ran) == {kept} and "B6" in ran[2],
-                "an object that was removed in TO is not brought back", f"{ran}")
-
-
-class Watch(threading.Thread):
-    """Reads the command lines of all processes, until it is ended."""
-
-    def __init__(self):
-        super().__init__()
-        self.seen, self.is_over = set(), False
-
-    def run(self):
-        """Reads until it is ended."""
-        while not self.is_over:
-            for number in filter(str.isdigit, os.listdir("/proc")):
-                with contextlib.suppress(OSError):
-                    self.seen.add(Path("/proc", number, "cmdline").read_bytes())
-
-    def __enter__(self):
-        self.start()
-        return self
-
-    def __exit__(self, *_):
-        self.is_over = True
-        self.join()
+                "an object that was removed in TO is not brought back", ran)
 
 
 def tokens_in(texts, digests):
@@ -507,17 +456,26 @@ def try_secrets(trial):
     token = place.token(user="bob")
     for number in range(20):
         place.make_lock(f"art/{number}.psd", token)
-    with Watch() as watch:
-        for words in ((place.control(), folder), (folder, other.control())):
+    command_lines = set()
+
+    def watch(is_over):
+        """Reads the command lines of all processes."""
+        while not is_over.is_set():
+            for file in Path("/proc").glob("[0-9]*/cmdline"):
+                with contextlib.suppress(OSError):
+                    command_lines.add(file.read_bytes())
+
+    with beside(watch):
+        for words in ((place, folder), (folder, other)):
             require(trial.mirror(*words)[0] == 0, "a run failed")
         released = [trial.unlock(place, "ann", FILM, f"art/{number}.psd")[0] for number in range(20)]
     digests = {*place.digests(), *other.digests()}
-    seen = b" ".join(watch.seen)
+    seen = b" ".join(command_lines)
     require(tokens_in([token.encode()], digests) == [token.encode()], "a token is not found by its digest")
     require(all(it in seen for it in (b"deploy/programs/mirror", b"authenticate", b"curl")), "not all was seen")
     require(released == [0] * 20, "a lock was not released")
-    trial.check(not tokens_in(watch.seen, digests) and b"Bearer" not in seen,
-                f"no token in {len(watch.seen)} command lines")
+    trial.check(not tokens_in(command_lines, digests) and b"Bearer" not in seen,
+                f"no token in {len(command_lines)} command lines")
     texts = [it.read_bytes() for it in Path(folder).rglob("*") if it.is_file()]
     trial.check(len(texts) == 302 and not tokens_in(texts, digests), f"no token in {len(texts)} files")
 
@@ -532,17 +490,17 @@ def try_ssh(trial):
     Path(remote.room, "bin/custody").symlink_to(remote.program)
     path = {"PATH": room.environment["PATH"]}
     trial.expect("a server is copied to one by SSH",
-                 trial.mirror(place.control(), "ssh://custody@lfs.example:2222", **path), 50, 0)
+                 trial.mirror(place, "ssh://custody@lfs.example:2222", **path), 50, 0)
     trial.check(remote.objects() == place.objects() and remote.is_whole(), "which lists the same, all whole")
-    trial.mirror(place.control(), folder)
+    trial.mirror(place, folder)
     trial.expect("a folder has nothing new for it", trial.mirror(folder, "ssh://custody@lfs.example", **path), 0, 50, 0)
     asked = Path(remote.room, "asked").read_text().splitlines()
     words = f"custody@lfs.example git-lfs-authenticate {FILM} upload"
     trial.check(asked == [f"-p 2222 {words}", words], f"ssh got: {asked}")
     ran = trial.mirror("ssh://custody@lfs.example", folder, **path)
-    trial.check(ran[0] == 2, f"as FROM: {ran[2].splitlines()[-1]}", f"{ran}")
+    trial.check(ran[0] == 2, f"as FROM: {ran[2].splitlines()[-1]}", ran)
     ran = trial.mirror(folder, "ssh://custody@lfs.example", repo="studio/none", **path)
-    trial.check(ran[0] == 1 and "R1: no such repository" in ran[2], f"no such repository: {ran[2].strip()}", f"{ran}")
+    trial.check(ran[0] == 1 and "R1: no such repository" in ran[2], f"no such repository: {ran[2].strip()}", ran)
 
 
 class Busy(http.server.BaseHTTPRequestHandler):
@@ -567,7 +525,7 @@ class Busy(http.server.BaseHTTPRequestHandler):
 def try_busy(trial):
     """A proxy that asks to wait."""
     place, folder = trial.place([1_000]), trial.folder()
-    trial.mirror(place.control(), folder)
+    trial.mirror(place, folder)
     with http.server.HTTPServer(("127.0.0.1", 0), Busy) as proxy:
         threading.Thread(target=proxy.serve_forever).start()
         proxy.replies = [429, 502, 200]
@@ -604,15 +562,15 @@ def try_unlock(trial):
     ]:
         ran = trial.unlock(place, *words)
         trial.check(ran == ((0, text, "") if status == 0 else (status, "", text)), text.strip().replace("\n", "; "),
-                    f"{ran}")
+                    ran)
     trial.check([line.split()[-1] for line in place.locks()] == ["hero"], "one lock is left")
     nobody = f"http://127.0.0.1:{free_port()}"
     ran = trial.unlock(place, "ann", FILM, "art/a hero", CUSTODY_URL=nobody)
     trial.check(ran[0] == 1 and f"no server answers at {nobody}" in ran[2], f"no server: {ran[2].splitlines()[-1]}",
-                f"{ran}")
+                ran)
     ran = trial.unlock(place, "ann", FILM, "art/a hero", CUSTODY_VIA=f"{place.room}/none")
     trial.check(ran[0] == 1 and ran[2].startswith("custody: control socket\n"),
-                f"no socket: {ran[2].splitlines()[-1]}", f"{ran}")
+                f"no socket: {ran[2].splitlines()[-1]}", ran)
 
 
 def timed(trial, what, words, count):
@@ -625,11 +583,11 @@ def timed(trial, what, words, count):
 def try_times(trial):
     """How long copies take."""
     place, folder, back = trial.place([10_000] * 1000), trial.folder(), trial.place()
-    timed(trial, "1000 objects of 10 KB to a folder", (place.control(), folder), 1000)
-    timed(trial, "and back", (folder, back.control()), 1000)
+    timed(trial, "1000 objects of 10 KB to a folder", (place, folder), 1000)
+    timed(trial, "and back", (folder, back), 1000)
     trial.check(stored(folder) == back.objects() == place.objects() and back.is_whole(), "each is whole")
     place, folder = trial.place([1 << 28] * 4), trial.folder()
-    timed(trial, "1 GiB in four objects to a folder", (place.control(), folder), 4)
+    timed(trial, "1 GiB in four objects to a folder", (place, folder), 4)
     trial.check(stored(folder) == place.objects(), "each is whole")
 
 
@@ -640,10 +598,9 @@ def main():
     """Runs the suite."""
     options = arguments(__doc__, PARTS).parse_args()
     checks = Checks()
-    trial = Trial(options.program, checks)
     for name in options.only or PARTS:
         print(f"{name}: {PARTS[name].__doc__}", flush=True)
-        with trial.part():
+        with Trial(options.program, checks) as trial:
             checks.part(name, lambda: PARTS[name](trial))
     return checks.end()
 

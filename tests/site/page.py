@@ -5,6 +5,7 @@ page cannot be used by keyboard or in a narrow window, or if nginx serves more t
 """
 import contextlib
 import datetime
+import itertools
 import json
 import os
 import re
@@ -16,12 +17,12 @@ import time
 import zoneinfo
 from pathlib import Path
 
-from selenium.common.exceptions import NoAlertPresentException
 from selenium.webdriver.common.by import By
 from selenium.webdriver.common.keys import Keys
+from selenium.webdriver.support.expected_conditions import alert_is_present
 
 from tests.site.browser import Page
-from tests.studio.checks import Checks, arguments, require
+from tests.studio.checks import Checks, arguments, comes_true, require
 from tests.studio.policy import GAME, MAIN, WORK, row
 from tests.studio.program import LOCKS, TOP, lock, message, target
 from tests.studio.site import Site
@@ -38,22 +39,18 @@ REVERSED = "art/hero\u202edsp.exe"
 NO_FORCE = "art/shot10.psd: P0: no policy row allows force"
 RELEASE, OTHER = "refs/heads/release/1.0", "refs/heads/other"
 FIRST = [("ann", "art/hero.psd", MAIN), ("bob", "art/ship.psd", MAIN), ("ann", "art/tree 2.psd", RELEASE),
-         ("bob", MARKUP, MAIN), ("ann", REVERSED, MAIN), ("ann", "art/shot10.psd", MAIN), ("bob", "art/shot9.psd",
-                                                                                           RELEASE),
-         ("bob", "art/left.psd", MAIN), ("ann", "art/none.psd", OTHER), ("bob", "art/nobody.psd", OTHER)]
+         ("bob", MARKUP, MAIN), ("ann", REVERSED, MAIN), ("ann", "art/shot10.psd", MAIN),
+         ("bob", "art/shot9.psd", RELEASE), ("bob", "art/left.psd", MAIN), ("ann", "art/none.psd", OTHER),
+         ("bob", "art/nobody.psd", OTHER)]
 COLUMNS = ("path", "owner", "since", "branch")
+
 
 class Studio(Site):
     """A site without sshd, and what its nginx has logged and keeps."""
 
-    def release(self, user, number):
-        """The status of a request of the user to release a lock, straight to the server."""
-        return self.server.ask(message("POST", target(f"locks/{number}/unlock"), {"force": False},
-                                       self.server.token(user=user)))[0]
-
     def locks(self):
         """What `custody locks` prints: id, ref, owner, moment and path of each."""
-        return [tuple(line.split(" ", 4)) for line in self.via("locks", "--repo", "studio/film")[1].split("\n") if line]
+        return [tuple(line.split(" ", 4)) for line in self.server.locks()]
 
     def paths(self):
         """The paths that are locked."""
@@ -91,13 +88,13 @@ def branch_of(ref, named):
 
 
 def expected(site, named):
-    """The rows that the page is to show for what `custody locks` prints."""
+    """The rows that the page is to show for what `custody locks` prints, sorted."""
     rows = []
     for _, ref, owner, moment, path in site.locks():
         utc = datetime.datetime.strptime(moment, "%Y-%m-%dT%H:%M:%SZ").replace(tzinfo=datetime.timezone.utc)
         since = utc.astimezone(zoneinfo.ZoneInfo(ZONE)).strftime("%Y-%m-%d %H:%M")
         rows.append((escaped(path), owner, since, branch_of(ref, named)))
-    return rows
+    return sorted(rows)
 
 
 def natural(text):
@@ -110,10 +107,9 @@ def try_nginx(site):
     reply, text = site.get("/locks")
     page = (TOP / "deploy/web/locks.html").read_text()
     site.expect(reply.status == 200 and text == page and reply.headers["Content-Type"] == "text/html; charset=utf-8",
-                "nginx serves the page without a token", str(reply.headers))
+                "nginx serves the page without a token", reply.headers)
     heads = {"X-Content-Type-Options": "nosniff", "Referrer-Policy": "no-referrer", "Cache-Control": "no-cache"}
-    site.expect(all(reply.headers[name] == value for name, value in heads.items()), "with its heads",
-                str(reply.headers))
+    site.expect(heads.items() <= dict(reply.headers).items(), "with its heads", reply.headers)
     security = reply.headers["Content-Security-Policy"]
     sources = re.sub(r"'sha256-[A-Za-z0-9+/]{43}='", "HASH", security)
     site.expect(sources == "default-src 'none'; script-src HASH; style-src HASH; connect-src 'self'; img-src data:; "
@@ -131,14 +127,12 @@ def try_bodies(site):
         status = connection.getresponse().status
         connection.send(b"x" * 200_000)
         time.sleep(0.5)
-        kept = site.kept()
-        site.expect((status, kept) == (405, 0), "a body that is sent to /locks is refused, and not kept",
-                    f"{status} {kept}")
+        site.equal((status, site.kept()), (405, 0), "a body that is sent to /locks is refused, and not kept")
     with contextlib.closing(site.connect(timeout=20)) as connection:
         head = json.loads(site.server.line("ann"))["header"]
         connection.request("POST", LOCKS, b"x" * 200_000, {**head, "Content-Length": "900000"})
         time.sleep(0.5)
-        site.expect(site.kept() == 1, "one that is sent to the API with a token is kept until it is whole")
+        site.equal(site.kept(), 1, "one that is sent to the API with a token is kept until it is whole")
 
 
 def try_nginx_without_default(site):
@@ -148,16 +142,12 @@ def try_nginx_without_default(site):
     config.write_text(whole.replace("    default custody;\n", '    "~^/studio/film\\.git/" custody;\n', 1))
     site.children[0].send_signal(signal.SIGHUP)
     head = {"Authorization": f"Bearer {'0' * 64}"}
-    for _ in range(100):
-        if "H6" in site.get(target("locks", GAME), head)[1]:
-            break
-        time.sleep(0.1)
+    comes_true(lambda: "H6" in site.get(target("locks", GAME), head)[1], 10)
     # The processes with the old site end within this second.
     time.sleep(1)
-    replies = [site.get(*words) for words in [("/locks",), (LOCKS, head), (target("locks", GAME), head),
-                                              ("/locks/", head), ("/locks/",)]]
-    statuses = [reply.status for reply, _ in replies]
-    site.expect(statuses == [200, 401, 404, 404, 401], "a site without a default server serves the page", str(statuses))
+    asked = [("/locks",), (LOCKS, head), (target("locks", GAME), head), ("/locks/", head), ("/locks/",)]
+    statuses = [site.get(*words)[0].status for words in asked]
+    site.equal(statuses, [200, 401, 404, 404, 401], "a site without a default server serves the page")
     config.write_text(whole)
     site.children[0].send_signal(signal.SIGHUP)
     time.sleep(1)
@@ -168,12 +158,11 @@ def try_form(site, page):
     asked = site.asked()
     page.open()
     page.picture("form")
-    errors = page.browser.get_log("browser")
-    site.expect(not errors, "the page loads, and the console of the browser has no error", str(errors))
+    site.equal(page.browser.get_log("browser"), [], "the page loads, and the console of the browser has no error")
     site.expect(page.at("line").is_displayed() and not page.at("list").is_displayed(), "it asks for a token")
     command = "ssh custody@localhost git-lfs-authenticate studio/film upload"
-    site.expect(page.at("command").text == command, "and shows the command that prints one", page.at("command").text)
-    site.expect(site.asked() == asked, "without a token it sends no request")
+    site.equal(page.at("command").text, command, "and shows the command that prints one")
+    site.equal(site.asked(), asked, "without a token it sends no request")
     line = json.loads(site.server.line("ann"))
     no_token = {**line, "header": {}}
     other = {**line, "href": line["href"].replace("localhost", "lfs.example")}
@@ -188,42 +177,35 @@ def try_form(site, page):
         found = page.status()
         site.expect(found.startswith(words) and page.focus() == "line" and page.at("line").get_attribute("value") == "",
                     f"what is no line is refused in words: {found}", found)
-    site.expect(site.asked() == asked, "and no request is sent for it")
-    kept = page.run("return sessionStorage.getItem('line')")
-    site.expect(kept is None, "nor is it kept", str(kept))
+    site.equal(site.asked(), asked, "and no request is sent for it")
+    site.equal(page.run("return sessionStorage.getItem('line')"), None, "nor is it kept")
 
 
 def try_list(site, page):
     """The list of the locks."""
     folded = re.sub("(.{72})", "\\1\n", site.server.line("ann"))
     site.expect(page.enter(folded), "a line that a terminal has broken is taken", page.status())
-    site.expect(page.focus() == "filter", "the focus is on the field that finds", page.focus())
+    site.equal(page.focus(), "filter", "the focus is on the field that finds")
     page.name_branches("main, release/1.0")
     wanted = expected(site, {MAIN, RELEASE})
-    site.expect(sorted(page.rows()) == sorted(wanted) and len(wanted) == len(FIRST),
-               f"{len(wanted)} locks of two users are shown as `custody locks` prints them", f"{page.rows()}\n{wanted}")
+    site.equal((sorted(page.rows()), len(wanted)), (wanted, len(FIRST)),
+               f"{len(wanted)} locks of two users are shown as `custody locks` prints them")
     moments = page.run("return [...document.querySelectorAll('#rows time')].map(it => it.dateTime)")
-    site.expect(sorted(moments) == sorted(lock[3] for lock in site.locks()), "with the moment of each", str(moments))
-    site.expect(page.status() == "", "and no refusal", page.status())
+    site.equal(sorted(moments), sorted(lock[3] for lock in site.locks()), "with the moment of each")
+    site.equal(page.status(), "", "and no refusal")
     page.picture("list")
     ours = page.run("return [...document.querySelectorAll('#rows .ours')].map(row => row.children[0].textContent)")
     own = {escaped(path) for user, path, ref in FIRST if user == "ann" and ref in (MAIN, RELEASE)}
-    site.expect(set(ours) == own, "ann's own are marked", str(ours))
+    site.equal(set(ours), own, "ann's own are marked")
     site.expect(MARKUP in page.shown(), "a path with elements of HTML is shown as text")
-    site.expect("art/hero\\u{202e}dsp.exe" in page.shown(),
-                "a character that changes the direction is shown as an escape")
-    try:
-        alert = page.browser.switch_to.alert.text
-    except NoAlertPresentException:
-        alert = ""
+    site.expect(escaped(REVERSED) in page.shown(), "a character that changes the direction is shown as an escape")
     elements = page.run("return document.querySelectorAll('#rows img, #rows script').length")
-    site.expect((page.browser.title, alert, elements) == ("Locks of studio/film", "", 0), "and nothing of it runs")
+    found = page.browser.title, alert_is_present()(page.browser), elements
+    site.equal(found, ("Locks of studio/film", False, 0), "and nothing of it runs")
     page.browser.refresh()
-    site.expect(page.until(page.is_read) and sorted(page.rows()) == sorted(wanted),
-                "a reload of the tab shows it again")
+    site.expect(page.until(page.is_read) and sorted(page.rows()) == wanted, "a reload of the tab shows it again")
     page.name_branches("refs/heads/release/1.0 refs/tags/none")
-    rows = page.rows()
-    site.expect(sorted(rows) == sorted(expected(site, {RELEASE})), "branches are named by whole refs too", str(rows))
+    site.equal(sorted(page.rows()), expected(site, {RELEASE}), "branches are named by whole refs too")
     page.name_branches("main grün")
     site.expect(page.status() == "Branch grün: J2: a field is out of range" and len(page.rows()) == len(FIRST),
                 "a branch that the server refuses is named, and the rest is shown", page.status())
@@ -262,31 +244,22 @@ def try_order(site, page):
     """The order of the list."""
     check_order(site, page, "path", False)
     headers = {by: page.browser.find_element(By.CSS_SELECTOR, f"th button[value={by}]") for by in COLUMNS}
-    for by in ("owner", "since", "branch", "path"):
+    for by, falling in itertools.product(("owner", "since", "branch", "path"), (False, True)):
         headers[by].click()
-        check_order(site, page, by, False)
-        headers[by].click()
-        check_order(site, page, by, True)
+        check_order(site, page, by, falling)
     page.at("filter").click()
     page.press(Keys.TAB * 4, Keys.ENTER)
     check_order(site, page, "owner", False)
-    site.expect(page.focus() == "Owner", "by keyboard too, and the focus stays", page.focus())
+    site.equal(page.focus(), "Owner", "by keyboard too, and the focus stays")
     headers["path"].click()
-
-
-def tab_to(page, name):
-    """Presses Tab until this has the focus."""
-    for _ in range(60):
-        if page.focus() == name:
-            return True
-        page.press(Keys.TAB)
-    return False
 
 
 def try_keyboard(site, page):
     """The question, by keyboard."""
     page.at("filter").click()
-    site.expect(tab_to(page, "Release art/hero.psd"), "Tab leads to the button of a lock", page.focus())
+    for _ in itertools.takewhile(lambda _: page.focus() != "Release art/hero.psd", range(60)):
+        page.press(Keys.TAB)
+    site.equal(page.focus(), "Release art/hero.psd", "Tab leads to the button of a lock")
     page.press(Keys.ENTER)
     text = page.question()
     site.expect("art/hero.psd" in text and "ann (you)" in text, "Enter asks, with the path and the owner", text)
@@ -294,14 +267,14 @@ def try_keyboard(site, page):
     page.press(Keys.ESCAPE)
     page.until(lambda: not page.is_asking())
     site.expect("art/hero.psd" in site.paths() and "art/hero.psd" in page.shown(), "Escape changes nothing")
-    site.expect(page.focus() == "Release art/hero.psd", "and returns to the button", page.focus())
+    site.equal(page.focus(), "Release art/hero.psd", "and returns to the button")
     page.press(Keys.ENTER)
     page.question()
     focused = []
     while focused[-1:] != ["cancel"]:
         page.press(Keys.TAB)
         focused.append(page.focus())
-    site.expect(set(focused) <= {"cancel", "confirm", "body"}, "Tab stays within the question", str(focused))
+    site.expect(set(focused) <= {"cancel", "confirm", "body"}, "Tab stays within the question", focused)
     page.press(Keys.ENTER)
     page.until(lambda: not page.is_asking())
     site.expect("art/hero.psd" in site.paths(), "Cancel changes nothing")
@@ -309,7 +282,7 @@ def try_keyboard(site, page):
     page.question()
     page.press(Keys.ENTER)
     page.until(lambda: page.status() == "art/hero.psd is released.")
-    site.expect(page.status() == "art/hero.psd is released.", "Enter releases ann's own lock", page.status())
+    site.equal(page.status(), "art/hero.psd is released.", "Enter releases ann's own lock")
     site.expect("art/hero.psd" not in site.paths() | page.shown(), "`custody locks` no longer has it, nor has the page")
     site.expect(page.focus().startswith("Release art/"), f"the focus is on the next: {page.focus()}", page.focus())
 
@@ -337,21 +310,20 @@ def try_force(site, page):
     site.expect(words == "art/ship.psd is released." and "art/ship.psd" not in left, "ann releases it", words)
     questions, words = page.release("art/nobody.psd", "confirm", "confirm")
     asked = ["lost or overwritten" in it for it in questions]
-    site.expect(words == "art/nobody.psd is released." and asked == [False,
-                                                                     True] and "art/nobody.psd" not in site.paths(),
+    is_gone = words == "art/nobody.psd is released." and "art/nobody.psd" not in site.paths()
+    site.expect(is_gone and asked == [False, True],
                 "and one of a branch that is not named, after two questions", f"{questions} {words}")
     _, words = page.release("art/none.psd", "confirm")
     site.expect(words == "art/none.psd is released." and "art/none.psd" not in site.paths(),
-                "and ann's own there, after one",
-                words)
+                "and ann's own there, after one", words)
 
 
 def try_race(site, page):
     """A lock that somebody else has released."""
     page.enter(site.server.line("ann"))
     number = next(lock[0] for lock in site.locks() if lock[4] == "art/left.psd")
-    status = site.release("bob", number)
-    site.expect(status == 200, "bob releases a lock that ann has on the page", str(status))
+    unlock = message("POST", target(f"locks/{number}/unlock"), {}, site.server.token(user="bob"))
+    site.equal(site.server.ask(unlock)[0], 200, "bob releases a lock that ann has on the page")
     _, words = page.release("art/left.psd", "confirm")
     site.expect(words == "art/left.psd: L2: no such lock" and "art/left.psd" not in page.shown(),
                 "ann gets the words of L2, and the row goes", words)
@@ -361,23 +333,20 @@ def try_race(site, page):
 def try_rights(site, page):
     """Users and tokens that may do less."""
     page.enter(site.server.line("vic"))
-    site.expect(sorted(page.rows()) == sorted(expected(site, {MAIN})) and page.status() == "",
-                "who may not push has the list with its branches", f"{page.rows()} {page.status()}")
+    site.equal((sorted(page.rows()), page.status()), (expected(site, {MAIN}), ""),
+               "who may not push has the list with its branches")
     questions, words = page.release("art/shot10.psd", "confirm", "confirm")
     site.expect(words == NO_FORCE and "Release the lock of ann?" in questions[1],
                 "and is refused after the question of force", f"{questions} {words}")
     page.enter(site.server.line("ann", "download"))
-    site.expect(sorted(page.rows()) == sorted(expected(site, {MAIN})) and page.status() == "",
-                "a download token shows the list",
-                f"{page.rows()} {page.status()}")
+    site.equal((sorted(page.rows()), page.status()), (expected(site, {MAIN}), ""), "a download token shows the list")
     _, words = page.release("art/shot10.psd", "confirm")
     site.expect(words == "art/shot10.psd: A5: the token does not cover this"
-                and "art/shot10.psd" in site.paths() & page.shown(),
-                "and releases nothing", words)
+                and "art/shot10.psd" in site.paths() & page.shown(), "and releases nothing", words)
     page.enter(site.server.line("eve"))
     denied = "P1: policy row 1 denies pull"
-    site.expect(page.status() == f"Branch main: {denied}\nAll branches: {denied}" and page.rows() == [],
-                "who may not list has the words of the policy", page.status())
+    site.equal((page.status(), page.rows()), (f"Branch main: {denied}\nAll branches: {denied}", []),
+               "who may not list has the words of the policy")
 
 
 def try_token(site, page):
@@ -388,7 +357,7 @@ def try_token(site, page):
     time.sleep(2.1)
     page.at("branches").send_keys(Keys.ENTER)
     page.until(lambda: page.at("line").is_displayed())
-    site.expect(page.status() == "A3: the token has expired", "when it has expired, the words are shown", page.status())
+    site.equal(page.status(), "A3: the token has expired", "when it has expired, the words are shown")
     kept = page.run("return sessionStorage.getItem('line')")
     site.expect(page.focus() == "line" and page.rows() == [] and kept is None and not page.at("list").is_displayed(),
                 "with the form, and without the list and the token", page.focus())
@@ -399,7 +368,7 @@ def try_token(site, page):
     page.at("forget").click()
     kept = page.run("return [sessionStorage.getItem('line'), document.body.textContent.includes('art/')]")
     site.expect(kept == [None, False] and page.at("line").is_displayed(), "`Forget the token` removes it, and the list",
-                str(kept))
+                kept)
 
 
 def try_many(site, page, count):
@@ -416,7 +385,7 @@ def try_many(site, page, count):
     whole = page.until(lambda: page.at("count").text == f"{count} of {count} locks")
     taken = time.monotonic() - began
     page.until(page.is_read)
-    site.expect(whole and sorted(page.rows()) == sorted(expected(site, {MAIN})) and taken < 5,
+    site.expect(whole and sorted(page.rows()) == expected(site, {MAIN}) and taken < 5,
                 f"{count} locks are shown in {site.asked() - asked} requests, in {taken:.2f} s")
     page.name_branches("main release/1.0")
     check_order(site, page, "path", False)
@@ -439,7 +408,7 @@ def try_far_rows(site, page):
     site.expect(page.focus() == names[701] and not covered, "Tab leads to a row outside of the window", page.focus())
     parts = ("table", "th", "#rows tr:nth-child(702)", "#rows tr:nth-child(702) td")
     roles = [page.browser.find_element(By.CSS_SELECTOR, name).aria_role for name in parts]
-    site.expect(roles == ["table", "columnheader", "row", "cell"], "for a screen reader it is a table", str(roles))
+    site.equal(roles, ["table", "columnheader", "row", "cell"], "for a screen reader it is a table")
 
 
 def try_narrow(site, page):
@@ -474,18 +443,18 @@ def try_end(site, page):
     page.enter(site.server.line("ann"))
     site.server.end(signal.SIGTERM)
     _, words = page.release("art/shot10.psd", "confirm")
-    site.expect(words == "art/shot10.psd: the LFS server is not reachable now; try again in a minute",
-                "while the server is down, the words of nginx are shown", words)
+    site.equal(words, "art/shot10.psd: the LFS server is not reachable now; try again in a minute",
+               "while the server is down, the words of nginx are shown")
     page.at("branches").send_keys(Keys.ENTER)
     page.until(lambda: page.status().startswith("Branch main"))
     site.expect("All branches: the LFS server is not reachable now" in page.status(), "for the list too", page.status())
     kept = page.run("return [localStorage.length, document.cookie, Object.keys(sessionStorage).sort().join()]")
     site.expect(kept == [0, "", "branches,line"] and page.browser.get_cookies() == [],
-                "no cookie is kept, and nothing beyond the tab", str(kept))
+                "no cookie is kept, and nothing beyond the tab", kept)
     log = Path(site.room, "custody.access.log").read_text()
     site.expect(not re.search("[0-9a-f]{64}", log), "nginx has logged no token")
     errors = [it["message"] for it in page.browser.get_log("browser") if it["source"] != "network"]
-    site.expect(not errors, "the console has no error but the refusals", str(errors))
+    site.equal(errors, [], "the console has no error but the refusals")
 
 
 def try_page(site, page):

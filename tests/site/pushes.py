@@ -48,31 +48,30 @@ class Pushes:
         with open(path, "w", encoding="utf-8") as file:
             file.write(text)
 
-    def commit(self):
-        """Commits all that has changed."""
+    def write_many(self, count, text):
+        """Commits as many files in a folder."""
+        for number in range(count):
+            self.write(f"many-{count}/{number}.txt", f"{text}{number}")
         self.clone.commit("A change")
 
     def change(self, name, text):
         """Commits a file on what the server has."""
         self.start()
         self.write(name, text)
-        self.commit()
+        self.clone.commit("A change")
 
     def command(self, *words):
         """Commits what a command of Git does to what the server has."""
         self.start()
         self.git(*words)
-        self.commit()
-
-    def heads(self):
-        """The refs of the server."""
-        return self.site.run("git", "-C", f"{self.site.room}/git/{FILM}.git", "for-each-ref")[1]
+        self.clone.commit("A change")
 
     def push(self, *push):
         """Pushes without the client's hook. Returns the status, what was printed, and whether a ref moved."""
-        before = self.heads()
+        refs = ["git", "-C", f"{self.site.room}/git/{FILM}.git", "for-each-ref"]
+        before = self.site.run(*refs)
         status, text = self.git("push", "--no-verify", "origin", *(push or ["main"]), may_fail=True)
-        return status, text, self.heads() != before
+        return status, text, self.site.run(*refs) != before
 
     def refused(self, what, words, *push):
         """A push is refused whole, with these words."""
@@ -112,9 +111,7 @@ def try_history(site, pushes):
     """Pushes that move a ref back, or add one, or remove one."""
     site.ann.git("pull", "-q", "--rebase")
     site.ann.git("lfs", "unlock", "art/2.psd")
-    site.ann.path("art/2.psd").chmod(0o644)
-    site.ann.path("art/2.psd").write_bytes(b"ann's ship")
-    site.ann.git("commit", "-q", "-a", "-m", "A ship")
+    site.ann.change("art/2.psd", b"ann's ship")
     site.ann.git("push", "-q", "origin", "main")
     site.ann.git("lfs", "lock", "art/2.psd")
     pushes.start()
@@ -126,7 +123,7 @@ def try_history(site, pushes):
     pushes.passes("one that takes other paths back", "+main")
     pushes.passes("a new branch at a commit of the server", "main:refs/heads/copy")
     pushes.write("art/1.psd", "a hero of bob")
-    pushes.commit()
+    pushes.clone.commit("A change")
     pushes.passes("a new branch with a change of a path that is locked on main alone", "main:refs/heads/mine")
     pushes.refused("and the same commit for main", ["art/1.psd: ann has locked it"])
     site.lock("ann", "art/3.psd", "refs/heads/mine")
@@ -149,13 +146,11 @@ def try_rows(site, pushes):
     site.ann.git("pull", "-q", "--rebase")
     site.ann.path("final").mkdir()
     site.ann.path("final/cut.txt").write_text("ann's")
-    site.ann.git("add", "final")
-    site.ann.git("commit", "-q", "-m", "A cut")
+    site.ann.commit("A cut", "final")
     site.ann.git("push", "-q", "origin", "main", "main:refs/heads/release/2")
     pushes.refused("the removal of a branch with such a path", ["final/cut.txt: row 1"], ":release/2")
     pushes.refused("a tag, which changes no path",
-                   ["refs/tags/one", "this branch or tag: row 2 of the policy denies it"],
-                   "origin/main:refs/tags/one")
+                   ["refs/tags/one", "this branch or tag: row 2 of the policy denies it"], "origin/main:refs/tags/one")
     pushes.refused("a branch with a character that the server does not take", ["A-Z a-z 0-9"], "main:refs/heads/idea#2")
     blob = pushes.git("rev-parse", "HEAD:final/cut.txt")[1].strip()
     pushes.refused("a tag of a file", ["it is no commit"], f"{blob}:refs/tags/file")
@@ -165,7 +160,7 @@ def try_rows(site, pushes):
     pushes.start()
     for name in ODD_NAMES:
         pushes.write(b"odd/" + name, "odd")
-    pushes.commit()
+    pushes.clone.commit("A change")
     pushes.passes("odd paths pass where the rows let them")
     for name in ODD_NAMES:
         pushes.change(b"final/" + name, "odd")
@@ -178,9 +173,7 @@ def try_many(site, pushes):
     """Pushes of many paths, with the time that the hook takes."""
     for count in (1_000, 2_500, 10_001):
         pushes.start()
-        for number in range(count):
-            pushes.write(f"many-{count}/{number}.txt", f"{number}")
-        pushes.commit()
+        pushes.write_many(count, "")
         began = time.monotonic()
         pushes.passes(f"{count} paths are pushed")
         print(f"     in {time.monotonic() - began:.2f} s, {without_hook(site, pushes, count):.2f} s without the hook",
@@ -188,9 +181,7 @@ def try_many(site, pushes):
     last = sorted(f"many-10001/{it}.txt" for it in range(10_001))[-1]
     site.lock("ann", last)
     pushes.start()
-    for number in range(10_001):
-        pushes.write(f"many-10001/{number}.txt", "again")
-    pushes.commit()
+    pushes.write_many(10_001, "changed ")
     pushes.refused("10001 paths, the last of which is locked", [f"{last}: ann has locked it"])
     token = site.server.token()
     for number in range(30):
@@ -203,9 +194,7 @@ def without_hook(site, pushes, count):
     """How long a push of as many paths takes if there is no hook."""
     hook = Path(site.room, "lib/pre-receive")
     hook.chmod(0o644)
-    for number in range(count):
-        pushes.write(f"many-{count}/{number}.txt", f"again {number}")
-    pushes.commit()
+    pushes.write_many(count, "again ")
     began = time.monotonic()
     pushes.git("push", "-q", "--no-verify", "origin", "main")
     taken = time.monotonic() - began
@@ -224,10 +213,8 @@ def try_users(site, pushes):
     site.expect(status != 0 and "does not let carl pull from studio/film" in text,
                 "carl, whom no row names, may not clone", text)
     site.run("git", "init", "-q", "--bare", f"{site.room}/git/other/film.git")
-    words = ["git", "-c", f"core.sshCommand={site.ssh_command('vera')}", "ls-remote", site.remote("other/film")]
-    status, text = site.run(*words, may_fail=True)
-    site.expect(status != 0 and "does not let vera pull from other/film" in text,
-                "nor vera another owner's repository", text)
+    vera.fails("nor vera another owner's repository", "does not let vera pull from other/film", "ls-remote",
+               site.remote("other/film"))
     policy = Path(site.room, "policy.toml")
     whole = policy.read_text()
     policy.write_text("no policy")
@@ -252,10 +239,8 @@ def try_silence(site, pushes):
         held.communicate()
     hook.write_text(text)
     pushes.passes("it passes when the server is there again")
-    bare = f"{site.room}/git/studio/film.git"
-    status, text = pushes.clone.tried("push", "--no-verify", bare, "main:refs/heads/local")
-    site.expect(status != 0 and "did not come over SSH" in text, "a push by a path says that nobody knows whose it is",
-                text)
+    pushes.clone.fails("a push by a path says that nobody knows whose it is", "did not come over SSH", "push",
+                       "--no-verify", f"{site.room}/git/{FILM}.git", "main:refs/heads/local")
 
 
 def try_pushes(site):

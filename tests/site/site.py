@@ -16,7 +16,7 @@ from pathlib import Path
 
 from tests.site.handbook import try_handbook
 from tests.site.pushes import try_pushes
-from tests.studio.checks import Checks, arguments, require
+from tests.studio.checks import Checks, arguments, comes_true, require
 from tests.studio.clone import same_files
 from tests.studio.policy import FILM, WORK, row
 from tests.studio.program import LAST, TOP, content
@@ -57,10 +57,7 @@ class Studio(Site):
 
     def wait_for_objects(self, count):
         """Waits until the server has at least this many objects."""
-        begun = time.monotonic()
-        while self.count() < count:
-            require(time.monotonic() - begun < PATIENCE, f"{count} objects within {PATIENCE} s")
-            time.sleep(0.02)
+        require(comes_true(lambda: self.count() >= count, PATIENCE, 0.02), f"{count} objects within {PATIENCE} s")
 
 
 def push_and_clone(site):
@@ -85,9 +82,7 @@ def try_locks(site):
     site.expect("art/1.psd" in text and "art/2.psd" in text, "ann lists both locks", text)
     site.bob.fails("bob may not break ann's lock", "P0", "lfs", "unlock", "--force", "art/1.psd")
     site.ann.passes("ann breaks bob's lock", "lfs", "unlock", "--force", "art/2.psd", says="Unlocked art/2.psd")
-    site.bob.path("art/1.psd").chmod(0o644)
-    site.bob.path("art/1.psd").write_bytes(b"bob's hero")
-    site.bob.git("commit", "-q", "-a", "-m", "A hero")
+    site.bob.change("art/1.psd", b"bob's hero")
     site.bob.fails("bob's push of the locked path is stopped", "art/1.psd", *PUSH)
     site.ann.passes("ann releases the lock", "lfs", "unlock", "art/1.psd", says="Unlocked art/1.psd")
     site.bob.passes("bob's push passes", *PUSH)

@@ -6,6 +6,7 @@ import subprocess
 import sys
 import tempfile
 import threading
+import time
 
 from tests.studio.program import TOP
 
@@ -27,6 +28,16 @@ def within(seconds, bound, what):
     return text
 
 
+def comes_true(holds, seconds=20, pause=0.1):
+    """Whether the condition comes to hold in this many seconds."""
+    end = time.monotonic() + seconds
+    while not holds():
+        if time.monotonic() > end:
+            return False
+        time.sleep(pause)
+    return True
+
+
 class Checks:
     """Counts checks, and prints a line for each."""
 
@@ -34,11 +45,12 @@ class Checks:
         self.passed = self.failed = 0
 
     def expect(self, is_met, what, text=""):
-        """One check. If it failed, the text is printed below its line. Returns whether it passed."""
+        """One check. If it failed, the text, or what else was found, is printed below its line. Returns whether it
+        passed."""
         self.passed, self.failed = self.passed + bool(is_met), self.failed + (not is_met)
         print(f"{'ok  ' if is_met else 'FAIL'} {what}", flush=True)
-        if not is_met and text:
-            print("     " + text.strip().replace("\n", "\n     "), flush=True)
+        if not is_met and str(text):
+            print("     " + str(text).strip().replace("\n", "\n     "), flush=True)
         return bool(is_met)
 
     def judge(self, name, act):

@@ -29,6 +29,10 @@ class Workroom:
         """One check."""
         return self.checks.expect(is_met, what, text)
 
+    def equal(self, found, wanted, what):
+        """One check: what was found is what was wanted."""
+        return self.expect(found == wanted, what, found)
+
     def write(self, name, text, mode=0o644):
         """Writes a file with this mode. Returns its path."""
         path = Path(self.room, name)
@@ -118,6 +122,12 @@ class Clone:
         """Commits these files, or all of them."""
         self.git("add", *(names or ["-A"]))
         self.git("commit", "-q", "-m", text)
+
+    def change(self, name, data):
+        """Commits other bytes of a file, which Git LFS may have made read-only."""
+        self.path(name).chmod(0o644)
+        self.path(name).write_bytes(data)
+        self.git("commit", "-q", "-a", "-m", f"Changes {name}")
 
     def add_files(self, name, count, size):
         """Commits a folder with new files of about this size."""

@@ -29,6 +29,18 @@ def free_port():
             return port
 
 
+def listening(port):
+    """Whether somebody listens on the port."""
+    with socket.socket() as probe:
+        return probe.connect_ex(("127.0.0.1", port)) == 0
+
+
+def memory_of(process):
+    """The resident memory of a process, in KiB."""
+    lines = Path(f"/proc/{process}/status").read_text(encoding="utf-8").splitlines()
+    return next(int(line.split()[1]) for line in lines if line.startswith("VmRSS:"))
+
+
 def target(rest, repo=FILM):
     """The target of a request in a repository."""
     return f"/{repo}.git/info/lfs/{rest}"
@@ -230,8 +242,7 @@ class Server(Files):
 
     def memory(self):
         """The resident memory in KiB."""
-        lines = Path(f"/proc/{self.child.pid}/status").read_text(encoding="utf-8").splitlines()
-        return next(int(line.split()[1]) for line in lines if line.startswith("VmRSS:"))
+        return memory_of(self.child.pid)
 
     def processor_time(self):
         """How many seconds of a processor the server has used."""

@@ -5,17 +5,15 @@ import os
 import re
 import shutil
 import signal
-import socket
 import ssl
 import subprocess
-import time
 from pathlib import Path
 
-from tests.studio.checks import require
+from tests.studio.checks import comes_true, require
 from tests.studio.clone import Clone, Workroom
 from tests.studio.control import ControlledServer
 from tests.studio.policy import FILM, MAIN, policy
-from tests.studio.program import TOP, free_port, lock, message, target
+from tests.studio.program import TOP, free_port, listening, lock, message, target
 
 PROGRAMS = ("forced-command", "pre-receive", "backup", "spare", "unreferenced", "unlock", "mirror")
 NGINX = """
@@ -53,12 +51,7 @@ QUOTA = 100_000_000_000
 
 def wait_for(port):
     """Waits until somebody listens on the port."""
-    for _ in range(100):
-        with socket.socket() as probe:
-            if probe.connect_ex(("127.0.0.1", port)) == 0:
-                return
-        time.sleep(0.1)
-    require(False, f"nobody listens on port {port}")
+    require(comes_true(lambda: listening(port), 10), f"nobody listens on port {port}")
 
 
 def connection_to(port, certificate=None, source=None, timeout=120):

@@ -6,7 +6,6 @@ program that was killed leaves them. What was stored after each request is kept 
 """
 import contextlib
 import random
-import shutil
 import sqlite3
 import tempfile
 from dataclasses import dataclass, field
@@ -15,6 +14,7 @@ from pathlib import Path
 from tests.studio.checks import stop
 from tests.studio.policy import ART, FILM, GAME, MAIN, open_policy
 from tests.studio.program import CHUNK, LAST, NOW, Files, lock, message, name_of, put, target
+from tests.studio.tables import copied
 
 REPOS = [FILM, GAME, ART]
 POLICY = open_policy(repos=REPOS, quota=100_000_000)
@@ -120,11 +120,9 @@ class Good:
 @contextlib.contextmanager
 def opened(folder):
     """A connection of Python's sqlite3 to a copy of the database."""
-    with tempfile.TemporaryDirectory(dir=MEMORY) as copy:
-        for file in Path(folder).glob("db*"):
-            shutil.copy(file, copy)
-        with contextlib.closing(sqlite3.connect(f"{copy}/db")) as base:
-            yield base
+    with (tempfile.TemporaryDirectory(dir=MEMORY) as room,
+          contextlib.closing(sqlite3.connect(copied(f"{folder}/db", room))) as base):
+        yield base
 
 
 def rows_of(folder):
@@ -184,9 +182,8 @@ class Maker(Files):
 
     def move_log(self):
         """Moves the log into the file. No row is changed."""
-        base = sqlite3.connect(f"{self.room}/db")
-        base.execute("PRAGMA wal_checkpoint(TRUNCATE)").fetchall()
-        base.close()
+        with contextlib.closing(sqlite3.connect(f"{self.room}/db")) as base:
+            base.execute("PRAGMA wal_checkpoint(TRUNCATE)").fetchall()
 
     def make(self):
         """The good database."""

@@ -1,34 +1,28 @@
 """What costs others something: wrong uploads, locks and tokens without number, and a full disk."""
 import contextlib
-import hashlib
 import os
 import pwd
-import shutil
 import sqlite3
 import tempfile
-import threading
 import time
-from pathlib import Path
 
 from tests.site.container.keys import over_ssh
-from tests.site.container.machine import (CONTROL, check, database, issue, measured, must, run, serving, start, stop,
-                                          token,
-                                          wait_until)
+from tests.site.container.machine import check, database, measured, must, run, serving, start, stop, token, via
 from tests.site.container.web import ask, bearer, connect, head_of, put, reply_of
-from tests.studio.checks import require
+from tests.studio.checks import beside, comes_true, require
+from tests.studio.control import issue_words
 from tests.studio.program import LOCKS, content, lock, name_of
+from tests.studio.tables import copied
 
 
 def upload_wrong(text, size, results):
     """Uploads bytes under a name that they do not have, and notes the status."""
     with connect() as connection:
         piece = b"x" * 1_000_000
-        try:
+        with contextlib.suppress(OSError):
             connection.sendall(head_of("PUT", content("0" * 64), [*bearer(text), ("Content-Length", size)]))
             for _ in range(size // len(piece)):
                 connection.sendall(piece)
-        except OSError:
-            pass
         results.append(reply_of(connection, 600).status)
 
 
@@ -36,37 +30,30 @@ def try_wrong_names(count=24, size=32_000_000):
     """Uploads of wrong bytes with one token, and how long another user waits meanwhile."""
     bad, good = token("ann"), token("bob")
     results, waits = [], []
-    threads = [threading.Thread(target=upload_wrong, args=(bad, size, results)) for _ in range(count)]
     began = time.monotonic()
-    for thread in threads:
-        thread.start()
-    while any(it.is_alive() for it in threads):
-        asked = time.monotonic()
-        reply = ask("GET", LOCKS, bearer(good), seconds=600)
-        waits.append(time.monotonic() - asked)
-        if reply.status != 200:
-            waits.append(10_000)
-        time.sleep(0.1)
+    with beside(*[lambda _: upload_wrong(bad, size, results)] * count) as threads:
+        while any(it.is_alive() for it in threads):
+            asked = time.monotonic()
+            reply = ask("GET", LOCKS, bearer(good), seconds=600)
+            waits.append(time.monotonic() - asked if reply.status == 200 else 10_000)
+            time.sleep(0.1)
     served = results.count(422)
     check(served <= 16 and served + results.count(429) == count and waits and max(waits) < 10_000,
           f"of {count} uploads of {size // 1_000_000} MB under a wrong name with one token at once, {served} were "
-          "taken",
-          results)
+          "taken", results)
     taken = time.monotonic() - began
     measured(f"they took {taken:.1f} s; another user waited {max(waits):.1f} s at most, of {len(waits)} requests")
-    _, out = run("custody", "sweep", "--via", CONTROL)
+    _, out = via("sweep")
     check(out.strip() == "swept 0 uploads", "and nothing of their bytes is kept", out)
 
 
 def pages():
     """How many bytes the pages of the database that are used have, its log included."""
-    with tempfile.TemporaryDirectory() as folder:
-        for file in (database(), Path(f"{database()}-wal")):
-            shutil.copy(file, folder)
-        with contextlib.closing(sqlite3.connect(f"{folder}/{database().name}")) as opened:
-            count, free, size = (opened.execute(f"PRAGMA {it}").fetchone()[0] for it in ("page_count",
-                                                                                         "freelist_count", "page_size"))
-            return (count - free) * size
+    names = ("page_count", "freelist_count", "page_size")
+    with (tempfile.TemporaryDirectory() as folder,
+          contextlib.closing(sqlite3.connect(copied(database(), folder))) as opened):
+        count, free, size = (opened.execute(f"PRAGMA {it}").fetchone()[0] for it in names)
+        return (count - free) * size
 
 
 def make_locks(text, count, length):
@@ -103,11 +90,11 @@ def try_more_room(folder, size):
     text = token()
     while put(text, 40_000_000, plain=True).status == 200:
         pass
-    _, out = run("custody", "sweep", "--via", CONTROL)
+    _, out = via("sweep")
     check("store G2" in out, "an upload that fills the disk once more is kept, since removing it needs room", out)
     must("mount", "-o", f"remount,size={size}m", folder)
     reply = ask("GET", LOCKS, bearer(text), plain=True)
-    _, out = run("custody", "sweep", "--via", CONTROL)
+    _, out = via("sweep")
     check(reply.status == 200 and out.strip() == "swept 0 uploads",
           "with more room, it is removed before the next connection", out)
     _, lines = run("journalctl", "-u", "custody", "-o", "cat")
@@ -128,26 +115,25 @@ def try_full_disk(size=400):
         stored.append(put(text, 40_000_000, plain=True).status)
     measured(f"{len(stored) - 2} objects of 40 MB were stored, and the next one was {stored[-1]}")
     for word in ("sweep", "prune"):
-        measured(f"custody {word} on the full disk: {run('custody', word, '--via', CONTROL)}")
+        measured(f"custody {word} on the full disk: {via(word)}")
     run("systemctl", "restart", "custody")
-    wait_until(serving)
-    measured(f"after a restart, authenticate ends with {issue()[0]}")
+    comes_true(serving)
+    measured(f"after a restart, authenticate ends with {via(*issue_words())[0]}")
     reply = ask("GET", content(last), bearer(text), plain=True)
-    check(reply.status == 200 and hashlib.sha256(reply.body).hexdigest() == last,
+    check(reply.status == 200 and name_of(reply.body) == last,
           "on a full disk, objects can be fetched")
     began = time.monotonic()
-    status, out = run("/usr/lib/custody/spare", "sweep") if Path("/usr/lib/custody/spare").exists() else (127,
-                                                                                                          "no spare")
+    status, out = run("sh", "-c", "/usr/lib/custody/spare sweep")
     check(status == 0 and "swept" in out,
           f"a full disk is cleared: {out.strip()}, in {time.monotonic() - began:.1f} s", out)
-    status, out = issue()
+    status, out = via(*issue_words())
     check(status == 0, "and users get tokens again", out)
     spare = folder / "spare"
     check(spare.exists() and spare.stat().st_size > 5_000_000, "the spare file is there again",
           f"{spare.stat().st_size if spare.exists() else 0} bytes")
     body = b'{"path":"art/full.psd"}'
     check(status == 0 and ask("POST", LOCKS, bearer(text), body, plain=True).status == 201, "and lock paths")
-    status, out = run("custody", "check", "--via", CONTROL)
+    status, out = via("check")
     check(status == 0 and out.strip() == f"checked {len(stored) - 1} objects",
           "and each object that was stored is whole", out)
     try_more_room(folder, size + 20)

@@ -3,8 +3,9 @@ import re
 import shutil
 from pathlib import Path
 
-from tests.site.container.machine import (EXAMPLES, HOME, check, listening, mode_of, must, process, run,
-                                          wait_until, write)
+from tests.site.container.machine import EXAMPLES, HOME, check, mode_of, must, run, run_as_server, write
+from tests.studio.checks import comes_true
+from tests.studio.program import listening
 
 
 def sshd_setting(user, name):
@@ -37,7 +38,7 @@ def set_up_ssh():
     if check((EXAMPLES / "sshd-custody.conf").exists(), "the package has a configuration for sshd"):
         shutil.copy(EXAMPLES / "sshd-custody.conf", "/etc/ssh/sshd_config.d/custody.conf")
     must("systemctl", "restart", "ssh")
-    wait_until(lambda: listening(22))
+    comes_true(lambda: listening(22))
     if not keys_file().is_relative_to("/etc"):
         (HOME / ".ssh").mkdir(mode=0o700, exist_ok=True)
         shutil.chown(HOME / ".ssh", "custody", "custody")
@@ -67,9 +68,6 @@ def try_ssh():
     # The server was taken over: it writes a key wherever it can, as its own user and in its own view of the files.
     line = f'command="/usr/lib/custody/forced-command ann" {Path("/try/key-thief.pub").read_text()}'
     for place in {keys_file(), HOME / ".ssh/authorized_keys", HOME / ".ssh/authorized_keys2"}:
-        script = f'mkdir -p {place.parent} && cat >> {place}'
-        run("nsenter", "-t", process(), "-m", "--", "setpriv", "--reuid", "custody", "--regid", "custody",
-            "--clear-groups",
-            "sh", "-c", f"umask 077; {script}", given=line)
+        run_as_server("sh", "-c", f"umask 077; mkdir -p {place.parent} && cat >> {place}", given=line)
     status, text = over_ssh("thief", "git-lfs-authenticate studio/film.git upload")
     check(status == 255, "a server that was taken over cannot add itself a key", text)

@@ -2,19 +2,19 @@
 import os
 import pwd
 import re
-import socket
 import stat
 import subprocess
-import time
 from pathlib import Path
 
-from tests.studio.checks import Checks, require
+from tests.studio.checks import Checks, comes_true, require
 from tests.studio.control import issue_words, token_of
+from tests.studio.program import listening
 
 HOME = Path("/var/lib/custody")
-CONTROL = "/run/custody/control"
+CONTROL, PORT = "/run/custody/control", 8080
 EXAMPLES = Path("/usr/share/doc/custody/examples")
 UNIT = Path("/lib/systemd/system/custody.service")
+AS_SERVER = ("setpriv", "--reuid", "custody", "--regid", "custody", "--clear-groups")
 # How much is shown of what a failed check found.
 SHOWN = 1500
 CHECKS = Checks()
@@ -30,13 +30,11 @@ def measured(text):
     print(f"     {text}", flush=True)
 
 
-def run(*words, given=None, user=None, seconds=120, environment=None, folder=None):
+def run(*words, given=None, user=None):
     """Runs a command, as the user. Returns its status and what it printed."""
     words = ["runuser", "-u", user, "--", *words] if user else list(words)
     ran = subprocess.run([str(it) for it in words], input=given, stdout=subprocess.PIPE, stderr=subprocess.STDOUT,
-                         text=True,
-                         errors="replace", timeout=seconds, check=False, cwd=folder,
-                         env=dict(os.environ, **(environment or {})))
+                         text=True, errors="replace", timeout=120, check=False)
     return ran.returncode, ran.stdout
 
 
@@ -47,51 +45,31 @@ def must(*words, **more):
     return text
 
 
-def wait_until(holds, seconds=20):
-    """Whether the condition came to hold in time."""
-    end = time.monotonic() + seconds
-    while time.monotonic() < end:
-        if holds():
-            return True
-        time.sleep(0.1)
-    return holds()
-
-
 def mode_of(path):
     """Owner and mode of a file, as `custody 0600`."""
     found = os.lstat(path)
     return f"{pwd.getpwuid(found.st_uid).pw_name} {stat.S_IMODE(found.st_mode):04o}"
 
 
-def write(path, text, mode=0o644):
+def write(path, text):
     """Writes a file, and the folders above it."""
     path = Path(path)
     path.parent.mkdir(parents=True, exist_ok=True)
     path.write_text(text)
-    path.chmod(mode)
-
-
-def active():
-    """Whether systemd says that the server runs."""
-    return run("systemctl", "is-active", "custody")[1].strip() == "active"
-
-
-def listening(port=8080):
-    """Whether somebody listens on the port."""
-    with socket.socket() as probe:
-        return probe.connect_ex(("127.0.0.1", port)) == 0
+    path.chmod(0o644)
 
 
 def serving():
     """The address is bound before the database is open, and the control socket is made after it."""
-    return listening() and os.path.exists(CONTROL) and active()
+    return (listening(PORT) and os.path.exists(CONTROL)
+            and run("systemctl", "is-active", "custody")[1].strip() == "active")
 
 
 def start():
     """Starts the server. Whether it serves."""
     run("systemctl", "reset-failed", "custody")
     run("systemctl", "start", "custody")
-    return wait_until(serving)
+    return comes_true(serving)
 
 
 def start_at_once():
@@ -119,13 +97,18 @@ def database():
     return Path(re.search(r"--db (\S+)", UNIT.read_text())[1])
 
 
-def issue(**more):
-    """Issues a token by the control socket. Returns the status, and what was printed."""
-    name, *words = issue_words()
+def run_as_server(*words, **more):
+    """Runs a command as the server's user, with the server's view of the files."""
+    return run("nsenter", "-t", process(), "-m", "--", *AS_SERVER, *words, **more)
+
+
+def via(name, *words, **more):
+    """Runs a command of the program by the control socket. Returns its status and what it printed."""
     return run("custody", name, "--via", CONTROL, *words, **more)
 
 
 def token(user="ann"):
     """A new token of the user."""
-    name, *words = issue_words(user)
-    return token_of(must("custody", name, "--via", CONTROL, *words))
+    status, text = via(*issue_words(user))
+    require(status == 0, f"no token was issued: {text}")
+    return token_of(text)

@@ -5,14 +5,14 @@ import os
 import re
 import shutil
 import socket
-import ssl
+import struct
 import subprocess
-import threading
 import time
 from pathlib import Path
 
-from tests.site.container.machine import EXAMPLES, check, mode_of, must, run, start, stop, token, wait_until
-from tests.site.container.web import (CERTIFICATE, KEY, ask, bearer, begun, connect, head_of, put, reply_of, spooled)
+from tests.site.container.machine import EXAMPLES, PORT, check, mode_of, must, run, start, stop, token
+from tests.site.container.web import CERTIFICATE, KEY, ask, bearer, begun, connect, put, reply_of, spooled
+from tests.studio.checks import beside, comes_true
 from tests.studio.policy import GAME
 from tests.studio.program import LOCKS, content, target
 
@@ -24,8 +24,7 @@ UNREACHABLE = '{"message":"the LFS server is not reachable now; try again in a m
 def set_up_nginx():
     """nginx with the package's site."""
     must("openssl", "req", "-x509", "-newkey", "rsa:2048", "-nodes", "-days", "2", "-subj", "/CN=lfs.example",
-         "-addext",
-         "subjectAltName=DNS:lfs.example", "-keyout", KEY, "-out", CERTIFICATE)
+         "-addext", "subjectAltName=DNS:lfs.example", "-keyout", KEY, "-out", CERTIFICATE)
     with open("/etc/hosts", "a", encoding="utf-8") as file:
         file.write("127.0.0.1 lfs.example\n")
     shutil.copy(EXAMPLES / "nginx-site", SITE)
@@ -40,26 +39,23 @@ def try_no_token():
     for method, rest, length in (("PUT", "content/" + "0" * 64, 200_000_000), ("POST", "objects/batch", 900_000)):
         with begun(method, target(rest), [], length, 100_000) as connection:
             reply = reply_of(connection, 5)
-        same = all(reply.fields.get(it) == own.fields.get(it) for it in ("content-type", "lfs-authenticate",
-                                                                         "content-length"))
+        names = ("content-type", "lfs-authenticate", "content-length")
+        same = all(reply.fields.get(it) == own.fields.get(it) for it in names)
         check(reply.status == own.status == 401 and same and reply.body == own.body,
               f"a {method} without a token is answered before its body, as the server itself does: {own.text}", reply)
     with begun("PUT", ABSENT, bearer("0" * 64), 200_000_000, 100_000) as connection:
         reply = reply_of(connection, 5)
     check(reply.status == 401 and "message" in reply.text,
           "a large PUT with a made-up token is answered before its body", reply)
-    connections = [begun("PUT", content(f"{number:064}"), [], 60_000_000, 4_000_000) for number in range(20)]
-    found = spooled()
-    check(found == 0, "20 unfinished PUTs without a token take no room on nginx's disk", f"{found} bytes")
-    for connection in connections:
-        connection.close()
-    wait_until(lambda: spooled() == 0)
-    connections = [begun("PUT", content(f"{number:064}"), bearer(f"{number:064}"), 60_000_000, 4_000_000)
-                   for number in range(20)]
-    found = spooled()
-    check(found == 0, "nor do 20 with made-up tokens", f"{found} bytes")
-    for connection in connections:
-        connection.close()
+    for field_of, what in ((lambda _: [], "20 unfinished PUTs without a token take no room on nginx's disk"),
+                           (bearer, "nor do 20 with made-up tokens")):
+        oids = [f"{number:064}" for number in range(20)]
+        connections = [begun("PUT", content(oid), field_of(oid), 60_000_000, 4_000_000) for oid in oids]
+        found = spooled()
+        check(found == 0, what, f"{found} bytes")
+        for connection in connections:
+            connection.close()
+        comes_true(lambda: spooled() == 0)
 
 
 def try_streams():
@@ -69,18 +65,16 @@ def try_streams():
         time.sleep(0.5)
         data = connection.recv(4096)
     settings = data[9:9 + int.from_bytes(data[:3], "big")] if data[3] == 4 else b""
-    pairs = {int.from_bytes(settings[at:at + 2], "big"): int.from_bytes(settings[at + 2:at + 6], "big")
-             for at in range(0, len(settings), 6)}
+    pairs = dict(struct.iter_unpack(">HI", settings))
     check(pairs.get(3, 0) <= 32, f"an HTTP/2 connection has {pairs.get(3)} streams at a time", pairs)
     Path("/try/large").write_bytes(os.urandom(4_000_000))
-    words = ["curl", "-s", "-Z", "--parallel-max", "60", "--http2", "--cacert", CERTIFICATE, "--limit-rate", "100k",
-             "-m", "6"]
+    upload = ["-s", "--http2", "--cacert", CERTIFICATE, "--limit-rate", "100k", "-m", "6", "-o", "/dev/null", "-T",
+              "/try/large"]
+    words = ["curl", "-Z", "--parallel-max", "60"]
     for number in range(60):
-        words += ["-o", "/dev/null", "-T", "/try/large", f"https://lfs.example{content(f'{number:064}')}"]
-        words += ["--next", "-s", "--http2", "--cacert", CERTIFICATE, "--limit-rate", "100k", "-m",
-                  "6"] if number < 59 else []
+        words += [*upload, f"https://lfs.example{content(f'{number:064}')}", "--next"]
     most = 0
-    with subprocess.Popen(words, stdout=subprocess.DEVNULL, stderr=subprocess.DEVNULL) as child:
+    with subprocess.Popen(words[:-1], stdout=subprocess.DEVNULL, stderr=subprocess.DEVNULL) as child:
         while child.poll() is None:
             most = max(most, spooled())
             time.sleep(0.1)
@@ -110,8 +104,7 @@ def try_limits():
           refused[0] if refused else "")
     held, refused = hold([f"{number:064}" for number in range(100)], 100)
     check(16 < held < 100 and refused and all(it.status == 429 for it in refused),
-          f"one address has {held} requests at a time",
-          refused[0] if refused else "")
+          f"one address has {held} requests at a time", refused[0] if refused else "")
     check(ask("GET", LOCKS, bearer(one)).status == 200, "and is served again after that")
 
 
@@ -126,10 +119,8 @@ def try_prefix():
 
     def begin(source, number):
         """A request that is not whole, from this address, and the status that it gets at once."""
-        raw = socket.create_connection(("fd00:9::9", 443), timeout=20, source_address=(source, 0))
-        connection = ssl.create_default_context(cafile=CERTIFICATE).wrap_socket(raw, server_hostname="lfs.example")
-        length = [("Content-Length", 1000)]
-        connection.sendall(head_of("PUT", content(f"{number:064}"), [*bearer(f"{number:064}"), *length]) + b"x" * 500)
+        oid = f"{number:064}"
+        connection = begun("PUT", content(oid), bearer(oid), 1000, 500, host="fd00:9::9", source=source)
         return connection, reply_of(connection, 0.2).status
 
     begun_here = [begin(f"fd00:1::{1 + number % 2}", number) for number in range(80)]
@@ -170,30 +161,25 @@ def try_log():
     logs = {file: Path(file).read_text(errors="replace") for file in glob.glob("/var/log/nginx/*")}
     wrong = [file for file, lines in logs.items() if text in lines]
     check(any("/locks" in it for it in logs.values()) and not wrong,
-          "no log of nginx has a token that was sent as a user's name",
-          [(file, mode_of(file)) for file in wrong])
+          "no log of nginx has a token that was sent as a user's name", [(file, mode_of(file)) for file in wrong])
 
 
 def try_given_up():
     """A server that closes the first connection without a reply, as ours does if the request is late."""
     stop()
-    asked = []
 
     def serve(listener):
         """Closes the first connection, and replies on the second."""
         for number in range(2):
             with listener.accept()[0] as connection:
                 if number:
-                    asked.append(connection.recv(65536))
+                    connection.recv(65536)
                     connection.sendall(b"HTTP/1.0 200 OK\r\nContent-Length: 2\r\n\r\nok")
 
-    with socket.create_server(("127.0.0.1", 8080)) as listener:
-        thread = threading.Thread(target=serve, args=(listener,))
-        thread.start()
+    with socket.create_server(("127.0.0.1", PORT)) as listener, beside(lambda _: serve(listener)):
         reply = ask("GET", LOCKS, bearer("0" * 64))
-        with contextlib.suppress(OSError), socket.create_connection(("127.0.0.1", 8080), timeout=1):
+        with contextlib.suppress(OSError), socket.create_connection(("127.0.0.1", PORT), timeout=1):
             pass
-        thread.join(5)
     check((reply.status, reply.text) == (200, "ok"), "a request whose connection the server gave up is sent once more",
           reply)
     start()
@@ -249,13 +235,9 @@ def try_full_spool():
 
 def try_locks_page():
     """The page with the locks needs no token, and nothing beside it does without one."""
-    def fetch(path):
-        """The reply of nginx, with its head."""
-        return run("curl", "-s", "-i", "--cacert", CERTIFICATE, f"https://lfs.example{path}")[1]
-
-    text = fetch("/locks")
-    check(" 200" in text.splitlines()[0] and "content-security-policy: default-src 'none'" in text
-          and "<title>Locks" in text,
-          "nginx serves the page with the locks, with a security policy", text)
+    reply = ask("GET", "/locks")
+    security = reply.fields.get("content-security-policy", "")
+    check(reply.status == 200 and security.startswith("default-src 'none'") and "<title>Locks" in reply.text,
+          "nginx serves the page with the locks, with a security policy", reply)
     for path in ("/locks/", "/LOCKS", "/locks%0a", "/locks.html", LOCKS):
-        check(" 401" in fetch(path).splitlines()[0], f"and {path} needs a token")
+        check(ask("GET", path).status == 401, f"and {path} needs a token")

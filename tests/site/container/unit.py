@@ -6,9 +6,12 @@ import subprocess
 import sys
 from pathlib import Path
 
-from tests.site.container.machine import (CONTROL, HOME, UNIT, check, database, journal, listening, mode_of, must,
-                                          process, run, serving, start, start_at_once, stop, wait_until, write)
+from tests.site.container.machine import (AS_SERVER, CONTROL, HOME, PORT, UNIT, check, database, journal, mode_of,
+                                          must, process, run, run_as_server, serving, start, start_at_once, stop, via,
+                                          write)
+from tests.studio.checks import comes_true
 from tests.studio.policy import WORK, policy, row
+from tests.studio.program import listening
 
 POLICY = policy([row("allow", ["ann", "bob"], WORK)], seconds=3600, quota=50_000_000_000)
 
@@ -40,13 +43,13 @@ def try_unit():
         sys.exit("the server does not start")
     before = process()
     run("systemctl", "restart", "custody")
-    check(wait_until(serving) and process() != before, "the unit restarts")
+    check(comes_true(serving) and process() != before, "the unit restarts")
     stop()
-    check(run("systemctl", "is-failed", "custody")[0] != 0 and not listening(), "and stops, without a failure")
+    check(run("systemctl", "is-failed", "custody")[0] != 0 and not listening(PORT), "and stops, without a failure")
     log = Path(f"{database()}-wal")
     log.unlink(missing_ok=True)
     check(start_at_once() and log.exists(), "it starts from a database that was restored without its log", journal())
-    status, text = run("custody", "check", "--via", CONTROL)
+    status, text = via("check")
     check(status == 0, f"and its objects are whole: {text.strip()}", text)
 
 
@@ -61,8 +64,7 @@ def try_earlier():
     after = [it.read_bytes() if it.exists() else b"" for it in files]
     started = start()
     check(after == before and started and database().parent != HOME,
-          "the package moves the database of an earlier one, and its log",
-          [str(it) for it in HOME.rglob("*")])
+          "the package moves the database of an earlier one, and its log", [str(it) for it in HOME.rglob("*")])
 
 
 def try_confinement():
@@ -76,9 +78,7 @@ def try_confinement():
     allowed = []
     for folder in (HOME, HOME / ".ssh", "/etc/custody", "/etc/ssh", "/srv/git", "/var/spool", "/usr/lib/custody",
                    "/home"):
-        if run("nsenter", "-t", number, "-m", "--", "setpriv", "--reuid", "custody", "--regid", "custody",
-               "--clear-groups",
-               "touch", f"{folder}/try")[0] == 0:
+        if run_as_server("touch", f"{folder}/try")[0] == 0:
             allowed.append(str(folder))
             Path(folder, "try").unlink()
     check(not allowed, "it can write neither its home, nor the keys, the policy, the Git repositories or the programs",
@@ -108,8 +108,7 @@ def try_neighbours():
     """A program with all that the unit allows, and a process of the same user outside of it, as a session of SSH is."""
     for name, text in (("neighbour", NEIGHBOUR), ("intruder", INTRUDER)):
         write(f"/usr/local/lib/{name}.py", text)
-    words = ["setpriv", "--reuid", "custody", "--regid", "custody", "--clear-groups", "python3",
-             "/usr/local/lib/neighbour.py"]
+    words = [*AS_SERVER, "python3", "/usr/local/lib/neighbour.py"]
     with subprocess.Popen(words, stdin=subprocess.PIPE, stdout=subprocess.PIPE, text=True) as child:
         words = f"/usr/bin/python3 /usr/local/lib/intruder.py {child.pid} {child.stdout.readline().strip()}"
         others = "Exec|Restart|RuntimeDir|StateDir|WorkingDir|MemoryDeny|WantedBy|\\[Install|After|Doc"

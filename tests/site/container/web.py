@@ -1,34 +1,39 @@
 """Requests to nginx, and to the server itself, of which not each is whole."""
 import contextlib
 import glob
+import http.client
 import os
-import re
 import socket
 import ssl
+from dataclasses import dataclass, field
+from email.message import Message
 
-from tests.site.container.machine import run
+from tests.site.container.machine import PORT, run
 from tests.studio.program import content, name_of
 
 CERTIFICATE, KEY = "/etc/ssl/certs/lfs.example.pem", "/etc/ssl/private/lfs.example.key"
 
 
+@dataclass
 class Reply:
-    """The status, the fields and the body of a reply."""
+    """The status, the fields and the body of a reply. The status is 0 if none has come."""
 
-    def __init__(self, data):
-        head, _, self.body = data.partition(b"\r\n\r\n")
-        lines = head.decode("latin-1").split("\r\n")
-        self.status = int(lines[0].split()[1]) if lines[0].startswith("HTTP/") else 0
-        self.fields = {name.lower(): value.strip() for name, _, value in (it.partition(":") for it in lines[1:])}
-        self.text = self.body.decode("utf-8", "replace")
+    status: int = 0
+    fields: Message = field(default_factory=Message)
+    body: bytes = b""
+
+    @property
+    def text(self):
+        """The body, as a text."""
+        return self.body.decode("utf-8", "replace")
 
     def __str__(self):
-        return f"{self.status} {self.fields} {self.text[:300]}"
+        return f"{self.status} {self.fields.items()} {self.text[:300]}"
 
 
-def connect(plain=False, protocol="http/1.1", source=None):
+def connect(plain=False, protocol="http/1.1", host="127.0.0.1", source=None):
     """A connection to nginx, or to the server itself."""
-    raw = socket.create_connection(("127.0.0.1", 8080 if plain else 443), timeout=20, source_address=source)
+    raw = socket.create_connection((host, PORT if plain else 443), timeout=20, source_address=source and (source, 0))
     if plain:
         return raw
     context = ssl.create_default_context(cafile=CERTIFICATE)
@@ -43,30 +48,22 @@ def head_of(method, where, fields):
 
 
 def reply_of(connection, seconds=20):
-    """Reads one reply, or what has come of it in time."""
+    """Reads one reply, if it comes in time."""
     connection.settimeout(seconds)
-    data = b""
     try:
-        while True:
-            piece = connection.recv(65536)
-            data += piece
-            head, end, body = data.partition(b"\r\n\r\n")
-            length = re.search(rb"(?i)\ncontent-length: *(\d+)", head)
-            if not piece or (end and length and len(body) >= int(length[1])):
-                break
-    except (TimeoutError, ssl.SSLError, OSError):
-        pass
-    return Reply(data)
+        reply = http.client.HTTPResponse(connection)
+        reply.begin()
+        return Reply(reply.status, reply.headers, reply.read())
+    except (OSError, http.client.HTTPException):
+        return Reply()
 
 
 def ask(method, where, fields=(), body=b"", plain=False, seconds=60):
     """One request, whole, and its reply."""
     with connect(plain) as connection:
         length = [("Content-Length", len(body))] if method in ("PUT", "POST") else []
-        try:
+        with contextlib.suppress(OSError):
             connection.sendall(head_of(method, where, [*fields, *length]) + body)
-        except OSError:
-            pass
         return reply_of(connection, seconds)
 
 
@@ -75,17 +72,13 @@ def bearer(text):
     return [("Authorization", f"Bearer {text}")]
 
 
-def begun(method, where, fields, length, sent):
-    """A connection on which a request of this length has begun, and how much of its body was sent."""
-    connection = connect()
+def begun(method, where, fields, length, sent, **more):
+    """A connection on which a request of this length has begun, with as much of its body as nginx takes of `sent`."""
+    connection = connect(**more)
     connection.sendall(head_of(method, where, [*fields, ("Content-Length", length)]))
-    piece = b"x" * 65536
     connection.settimeout(2)
-    try:
-        while sent > 0:
-            sent -= connection.send(piece[:sent])
-    except (TimeoutError, OSError):
-        pass
+    with contextlib.suppress(OSError):
+        connection.sendall(b"x" * sent)
     return connection
 
 
