@@ -48,14 +48,14 @@ def head_of(method, where, fields):
 
 
 def reply_of(connection, seconds=20):
-    """Reads one reply, if it comes in time."""
+    """Reads one reply, or what of it comes in time."""
     connection.settimeout(seconds)
-    try:
-        reply = http.client.HTTPResponse(connection)
+    found, reply = Reply(), http.client.HTTPResponse(connection)
+    with contextlib.suppress(OSError, http.client.HTTPException):
         reply.begin()
-        return Reply(reply.status, reply.headers, reply.read())
-    except (OSError, http.client.HTTPException):
-        return Reply()
+        found = Reply(reply.status, reply.headers)
+        found.body = reply.read()
+    return found
 
 
 def ask(method, where, fields=(), body=b"", plain=False, seconds=60):
