@@ -13,7 +13,7 @@ const ABOUT: &str =
 const VERSION: &str = "0.1.0";
 
 /// What `--version` prints after the program's name: the version, and the line of `rt version` for the toolchain that
-/// the program is proved with. `tools/check_pages` compares its logic with that of `rt version`.
+/// the program is proved with. `tools/check` compares its logic with that of `rt version`.
 const LONG_VERSION: &str = "\
 0.1.0
 rattle-kit-13f logic dac8208d650f15bf";

@@ -1,4 +1,4 @@
-//! A connection with one failed allocation: `tools/refuse_memory.sh` adds a test for each allocation, in
+//! A connection with one failed allocation: `tests/allocations/refuse.sh` adds a test for each allocation, in
 //! which that one fails.
 
 use names::{Counted, LockPath, Moment, Operation, RefName, RepoName, SliceSource, UserName};
