@@ -13,7 +13,8 @@
 //! | `service` | `service_tests` |
 //!
 //! `harness` and `server` have the helpers. A program over a database takes minutes to prove and to compile before its
-//! first test: hence one crate for all of these. The tests of the whole program are in the crate `program_tests`.
+//! first test: hence one crate for all of these. What a server answers to messages is in the crate `cases`, and the tests of the
+//! whole program are in `program_tests`.
 #![tactic(auto)]
 
 #[cfg(test)]

@@ -1,22 +1,11 @@
-//! Tests of `service`: connections, from their bytes to the replies.
+//! Tests of `service` that need a call or a device that no script can make: its answers to messages are in `crates/cases`.
 
 mod ample;
 mod arrivals;
-mod batches;
-mod bodies;
-mod callers;
-mod connections;
 mod devices;
-mod failing;
 mod foreseen;
-mod framing;
-mod heads;
 mod judging;
-mod lists;
 mod memory;
 mod objects;
-mod policies;
 mod reading;
 mod stops;
-mod stores;
-mod worked;

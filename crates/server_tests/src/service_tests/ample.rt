@@ -249,3 +249,35 @@ fn with_enough_memory_nothing_is_refused(rt: HostRuntime) {
     unlock_paths(&rt, &mut server);
     assert_eq!(rt; (server.used(&rt), server.made(&rt)), (216_708, 300));
 }
+
+/// Adds a message that locks the path of this number, and its reply.
+fn add_lock(rt: &impl Tester, number: u32, asked: &mut String, want: &mut String) {
+    let path = unwrap(rt, format!(in rt.alloc(); "a/{number}"));
+    let body = filled(rt, r#"{"path":"@"}"#, path.as_str());
+    let message = asking(rt, ANN, body.as_str());
+    unwrap(rt, asked.push_str(message.as_str()));
+    let reply = created(rt, number, "ann", path.as_str());
+    unwrap(rt, want.push_str(reply.as_str()));
+}
+
+#[test]
+fn three_hundred_locks_have_rising_ids(rt: HostRuntime) {
+    let mut asked = String::new(rt.alloc());
+    let mut want = String::new(rt.alloc());
+    for number in 1..=300u32 {
+        add_lock(&rt, number, &mut asked, &mut want);
+    }
+    // The connection keeps 16,384 bytes: heads and bodies come in two parts.
+    for most in &[1, 7, 4_096, 16_383, usize::MAX] {
+        let mut server = Server::new(&rt);
+        let sent = server.answer(&rt, asked.as_bytes(), *most);
+        expect_sent(
+            &rt,
+            asked.as_bytes(),
+            &sent,
+            want.as_str(),
+            served(300, false),
+        );
+        assert_eq!(rt; server.made(&rt), 300);
+    }
+}

@@ -1,6 +1,6 @@
 //! Calls of the crates over a store, one after another. After each of them, a stop leaves exactly what the calls reported.
 
-use super::{Asked, Counted, PREPARED, Seen, Work, files_after, fused, with_files};
+use super::{PREPARED, Seen, Work, copies, files_after, with_files};
 use crate::harness::*;
 use crate::server::*;
 use crate::service_tests::objects::content_reply;
@@ -439,18 +439,26 @@ enum Stop {
     Process,
 }
 
-/// The reply to the download of [`LONG`], by the code of the rule that refuses it.
+/// The reply to the download of [`LONG`], by the code of the rule that refuses it: the object is not stored, or was removed.
 fn reply_of(rt: &impl Tester, code: &str) -> String {
-    match code {
-        "" => content_reply(rt, repeated(rt, &[("x", 65_537)]).as_str()),
-        _ => refusal(rt, code, false),
-    }
+    let (status, body) = match code {
+        "" => return content_reply(rt, repeated(rt, &[("x", 65_537)]).as_str()),
+        "X1" => (
+            "404 Not Found",
+            "{\"message\":\"X1: the object is not stored\"}",
+        ),
+        _ => (
+            "410 Gone",
+            "{\"message\":\"X4: the object was removed by its owner\"}",
+        ),
+    };
+    reply(rt, status, "", body)
 }
 
 /// Makes the calls of the script up to this one, stops, and asserts what is found.
 fn expect_left(rt: &impl Tester, files: &Files<Memory>, stop: Stop, index: usize) {
     let count = index.saturating_add(1);
-    let files = fused(rt, files, Counted::Log, u64::MAX);
+    let files = copies(rt, files);
     let steps = unwrap(rt, SCRIPT.get(..count).ok_or(()));
     let (outcome, mut files) = with_files(rt, files, Work::Calls(steps));
     assert!(rt; outcome.calls == count, "{stop:?} {count}");
@@ -458,7 +466,7 @@ fn expect_left(rt: &impl Tester, files: &Files<Memory>, stop: Stop, index: usize
         files.log.crash();
         files.db.crash();
     }
-    let (found, _) = with_files(rt, files, Work::Serve(Asked::Get(LONG)));
+    let (found, _) = with_files(rt, files, Work::Download(LONG));
     let step = unwrap(rt, SCRIPT.get(index).ok_or(()));
     assert!(rt; found.seen == Some(step.1), "{stop:?} {count}");
     assert!(rt; found.staged == Some(step.2), "{stop:?} {count}");

@@ -1,0 +1,93 @@
+//! A case: its steps, taken over a store in memory.
+
+use crate::fault::Fault;
+use crate::judging::judge;
+use crate::scene::Scene;
+use crate::script::Step;
+use crate::steps::take_over;
+use crate::stopping::stop;
+use crate::texts::Names;
+use sqlite::MemStore;
+use std::alloc::Global;
+use tables::Store;
+
+/// The line of a step, and why it is not as it has to be.
+pub(crate) type Located = (usize, Fault);
+
+/// The answer to what a line asks.
+pub(crate) fn located<T>(line: usize, answer: Result<T, Fault>) -> Result<T, Located> {
+    match answer {
+        Ok(value) => Ok(value),
+        Err(fault) => Err((line, fault)),
+    }
+}
+
+/// The steps with which each case begins, and the most bytes of a read and of a write.
+#[derive(Clone, Copy)]
+pub(crate) struct Setting<'s> {
+    pub alloc: Global,
+    pub start: &'s [Step],
+    pub most: usize,
+}
+
+/// A store in memory, and what a case has beside it.
+#[derive(Drop)]
+pub(crate) struct World {
+    pub store: Store<MemStore>,
+    pub scene: Scene,
+}
+
+impl World {
+    /// A world without tables.
+    fn new(alloc: Global, most: usize) -> Result<World, Fault> {
+        Ok(World {
+            store: Store::open_memory(alloc)?,
+            scene: Scene::new(alloc, most)?,
+        })
+    }
+
+    /// Takes the step.
+    fn take(self, alloc: Global, names: &mut Names, step: &Step) -> Result<World, Located> {
+        let World { store, mut scene } = self;
+        let (store, taken) = take_over(alloc, store, &mut scene, names, step);
+        located(step.line, taken)?;
+        Ok(World { store, scene })
+    }
+}
+
+/// The world after these steps, all of which are calls or connections.
+pub(crate) fn world_after(
+    setting: Setting<'_>,
+    names: &mut Names,
+    steps: &[Step],
+) -> Result<World, Located> {
+    let mut world = located(0, World::new(setting.alloc, setting.most))?;
+    for step in setting.start.iter().chain(steps) {
+        if !step.is("judge") {
+            world = world.take(setting.alloc, names, step)?;
+        }
+    }
+    Ok(world)
+}
+
+/// Takes the steps of a case. Returns the number of messages that it judges.
+pub(crate) fn run_steps(
+    setting: Setting<'_>,
+    names: &mut Names,
+    steps: &[Step],
+) -> Result<u64, Located> {
+    if let Some(at) = steps.iter().position(|step| step.is("stop")) {
+        let (first, rest) = steps.split_at(at);
+        return stop(setting, names, first, rest);
+    }
+    let mut judged = 0u64;
+    for (at, step) in steps.iter().enumerate() {
+        if step.is("judge") {
+            let before = steps.get(..at).unwrap_or(&[]);
+            judged = judged.saturating_add(judge(setting, names, before, step)?);
+        }
+    }
+    let world = world_after(setting, names, steps)?;
+    located(0, world.scene.expect_ended())?;
+    Ok(judged)
+}
