@@ -2,13 +2,13 @@
 
 All of it is decided by what files contain, never by their times: a checkout, a copy and an archive set those anew.
 
-Usage: python3 tools/program.py [COMPILER]   (exit status 0 if the program was made from these sources, by that compiler)
+Usage: python3 tools/program.py [COMPILER]   (exit status 0 if the program was made from these sources, by that one)
 
 A library is proved if the sum in crates/NAME/out/rlib/stamp is the one that `rt` computes of its sources, its line of
-crates.txt, the libraries below it and the toolchain; so rt takes it in whatever checkout it was proved. Of the program, rt
-keeps such a sum only if LLVM compiled it. So tools/build writes a record beside each program that it makes: the sums of the
-program and of all sources, the compiler, and the toolchain. bin/custody asks for it at each start. Hence this file imports
-little, and needs no rt for it.
+crates.txt, the libraries below it and the toolchain; so rt takes it in whatever checkout it was proved. Of the program,
+rt keeps such a sum only if LLVM compiled it and no compiler was named. So tools/build writes a record beside each
+program that it makes: the sums of the program and of all sources, the compiler, the toolchain, and what the check said
+at its end. bin/custody asks for it at each start. Hence this file imports little, and needs no rt for it.
 """
 
 import contextlib
@@ -24,8 +24,6 @@ COMPILERS = ("rattle", "llvm")
 OUT = f"{TOP}/crates/{PROGRAM}/out"
 MADE = f"{OUT}/{PROGRAM}"
 RECORD = f"{MADE}.made"
-# What the check of the program said at its end.
-VERDICT = f"{OUT}/verdict"
 
 
 def lines():
@@ -110,7 +108,7 @@ def is_made(compiler=None):
 def alone(folders, say):
     """Keeps a second build out of these folders, and every other rt of the crates that are in them."""
     with contextlib.ExitStack() as held:
-        for folder in sorted(folders):
+        for folder in sorted(map(str, folders)):
             place = os.open(folder, os.O_RDONLY)
             held.callback(os.close, place)
             try:
@@ -126,9 +124,22 @@ def library_of(name):
     return f"{TOP}/crates/{name}/out/rlib"
 
 
+def verdict_in(text):
+    """What a check says at its end, of all that it printed: the last line, and those about axioms before it; nothing if
+    rt took a library as it was."""
+    return "; ".join(line for line in text.splitlines() if line.startswith(("axioms ", "logic=")))
+
+
+def keep_verdict(name, said):
+    """Puts it beside a library. rt removes both when it proves the crate anew."""
+    if said:
+        with open(f"{library_of(name)}/verdict", "w", encoding="utf-8") as file:
+            file.write(f"{said}\n")
+
+
 def kit():
-    """The module of the toolchain that `rt` is made of. Its stamps are computed once for each crate, and not once for each
-    way that leads to it: 0.3 seconds for all crates of the program, in place of minutes."""
+    """The module of the toolchain that `rt` is made of. Its stamps are computed once for each crate, and not once for
+    each way that leads to it: 0.3 seconds for all crates of the program, in place of half a minute."""
     import functools
     import importlib.machinery
     import importlib.util
@@ -144,8 +155,9 @@ def kit():
 
 
 def proved(names):
-    """Those of the libraries that rt would take as they are. rt itself has no command that only says so, and takes one to
-    six seconds to find out. A toolchain whose module is another gets no answer here: then each library is asked of rt."""
+    """Those of the libraries that rt would take as they are. rt has no command that only says so: `rt lib` proves what
+    it does not take, and needs up to two seconds of a processor to find out. With a toolchain whose module is another
+    one no library is named here, and tools/build asks rt for each."""
     try:
         rtlib, known = kit(), {}
         for name in names:
