@@ -1,10 +1,8 @@
 #!/bin/sh
 # From nothing to a push: a server on this machine, a Git repository, and two users who push, clone and lock files. A
 # script takes the place of ssh, and runs deploy/programs/forced-command as sshd would; nothing is installed or changed outside
-# the folder. It needs git and git-lfs.
+# the folder. It needs git and git-lfs, and a program (examples/program.sh).
 # usage: examples/first-push.sh [FOLDER]      the folder is made; without it, one in the folder for temporary files
-# The program is that of this checkout, if it is built; or else an installed one, if it says that it is of this version and
-# proved with this toolchain; or else that which bin/custody builds now.
 set -eu
 unset CDPATH GIT_DIR GIT_WORK_TREE
 top=$(cd -- "$(dirname -- "$0")/.." && pwd)
@@ -16,31 +14,7 @@ fail() {
 
 command -v git > /dev/null || fail 'git is missing: install it, as by "apt install git"'
 git lfs version > /dev/null 2>&1 || fail 'git-lfs is missing: install it, as by "apt install git-lfs"'
-
-# What --version prints of a program of this checkout, by its source.
-version_here() {
-    printf 'custody '
-    sed -n '/^const LONG_VERSION/,/;$/{ /^const/d; s/";$//; p; }' "$top/crates/command_line/src/commands.rt"
-}
-
-# The installed program, if it is one of this version. A checkout's bin/custody is not installed: it might build first.
-installed() {
-    found=$(command -v custody) || return 1
-    [ ! -e "$(dirname -- "$(readlink -f -- "$found")")/../tools/build" ] || return 1
-    [ "$("$found" --version 2> /dev/null)" = "$(version_here)" ] || return 1
-    echo "$found"
-}
-
-if python3 -I -S "$top/tools/program.py"; then
-    program=$top/bin/custody
-    echo "The program is $program, which is built."
-elif program=$(installed); then
-    echo "The program is $program, which is installed and of this version."
-else
-    program=$top/bin/custody
-    echo "The program is $program, which is built first: no other one of this version is installed."
-fi
-"$program" -V > /dev/null || fail 'the program is not built: install its package, or put the command rt of the toolchain on the PATH'
+program=$("$top/examples/program.sh")
 
 if [ $# -gt 0 ]; then
     mkdir -- "$1" || fail "the folder is to be a new one"
@@ -65,6 +39,7 @@ trap 'exit 143' TERM
 # Starts the server at a port; fails if the port is in use.
 serve_at() {
     sed "s|https://lfs.example|http://127.0.0.1:$1|" "$top/examples/policy.toml" > "$work/policy.toml"
+    : > "$work/server.log"
     "$work/bin/custody" serve --db "$work/custody.db" --policy "$work/policy.toml" --listen "127.0.0.1:$1" \
         --control "$work/run/control" > "$work/server.log" 2>&1 &
     server=$!
