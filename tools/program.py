@@ -139,7 +139,7 @@ def keep_verdict(name, said):
 
 def kit():
     """The module of the toolchain that `rt` is made of. Its stamps are computed once for each crate, and not once for
-    each way that leads to it: 0.3 seconds for all crates of the program, in place of half a minute."""
+    each way that leads to it: a fifth of a second for all libraries of the program, in place of half a minute."""
     import functools
     import importlib.machinery
     import importlib.util
@@ -156,7 +156,7 @@ def kit():
 
 def proved(names):
     """Those of the libraries that rt would take as they are. rt has no command that only says so: `rt lib` proves what
-    it does not take, and needs up to two seconds of a processor to find out. With a toolchain whose module is another
+    it does not take, and needs up to four seconds of a processor to find out. With a toolchain whose module is another
     one no library is named here, and tools/build asks rt for each."""
     try:
         rtlib, known = kit(), {}
