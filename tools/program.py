@@ -156,8 +156,8 @@ def kit():
 
 def proved(names):
     """Those of the libraries that rt would take as they are. rt has no command that only says so: `rt lib` proves what
-    it does not take, and needs up to four seconds of a processor to find out. With a toolchain whose module is another
-    one no library is named here, and tools/build asks rt for each."""
+    it does not take, and needs up to four seconds of a processor to find out. None if there is no toolchain, or its
+    module is another one: then tools/build asks rt for each."""
     try:
         rtlib, known = kit(), {}
         for name in names:
@@ -166,7 +166,7 @@ def proved(names):
                 known[folder] = rtlib.Crate(folder, TOP, known)
         return {name for name in names if known[f"{TOP}/crates/{name}"].is_built()}
     except (AttributeError, ImportError, OSError, TypeError):
-        return set()
+        return None
 
 
 if __name__ == "__main__":
