@@ -1,7 +1,8 @@
 #!/bin/sh
 # Makes a Debian package of the program, its manual page, the unit for systemd, the programs of the site and the documents. It
-# needs dpkg-deb, pandoc, gzip, strip (of binutils), awk, git and python3, and a program that bin/custody has built; what is
-# missing is named, and no package is made. `lintian` then has nothing to report but how the program was compiled.
+# needs dpkg-deb, pandoc, gzip, strip (of binutils), awk, git and python3; what is missing is named, and no package is made.
+# The program is one that LLVM compiled: tools/build makes it, if the one of this checkout is none. `lintian` then has nothing
+# to report but how the program was compiled.
 # usage: deploy/package.sh [FOLDER]      the package is written to the folder, or to this one
 # CUSTODY has the path of another program, if one is to be packaged.
 set -eu
@@ -16,9 +17,12 @@ for command in dpkg-deb pandoc gzip strip awk git python3; do
 done
 folder=$(cd -- "${1:-.}" && pwd)
 top=$(cd -- "$(dirname -- "$0")/.." && pwd)
+if [ -z "${CUSTODY:-}" ] && ! python3 -I -S "$top/tools/program.py" llvm; then
+    "$top/tools/build" --backend llvm
+fi
 program=${CUSTODY:-$top/crates/custody/out/custody}
 if ! [ -x "$program" ]; then
-    echo "package.sh: there is no program $program: bin/custody builds it" >&2
+    echo "package.sh: there is no program $program" >&2
     exit 2
 fi
 version=$("$program" -V | cut -d ' ' -f 2)

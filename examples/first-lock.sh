@@ -10,11 +10,12 @@ if [ $# -ne 1 ]; then
 fi
 database=$1
 now=1463500146
+program=$("$top/examples/program.sh")
 
 custody() {
     command=$1
     shift
-    "$top/bin/custody" "$command" --db "$database" --policy "$top/examples/policy.toml" --now "$now" "$@"
+    "$program" "$command" --db "$database" --policy "$top/examples/policy.toml" --now "$now" "$@"
 }
 
 answer=$(custody authenticate --user ann /studio/film.git upload)

@@ -1,7 +1,7 @@
 #!/bin/sh
 # From nothing to a push: a server on this machine, a Git repository, and two users who push, clone and lock files. A
 # script takes the place of ssh, and runs deploy/programs/forced-command as sshd would; nothing is installed or changed outside
-# the folder. It needs git and git-lfs.
+# the folder. It needs git and git-lfs, and a program (examples/program.sh).
 # usage: examples/first-push.sh [FOLDER]      the folder is made; without it, one in the folder for temporary files
 set -eu
 unset CDPATH GIT_DIR GIT_WORK_TREE
@@ -14,7 +14,7 @@ fail() {
 
 command -v git > /dev/null || fail 'git is missing: install it, as by "apt install git"'
 git lfs version > /dev/null 2>&1 || fail 'git-lfs is missing: install it, as by "apt install git-lfs"'
-"$top/bin/custody" -V > /dev/null || fail 'the program is not built'
+program=$("$top/examples/program.sh")
 
 if [ $# -gt 0 ]; then
     mkdir -- "$1" || fail "the folder is to be a new one"
@@ -23,7 +23,7 @@ else
     work=$(mktemp -d "${TMPDIR:-/tmp}/custody-first-push.XXXXXX")
 fi
 mkdir "$work/bin" "$work/run"
-ln -s "$top/bin/custody" "$work/bin/custody"
+ln -s "$program" "$work/bin/custody"
 
 server=
 stop() {
@@ -39,6 +39,7 @@ trap 'exit 143' TERM
 # Starts the server at a port; fails if the port is in use.
 serve_at() {
     sed "s|https://lfs.example|http://127.0.0.1:$1|" "$top/examples/policy.toml" > "$work/policy.toml"
+    : > "$work/server.log"
     "$work/bin/custody" serve --db "$work/custody.db" --policy "$work/policy.toml" --listen "127.0.0.1:$1" \
         --control "$work/run/control" > "$work/server.log" 2>&1 &
     server=$!

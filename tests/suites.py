@@ -126,6 +126,8 @@ SUITES = [
           10, ("curl", "git", "git-lfs"), quick=only("words", "git_lfs", "ssh")),
     Suite("security", "tests.site.security", "A whole machine with the package keeps what the pages say of security.",
           5, ("debootstrap", "systemd-container", "binutils", "pandoc", "git"), root=True),
+    Suite("release", "tests.site.release", "Checkouts use the files of a release, and prove again what is changed.",
+          5, ("rt", "git", "git-lfs", "pandoc", "binutils")),
     Suite("allocations", "tests/allocations/refuse.sh", "Each allocation that is refused gets a stated reply.",
           120, ("rt",)),
 ]

@@ -67,7 +67,8 @@ def root_over(base):
 
 def make_packages(tree, program, folder):
     """The package of the tree, made with three umasks."""
-    environment = {**os.environ, **({} if program == str(TOP / "bin/custody") else {"CUSTODY": program})}
+    built = tree / "crates/custody/out/custody"
+    environment = {**os.environ, "CUSTODY": str(built) if program == str(TOP / "bin/custody") else program}
     script = next(it for it in (tree / "deploy/package.sh", tree / "tools" / "package.sh") if it.exists())
     for mask in MASKS:
         place = folder / mask
