@@ -41,7 +41,7 @@ documents=$root/usr/share/doc/custody
 mkdir -p "$documents/examples" "$root/usr/share/man/man1"
 install -D -m 755 "$program" "$root/usr/bin/custody"
 strip --remove-section=.comment --remove-section=.note "$root/usr/bin/custody"
-for name in forced-command pre-receive backup spare unlock unreferenced mirror; do
+for name in custody-user forced-command pre-receive backup spare unlock unreferenced mirror; do
     install -D -m 755 -t "$root/usr/lib/custody" "$top/deploy/programs/$name"
 done
 install -D -m 644 "$top/deploy/web/locks.html" "$root/usr/share/custody/locks.html"
@@ -53,7 +53,7 @@ install -m 644 "$top/deploy/systemd/custody-group.conf" "$top/examples/policy.to
 # The home of the user, which is root's; and what nginx keeps of requests and replies, for which a disk may be mounted there.
 install -d -m 755 "$root/var/lib/custody" "$root/var/spool/custody"
 cat > "$root/etc/custody/authorized_keys" << 'END'
-# One line for each key, with the name of its user (sshd(8), AUTHORIZED_KEYS FILE FORMAT):
+# One line for each key, with the name of its user, as /usr/lib/custody/custody-user writes it; sshd takes no other line:
 # restrict,command="/usr/lib/custody/forced-command ann" ssh-ed25519 AAAA... ann@studio
 END
 install -m 644 "$top/docs/locks.png" "$documents"
@@ -118,6 +118,14 @@ changes | gzip -9 -n > "$documents/changelog.gz"
   at the rows before the upgrade. Pushes of Git, in
   /usr/share/doc/custody/operating/ssh-and-git.md, has a hook by which locks and
   rows hold at a push. The site for nginx has a new page.
+
+  The forced command serves a key only as long as it is in
+  /etc/custody/authorized_keys, for which sshd has to say which key it was. Copy
+  /usr/share/doc/custody/examples/sshd-custody.conf to
+  /etc/ssh/sshd_config.d/custody.conf again, and run "systemctl reload ssh":
+  until then nobody is served over SSH. sshd then takes only lines that begin
+  with restrict,command="/usr/lib/custody/forced-command NAME", and
+  "/usr/lib/custody/custody-user list" names the others.
 
 END
     printf ' -- %s  %s\n' "$maintainer" "$(git -C "$top" log -1 --format=%aD)"

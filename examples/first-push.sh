@@ -58,13 +58,19 @@ until serve_at "$port"; do
     [ "$port" -lt 18180 ] || fail 'no port from 18080 to 18179 is free'
 done
 
-# What sshd would do for the key of a user: the words of the client are passed to the forced command as one text.
+# What sshd would do for the key of a user: the words of the client are passed to the forced command as one text, and a
+# file says which key it was.
+for user in ann bob; do
+    echo "restrict,command=\"/usr/lib/custody/forced-command $user\" ssh-ed25519 AAAA-$user"
+    echo "publickey ssh-ed25519 AAAA-$user" > "$work/key-$user"
+done > "$work/authorized_keys"
 sed -e "s|/run/custody/control|$work/run/control|" -e "s|/etc/custody/policy.toml|$work/policy.toml|" \
-    -e "s|/srv/git|$work/git|" "$top/deploy/programs/forced-command" > "$work/bin/forced-command"
+    -e "s|/etc/custody/authorized_keys|$work/authorized_keys|" -e "s|/srv/git|$work/git|" "$top/deploy/programs/forced-command" > "$work/bin/forced-command"
 cat > "$work/bin/ssh" << END
 #!/bin/sh
 for words in "\$@"; do :; done
-PATH="$work/bin:\$PATH" SSH_ORIGINAL_COMMAND=\$words exec sh "$work/bin/forced-command" "\$SSH_USER"
+export SSH_ORIGINAL_COMMAND="\$words" SSH_USER_AUTH="$work/key-\$SSH_USER"
+PATH="$work/bin:\$PATH" exec sh "$work/bin/forced-command" "\$SSH_USER"
 END
 chmod +x "$work/bin/ssh"
 

@@ -118,6 +118,8 @@ SUITES = [
           1, ("git", "git-lfs"), quick=()),
     Suite("site", "tests.site.site", "A whole site does what the pages say, with nginx, sshd and Git LFS.",
           15, ("nginx", "openssh-server", "openssl", "git", "git-lfs", "curl")),
+    Suite("keys", "tests.site.keys", "sshd takes only keys with the forced command, and those that are removed end.",
+          0, ("openssh-server", "git")),
     Suite("blocks", "tests.site.blocks", "Each block of commands in the operating pages runs, and does what it says.",
           1, ("nginx", "openssh-server", "openssl", "git", "git-lfs", "sqlite3")),
     Suite("page", "tests.site.page", "The page with the locks works in a browser.",

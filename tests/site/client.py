@@ -28,7 +28,8 @@ printf '%s\\n' "$words" >> "@room/ssh.log"
 case $words in
 git-receive-pack* | git-upload-pack*) exec git shell -c "${words%% *} '@room/film.git'" ;;
 esac
-PATH="@room/bin:$PATH" SSH_ORIGINAL_COMMAND=$words exec "@room/bin/forced-command" "$user"
+export SSH_ORIGINAL_COMMAND="$words" SSH_USER_AUTH=@room/user_auth
+PATH="@room/bin:$PATH" exec "@room/bin/forced-command" "$user"
 """
 API = target("")
 VERIFIED = "POST locks/verify 200"
@@ -90,7 +91,9 @@ class Studio(Workroom):
         files = f"--db {room}/custody.db --policy {self.policy}"
         forced = (TOP / "deploy/programs/forced-command").read_text(encoding="utf-8")
         self.write("bin/forced-command", forced.replace('--via "$control"', files)
-                   .replace("/etc/custody/policy.toml", str(self.policy)), 0o755)
+                   .replace("/etc/custody/policy.toml", str(self.policy))
+                   .replace("/etc/custody/authorized_keys", f"{room}/authorized_keys"), 0o755)
+        self.write_key(("ann", "bob"))
         Path(room, "bin/custody").symlink_to(options.program)
         self.listener = Listener(port, [options.program, "session", *files.split()])
         self.ann, self.bob = self.clone("ann"), self.clone("bob")

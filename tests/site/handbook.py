@@ -76,8 +76,7 @@ class Handbook:
         for name in STAND_INS:
             Path(site.room, "bin", name).unlink(missing_ok=True)
         site.server.set_policy(site.server.policy())
-        with open(f"{site.room}/authorized_keys", "a", encoding="utf-8") as keys:
-            keys.write(site.key_line("bob"))
+        site.add_key("bob", Path(site.room, "key-bob.pub").read_text(encoding="utf-8").strip())
         site.server.start()
 
     def run(self, heading, number=0, stops=True):
@@ -217,19 +216,19 @@ class SecondServer(SiteServer):
 
     def __init__(self, site):
         room = f"{site.room}/second"
-        text = Path(site.room, "lib/forced-command").read_text(encoding="utf-8")
-        for name in ("control", "policy.toml", "git"):
-            text = text.replace(f"{site.room}/{name}", f"{room}/{name}")
-        site.write("second/lib/forced-command", text, 0o755)
+        for program in ("custody-user", "forced-command"):
+            text = Path(site.room, "lib", program).read_text(encoding="utf-8")
+            for name in ("control", "policy.toml", "git", "authorized_keys", "lib"):
+                text = text.replace(f"{site.room}/{name}", f"{room}/{name}")
+            site.write(f"second/lib/{program}", text, 0o755)
         super().__init__(site.server.program, room, (row("allow", ["mirror"], ["push"]), row("allow", ["ann"], WORK)))
         site.make_repository(FILM, room)
         self.add_keys(site)
 
     def add_keys(self, site):
         """A key of the user custody of the first machine, and one of ann."""
-        with open(f"{site.room}/authorized_keys", "a", encoding="utf-8") as keys:
-            for name, user in (("second-mirror", "mirror"), ("second-ann", "ann")):
-                keys.write(site.key_line(user, site.new_key(name), self.room))
+        for name, user in (("second-mirror", "mirror"), ("second-ann", "ann")):
+            site.add_key(user, site.new_key(name), self.room)
         site.write("ssh_config", f"Host lfs2.example\n  HostName localhost\n  Port {site.ssh}\n  IdentitiesOnly yes\n"
                    f"  IdentityFile {site.room}/key-second-mirror\n  UserKnownHostsFile {site.room}/known_hosts\n"
                    "  HostKeyAlias lfs2.example\n  StrictHostKeyChecking accept-new\n")

@@ -38,7 +38,7 @@ TOKEN = re.compile(rb"(?<![0-9a-f])[0-9a-f]{64}(?![0-9a-f])")
 SSH = """#!/bin/sh
 printf '%s\\n' "$*" >> @room/asked
 for words in "$@"; do :; done
-SSH_ORIGINAL_COMMAND=$words exec sh @room/forced-command ann
+SSH_ORIGINAL_COMMAND=$words SSH_USER_AUTH=@room/user_auth exec sh @room/forced-command ann
 """
 
 
@@ -486,6 +486,7 @@ def try_ssh(trial):
     room = Workroom(remote.room, trial.checks)
     forced = (TOP / "deploy/programs/forced-command").read_text(encoding="utf-8")
     room.write("forced-command", placed(forced, remote.room, remote.port))
+    room.write_key(["ann"], f"{remote.room}/lib/forced-command")
     room.write("bin/ssh", SSH.replace("@room", remote.room), 0o755)
     Path(remote.room, "bin/custody").symlink_to(remote.program)
     path = {"PATH": room.environment["PATH"]}

@@ -51,6 +51,13 @@ class Workroom:
         require(may_fail or ran.returncode == 0, f"{' '.join(words)} ended with {ran.returncode}\n{ran.stdout}")
         return ran.returncode, ran.stdout
 
+    def write_key(self, users, forced="/usr/lib/custody/forced-command"):
+        """A file of keys, in which each of the users has one, and what sshd says of a client that came in by it: for a
+        forced command that a script runs in the place of sshd."""
+        lines = [f'restrict,command="{forced} {user}" ssh-ed25519 AAAA\n' for user in users]
+        self.write("authorized_keys", "".join(lines))
+        self.write("user_auth", "publickey ssh-ed25519 AAAA\n")
+
     def set_up_git(self):
         """The settings of every clone of the folder."""
         self.run("git", "config", "--global", "init.defaultBranch", "main")

@@ -15,7 +15,7 @@ from tests.studio.control import ControlledServer
 from tests.studio.policy import FILM, MAIN, policy
 from tests.studio.program import TOP, free_port, listening, lock, message, target
 
-PROGRAMS = ("forced-command", "pre-receive", "backup", "spare", "unreferenced", "unlock", "mirror")
+PROGRAMS = ("custody-user", "forced-command", "pre-receive", "backup", "spare", "unreferenced", "unlock", "mirror")
 NGINX = """
 daemon off;
 pid @room/nginx.pid;
@@ -35,12 +35,12 @@ SSHD = """
 Port @port
 ListenAddress 127.0.0.1
 HostKey @room/host_key
-AuthorizedKeysFile @room/authorized_keys
+TrustedUserCAKeys @room/authority.pub
 PidFile @room/sshd.pid
 StrictModes no
 UsePAM no
 PasswordAuthentication no
-PermitRootLogin forced-commands-only
+PermitRootLogin prohibit-password
 SetEnv PATH=@room/bin:/usr/local/bin:/usr/bin:/bin
 # More than a site accepts: what a client sets must not reach the hook.
 AcceptEnv CUSTODY_* GIT_*
@@ -155,16 +155,27 @@ class Site(Workroom):
         self.run("ssh-keygen", "-q", "-t", "ed25519", "-N", "", "-f", f"{self.room}/key-{name}")
         return Path(self.room, f"key-{name}.pub").read_text(encoding="utf-8").strip()
 
-    def key_line(self, user, public=None, room=None):
-        """The line of a user's key in the file of the keys."""
-        public = public or Path(self.room, f"key-{user}.pub").read_text(encoding="utf-8").strip()
-        return f'restrict,command="{room or self.room}/lib/forced-command {user}" {public}\n'
+    def add_key(self, user, public, room=None):
+        """Adds a key of the user to the file of the keys, of this site or of one in another folder."""
+        self.run(f"{room or self.room}/lib/custody-user", "add", user, given=f"{public}\n")
+
+    def match_block(self):
+        """What deploy/ sets for the user custody, set for whoever runs the suite. A second site on this machine has a
+        forced command, and so a file of keys, of its own."""
+        text = placed((TOP / "deploy/sshd/custody.conf").read_text(encoding="utf-8"), self.room, self.server.port)
+        user = getpass.getuser()
+        for old, new in [("Match User custody", f"Match User {user}"), ("User nobody", f"User {user}"),
+                         ("KeysFile none", f"KeysFile {self.room}/second/authorized_keys")]:
+            text = text.replace(old, new)
+        return text
 
     def start_sshd(self, users):
         """Starts sshd, which knows a key of each of the users."""
         self.run("ssh-keygen", "-q", "-t", "ed25519", "-N", "", "-f", f"{self.room}/host_key")
-        self.write("authorized_keys", "".join(self.key_line(user, self.new_key(user)) for user in users), 0o600)
-        config = self.write("sshd_config", SSHD.replace("@room", self.room).replace("@port", str(self.ssh)))
+        for user in users:
+            self.add_key(user, self.new_key(user))
+        text = SSHD.replace("@room", self.room).replace("@port", str(self.ssh)) + self.match_block()
+        config = self.write("sshd_config", text)
         if os.getuid() == 0:
             Path("/run/sshd").mkdir(exist_ok=True)
         with open(f"{self.room}/sshd.log", "w", encoding="utf-8") as log:

@@ -15,8 +15,10 @@ def sshd_setting(user, name):
 
 
 def keys_file():
-    """The file in which sshd looks for the keys of custody, the first one."""
+    """The file in which sshd looks for the keys of custody, the first one; or the one that a command reads for it."""
     name = sshd_setting("custody", "authorizedkeysfile").split()[0]
+    if name == "none":
+        name = sshd_setting("custody", "authorizedkeyscommand").split()[-1]
     return Path(name.replace("%u", "custody").replace("%h", str(HOME))) if name[0] in "/%" else HOME / name
 
 
@@ -33,7 +35,7 @@ def over_ssh(user, command):
 
 def set_up_ssh():
     """sshd with the package's configuration, keys of two users, and the repository."""
-    for user in ("ann", "bob", "stranger", "thief"):
+    for user in ("ann", "bob", "stranger", "thief", "second"):
         must("ssh-keygen", "-q", "-t", "ed25519", "-N", "", "-f", f"/try/key-{user}")
     if check((EXAMPLES / "sshd-custody.conf").exists(), "the package has a configuration for sshd"):
         shutil.copy(EXAMPLES / "sshd-custody.conf", "/etc/ssh/sshd_config.d/custody.conf")
@@ -57,6 +59,10 @@ def try_ssh():
     check(status == 255 and "Permission denied" in text, "a stranger gets nothing over SSH", text)
     status, text = over_ssh("bob", "cat /etc/passwd")
     check(status == 1 and "only git-lfs-authenticate" in text, "no other command runs", text)
+    with open(keys_file(), "a", encoding="utf-8") as keys:
+        keys.write(Path("/try/key-second.pub").read_text())
+    status, text = over_ssh("second", "id -un")
+    check(status == 255 and "Permission denied" in text, "a key in a line without the forced command opens nothing", text)
     status, text = over_ssh("ann", "git-lfs-authenticate studio/none.git upload")
     check(status == 1 and text.startswith("custody: R1: no such repository\n"),
           "a repository that the policy lacks is R1", text)
