@@ -70,12 +70,16 @@ class Pages(Handbook):
 
 
 def try_first_push(site, book):
-    """What ann does on her own machine."""
+    """The keys of ann, which she has already, and of bob; and what ann does on her own machine."""
+    site.write("ann.pub", Path(site.room, "key-ann.pub").read_text(encoding="utf-8"))
+    site.write("bob.pub", site.new_key("bob") + "\n")
+    printed = book.do("install")
+    site.expect(printed == "ann has 1 keys\nbob has 1 keys\n", "each has a key", printed)
     site.write("ann/hero.psd", "a hero")
     name = f"ssh://custody@lfs.example/{FILM}.git"
     site.environment["GIT_SSH_COMMAND"] = site.ssh_command("ann")
     settings = 'git config user.name ann && git config user.email ann@studio.example && cp ../ann/hero.psd .'
-    printed = book.do("install", edit=lambda text: text.replace(name, site.remote()).replace(
+    printed = book.do("install", 1, edit=lambda text: text.replace(name, site.remote()).replace(
         "&& cd film\n", f"&& cd film\n{settings}\n").replace("git push\n", "git push origin HEAD:main\n"))
     del site.environment["GIT_SSH_COMMAND"]
     site.expect("Locked hero.psd" in printed and name_of(b"a hero") in site.server.objects(),

@@ -62,7 +62,8 @@ def try_ssh():
     with open(keys_file(), "a", encoding="utf-8") as keys:
         keys.write(Path("/try/key-second.pub").read_text())
     status, text = over_ssh("second", "id -un")
-    check(status == 255 and "Permission denied" in text, "a key in a line without the forced command opens nothing", text)
+    check(status == 255 and "Permission denied" in text, "a key in a line without the forced command opens nothing",
+          text)
     status, text = over_ssh("ann", "git-lfs-authenticate studio/none.git upload")
     check(status == 1 and text.startswith("custody: R1: no such repository\n"),
           "a repository that the policy lacks is R1", text)
