@@ -212,10 +212,22 @@ def try_trees(site, pushes):
         tree = pushes.tree([("100644", it, file) for it in names])
         pushes.refused(f"a tree with {' and '.join(names)}", ["fsck"], f"{pushes.commit(tree)}:refs/heads/bad")
     bare = f"{site.room}/git/{FILM}.git"
+    try_old_mode(site, pushes, bare)
     pushes.change("notes.txt", "before the setting")
     site.run("git", "-C", bare, "config", "receive.fsckObjects", "false")
     pushes.refused("a push to a repository that takes such trees", ["git config receive.fsckObjects true"])
     site.run("git", "-C", bare, "config", "receive.fsckObjects", "true")
+
+
+def try_old_mode(site, pushes, bare):
+    """Where the administrator lets the modes of an old history pass, such a folder is one all the same."""
+    pushes.change("art/1.psd", "bob's")
+    folder = pushes.git("rev-parse", "HEAD:art")[1].strip()
+    pushed = pushes.commit(pushes.tree([("040000", "art", folder)]))
+    pushes.refused("a tree with the mode 040000", ["zeroPaddedFilemode"], f"{pushed}:refs/heads/main")
+    site.run("git", "-C", bare, "config", "receive.fsck.zeroPaddedFilemode", "warn")
+    pushes.refused("and a locked path in it", ["art/1.psd: ann has locked it"], f"{pushed}:refs/heads/main")
+    site.run("git", "-C", bare, "config", "--unset", "receive.fsck.zeroPaddedFilemode")
 
 
 def try_names_of_branches(site, pushes):
