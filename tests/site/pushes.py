@@ -93,9 +93,12 @@ class Pushes:
         path.write_bytes(data)
         return self.git("hash-object", "-t", "tree", "-w", "--literally", path)[1].strip()
 
-    def bomb(self, levels, width=2):
-        """A commit on the server's main with a tree of ten entries that are all the same tree, as often."""
+    def bomb(self, levels, width=2, is_empty=False):
+        """A commit on the server's main with a tree of ten entries that are all the same tree, as often. At the end is
+        a file, or an empty folder."""
         mode, what = "100644", self.git("rev-parse", "origin/main:.gitattributes")[1].strip()
+        if is_empty:
+            mode, what = "40000", self.tree([])
         for _ in range(levels):
             what = self.tree([(mode, str(it).rjust(width, "f"), what) for it in range(10)])
             mode = "40000"
@@ -207,6 +210,9 @@ def try_trees(site, pushes):
     pushes.passes("one branch with 100,000 paths", f"{some}:refs/heads/some")
     print(f"     in {time.monotonic() - began:.1f} s", flush=True)
     pushes.passes("and it is removed", ":some")
+    began = time.monotonic()
+    pushes.passes("ten billion empty folders", f"{pushes.bomb(10, is_empty=True)}:refs/heads/empty")
+    site.expect(time.monotonic() - began < 4, "take no time")
     file = pushes.git("rev-parse", "origin/main:.gitattributes")[1].strip()
     for names in BAD_NAMES:
         tree = pushes.tree([("100644", it, file) for it in names])
