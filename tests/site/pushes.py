@@ -192,7 +192,7 @@ def refused_early(site, pushes, what, *push):
         status, text = site.run(*words, may_fail=True)
     taken = time.monotonic() - began
     site.expect(status == 1 and "changes more than 1,000,000 files or folders" in text, f"{what} is refused", text)
-    site.expect(taken < 4 and 0 < max(found) < 100, f"in {taken:.1f} s, with {max(found)} MB", f"{taken} {max(found)}")
+    site.expect(taken < 10 and 0 < max(found) < 100, f"in {taken:.1f} s, with {max(found)} MB", f"{taken} {max(found)}")
 
 
 def try_trees(site, pushes):
@@ -212,7 +212,7 @@ def try_trees(site, pushes):
     pushes.passes("and it is removed", ":some")
     began = time.monotonic()
     pushes.passes("ten billion empty folders", f"{pushes.bomb(10, is_empty=True)}:refs/heads/empty")
-    site.expect(time.monotonic() - began < 4, "take no time")
+    site.expect(time.monotonic() - began < 10, "take no time")
     file = pushes.git("rev-parse", "origin/main:.gitattributes")[1].strip()
     for names in BAD_NAMES:
         tree = pushes.tree([("100644", it, file) for it in names])
