@@ -3,13 +3,16 @@
 Each push goes past the client's own checks: without the hook of Git LFS (--no-verify), or without its verification of
 locks.
 """
+import contextlib
 import os
 import signal
 import subprocess
 import time
 from pathlib import Path
 
+from tests.studio.checks import beside
 from tests.studio.policy import FILM, WORK, row
+from tests.studio.program import memory_of
 
 ROWS = (
     row("deny", ["bob"], ["push"], refs=["refs/heads/main", "refs/heads/release/"], paths=["final/"]),
@@ -20,6 +23,11 @@ ROWS = (
 )
 ODD_NAMES = [b"two words.txt", b"quote's \"both\".txt", b"line\nbreak.txt", b"tab\there.txt", b"back\\slash.txt",
              b"latin-\xfc.txt", b"f/" * 511 + b"x.txt", "umlaut-ü.txt".encode()]
+# Trees that nobody can check out: the names of their entries.
+BAD_NAMES = [("..",), (".git",), ("./art",), ("art", "art")]
+# A new name, and one that is there already, which are one file elsewhere.
+TWINS = [("art/4.PSD", "art/4.psd"), ("Art/new.psd", "art"), ("art/4.psd.", "art/4.psd"), ("art/4.psd ", "art/4.psd"),
+         ("art/u\u0308.txt", "art/\u00fc.txt")]
 
 
 class Pushes:
@@ -78,6 +86,28 @@ class Pushes:
         status, text, has_moved = self.push(*push)
         self.site.expect(status != 0 and all(it in text for it in words) and not has_moved, what, text)
 
+    def tree(self, entries):
+        """A tree of these entries, of any names: a mode, a name and an object each."""
+        data = b"".join(f"{mode} {name}".encode() + b"\0" + bytes.fromhex(what) for mode, name, what in entries)
+        path = self.site.write("tree", "")
+        path.write_bytes(data)
+        return self.git("hash-object", "-t", "tree", "-w", "--literally", path)[1].strip()
+
+    def bomb(self, levels, width=2, is_empty=False):
+        """A commit on the server's main with a tree of ten entries that are all the same tree, as often. At the end is
+        a file, or an empty folder."""
+        mode, what = "100644", self.git("rev-parse", "origin/main:.gitattributes")[1].strip()
+        if is_empty:
+            mode, what = "40000", self.tree([])
+        for _ in range(levels):
+            what = self.tree([(mode, str(it).rjust(width, "f"), what) for it in range(10)])
+            mode = "40000"
+        return self.commit(what)
+
+    def commit(self, tree):
+        """A commit of a tree, after the one of the server's main."""
+        return self.git("commit-tree", "-p", "origin/main", "-m", "A tree", tree)[1].strip()
+
     def passes(self, what, *push):
         """A push is taken."""
         status, text, has_moved = self.push(*push)
@@ -135,6 +165,122 @@ def try_history(site, pushes):
     pushes.passes("a replacement of a commit, which looks like main", f"origin/main:refs/replace/{commit}")
     pushes.refused("the commit itself is looked at", ["art/1.psd: ann has locked it"])
     pushes.passes("the replacement is removed", f":refs/replace/{commit}")
+
+
+def memory_of_hook(site):
+    """The memory of Git and the hook for pushes to the site, in MB."""
+    mark, found = f"CUSTODY_VIA={site.room}/control".encode(), 0
+    for process in filter(str.isdigit, os.listdir("/proc")):
+        with contextlib.suppress(OSError, StopIteration):
+            if mark in Path("/proc", process, "environ").read_bytes().split(b"\0"):
+                found += memory_of(process)
+    return found // 1000
+
+
+def refused_early(site, pushes, what, *push):
+    """A push of too many paths is refused in words, with little time and memory."""
+    found = [0]
+
+    def watch(is_over):
+        """Keeps the most memory that is seen."""
+        while not is_over.wait(0.01):
+            found.append(memory_of_hook(site))
+
+    words = ["timeout", "30", "git", "-C", pushes.clone.folder, "push", "--no-verify", "origin", *push]
+    began = time.monotonic()
+    with beside(watch):
+        status, text = site.run(*words, may_fail=True)
+    taken = time.monotonic() - began
+    site.expect(status == 1 and "changes more than 1,000,000 files or folders" in text, f"{what} is refused", text)
+    site.expect(taken < 10 and 0 < max(found) < 100, f"in {taken:.1f} s, with {max(found)} MB", f"{taken} {max(found)}")
+
+
+def try_trees(site, pushes):
+    """Trees of a few hundred bytes with any number of paths, and trees that nobody can check out."""
+    pushes.start()
+    bomb = pushes.bomb(7)
+    refused_early(site, pushes, "a new branch with ten million paths", f"{bomb}:refs/heads/bomb")
+    refused_early(site, pushes, "a change to ten million paths", f"{bomb}:refs/heads/main")
+    large = pushes.bomb(6, 160)
+    refused_early(site, pushes, "a million paths of a thousand bytes", f"{large}:refs/heads/large")
+    some, more = pushes.bomb(5), pushes.bomb(5, 3)
+    refs = [f"{it}:refs/heads/part/{it}-{at}" for it in (some, more) for at in range(6)]
+    refused_early(site, pushes, "twelve branches with 100,000 paths each", *refs)
+    began = time.monotonic()
+    pushes.passes("one branch with 100,000 paths", f"{some}:refs/heads/some")
+    print(f"     in {time.monotonic() - began:.1f} s", flush=True)
+    pushes.passes("and it is removed", ":some")
+    began = time.monotonic()
+    pushes.passes("ten billion empty folders", f"{pushes.bomb(10, is_empty=True)}:refs/heads/empty")
+    site.expect(time.monotonic() - began < 10, "take no time")
+    file = pushes.git("rev-parse", "origin/main:.gitattributes")[1].strip()
+    for names in BAD_NAMES:
+        tree = pushes.tree([("100644", it, file) for it in names])
+        pushes.refused(f"a tree with {' and '.join(names)}", ["fsck"], f"{pushes.commit(tree)}:refs/heads/bad")
+    bare = f"{site.room}/git/{FILM}.git"
+    try_old_mode(site, pushes, bare)
+    pushes.change("notes.txt", "before the setting")
+    site.run("git", "-C", bare, "config", "receive.fsckObjects", "false")
+    pushes.refused("a push to a repository that takes such trees", ["git config receive.fsckObjects true"])
+    site.run("git", "-C", bare, "config", "receive.fsckObjects", "true")
+
+
+def try_old_mode(site, pushes, bare):
+    """Where the administrator lets the modes of an old history pass, such a folder is one all the same."""
+    pushes.change("art/1.psd", "bob's")
+    folder = pushes.git("rev-parse", "HEAD:art")[1].strip()
+    pushed = pushes.commit(pushes.tree([("040000", "art", folder)]))
+    pushes.refused("a tree with the mode 040000", ["zeroPaddedFilemode"], f"{pushed}:refs/heads/main")
+    site.run("git", "-C", bare, "config", "receive.fsck.zeroPaddedFilemode", "warn")
+    pushes.refused("and a locked path in it", ["art/1.psd: ann has locked it"], f"{pushed}:refs/heads/main")
+    site.run("git", "-C", bare, "config", "--unset", "receive.fsck.zeroPaddedFilemode")
+
+
+def try_names_of_branches(site, pushes):
+    """A branch by another name, and a branch that is made anew."""
+    bare = f"{site.room}/git/{FILM}.git"
+    site.run("git", "-C", bare, "symbolic-ref", "refs/heads/master", "refs/heads/main")
+    pushes.change("art/1.psd", "a hero of bob")
+    pushes.refused("a locked path by another name of its branch", ["main (which master names)",
+                                                                   "art/1.psd: ann has locked it"], "main:master")
+    pushes.change("notes.txt", "by another name")
+    pushes.passes("other paths pass by it", "main:master")
+    site.run("git", "-C", bare, "symbolic-ref", "-d", "refs/heads/master")
+    site.lock("ann", "art/1.psd", "refs/heads/feature")
+    pushes.change("art/1.psd", "a feature of bob")
+    pushes.refused("a new branch with a path that is locked there", ["art/1.psd: ann has locked it"], "main:refs/heads/feature")
+    pushes.passes("the same on a branch without a lock", "main:refs/heads/side")
+    pushes.refused("and from there", ["art/1.psd: ann has locked it"], "main:refs/heads/feature")
+    pushes.refused("nor as it is on main", ["art/1.psd: ann has locked it"], "origin/main:refs/heads/feature")
+    pushes.start()
+    pushes.passes("a branch", "main:refs/heads/rel")
+    site.lock("ann", "new.psd", "refs/heads/rel")
+    pushes.change("new.psd", "bob's")
+    pushes.refused("a new path that is locked", ["new.psd: ann has locked it"], "main:rel")
+    pushes.passes("the branch without it is removed", ":rel")
+    pushes.passes("another branch has it", "main:refs/heads/other")
+    pushes.refused("and the branch is not made anew with it", ["new.psd: ann has locked it"], "main:refs/heads/rel")
+    site.ann.git("fetch", "-q", "origin")
+    status, text = site.ann.tried("push", "-q", "--no-verify", "origin", "origin/other:refs/heads/rel")
+    site.expect(status == 0, "but by ann, who has the lock", text)
+
+
+def try_twins(site, pushes):
+    """New names that are one file with another one on Windows or macOS."""
+    pushes.change("art/\u00fc.txt", "bob's")
+    pushes.passes("a name with an umlaut", "main")
+    for name, other in TWINS:
+        pushes.change(name, "bob's")
+        pushes.refused(f"{name!r} beside {other!r}", [f"it is the same file as {other}: give it another name"])
+    pushes.command("mv", "art/\u00fc.txt", "art/\u00dc.txt")
+    pushes.passes("a name whose case changes")
+    site.lock("ann", "art/hero.txt")
+    pushes.change("art/Hero.txt", "bob's")
+    pushes.refused("a name beside a locked one", ["it is the same file as art/hero.txt, which ann has locked"])
+    bare = f"{site.room}/git/{FILM}.git"
+    site.run("git", "-C", bare, "config", "custody.portablePaths", "false")
+    pushes.passes("the same, where the setting lets it pass")
+    site.run("git", "-C", bare, "config", "--unset", "custody.portablePaths")
 
 
 def try_rows(site, pushes):
@@ -247,7 +393,8 @@ def try_pushes(site):
     """Pushes under a policy of their own."""
     site.change_policy(rows=ROWS)
     pushes = Pushes(site)
-    for part in (try_locked, try_history, try_rows, try_many, try_users, try_silence):
+    for part in (try_locked, try_history, try_names_of_branches, try_twins, try_trees, try_rows, try_many, try_users,
+                 try_silence):
         part(site, pushes)
     site.change_policy()
     site.release_all()

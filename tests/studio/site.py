@@ -194,9 +194,10 @@ class Site(Workroom):
         self.make_repository(FILM)
 
     def make_repository(self, name, room=None):
-        """A repository of Git with the hook, in the folder or in another one."""
+        """A repository of Git with the hook and what it asks for, in the folder or in another one."""
         bare = f"{room or self.room}/git/{name}.git"
         self.run("git", "init", "-q", "--bare", bare)
+        self.run("git", "-C", bare, "config", "receive.fsckObjects", "true")
         Path(bare, "hooks/pre-receive").symlink_to(f"{self.room}/lib/pre-receive")
 
     # Users and clones.

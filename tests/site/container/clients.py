@@ -68,6 +68,7 @@ def try_client():
 def try_hook():
     """Locks hold at a push of Git, whatever the client does."""
     must("ln", "-s", "/usr/lib/custody/pre-receive", "/srv/git/studio/film.git/hooks/pre-receive")
+    must("git", "-C", "/srv/git/studio/film.git", "config", "receive.fsckObjects", "true", user="custody")
     BOB.change("art/1.psd", b"a hero of bob")
     BOB.fails("with the hook a push of a locked path is refused", LOCKED, *PUSH)
     ANN.git("lfs", "unlock", "art/1.psd")
