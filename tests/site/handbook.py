@@ -238,7 +238,9 @@ class SecondServer(SiteServer):
 
 def try_move(site, book, second):
     """The repository is moved to the second server."""
-    book.remotes = {"custody@lfs2": f"{getpass.getuser()}@lfs2"}
+    # Its address here is not https, so it is asked with --also alone.
+    book.remotes = {"custody@lfs2": f"{getpass.getuser()}@lfs2",
+                    "mirror studio/film": f"mirror --also {second.base} studio/film"}
     heading, count = "Moving a repository to a second server", site.count()
     printed = book.run(heading)
     site.expect(f"copied {count} objects" in printed, printed.strip().splitlines()[-1], printed)
