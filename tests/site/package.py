@@ -2,10 +2,13 @@
 
 DPKG_ROOT names the folder, and stand-ins for the commands that need root or systemd write down their words. A check
 fails if a script follows a link that the user custody made, changes something before it refuses one, does not say which
-path it is, or does not do what it has to where there is no link.
+path it is, or does not do what it has to where there is no link; or if the unit, or the folder of the Git repositories,
+gives anybody more than is needed.
 """
 import os
+import re
 import shutil
+import stat
 import sys
 import tempfile
 from pathlib import Path
@@ -25,6 +28,8 @@ mv) PATH=/usr/bin:/bin exec mv "$@" ;;
 esac
 """
 COMMANDS = ("chown", "chmod", "install", "useradd", "getent", "systemctl", "deb-systemd-invoke", "mv")
+# How many connections the server keeps.
+CLIENTS, OPERATORS = 960, 8
 CONFIGURE, REMOVE, PURGE = ("postinst", "configure", "0.0.9"), ("postrm", "remove"), ("postrm", "purge")
 
 
@@ -132,6 +137,30 @@ def try_upgrade(checks, scripts):
                       "its removal leaves the database, and not the spare file", names)
 
 
+def try_unit(checks):
+    """What the unit says of the network, of descriptors and of memory that is used up."""
+    lines = (TOP / "deploy/systemd/custody.service").read_text().splitlines()
+    values = dict(it.split("=", 1) for it in lines if "=" in it and not it.startswith("#"))
+    checks.expect((values.get("IPAddressDeny"), values.get("IPAddressAllow")) == ("any", "localhost"),
+                  "the unit lets the server connect to this machine alone")
+    count = int(values.get("LimitNOFILE", 1024))
+    # The connections of clients and operators, and what is opened beside them.
+    checks.expect(count >= 2 * (CLIENTS + OPERATORS), f"it has {count} descriptors, for {CLIENTS} clients")
+    score = int(values.get("OOMScoreAdjust", 0))
+    checks.expect(-1000 < score < 0, f"others are ended before it if memory is used up: {score}")
+
+
+def try_git_folder(checks):
+    """The command of the page makes a folder of Git repositories that other users of the machine cannot enter."""
+    page = (TOP / "docs/operating/install.md").read_text(encoding="utf-8")
+    command = re.search(r"`(install -d [^`]*/srv/git/studio)`", page)[1]
+    with tempfile.TemporaryDirectory() as room:
+        words = re.sub(r" -[og] custody", "", command).replace("/srv/git", f"{room}/git").split()
+        status, _, errors = run(words)
+        mode = stat.S_IMODE(os.stat(f"{room}/git/studio").st_mode)
+        checks.expect(status == 0 and mode == 0o750, f"`{command}` makes a folder with the mode {mode:04o}", errors)
+
+
 def main():
     """Runs the suite."""
     parser = arguments(__doc__)
@@ -146,6 +175,8 @@ def main():
     try_file(checks, options.scripts)
     try_late_link(checks, options.scripts)
     try_upgrade(checks, options.scripts)
+    try_unit(checks)
+    try_git_folder(checks)
     return checks.end()
 
 
