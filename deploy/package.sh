@@ -127,6 +127,10 @@ changes | gzip -9 -n > "$documents/changelog.gz"
   with restrict,command="/usr/lib/custody/forced-command NAME", and
   "/usr/lib/custody/custody-user list" names the others.
 
+  The package follows no link below /var/lib/custody, nor one in its place: the
+  installation ends in words if there is one. If the folder is on another disk,
+  mount it there (mount --bind, and a line in /etc/fstab) before the upgrade.
+
 END
     printf ' -- %s  %s\n' "$maintainer" "$(git -C "$top" log -1 --format=%aD)"
 } | gzip -9 -n > "$documents/NEWS.Debian.gz"
@@ -159,66 +163,7 @@ Description: Git LFS object and lock server
  a short, readable definition allows.
 END
 printf '/etc/custody/%s\n' policy.toml authorized_keys > "$root/DEBIAN/conffiles"
-cat > "$root/DEBIAN/postinst" << 'END'
-#!/bin/sh
-# Makes the user that the server and the forced command run as. What the server writes is in a folder of its own.
-set -e
-home=/var/lib/custody
-if [ "$1" = configure ]; then
-    if ! getent passwd custody > /dev/null; then
-        useradd --system --user-group --home-dir "$home" --no-create-home --shell /bin/sh custody
-    fi
-    # Earlier packages had the database in the home, which was the user's.
-    chown root:root "$home"
-    chmod 755 "$home"
-    install -d -o custody -g custody -m 700 "$home/db"
-    if [ -d /run/systemd/system ]; then
-        systemctl daemon-reload
-    fi
-    if [ -f "$home/custody.db" ] && ! [ -e "$home/db/custody.db" ]; then
-        running=no
-        if [ -d /run/systemd/system ] && systemctl --quiet is-active custody.service; then
-            running=yes
-            deb-systemd-invoke stop custody.service
-        fi
-        # The log first: the database is never found without it.
-        if [ -f "$home/custody.db-wal" ]; then
-            mv "$home/custody.db-wal" "$home/db/custody.db-wal"
-        fi
-        mv "$home/custody.db" "$home/db/custody.db"
-        if [ "$running" = yes ]; then
-            deb-systemd-invoke start custody.service
-        fi
-    fi
-    if [ -n "${2:-}" ] && [ -f "$home/db/custody.db" ]; then
-        echo 'custody: if the server says "custody: store G1" after its start, its database is one of an earlier version:' >&2
-        echo 'custody: copy it, and run "custody migrate" (/usr/share/doc/custody/operating/backup.md, Upgrading)' >&2
-    fi
-    if [ -f "$home/.ssh/authorized_keys" ]; then
-        echo "custody: move the keys from $home/.ssh to /etc/custody/authorized_keys" >&2
-        echo 'custody: (/usr/share/doc/custody/operating/backup.md, From an earlier package)' >&2
-    fi
-fi
-END
-cat > "$root/DEBIAN/postrm" << 'END'
-#!/bin/sh
-# The database stays, also after a purge: it has what users stored.
-set -e
-if [ "$1" = remove ] || [ "$1" = purge ]; then
-    rm -f /var/lib/custody/db/spare
-fi
-if [ -d /run/systemd/system ]; then
-    systemctl daemon-reload
-fi
-END
-cat > "$root/DEBIAN/prerm" << 'END'
-#!/bin/sh
-set -e
-if [ "$1" = remove ] && [ -d /run/systemd/system ]; then
-    deb-systemd-invoke stop custody.service || true
-fi
-END
-chmod 755 "$root/DEBIAN/postinst" "$root/DEBIAN/prerm" "$root/DEBIAN/postrm"
+install -m 755 -t "$root/DEBIAN" "$top/deploy/debian/postinst" "$top/deploy/debian/prerm" "$top/deploy/debian/postrm"
 # What lintian is to pass over: the server is started by the unit alone, which confines it; and in the program a text that
 # ends with "user" is next to one that begins with "a".
 mkdir -p "$root/usr/share/lintian/overrides"

@@ -126,13 +126,15 @@ def try_locks(site, book):
                 printed)
     site.lock("bob", "art/1.psd")
     site.lock("bob", "art/two words.psd", "refs/heads/idea")
+    for path in (" lead.psd", "trail.psd ", "  both  ends  "):
+        site.lock("bob", path, "refs/heads/idea")
     site.lock("ann", "art/2.psd")
     book.edit(FORCE, row("allow", ["ann", "zoe"], WORK))
     printed = book.run("A user who leaves")
     site.expect("\nbob upload " in printed, "his tokens are listed, until they expire", printed)
     site.bob.fails("bob's key opens nothing any more", "Permission denied", "fetch")
     book.run("A user who leaves", 1)
-    site.expect("bob" not in book.locks() and "art/2.psd" in book.locks(), "his locks are released, and ann's stays",
+    site.expect("bob" not in book.locks() and "art/2.psd" in book.locks(), "his locks are released, those with spaces too, and ann's stays",
                 book.locks())
 
 
@@ -237,7 +239,9 @@ class SecondServer(SiteServer):
 
 def try_move(site, book, second):
     """The repository is moved to the second server."""
-    book.remotes = {"custody@lfs2": f"{getpass.getuser()}@lfs2"}
+    # Its address here is not https, so it is asked with --also alone.
+    book.remotes = {"custody@lfs2": f"{getpass.getuser()}@lfs2",
+                    "mirror studio/film": f"mirror --also {second.base} studio/film"}
     heading, count = "Moving a repository to a second server", site.count()
     printed = book.run(heading)
     site.expect(f"copied {count} objects" in printed, printed.strip().splitlines()[-1], printed)

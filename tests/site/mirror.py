@@ -2,7 +2,8 @@
 
 A check fails if an object is not copied, is copied with other bytes than its name says, is copied twice or brought
 back; if a run that is killed, or whose server ends, leaves what the next one cannot
-complete; if a token is on a command line or in a file; or if the words that are printed are not those that are stated.
+complete; if a token is on a command line or in a file; if a server or a user of a folder who means harm gets more than
+is stated; or if the words that are printed are not those that are stated.
 """
 import contextlib
 import hashlib
@@ -21,6 +22,7 @@ import threading
 import time
 from pathlib import Path
 
+from tests.site.hostile import try_escapes, try_hosts, try_links, try_too_much
 from tests.studio.checks import Checks, arguments, beside, comes_true, require
 from tests.studio.clone import Clone, Workroom, same_files
 from tests.studio.policy import FILM, GAME, MAIN, WORK, row
@@ -491,10 +493,11 @@ def try_ssh(trial):
     Path(remote.room, "bin/custody").symlink_to(remote.program)
     path = {"PATH": room.environment["PATH"]}
     trial.expect("a server is copied to one by SSH",
-                 trial.mirror(place, "ssh://custody@lfs.example:2222", **path), 50, 0)
+                 trial.mirror("--also", remote.base, place, "ssh://custody@lfs.example:2222", **path), 50, 0)
     trial.check(remote.objects() == place.objects() and remote.is_whole(), "which lists the same, all whole")
     trial.mirror(place, folder)
-    trial.expect("a folder has nothing new for it", trial.mirror(folder, "ssh://custody@lfs.example", **path), 0, 50, 0)
+    trial.expect("a folder has nothing new for it",
+                 trial.mirror("--also", remote.base, folder, "ssh://custody@lfs.example", **path), 0, 50, 0)
     asked = Path(remote.room, "asked").read_text().splitlines()
     words = f"custody@lfs.example git-lfs-authenticate {FILM} upload"
     trial.check(asked == [f"-p 2222 {words}", words], f"ssh got: {asked}")
@@ -534,7 +537,8 @@ def try_busy(trial):
         room = Workroom(place.room, trial.checks)
         room.write("bin/ssh", f"#!/bin/sh\necho '{json.dumps(line)}'\n", 0o755)
         begun = time.monotonic()
-        ran = trial.mirror(folder, "ssh://custody@lfs.example", PATH=room.environment["PATH"])
+        also = f"http://127.0.0.1:{proxy.server_port}"
+        ran = trial.mirror("--also", also, folder, "ssh://custody@lfs.example", PATH=room.environment["PATH"])
         taken = time.monotonic() - begun
         proxy.shutdown()
     trial.expect("429 and 502 are waited for", ran, 0, 1, 0)
@@ -544,14 +548,18 @@ def try_busy(trial):
 def try_unlock(trial):
     """The release of locks."""
     place = trial.place()
-    token, spaced, twice = place.token(user="bob"), "art/a hero  of two.psd", "art/twice.psd"
-    for path, ref in ((spaced, MAIN), ("art/a hero", MAIN), (twice, MAIN), (twice, "refs/heads/dev")):
+    token, spaced, twice = place.token(user="bob"), " art/a hero  of two.psd ", "art/twice.psd"
+    # A terminal would act on the one character, and show the rest in another order after the other.
+    acted = "art/\x9b31m\u202e.psd"
+    for path, ref in ((spaced, MAIN), (acted, MAIN), ("art/a hero", MAIN), (twice, MAIN), (twice, "refs/heads/dev")):
         place.make_lock(path, token, ref)
     moments = {line.split(" ", 4)[4]: line.split()[3] for line in place.locks()}
     for status, words, text in [
         (1, ("mirror", FILM, spaced), "unlock: P0: no policy row allows force\n"),
         (0, ("ann", FILM, spaced), f"released: {spaced} on {MAIN}, which bob had locked since {moments[spaced]}\n"),
         (1, ("ann", FILM, spaced), f"unlock: there is no lock on {spaced}\n"),
+        (0, ("ann", FILM, acted),
+         f"released: art/?31m?.psd on {MAIN}, which bob had locked since {moments[acted]}\n"),
         (1, ("ann", FILM, "art/a"), "unlock: there is no lock on art/a\n"),
         (1, ("ann", FILM, twice), "unlock: the path is locked on several refs, name one of them:\n" + "".join(
             f"{line}\n" for line in place.locks() if line.endswith(f" {twice}"))),

@@ -16,6 +16,7 @@ from pathlib import Path
 
 from tests.site.handbook import try_handbook
 from tests.site.pushes import try_pushes
+from tests.site.uploads import try_uploads
 from tests.studio.checks import Checks, arguments, comes_true, require
 from tests.studio.clone import same_files
 from tests.studio.policy import FILM, WORK, row
@@ -297,7 +298,7 @@ def try_large_files(site):
 
 PARTS = {it.__name__.removeprefix("try_"): it for it in (
     try_locks, try_transfers, try_tokens, try_restart, try_backup, try_check, try_stop, try_reload, try_pushes,
-    try_handbook, try_status, try_other_requests, try_large_files)}
+    try_uploads, try_handbook, try_status, try_other_requests, try_large_files)}
 
 
 def try_parts(site, names):

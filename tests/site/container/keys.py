@@ -47,7 +47,7 @@ def set_up_ssh():
     lines = [f'restrict,command="/usr/lib/custody/forced-command {user}" {Path(f"/try/key-{user}.pub").read_text()}'
              for user in ("ann", "bob")]
     write(keys_file(), "".join(lines))
-    must("install", "-d", "-o", "custody", "-g", "custody", "/srv/git/studio")
+    must("install", "-d", "-o", "custody", "-g", "custody", "-m", "750", "/srv/git/studio")
     must("git", "init", "-q", "--bare", "-b", "main", "/srv/git/studio/film.git", user="custody")
 
 

@@ -1,0 +1,184 @@
+"""Runs the maintainer scripts of the package by themselves, over a folder that stands for the whole machine.
+
+DPKG_ROOT names the folder, and stand-ins for the commands that need root or systemd write down their words. A check
+fails if a script follows a link that the user custody made, changes something before it refuses one, does not say which
+path it is, or does not do what it has to where there is no link; or if the unit, or the folder of the Git repositories,
+gives anybody more than is needed.
+"""
+import os
+import re
+import shutil
+import stat
+import sys
+import tempfile
+from pathlib import Path
+
+from tests.studio.checks import Checks, arguments
+from tests.studio.program import TOP, run
+
+HOME = "var/lib/custody"
+# What a script touches below the home, as an earlier package had it and as this one has it.
+TOUCHED = ("db", "custody.db", "custody.db-wal", "db/custody.db", "db/custody.db-wal", ".ssh", ".ssh/authorized_keys")
+STAND_IN = """#!/bin/sh
+echo "${0##*/} $*" >> "$DPKG_ROOT/../asked"
+case ${0##*/} in
+install) for folder in "$@"; do :; done && mkdir -p "$folder" ;;
+getent) exit 2 ;;
+mv) PATH=/usr/bin:/bin exec mv "$@" ;;
+esac
+"""
+COMMANDS = ("chown", "chmod", "install", "useradd", "getent", "systemctl", "deb-systemd-invoke", "mv")
+# How many connections the server keeps.
+CLIENTS, OPERATORS = 960, 8
+CONFIGURE, REMOVE, PURGE = ("postinst", "configure", "0.0.9"), ("postrm", "remove"), ("postrm", "purge")
+
+
+class Machine:
+    """A folder that stands for a machine, with an earlier package's database if `is_earlier`."""
+
+    def __init__(self, room, scripts, is_earlier):
+        self.room, self.scripts, self.top = Path(room), scripts, Path(room, "machine")
+        self.home, self.victim = self.top / HOME, self.room / "victim"
+        self.home.mkdir(parents=True)
+        (self.top / "run/systemd/system").mkdir(parents=True)
+        self.victim.mkdir(mode=0o755)
+        (self.victim / "spare").write_text("root's")
+        if is_earlier:
+            for name in ("custody.db", "custody.db-wal"):
+                (self.home / name).write_text(name)
+        for name in COMMANDS:
+            path = self.room / "bin" / name
+            path.parent.mkdir(exist_ok=True)
+            path.write_text(STAND_IN)
+            path.chmod(0o755)
+
+    def link(self, name, target=None):
+        """A link in the place of a path below the home, or of the home itself."""
+        path = self.home / name
+        if path.is_dir():
+            shutil.rmtree(path)
+        path.unlink(missing_ok=True)
+        path.parent.mkdir(exist_ok=True)
+        path.symlink_to(target or self.victim)
+
+    def run(self, name, *words):
+        """Runs a script. Returns its status and what it said."""
+        environment = {"PATH": f"{self.room}/bin:/usr/bin:/bin", "DPKG_ROOT": str(self.top)}
+        status, output, errors = run(["sh", self.scripts / name, *words], env=environment)
+        return status, output + errors
+
+    def asked(self):
+        """What was asked of the stand-ins, but for questions."""
+        path = self.room / "asked"
+        lines = path.read_text().splitlines() if path.exists() else []
+        return [it for it in lines if not it.startswith("getent ")]
+
+    def files(self):
+        """Each path of the machine, and of what the links lead to, with the text of a file."""
+        paths = [it for top in (self.top, self.victim) for it in top.rglob("*")]
+        return {str(it): it.read_text() if it.is_file() and not it.is_symlink() else "" for it in paths}
+
+
+def try_link(checks, scripts, words, name):
+    """A script refuses a link in the place of a path, and changes nothing."""
+    with tempfile.TemporaryDirectory() as room:
+        machine = Machine(room, scripts, is_earlier=True)
+        machine.link(name)
+        before = machine.files()
+        status, said = machine.run(*words)
+        path = Path(HOME, name)
+        checks.expect(status == 1 and f"{path} is a link" in said and machine.files() == before and not machine.asked(),
+                      f"{words[0]} {words[1]} refuses a link in the place of {path}, and changes nothing",
+                      f"status {status}, {machine.asked()}: {said}")
+
+
+def try_file(checks, scripts):
+    """A file in the place of the folder is refused too."""
+    with tempfile.TemporaryDirectory() as room:
+        machine = Machine(room, scripts, is_earlier=True)
+        (machine.home / "db").write_text("a file")
+        status, said = machine.run(*CONFIGURE)
+        checks.expect(status == 1 and "db is no folder" in said and not machine.asked(),
+                      "a file in the place of the folder is refused", f"{machine.asked()}: {said}")
+
+
+def try_late_link(checks, scripts):
+    """The user makes a link after the first look: in the home until that is root's, in the folder at any moment."""
+    for name, when in (("db", "chown"), ("db/custody.db", "mv")):
+        with tempfile.TemporaryDirectory() as room:
+            machine = Machine(room, scripts, is_earlier=True)
+            stand_in = machine.room / "bin" / when
+            late = f'#!/bin/sh\n[ -L "{machine.home}/{name}" ] || ln -s "{machine.victim}" "{machine.home}/{name}"\n'
+            stand_in.write_text(STAND_IN.replace("#!/bin/sh\n", late))
+            machine.run(*CONFIGURE)
+            found = sorted(it.name for it in machine.victim.iterdir())
+            installed = [it for it in machine.asked() if it.startswith("install ")]
+            checks.expect(found == ["spare"] and (name != "db" or not installed),
+                          f"a link that is made at {name} when {when} runs is not followed", f"{found}, {installed}")
+
+
+def try_upgrade(checks, scripts):
+    """Without links the database of an earlier package is moved, and nothing else."""
+    with tempfile.TemporaryDirectory() as room:
+        machine = Machine(room, scripts, is_earlier=True)
+        status, said = machine.run(*CONFIGURE)
+        found = {name: (machine.home / "db" / name).read_text() for name in ("custody.db", "custody.db-wal")}
+        checks.expect(status == 0 and found == {name: name for name in found} and "custody migrate" in said,
+                      "an earlier database is moved with its log", said)
+        asked = [it.split()[0] for it in machine.asked()]
+        checks.expect(asked == ["useradd", "chown", "chmod", "install", "systemctl", "systemctl", "deb-systemd-invoke",
+                                "mv", "mv", "deb-systemd-invoke"], "while the server is stopped", machine.asked())
+        status, said = machine.run(*CONFIGURE)
+        checks.expect(status == 0, "the package is installed once more", said)
+        (machine.home / "db/spare").write_text("spare")
+        kept = [machine.run(*words)[0] for words in (REMOVE, PURGE)]
+        names = sorted(it.name for it in (machine.home / "db").iterdir())
+        checks.expect(kept == [0, 0] and names == ["custody.db", "custody.db-wal"],
+                      "its removal leaves the database, and not the spare file", names)
+
+
+def try_unit(checks):
+    """What the unit says of the network, of descriptors and of memory that is used up."""
+    lines = (TOP / "deploy/systemd/custody.service").read_text().splitlines()
+    values = dict(it.split("=", 1) for it in lines if "=" in it and not it.startswith("#"))
+    checks.expect((values.get("IPAddressDeny"), values.get("IPAddressAllow")) == ("any", "localhost"),
+                  "the unit lets the server connect to this machine alone")
+    count = int(values.get("LimitNOFILE", 1024))
+    # The connections of clients and operators, and what is opened beside them.
+    checks.expect(count >= 2 * (CLIENTS + OPERATORS), f"it has {count} descriptors, for {CLIENTS} clients")
+    score = int(values.get("OOMScoreAdjust", 0))
+    checks.expect(-1000 < score < 0, f"others are ended before it if memory is used up: {score}")
+
+
+def try_git_folder(checks):
+    """The command of the page makes a folder of Git repositories that other users of the machine cannot enter."""
+    page = (TOP / "docs/operating/install.md").read_text(encoding="utf-8")
+    command = re.search(r"`(install -d [^`]*/srv/git/studio)`", page)[1]
+    with tempfile.TemporaryDirectory() as room:
+        words = re.sub(r" -[og] custody", "", command).replace("/srv/git", f"{room}/git").split()
+        status, _, errors = run(words)
+        mode = stat.S_IMODE(os.stat(f"{room}/git/studio").st_mode)
+        checks.expect(status == 0 and mode == 0o750, f"`{command}` makes a folder with the mode {mode:04o}", errors)
+
+
+def main():
+    """Runs the suite."""
+    parser = arguments(__doc__)
+    parser.add_argument("--scripts", default=TOP / "deploy/debian", type=lambda it: Path(os.path.abspath(it)),
+                        metavar="FOLDER", help="the scripts, if not those of this tree: older ones have to fail")
+    options, checks = parser.parse_args(), Checks()
+    for name in (".", *TOUCHED):
+        try_link(checks, options.scripts, CONFIGURE, name)
+    for words in (REMOVE, PURGE):
+        for name in (".", "db"):
+            try_link(checks, options.scripts, words, name)
+    try_file(checks, options.scripts)
+    try_late_link(checks, options.scripts)
+    try_upgrade(checks, options.scripts)
+    try_unit(checks)
+    try_git_folder(checks)
+    return checks.end()
+
+
+if __name__ == "__main__":
+    sys.exit(main())
