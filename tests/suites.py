@@ -126,7 +126,7 @@ SUITES = [
           1, ("nginx", "openssl", "chromium", "chromium-driver", "python3-selenium")),
     Suite("mirror", "tests.site.mirror", "The programs `mirror` and `unlock` copy objects and release locks.",
           10, ("curl", "git", "git-lfs"), quick=only("words", "git_lfs", "ssh")),
-    Suite("package", "tests.site.package", "The package follows no link, and the unit and folders give no more than is needed.",
+    Suite("package", "tests.site.package", "The package follows no link, and the unit gives no more than is needed.",
           0, quick=()),
     Suite("security", "tests.site.security", "A whole machine with the package keeps what the pages say of security.",
           5, ("debootstrap", "systemd-container", "binutils", "pandoc", "git"), root=True),

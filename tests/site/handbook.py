@@ -134,8 +134,8 @@ def try_locks(site, book):
     site.expect("\nbob upload " in printed, "his tokens are listed, until they expire", printed)
     site.bob.fails("bob's key opens nothing any more", "Permission denied", "fetch")
     book.run("A user who leaves", 1)
-    site.expect("bob" not in book.locks() and "art/2.psd" in book.locks(), "his locks are released, those with spaces too, and ann's stays",
-                book.locks())
+    site.expect("bob" not in book.locks() and "art/2.psd" in book.locks(),
+                "his locks are released, those with spaces too, and ann's stays", book.locks())
 
 
 def try_backup(site, book):

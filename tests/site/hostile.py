@@ -1,7 +1,7 @@
 """What the suite of the mirror tries with a server, and with users of a folder, that mean harm.
 
-A stand-in for custody or ssh names a server that replies with too much, with what a terminal acts on, or with the address
-of somebody else; a folder has links and pipes.
+A stand-in for custody or ssh names a server that replies with too much, with what a terminal acts on, or with the
+address of somebody else; a folder has links and pipes.
 """
 import contextlib
 import http.server
@@ -164,7 +164,8 @@ def try_hosts(trial):
         stage.refused("an address that SSH names, and that is another host's", stage.run(*words), "with --also alone")
         line = json.dumps({"expires_in": 60, "header": {}, "href": "http://lfs.example/x"})
         stage.room.write("bin/ssh", f"#!/bin/sh\necho '{line}'\n", 0o755)
-        stage.refused("one that is not https", stage.run(*words), "http://lfs.example, which is asked with --also alone")
+        stage.refused("one that is not https", stage.run(*words),
+                      "http://lfs.example, which is asked with --also alone")
         trial.check(len(server.asked) == count, "nobody is asked there", server.asked)
 
 
