@@ -12,6 +12,7 @@ PACKAGES = {
     "chromium-driver": "chromedriver",
     "curl": "curl",
     "debootstrap": "debootstrap",
+    "gcc": "cc",
     "git": "git",
     "git-lfs": "git-lfs",
     "golang-github-git-lfs-git-lfs-dev": "/usr/share/gocode/src/github.com/git-lfs/git-lfs",
@@ -132,6 +133,6 @@ SUITES = [
           5, ("debootstrap", "systemd-container", "binutils", "pandoc", "git"), root=True),
     Suite("release", "tests.site.release", "Checkouts use the files of a release, and prove again what is changed.",
           5, ("rt", "git", "git-lfs", "pandoc", "binutils")),
-    Suite("allocations", "tests/allocations/refuse.sh", "Each allocation that is refused gets a stated reply.",
-          120, ("rt",)),
+    Suite("allocations", "tests.server.allocations", "Each allocation that is refused leaves what was, or what is after.",
+          5, ("gcc", "rt")),
 ]

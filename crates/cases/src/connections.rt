@@ -1,8 +1,8 @@
 //! Connections: served over a store, and compared with what a case wants.
 
-use crate::fault::Fault;
 use crate::scene::Scene;
 use crate::texts::Names;
+use calls::Fault;
 use names::{FailAfter, SliceSource, VecSink};
 use service::{End, Routes, Served, serve};
 use std::alloc::Global;
@@ -75,12 +75,18 @@ pub(crate) fn expect_text(alloc: Global, wanted: &[u8], found: &[u8]) -> Result<
     )?))
 }
 
-/// Compares how a connection ended.
-pub(crate) fn expect_end(alloc: Global, wanted: Served, found: Served) -> Result<(), Fault> {
-    if wanted == found {
-        return Ok(());
+/// Compares how a connection ended. One that ended with the client's input was read to its end.
+pub(crate) fn expect_end(alloc: Global, wanted: Served, sent: &Sent) -> Result<(), Fault> {
+    let Sent { served, unread, .. } = sent;
+    if wanted != *served {
+        return Err(Fault::Differs(format!(in alloc;
+            "{wanted:?} is wanted, and {served:?} was found"
+        )?));
     }
-    Err(Fault::Differs(format!(in alloc; "{wanted:?} is wanted, and {found:?} was found")?))
+    if served.end == End::InputEnded && *unread > 0 {
+        return Err(Fault::Differs(format!(in alloc; "{unread} bytes were not read")?));
+    }
+    Ok(())
 }
 
 /// Whether a store that fails explains what was sent: the first replies whole, and then the store refusal, or a part of
@@ -103,7 +109,7 @@ fn is_cut_by_store(scene: &Scene, refusal: &[u8], sent: &Sent) -> bool {
 }
 
 /// Serves the connection of the scene, and compares what is sent and how it ends. Of the replies as many bytes are sent
-/// as the writes take.
+/// as the writes take. A write that fails though all should succeed had no memory.
 pub(crate) fn end<S: Alter>(
     alloc: Global,
     store: &mut Store<S>,
@@ -113,6 +119,9 @@ pub(crate) fn end<S: Alter>(
 ) -> Result<(), Fault> {
     let wanted = scene.wanted_end(words)?;
     let sent = sent_by(alloc, store, scene)?;
+    if sent.served.end == End::WriteFailed && scene.writes == u64::MAX {
+        return Err(Fault::Memory);
+    }
     let taken = scene.writes.saturating_mul(scene.most as u64);
     let size = taken.min(scene.wanted.len() as u64) as usize;
     let text = scene.wanted.get(..size).unwrap_or(b"");
@@ -120,7 +129,7 @@ pub(crate) fn end<S: Alter>(
         return Err(Fault::Stopped);
     }
     expect_text(alloc, text, sent.text.as_slice())?;
-    expect_end(alloc, wanted, sent.served)?;
+    expect_end(alloc, wanted, &sent)?;
     scene.unread = sent.unread;
     scene.begin();
     Ok(())

@@ -1,11 +1,10 @@
 //! Messages that differ in one place, and the rule that refuses each.
 
 use crate::connections::{expect_end, expect_text, sent_by};
-use crate::fault::Fault;
 use crate::running::{Located, Setting, World, located, world_after};
-use crate::scene::repo;
 use crate::script::Step;
 use crate::texts::Names;
+use calls::{Fault, repo};
 use service::{End, Served};
 
 /// What a server has to do with a message: the names of its replies, whether it then closes, and the number of locks
@@ -64,7 +63,7 @@ fn expect(
         answered: wanted.replies.len(),
         end,
     };
-    expect_end(setting.alloc, served, sent.served)?;
+    expect_end(setting.alloc, served, &sent)?;
     let made = store.made(&repo(setting.alloc, "studio/film")?)?;
     if made == wanted.locks {
         return Ok(());

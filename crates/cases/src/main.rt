@@ -6,16 +6,18 @@
 #![tactic(auto)]
 
 mod connections;
-mod fault;
+mod files;
 mod judging;
+mod restarting;
 mod running;
 mod scene;
 mod script;
 mod steps;
 mod stopping;
 mod texts;
+mod trying;
 
-use fault::Fault;
+use calls::{Fault, number};
 use running::{Located, Setting, located, run_steps};
 use script::{Case, Script, Step, read_script};
 use std::alloc::Global;
@@ -23,7 +25,7 @@ use std::io::{self, Write};
 use std::process::ExitCode;
 use std::rt::HostRuntime;
 use std::{env, fs};
-use texts::{Names, number};
+use texts::Names;
 
 /// How many cases there were, and how many differ.
 #[derive(Clone, Copy)]
@@ -59,8 +61,11 @@ fn run_with_limits(
     let mut judged = 0;
     for word in text_of(case, "pieces").unwrap_or(PIECES).split_whitespace() {
         let most = located(0, limit(word))?;
+        let steps = case.steps.as_slice();
+        let is_fresh = steps.first().is_some_and(|step| step.is("fresh"));
+        let start = if is_fresh { &[] } else { start };
         let setting = Setting { alloc, start, most };
-        judged = run_steps(setting, names, case.steps.as_slice())?;
+        judged = run_steps(setting, names, steps)?;
     }
     Ok(judged)
 }

@@ -1,12 +1,14 @@
 //! A case: its steps, taken over a store in memory.
 
-use crate::fault::Fault;
 use crate::judging::judge;
+use crate::restarting::{is_restart, run_over_files};
 use crate::scene::Scene;
 use crate::script::Step;
 use crate::steps::take_over;
 use crate::stopping::stop;
 use crate::texts::Names;
+use crate::trying::try_work;
+use calls::Fault;
 use sqlite::MemStore;
 use std::alloc::Global;
 use tables::Store;
@@ -70,15 +72,31 @@ pub(crate) fn world_after(
     Ok(world)
 }
 
+/// Takes the steps of a case over files in memory, if it has a step that needs them.
+fn run_with_work(
+    setting: Setting<'_>,
+    names: &mut Names,
+    steps: &[Step],
+) -> Option<Result<(), Located>> {
+    let is_special = |step: &Step| step.is("stop") || step.is("try") || is_restart(step);
+    let (first, rest) = steps.split_at(steps.iter().position(is_special)?);
+    let (step, rest) = rest.split_first()?;
+    Some(match step.word.as_str() {
+        "stop" => stop(setting, names, first, step, rest),
+        "try" => try_work(setting, names, first, step, rest),
+        _ => run_over_files(setting, names, steps),
+    })
+}
+
 /// Takes the steps of a case. Returns the number of messages that it judges.
 pub(crate) fn run_steps(
     setting: Setting<'_>,
     names: &mut Names,
     steps: &[Step],
 ) -> Result<u64, Located> {
-    if let Some(at) = steps.iter().position(|step| step.is("stop")) {
-        let (first, rest) = steps.split_at(at);
-        return stop(setting, names, first, rest);
+    if let Some(taken) = run_with_work(setting, names, steps) {
+        taken?;
+        return Ok(0);
     }
     let mut judged = 0u64;
     for (at, step) in steps.iter().enumerate() {

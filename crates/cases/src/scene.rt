@@ -1,9 +1,9 @@
 //! What a case has beside its store: the policy, the moment, and the connection that is being written.
 
-use crate::fault::Fault;
 use crate::script::Step;
-use crate::texts::{Names, number};
-use names::{LockPath, Moment, Oid, Operation, RefName, RepoName, Size, UserName};
+use crate::texts::Names;
+use calls::{Fault, Hands, moment, number};
+use names::Moment;
 use policy::Policy;
 use service::{End, Served};
 use std::alloc::Global;
@@ -25,6 +25,10 @@ pub(crate) struct Scene {
     pub writes: u64,
     /// The number of bytes of the last connection that were not read.
     pub unread: usize,
+    /// How often the next step is taken.
+    pub times: u64,
+    /// What calls have begun.
+    pub hands: Hands,
 }
 
 impl Scene {
@@ -40,6 +44,8 @@ impl Scene {
             reads: u64::MAX,
             writes: u64::MAX,
             unread: 0,
+            times: 1,
+            hands: Hands::new(alloc),
         })
     }
 
@@ -106,8 +112,9 @@ impl Scene {
             "at" => self.now = moment(text)?,
             "reads" => self.reads = number(text)?,
             "writes" => self.writes = number(text)?,
+            "repeat" => self.times = number(text)?,
             "unread" => self.expect_unread(alloc, number(text)?)?,
-            "pieces" | "each" => {}
+            "pieces" | "each" | "fresh" => {}
             _ => return Err(Fault::Script("no such step")),
         }
         Ok(())
@@ -149,39 +156,5 @@ impl Scene {
             _ => return Err(Fault::Script("a connection does not end so")),
         };
         Ok(Served { answered, end })
-    }
-}
-
-/// The moment of this text.
-pub(crate) fn moment(text: &str) -> Result<Moment, Fault> {
-    Moment::read(number(text)?).ok_or(Fault::Script("no such moment"))
-}
-
-/// The repository of this text.
-pub(crate) fn repo(alloc: Global, text: &str) -> Result<RepoName, Fault> {
-    RepoName::read(text.to_owned(alloc)?).ok_or(Fault::Script("no such repository"))
-}
-
-/// The user of this text.
-pub(crate) fn user(alloc: Global, text: &str) -> Result<UserName, Fault> {
-    UserName::read(text.to_owned(alloc)?).ok_or(Fault::Script("no such user"))
-}
-
-/// The object's name of this text.
-pub(crate) fn oid(text: &str) -> Result<Oid, Fault> {
-    Oid::read(text.as_bytes()).ok_or(Fault::Script("no such object"))
-}
-
-/// The object's size of this text.
-pub(crate) fn size(text: &str) -> Result<Size, Fault> {
-    Size::read(number(text)?).ok_or(Fault::Script("no such size"))
-}
-
-/// The operation of this word.
-pub(crate) fn operation(word: &str) -> Result<Operation, Fault> {
-    match word {
-        "download" => Ok(Operation::Download),
-        "upload" => Ok(Operation::Upload),
-        _ => Err(Fault::Script("no such operation")),
     }
 }

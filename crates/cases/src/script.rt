@@ -1,6 +1,6 @@
 //! The lines of a script, as its cases and their steps.
 
-use crate::fault::Fault;
+use calls::Fault;
 use std::alloc::{AllocError, Global};
 
 /// A step: a word, the text after it, and the lines of its block and of its rows.

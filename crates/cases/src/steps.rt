@@ -1,83 +1,50 @@
 //! The steps of a case over a store.
 
 use crate::connections::{end, expect_text};
-use crate::fault::Fault;
-use crate::scene::{Scene, moment, oid, operation, repo, size, user};
+use crate::scene::Scene;
 use crate::script::Step;
-use crate::texts::{Names, number};
-use sha2::{Digest, Sha256};
+use crate::texts::Names;
+use calls::{Fault, Given, call};
 use sqlite::{Connection, Row};
 use sqlite_value::value::ValueRef;
 use std::alloc::Global;
-use tables::{Alter, NewToken, Storage, Store, StoreFault};
+use tables::{Alter, Storage, Store};
 
-impl From<StoreFault> for Fault {
-    fn from(fault: StoreFault) -> Fault {
-        match fault {
-            StoreFault::Memory => Fault::Memory,
-            StoreFault::Refused => Fault::Store("by the machine or a row"),
-        }
-    }
-}
-
-/// The word at this place.
-fn word<'t>(words: &[&'t str], at: usize) -> Result<&'t str, Fault> {
-    match words.get(at) {
-        Some(word) => Ok(*word),
-        None => Err(Fault::Script("a word is missing")),
-    }
-}
-
-/// Stores a token: its letter, of which its text has 64, its user, its repository, its operation, and its expiry.
-fn add_token<S: Alter>(alloc: Global, store: &mut Store<S>, words: &[&str]) -> Result<(), Fault> {
-    let letter = word(words, 0)?.bytes().next().unwrap_or(0);
-    let user = user(alloc, word(words, 1)?)?;
-    let repo = repo(alloc, word(words, 2)?)?;
-    let operation = operation(word(words, 3)?)?;
-    let expires = moment(word(words, 4)?)?;
-    store.add_token(&NewToken {
-        digest: &Sha256::digest(&[letter; 64]),
-        user: &user,
-        repo: &repo,
-        operation,
-        expires,
-    })?;
-    Ok(())
-}
-
-/// Stages an upload: its repository, its name, its size, and the bytes that have arrived.
-fn stage<S: Alter>(alloc: Global, store: &mut Store<S>, words: &[&str]) -> Result<(), Fault> {
-    let repo = repo(alloc, word(words, 0)?)?;
-    let name = oid(word(words, 1)?)?;
-    let size = size(word(words, 2)?)?;
-    let id = uploads::begin(alloc, store, &repo, &name, size)?;
-    if let Some(bytes) = words.get(3) {
-        store.add_chunk(id, 0, bytes.as_bytes())?;
-    }
-    Ok(())
-}
-
-/// Removes the tokens that have expired, and compares their number.
-fn prune<S: Alter>(
+/// Makes the call of the step, and compares the lines that it returns with the step's rows; the row `refused` stands for
+/// the store's refusal. Returns whether the step is a call.
+fn make_call<S: Storage>(
     alloc: Global,
     store: &mut Store<S>,
-    scene: &Scene,
+    scene: &mut Scene,
+    names: &Names,
+    step: &Step,
     text: &str,
-) -> Result<(), Fault> {
-    let wanted = number(text)?;
-    let found = tokens::prune(store, scene.now)?;
-    if found == wanted {
-        return Ok(());
-    }
-    Err(Fault::Differs(format!(in alloc; "{found} tokens were removed, not {wanted}")?))
-}
-
-/// Creates or checks the tables.
-pub(crate) fn make_tables<S: Storage>(alloc: Global, store: &mut Store<S>) -> Result<(), Fault> {
-    match store.create_or_check(alloc) {
-        Ok(()) => Ok(()),
-        Err(_) => Err(Fault::Store("to create or check its tables")),
-    }
+) -> Result<bool, Fault> {
+    let wanted = names.lines(step.rows.as_slice())?;
+    let Scene {
+        policy,
+        now,
+        most,
+        writes,
+        hands,
+        ..
+    } = scene;
+    let given = Given {
+        alloc,
+        now: *now,
+        policy: policy.as_ref(),
+        most: *most,
+        writes: *writes,
+    };
+    let found = match call(given, store, hands, step.word.as_str(), text) {
+        Ok(Some(lines)) => lines,
+        Ok(None) => return Ok(false),
+        Err(Fault::Store(_)) if wanted.as_slice() == b"refused\n".as_slice() => return Ok(true),
+        Err(fault) => return Err(fault),
+    };
+    expect_text(alloc, wanted.as_slice(), found.as_bytes())?;
+    scene.writes = u64::MAX;
+    Ok(true)
 }
 
 /// Takes a step that is one of the scene or a call of the store.
@@ -93,12 +60,10 @@ fn take<S: Storage>(
     }
     let text = names.line(step.rest.as_str())?;
     let text = text.as_str();
-    let words: Vec<&str> = text.split_whitespace().collect(alloc)?;
+    if make_call(alloc, store, scene, names, step, text)? {
+        return Ok(());
+    }
     match step.word.as_str() {
-        "tables" => make_tables(alloc, store),
-        "token" => add_token(alloc, store, words.as_slice()),
-        "stage" => stage(alloc, store, words.as_slice()),
-        "prune" => prune(alloc, store, scene, text),
         "end" => end(alloc, store, scene, names, text),
         word => scene.set(alloc, word, text),
     }
@@ -167,8 +132,8 @@ fn run_sql<S: Alter>(
     }
 }
 
-/// Takes a step. Returns the store, whatever became of it.
-pub(crate) fn take_over<S: Storage>(
+/// Takes a step once. Returns the store, whatever became of it.
+fn take_once<S: Storage>(
     alloc: Global,
     mut store: Store<S>,
     scene: &mut Scene,
@@ -187,4 +152,28 @@ pub(crate) fn take_over<S: Storage>(
         run_sql(&mut conn, names, step)
     };
     (Store::adopt(conn), taken)
+}
+
+/// Takes a step as often as the one before it says; `i` stands for how often it was taken. Returns the store, whatever
+/// became of it.
+pub(crate) fn take_over<S: Storage>(
+    alloc: Global,
+    mut store: Store<S>,
+    scene: &mut Scene,
+    names: &mut Names,
+    step: &Step,
+) -> (Store<S>, Result<(), Fault>) {
+    let times = scene.times;
+    scene.times = 1;
+    for number in 0..times {
+        if let Err(fault) = names.define_number("i", number) {
+            return (store, Err(fault));
+        }
+        let (same, taken) = take_once(alloc, store, scene, names, step);
+        store = same;
+        if taken.is_err() {
+            return (store, taken);
+        }
+    }
+    (store, Ok(()))
 }

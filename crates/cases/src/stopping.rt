@@ -1,112 +1,35 @@
 //! A machine that stops at each call of a file in turn. After its restart there is what was before, or what is after,
 //! whole: the latter exactly if it was reported.
-//!
-//! A fuse forwards the first calls to a file in memory, and fails each later one. Then the machine restarts: what was
-//! never synced is lost, and the files are opened again.
 
-use crate::fault::Fault;
+use crate::files::{Disks, Plan, copy_of, crash, files_after, with_files};
 use crate::running::{Located, Setting, located};
 use crate::scene::Scene;
 use crate::script::Step;
-use crate::steps::{make_tables, take_over};
 use crate::texts::Names;
-use sqlite::{Connection, FileStore, Files, Options};
-use sqlite_disk::{Crash, Disk, Fuse, Memory};
-use std::alloc::Global;
-use tables::{Storage, Store};
+use calls::Fault;
+use sqlite::Files;
 
 /// More calls than a case makes of either file.
 const MANY: u64 = 2_000;
 
-/// A file with the same bytes, all of which are synced, that fails after this number of calls.
-fn copy_of(alloc: Global, file: &Fuse<Memory>, calls: u64) -> Result<Fuse<Memory>, Fault> {
-    let mut copy = Memory::new(alloc);
-    if copy.write_at(0, file.inner().bytes()).is_err() || copy.sync().is_err() {
-        return Err(Fault::Memory);
-    }
-    Ok(Fuse::new(copy, calls))
-}
-
-/// The result of steps: where they failed, if they did.
-type Taken = Result<(), Located>;
-
-/// Takes the steps over the store, once it has its tables. Returns the store.
-fn take_steps<S: Storage>(
-    alloc: Global,
-    mut store: Store<S>,
-    scene: &mut Scene,
-    names: &mut Names,
-    steps: &[Step],
-) -> (Store<S>, Taken) {
-    scene.begin();
-    if let Err(fault) = make_tables(alloc, &mut store) {
-        return (store, Err((0, fault)));
-    }
-    for step in steps {
-        let (same, taken) = take_over(alloc, store, scene, names, step);
-        store = same;
-        if let Err(fault) = taken {
-            return (store, Err((step.line, fault)));
-        }
-    }
-    (store, located(0, scene.expect_ended()))
-}
-
-/// A connection's options, with room for few pages that were read: a stop takes three connections.
-fn small() -> Options {
-    let mut options = Options::new(7);
-    options.cache_pages = 50;
-    options
-}
-
-/// Opens a store over the files, and takes the steps. Returns the files, after the log was copied into the database if
-/// `settles`.
-fn with_files(
-    alloc: Global,
-    files: Files<Fuse<Memory>>,
-    scene: &mut Scene,
-    names: &mut Names,
-    steps: &[Step],
-    settles: bool,
-) -> (Files<Fuse<Memory>>, Taken) {
-    if !files.may_be_used() {
-        return (files, Err((0, Fault::Store("to open files"))));
-    }
-    match Connection::open_files(alloc, files, small()) {
-        Ok(conn) => {
-            let (store, taken) = take_steps(alloc, Store::adopt(conn), scene, names, steps);
-            let mut files = store.into_connection().into_store();
-            if settles {
-                let _ = files.checkpoint();
-            }
-            (files.close(), taken)
-        }
-        Err((_, left)) => (left.into_files(), Err((0, Fault::Store("to open files")))),
-    }
-}
-
-/// A case that is stopped: the files before its work, the work, and the steps that hold before it and after it.
+/// A case with a work: the files before it, its steps, and those that hold before it and after it.
 #[derive(Drop)]
-struct Stopped<'s> {
-    alloc: Global,
-    files: Files<Fuse<Memory>>,
-    line: usize,
-    work: &'s [Step],
-    before: &'s [Step],
-    after: &'s [Step],
+pub(crate) struct Work<'s> {
+    pub setting: Setting<'s>,
+    pub files: Disks,
+    pub line: usize,
+    pub work: &'s [Step],
+    pub before: &'s [Step],
+    pub after: &'s [Step],
 }
 
-impl Stopped<'_> {
-    /// Copies of the files, whose log or whose database fails after this number of calls.
-    fn copies(&self, of_log: bool, calls: u64) -> Result<Files<Fuse<Memory>>, Fault> {
-        let (log, db) = if of_log {
-            (calls, u64::MAX)
-        } else {
-            (u64::MAX, calls)
-        };
+impl Work<'_> {
+    /// Copies of the files, whose log and whose database fail after these numbers of calls.
+    pub(crate) fn copies(&self, log: u64, db: u64) -> Result<Disks, Located> {
+        let alloc = self.setting.alloc;
         Ok(Files {
-            log: copy_of(self.alloc, &self.files.log, log)?,
-            db: copy_of(self.alloc, &self.files.db, db)?,
+            log: located(self.line, copy_of(alloc, &self.files.log, log))?,
+            db: located(self.line, copy_of(alloc, &self.files.db, db))?,
         })
     }
 
@@ -119,18 +42,22 @@ impl Stopped<'_> {
         of_log: bool,
         calls: u64,
     ) -> Result<bool, Located> {
-        let copies = located(self.line, self.copies(of_log, calls))?;
-        let (mut files, taken) = with_files(self.alloc, copies, scene, names, self.work, false);
-        let is_done = match taken {
+        let copies = if of_log {
+            self.copies(calls, u64::MAX)?
+        } else {
+            self.copies(u64::MAX, calls)?
+        };
+        let plan = Plan::steps(self.work);
+        let (mut files, done) = with_files(self.setting, copies, scene, names, plan, false);
+        let is_done = match done.work {
             Ok(()) => true,
             Err((_, Fault::Stopped | Fault::Store(_))) => false,
             Err(differs) => return Err(differs),
         };
-        files.log.crash();
-        files.db.crash();
-        let steps = if is_done { self.after } else { self.before };
-        let (_, found) = with_files(self.alloc, files, scene, names, steps, false);
-        found?;
+        crash(&mut files);
+        let plan = Plan::steps(if is_done { self.after } else { self.before });
+        let (_, found) = with_files(self.setting, files, scene, names, plan, false);
+        found.work?;
         Ok(is_done)
     }
 
@@ -153,14 +80,36 @@ impl Stopped<'_> {
     }
 }
 
-/// The steps of a case after `stop`: the work, those that hold before it, and those that hold after it.
-fn parts(rest: &[Step]) -> Option<(&Step, &[Step], &[Step], &[Step])> {
-    let (stop, rest) = rest.split_first()?;
+/// The steps of a case after `stop` or `try`: the work, those that hold before it, and those that hold after it.
+fn parts(rest: &[Step]) -> Option<(&[Step], &[Step], &[Step])> {
     let (work, rest) = rest.split_at(rest.iter().position(|step| step.is("before"))?);
     let (_, rest) = rest.split_first()?;
     let (before, rest) = rest.split_at(rest.iter().position(|step| step.is("after"))?);
     let (_, after) = rest.split_first()?;
-    Some((stop, work, before, after))
+    Some((work, before, after))
+}
+
+/// The work of a case after the first steps, which are taken; and the scene.
+pub(crate) fn work_after<'s>(
+    setting: Setting<'s>,
+    names: &mut Names,
+    first: &'s [Step],
+    step: &'s Step,
+    rest: &'s [Step],
+) -> Result<(Work<'s>, Scene), Located> {
+    let Some((work, before, after)) = parts(rest) else {
+        return Err((step.line, Fault::Script("a work has before and after")));
+    };
+    let (files, scene) = files_after(setting, names, first)?;
+    let work = Work {
+        setting,
+        files,
+        line: step.line,
+        work,
+        before,
+        after,
+    };
+    Ok((work, scene))
 }
 
 /// Takes the first steps over new files, and stops the rest at each call of the log and of the database.
@@ -168,30 +117,10 @@ pub(crate) fn stop(
     setting: Setting<'_>,
     names: &mut Names,
     first: &[Step],
+    step: &Step,
     rest: &[Step],
-) -> Result<u64, Located> {
-    let alloc = setting.alloc;
-    let Some((stop, work, before, after)) = parts(rest) else {
-        return Err((0, Fault::Script("a stop has a work, before and after")));
-    };
-    let mut scene = located(stop.line, Scene::new(alloc, setting.most))?;
-    let files = Files {
-        log: Fuse::new(Memory::new(alloc), u64::MAX),
-        db: Fuse::new(Memory::new(alloc), u64::MAX),
-    };
-    let (files, taken) = with_files(alloc, files, &mut scene, names, setting.start, false);
-    taken?;
-    let (files, taken) = with_files(alloc, files, &mut scene, names, first, true);
-    taken?;
-    let stopped = Stopped {
-        alloc,
-        files,
-        line: stop.line,
-        work,
-        before,
-        after,
-    };
-    stopped.stop_at_each(&mut scene, names, true)?;
-    stopped.stop_at_each(&mut scene, names, false)?;
-    Ok(0)
+) -> Result<(), Located> {
+    let (work, mut scene) = work_after(setting, names, first, step, rest)?;
+    work.stop_at_each(&mut scene, names, true)?;
+    work.stop_at_each(&mut scene, names, false)
 }

@@ -7,8 +7,8 @@
 //! | `$(NAME<N)` | the first N bytes of that text |
 //! | `$(x 0d 0a)` | these bytes, in hexadecimal digits |
 
-use crate::fault::Fault;
 use crate::script::Step;
+use calls::{Fault, number};
 use std::alloc::Global;
 
 /// Names, and the text of each.
@@ -177,13 +177,5 @@ impl Names {
         } else {
             self.block(step.block.as_slice())
         }
-    }
-}
-
-/// The number of this text.
-pub(crate) fn number(text: &str) -> Result<u64, Fault> {
-    match text.parse::<u64>() {
-        Ok(number) => Ok(number),
-        Err(_) => Err(Fault::Script("a number has decimal digits")),
     }
 }
