@@ -8,4 +8,3 @@ mod judging;
 mod memory;
 mod objects;
 mod reading;
-mod stops;
