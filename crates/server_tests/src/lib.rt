@@ -4,11 +4,6 @@
 //! |---|---|
 //! | `schema_compare` | `schema_compare_tests` |
 //! | `tables` | `tables_tests` |
-//! | `tokens` | `tokens_tests` |
-//! | `locks` | `locks_tests` |
-//! | `chunks`, `uploads` | `objects_tests` |
-//! | `cursor` | `cursor_tests` |
-//! | `pushcheck` | `pushcheck_tests` |
 //! | `desk` | `desk_tests` |
 //! | `service` | `service_tests` |
 //!
@@ -18,17 +13,9 @@
 #![tactic(auto)]
 
 #[cfg(test)]
-mod cursor_tests;
-#[cfg(test)]
 mod desk_tests;
 #[cfg(test)]
 mod harness;
-#[cfg(test)]
-mod locks_tests;
-#[cfg(test)]
-mod objects_tests;
-#[cfg(test)]
-mod pushcheck_tests;
 #[cfg(test)]
 mod schema_compare_tests;
 #[cfg(test)]
@@ -37,5 +24,3 @@ mod server;
 mod service_tests;
 #[cfg(test)]
 mod tables_tests;
-#[cfg(test)]
-mod tokens_tests;

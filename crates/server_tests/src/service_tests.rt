@@ -5,7 +5,5 @@ mod arrivals;
 mod devices;
 mod foreseen;
 mod judging;
-mod memory;
 mod objects;
 mod reading;
-mod stops;

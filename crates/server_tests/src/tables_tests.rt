@@ -1,5 +1,4 @@
-//! Tests of `tables`: its calls on a database in memory and on files, and what a crash leaves.
+//! Tests of `tables` on files of the machine. Its other tests are cases (`crates/cases`).
 
-mod crashes;
 mod databases;
 mod files;

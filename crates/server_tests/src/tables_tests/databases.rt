@@ -1,11 +1,10 @@
-//! What the store keeps, finds and removes, and which files it accepts as its own.
+//! Which files a store accepts as its own, what it finds in them, and what its faults print.
 //!
 //! The helpers have no clause, so a test's proof does not include those of each call.
 
-use super::files::{Step, run, take_steps};
-use crate::harness::{Tester, in_memory, lock_path, moment, oid, ref_name, repo, unwrap, user};
-use names::{LockId, Operation};
-use sqlite::{Connection, MemStore};
+use super::files::{Step, take_steps};
+use crate::harness::{Tester, lock_path, moment, ref_name, repo, unwrap, user};
+use names::Operation;
 use tables::{Alter, Creation, Migrated, NewLock, NewToken, OpenFault, Store, StoreFault};
 
 const FILM: &str = "studio/film";
@@ -32,15 +31,6 @@ fn lock<S: Alter>(rt: &impl Tester, store: &mut Store<S>, path: &str) -> u32 {
     }
 }
 
-/// The lock id of this number, which is not 0.
-fn id_of(rt: &impl Tester, number: u32) -> LockId {
-    unwrap(rt, LockId::from_number(number).ok_or(()))
-}
-
-fn unlock<S: Alter>(rt: &impl Tester, store: &mut Store<S>, id: u32) -> usize {
-    unwrap(rt, store.remove_lock(&repo(rt, FILM), id_of(rt, id)))
-}
-
 fn made<S: Alter>(rt: &impl Tester, store: &mut Store<S>, name: &str) -> u32 {
     unwrap(rt, store.made(&repo(rt, name)))
 }
@@ -50,35 +40,6 @@ fn id_at<S: Alter>(rt: &impl Tester, store: &mut Store<S>, name: &str, path: &st
     let name = ref_name(rt, name);
     let path = lock_path(rt, path);
     unwrap(rt, store.lock_at(&film, &name, &path)).map_or(0, |row| row.id.get())
-}
-
-fn has_path<S: Alter>(rt: &impl Tester, store: &mut Store<S>, id: u32, path: &str) -> bool {
-    let film = repo(rt, FILM);
-    let id = id_of(rt, id);
-    unwrap(rt, store.lock_with_id(&film, id)).is_some_and(|row| row.path.as_str() == path
-        && row.owner.as_str() == "ann"
-        && row.moment.get() == 253402300799)
-}
-
-fn count_in<S: Alter>(rt: &impl Tester, store: &mut Store<S>) -> usize {
-    unwrap(rt, store.locks_in(rt.alloc(), &repo(rt, FILM))).len()
-}
-
-fn count_from<S: Alter>(rt: &impl Tester, store: &mut Store<S>, id: u32) -> usize {
-    let film = repo(rt, FILM);
-    let id = id_of(rt, id);
-    unwrap(rt, store.locks_from(rt.alloc(), &film, id)).len()
-}
-
-/// The paths of the locks from this id on, joined.
-fn paths_from<S: Alter>(rt: &impl Tester, store: &mut Store<S>, id: u32) -> String {
-    let mut text = String::new(rt.alloc());
-    let film = repo(rt, FILM);
-    let id = id_of(rt, id);
-    for row in unwrap(rt, store.locks_from(rt.alloc(), &film, id)) {
-        unwrap(rt, text.push_str(row.path.as_str()));
-    }
-    text
 }
 
 fn add<S: Alter>(rt: &impl Tester, store: &mut Store<S>, byte: u8, expires: u64) -> bool {
@@ -107,71 +68,6 @@ fn expiry<S: Alter>(rt: &impl Tester, store: &mut Store<S>, byte: u8) -> i64 {
         return row.expires.get() as i64;
     }
     -1
-}
-
-fn count_of<S: Alter>(rt: &impl Tester, store: &mut Store<S>, name: &str) -> usize {
-    let film = repo(rt, FILM);
-    let name = user(rt, name);
-    unwrap(rt, store.tokens_of(rt.alloc(), &name, &film)).len()
-}
-
-fn prune<S: Alter>(rt: &impl Tester, store: &mut Store<S>, second: u64) -> usize {
-    unwrap(rt, store.remove_expired(moment(rt, second)))
-}
-
-#[test]
-fn ids_rise_and_are_not_used_again(rt: HostRuntime) {
-    let mut store = in_memory(&rt);
-    assert!(rt; lock(&rt, &mut store, "a") == 1);
-    assert!(rt; lock(&rt, &mut store, "b") == 2);
-    assert!(rt; unlock(&rt, &mut store, 2) == 1);
-    assert!(rt; unlock(&rt, &mut store, 2) == 0);
-    assert!(rt; lock(&rt, &mut store, "b") == 3);
-    assert!(rt; lock(&rt, &mut store, "a") == 0);
-    assert!(rt; made(&rt, &mut store, FILM) == 3);
-    assert!(rt; made(&rt, &mut store, "studio/score") == 0);
-}
-
-#[test]
-fn locks_are_found_and_listed(rt: HostRuntime) {
-    let mut store = in_memory(&rt);
-    for path in &["c", "b", "a"] {
-        lock(&rt, &mut store, path);
-    }
-    assert!(rt; id_at(&rt, &mut store, MAIN, "b") == 2);
-    assert!(rt; id_at(&rt, &mut store, "refs/heads/dev", "b") == 0);
-    assert!(rt; has_path(&rt, &mut store, 2, "b"));
-    assert!(rt; !has_path(&rt, &mut store, 4, "b"));
-    assert!(rt; count_in(&rt, &mut store) == 3);
-    assert!(rt; paths_from(&rt, &mut store, 1).as_str() == "cba");
-    assert!(rt; paths_from(&rt, &mut store, 2).as_str() == "ba");
-}
-
-#[test]
-fn a_window_has_at_most_64_locks(rt: HostRuntime) {
-    let mut store = in_memory(&rt);
-    for n in 0..70u32 {
-        let path = unwrap(&rt, format!(in rt.alloc(); "art/{n}"));
-        lock(&rt, &mut store, path.as_str());
-    }
-    assert!(rt; count_from(&rt, &mut store, 1) == 64);
-    assert!(rt; count_from(&rt, &mut store, 8) == 63);
-    assert!(rt; count_in(&rt, &mut store) == 70);
-}
-
-#[test]
-fn tokens_are_kept_until_they_expire(rt: HostRuntime) {
-    let mut store = in_memory(&rt);
-    assert!(rt; add(&rt, &mut store, 0xAA, 100));
-    assert!(rt; !add(&rt, &mut store, 0xAA, 200));
-    assert!(rt; add(&rt, &mut store, 0xBB, 101));
-    assert!(rt; expiry(&rt, &mut store, 0xAA) == 100);
-    assert!(rt; count_of(&rt, &mut store, "ann") == 2);
-    assert!(rt; count_of(&rt, &mut store, "bob") == 0);
-    assert!(rt; prune(&rt, &mut store, 99) == 0);
-    assert!(rt; prune(&rt, &mut store, 100) == 1);
-    assert!(rt; expiry(&rt, &mut store, 0xAA) == 0);
-    assert!(rt; expiry(&rt, &mut store, 0xBB) == 101);
 }
 
 /// Adds a lock and a token.
@@ -203,7 +99,7 @@ const SHOTS: &str =
     "CREATE TABLE shots (name TEXT PRIMARY KEY, frames INTEGER); CREATE INDEX by_frames ON shots (frames); INSERT INTO shots VALUES ('sh010', 240)";
 
 /// A database of version 1, in which studio/film has the object `abc`, a lock and a token of ann.
-pub(crate) const VERSION_1: &str = r"
+const VERSION_1: &str = r"
 CREATE TABLE meta (one INTEGER PRIMARY KEY CHECK (one = 1), version INTEGER NOT NULL CHECK (version = 1)) STRICT;
 CREATE TABLE repos (name TEXT NOT NULL PRIMARY KEY, made INTEGER NOT NULL CHECK (made >= 0 AND made <= 4294967295), used INTEGER NOT NULL CHECK (used >= 0)) STRICT;
 CREATE TABLE tokens (digest BLOB NOT NULL PRIMARY KEY, user TEXT NOT NULL, repo TEXT NOT NULL, op INTEGER NOT NULL CHECK (op >= 1 AND op <= 2), expires INTEGER NOT NULL) STRICT;
@@ -217,55 +113,6 @@ INSERT INTO chunks VALUES (1, 0, x'616263');
 INSERT INTO locks VALUES ('studio/film', 1, 'refs/heads/main', 'a', 'ann', 253402300799);
 INSERT INTO tokens VALUES (x'aaaaaaaaaaaaaaaaaaaaaaaaaaaaaaaaaaaaaaaaaaaaaaaaaaaaaaaaaaaaaaaa', 'ann', 'studio/film', 2, 100);
 ";
-
-/// The SHA-256 of `abc`.
-pub(crate) const ABC: &str = "ba7816bf8f01cfea414140de5dae2223b00361a396177a9cb410ff61f20015ad";
-
-/// The SHA-256 of `hello`.
-const HELLO: &str = "2cf24dba5fb0a30e26e83b2ac5b9e29e1b161e5c1fa7425e73043362938b9824";
-
-/// A store over the database of version 1, migrated.
-fn migrated(rt: &impl Tester) -> Store<MemStore> {
-    let mut conn = unwrap(rt, Connection::open_in_memory(rt.alloc()));
-    unwrap(rt, run(&mut conn, VERSION_1));
-    let mut store = Store::adopt(conn);
-    assert!(rt; unwrap(rt, store.migrate(rt.alloc())) == Migrated::From1);
-    store
-}
-
-/// Whether there was an object of this name to remove.
-pub(crate) fn retire<S: Alter>(rt: &impl Tester, store: &mut Store<S>, text: &str) -> bool {
-    store.retire_object(&repo(rt, FILM), &oid(rt, text)) == Ok(true)
-}
-
-fn is_retired<S: Alter>(rt: &impl Tester, store: &mut Store<S>, text: &str) -> bool {
-    unwrap(rt, store.is_retired(&repo(rt, FILM), &oid(rt, text)))
-}
-
-/// The number of objects, of the bytes that they have, and of names that are retired.
-fn kept<S: Alter>(rt: &impl Tester, store: &mut Store<S>) -> (usize, u64, usize) {
-    let film = repo(rt, FILM);
-    let objects = unwrap(rt, store.objects(rt.alloc(), Some(&film))).len();
-    let used = unwrap(rt, store.used(&film));
-    let retired = unwrap(rt, store.retired(rt.alloc(), &film)).len();
-    (objects, used, retired)
-}
-
-#[test]
-fn an_object_is_removed_for_good(rt: HostRuntime) {
-    let mut store = migrated(&rt);
-    assert!(rt; kept(&rt, &mut store) == (1, 3, 0));
-    assert!(rt; !is_retired(&rt, &mut store, ABC));
-    assert!(rt; !retire(&rt, &mut store, HELLO));
-    assert!(rt; kept(&rt, &mut store) == (1, 3, 0));
-    assert!(rt; retire(&rt, &mut store, ABC));
-    assert!(rt; kept(&rt, &mut store) == (0, 0, 1));
-    assert!(rt; is_retired(&rt, &mut store, ABC));
-    assert!(rt; !is_retired(&rt, &mut store, HELLO));
-    assert!(rt; !retire(&rt, &mut store, ABC));
-    assert!(rt; kept(&rt, &mut store) == (0, 0, 1));
-    assert!(rt; found(&rt, &mut store) == (1, 1, 100));
-}
 
 /// Files, and the steps for each.
 const FILES: &[(&str, &[Step])] = &[
@@ -392,40 +239,6 @@ const FILES: &[(&str, &[Step])] = &[
 fn files_are_read_again_or_refused(rt: HostRuntime) {
     for (path, steps) in FILES {
         take_steps(&rt, &rt, path, steps);
-    }
-}
-
-/// Whether a store accepts a connection on which the statements were run.
-fn is_taken_over(rt: &impl Tester, sql: &str) -> bool {
-    let mut conn = unwrap(rt, Connection::open_in_memory(rt.alloc()));
-    unwrap(rt, run(&mut conn, sql));
-    let mut store = Store::adopt(conn);
-    store.create_or_check(rt.alloc()).is_ok() && lock(rt, &mut store, "a") == 1
-}
-
-/// Statements of another program, and whether the database is given our tables after them.
-const OTHERS: &[(&str, bool)] = &[
-    ("", true),
-    ("CREATE TABLE a (b INTEGER)", true),
-    (
-        "CREATE TABLE a (b INTEGER PRIMARY KEY AUTOINCREMENT); INSERT INTO a VALUES (7)",
-        true,
-    ),
-    ("CREATE VIEW v AS SELECT 1 AS a", true),
-    ("CREATE TABLE tokens (a INTEGER)", false),
-    ("CREATE TABLE retired (a INTEGER)", false),
-    ("CREATE VIEW locks AS SELECT 1 AS a", false),
-    (
-        "CREATE TABLE a (b INTEGER); CREATE INDEX chunks ON a (b)",
-        false,
-    ),
-    ("CREATE TABLE a (b INTEGER REFERENCES uploads (id))", false),
-];
-
-#[test]
-fn a_connection_is_taken_over(rt: HostRuntime) {
-    for (sql, want) in OTHERS {
-        assert!(rt; is_taken_over(&rt, sql) == *want, "{sql}");
     }
 }
 

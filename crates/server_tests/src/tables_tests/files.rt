@@ -65,7 +65,7 @@ fn work_on<S: Storage + Drop>(
 }
 
 /// Runs the statements.
-pub(crate) fn run<S: Alter>(conn: &mut Connection<S>, sql: &str) -> Result<(), Error> {
+fn run<S: Alter>(conn: &mut Connection<S>, sql: &str) -> Result<(), Error> {
     conn.execute_batch(sql)
 }
 
