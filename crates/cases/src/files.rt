@@ -6,8 +6,9 @@
 use crate::running::{Located, Setting, located};
 use crate::scene::Scene;
 use crate::script::Step;
-use crate::steps::take_over;
+use crate::steps::take_turn;
 use crate::texts::Names;
+use crate::turns::turns;
 use calls::Fault;
 use sqlite::{Connection, FileStore, Files, Options};
 use sqlite_disk::{Crash, Disk, Fuse, Memory};
@@ -56,11 +57,15 @@ fn take_steps<S: Storage>(
     steps: &[Step],
 ) -> (Store<S>, Taken) {
     scene.begin();
-    for step in steps {
-        let (same, taken) = take_over(alloc, store, scene, names, step);
+    let turns = match turns(alloc, steps) {
+        Ok(turns) => turns,
+        Err(fault) => return (store, Err(fault)),
+    };
+    for turn in turns.iter() {
+        let (same, taken) = take_turn(alloc, store, scene, names, turn);
         store = same;
         if let Err(fault) = taken {
-            return (store, Err((step.line, fault)));
+            return (store, Err((turn.step.line, fault)));
         }
     }
     (store, located(0, scene.expect_ended()))

@@ -16,6 +16,7 @@ mod steps;
 mod stopping;
 mod texts;
 mod trying;
+mod turns;
 
 use calls::{Fault, number};
 use running::{Located, Setting, located, run_steps};

@@ -4,10 +4,11 @@ use crate::judging::judge;
 use crate::restarting::{is_restart, run_over_files};
 use crate::scene::Scene;
 use crate::script::Step;
-use crate::steps::take_over;
+use crate::steps::take_turn;
 use crate::stopping::stop;
 use crate::texts::Names;
 use crate::trying::try_work;
+use crate::turns::{Turn, turns};
 use calls::Fault;
 use sqlite::MemStore;
 use std::alloc::Global;
@@ -48,12 +49,27 @@ impl World {
         })
     }
 
-    /// Takes the step.
-    fn take(self, alloc: Global, names: &mut Names, step: &Step) -> Result<World, Located> {
+    /// Takes the step of a turn.
+    fn take(self, alloc: Global, names: &mut Names, turn: &Turn<'_>) -> Result<World, Located> {
         let World { store, mut scene } = self;
-        let (store, taken) = take_over(alloc, store, &mut scene, names, step);
-        located(step.line, taken)?;
+        let (store, taken) = take_turn(alloc, store, &mut scene, names, turn);
+        located(turn.step.line, taken)?;
         Ok(World { store, scene })
+    }
+
+    /// Takes the steps, but those that judge messages.
+    fn take_all(
+        mut self,
+        alloc: Global,
+        names: &mut Names,
+        steps: &[Step],
+    ) -> Result<World, Located> {
+        for turn in turns(alloc, steps)?.iter() {
+            if !turn.step.is("judge") {
+                self = self.take(alloc, names, turn)?;
+            }
+        }
+        Ok(self)
     }
 }
 
@@ -63,13 +79,9 @@ pub(crate) fn world_after(
     names: &mut Names,
     steps: &[Step],
 ) -> Result<World, Located> {
-    let mut world = located(0, World::new(setting.alloc, setting.most))?;
-    for step in setting.start.iter().chain(steps) {
-        if !step.is("judge") {
-            world = world.take(setting.alloc, names, step)?;
-        }
-    }
-    Ok(world)
+    let world = located(0, World::new(setting.alloc, setting.most))?;
+    let world = world.take_all(setting.alloc, names, setting.start)?;
+    world.take_all(setting.alloc, names, steps)
 }
 
 /// Takes the steps of a case over files in memory, if it has a step that needs them.

@@ -25,8 +25,6 @@ pub(crate) struct Scene {
     pub writes: u64,
     /// The number of bytes of the last connection that were not read.
     pub unread: usize,
-    /// How often the next step is taken.
-    pub times: u64,
     /// What calls have begun.
     pub hands: Hands,
 }
@@ -44,7 +42,6 @@ impl Scene {
             reads: u64::MAX,
             writes: u64::MAX,
             unread: 0,
-            times: 1,
             hands: Hands::new(alloc),
         })
     }
@@ -112,7 +109,6 @@ impl Scene {
             "at" => self.now = moment(text)?,
             "reads" => self.reads = number(text)?,
             "writes" => self.writes = number(text)?,
-            "repeat" => self.times = number(text)?,
             "unread" => self.expect_unread(alloc, number(text)?)?,
             "pieces" | "each" | "fresh" => {}
             _ => return Err(Fault::Script("no such step")),

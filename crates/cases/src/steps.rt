@@ -4,6 +4,7 @@ use crate::connections::{end, expect_text};
 use crate::scene::Scene;
 use crate::script::Step;
 use crate::texts::Names;
+use crate::turns::Turn;
 use calls::{Fault, Given, call};
 use sqlite::{Connection, Row};
 use sqlite_value::value::ValueRef;
@@ -132,8 +133,8 @@ fn run_sql<S: Alter>(
     }
 }
 
-/// Takes a step once. Returns the store, whatever became of it.
-fn take_once<S: Storage>(
+/// Takes a step. Returns the store, whatever became of it.
+fn take_over<S: Storage>(
     alloc: Global,
     mut store: Store<S>,
     scene: &mut Scene,
@@ -154,26 +155,18 @@ fn take_once<S: Storage>(
     (Store::adopt(conn), taken)
 }
 
-/// Takes a step as often as the one before it says; `i` stands for how often it was taken. Returns the store, whatever
-/// became of it.
-pub(crate) fn take_over<S: Storage>(
+/// Takes the step of a turn. Returns the store, whatever became of it.
+pub(crate) fn take_turn<S: Storage>(
     alloc: Global,
-    mut store: Store<S>,
+    store: Store<S>,
     scene: &mut Scene,
     names: &mut Names,
-    step: &Step,
+    turn: &Turn<'_>,
 ) -> (Store<S>, Result<(), Fault>) {
-    let times = scene.times;
-    scene.times = 1;
-    for number in 0..times {
+    if let Some(number) = turn.number {
         if let Err(fault) = names.define_number("i", number) {
             return (store, Err(fault));
         }
-        let (same, taken) = take_once(alloc, store, scene, names, step);
-        store = same;
-        if taken.is_err() {
-            return (store, taken);
-        }
     }
-    (store, Ok(()))
+    take_over(alloc, store, scene, names, turn.step)
 }

@@ -6,9 +6,12 @@
 //! | `$(NAME*N)` | that text N times |
 //! | `$(NAME<N)` | the first N bytes of that text |
 //! | `$(x 0d 0a)` | these bytes, in hexadecimal digits |
+//! | `$(sha256 NAME)` | the SHA-256 of that text, in hexadecimal digits |
+//! | `$(size NAME)` | the number of its bytes |
 
 use crate::script::Step;
 use calls::{Fault, number};
+use sha2::{Digest, Sha256};
 use std::alloc::Global;
 
 /// Names, and the text of each.
@@ -68,6 +71,16 @@ impl Names {
     fn push_mark(&self, bytes: &mut Vec<u8>, mark: &str) -> Result<(), Fault> {
         if let Some(digits) = mark.strip_prefix("x ") {
             return Names::push_bytes(bytes, digits);
+        }
+        if let Some(name) = mark.strip_prefix("sha256 ") {
+            let digest = Sha256::digest(self.text(name)?);
+            let digits = hex::encode(self.alloc, digest.as_slice())?;
+            return Ok(bytes.extend_from_slice(digits.as_bytes())?);
+        }
+        if let Some(name) = mark.strip_prefix("size ") {
+            let size = self.text(name)?.len();
+            let digits = format!(in self.alloc; "{size}")?;
+            return Ok(bytes.extend_from_slice(digits.as_bytes())?);
         }
         if let Some((name, size)) = mark.rsplit_once('<') {
             let size = self.count(size)?;

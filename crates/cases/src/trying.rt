@@ -57,8 +57,18 @@ impl Work<'_> {
             .work
     }
 
+    /// Compares what there is without the work.
+    fn expect_before(&self, scene: &mut Scene, names: &mut Names) -> Taken {
+        let copies = self.copies(u64::MAX, u64::MAX)?;
+        let plan = Plan::steps(self.before);
+        with_files(self.setting, copies, scene, names, plan, false)
+            .1
+            .work
+    }
+
     /// Does the work once, and compares what there is then, and after a restart.
     fn try_once(&self, scene: &mut Scene, names: &mut Names) -> Result<(), Located> {
+        self.expect_before(scene, names)?;
         let copies = self.copies(u64::MAX, u64::MAX)?;
         let plan = Plan {
             work: self.work,

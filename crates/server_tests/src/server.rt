@@ -156,16 +156,6 @@ impl Server {
         sent_by(rt, &mut self.store, &self.policy, NOW, bytes, most)
     }
 
-    /// The number of bytes of the objects.
-    pub fn used(&mut self, rt: &impl Tester) -> u64 {
-        unwrap(rt, self.store.used(&repo(rt, "studio/film")))
-    }
-
-    /// The number of staged uploads.
-    pub fn staged(&mut self, rt: &impl Tester) -> usize {
-        unwrap(rt, self.store.staged_uploads(rt.alloc())).len()
-    }
-
     /// The number of locks ever made.
     pub fn made(&mut self, rt: &impl Tester) -> u32 {
         unwrap(rt, self.store.made(&repo(rt, "studio/film")))
@@ -182,15 +172,6 @@ pub(crate) fn message(rt: &impl Tester, line: &str, fields: &[&str], body: &str)
     unwrap(rt, text.push_str("\r\n"));
     unwrap(rt, text.push_str(body));
     text
-}
-
-/// A message that requests a lock with this body.
-pub(crate) fn asking(rt: &impl Tester, bearer: &str, body: &str) -> String {
-    let size = body.len();
-    unwrap(
-        rt,
-        format!(in rt.alloc(); "{LOCKS}\r\n{bearer}\r\nContent-Length: {size}\r\n\r\n{body}"),
-    )
 }
 
 /// The texts, one after another.
@@ -224,29 +205,8 @@ pub(crate) fn reply(rt: &impl Tester, status: &str, lines: &str, body: &str) -> 
     )
 }
 
-/// The reply for a lock that is made; `path` is as written in JSON between the quotes.
-pub(crate) fn created(rt: &impl Tester, id: u32, owner: &str, path: &str) -> String {
-    let body = unwrap(
-        rt,
-        format!(in rt.alloc();
-            "{{\"lock\":{{\"id\":\"{id}\",\"locked_at\":\"2016-05-17T15:49:06Z\",\"owner\":{{\"name\":\"{owner}\"}},\"path\":\"{path}\"}}}}"
-        ),
-    );
-    reply(rt, "201 Created", "", body.as_str())
-}
-
 /// The result if this many messages were answered, and the last reply closes or does not.
 pub(crate) fn served(answered: usize, closes: bool) -> Served {
     let end = if closes { End::Closed } else { End::InputEnded };
     Served { answered, end }
-}
-
-/// Asserts that this text was sent, and that the connection ended this way.
-pub(crate) fn expect_sent(rt: &impl Tester, bytes: &[u8], sent: &Sent, text: &str, served: Served) {
-    let shown = str::from_utf8(bytes).unwrap_or("bytes that are no text");
-    assert_eq!(rt;
-        (sent.text.as_str(), sent.served),
-        (text, served),
-        "of {shown}"
-    );
 }

@@ -1,9 +1,7 @@
 //! Tests of `service` that need a call or a device that no script can make: its answers to messages are in `crates/cases`.
 
-mod ample;
 mod arrivals;
 mod devices;
 mod foreseen;
 mod judging;
-mod objects;
 mod reading;
