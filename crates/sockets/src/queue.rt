@@ -80,6 +80,8 @@ pub struct Queue<'a> {
     /// Whether a connection may wait at the listener of the clients, and at that of the operators.
     clients_wait: bool,
     operators_wait: bool,
+    /// Whether the system had no room for an operator since the last look.
+    is_short: bool,
     /// The longest time that a client's message has waited for its turn.
     longest_wait: Duration,
     poll: Poll,
@@ -127,6 +129,7 @@ impl<'a> Queue<'a> {
             is_open: true,
             clients_wait: false,
             operators_wait: false,
+            is_short: false,
             longest_wait: Duration::ZERO,
             poll,
             events: Events::with_capacity(rt.alloc(), NEWS)?,
@@ -174,7 +177,7 @@ impl<'a> Queue<'a> {
         Ok(())
     }
 
-    /// Accepts an operator, if one waits.
+    /// Accepts an operator, if one waits. If the system has no room for him, and no connection can give way, he waits.
     fn next_operator(&mut self) -> io::Result<Option<Caller>>
         ensures kind { IfOk result (λ found. IfSome found
             (λ caller. kind_of caller ≡ Kind.Operator)) }
@@ -190,7 +193,10 @@ impl<'a> Queue<'a> {
                 Ok(None)
             }
             Err(error) if is_passing(error.kind()) => Ok(None),
-            Err(error) if is_shortage(&error) && self.room.evict() => Ok(None),
+            Err(error) if is_shortage(&error) => {
+                self.is_short = !self.room.evict();
+                Ok(None)
+            }
             Err(error) => Err(error),
         }
     }
@@ -226,9 +232,10 @@ impl<'a> Queue<'a> {
     /// How long a look for the next one to answer may wait: not at all if there is something to do, and until a connection
     /// may have waited for too long if there are any. `None` is without a limit.
     fn patience(&self) -> Option<Duration> {
-        if self.room.has_ready() || self.room.has_ended() || self.operators_wait {
+        let may_accept = self.operators_wait && !self.is_short;
+        if self.room.has_ready() || self.room.has_ended() || may_accept {
             Some(Duration::ZERO)
-        } else if self.room.is_empty() && !self.clients_wait {
+        } else if self.room.is_empty() && !self.clients_wait && !self.operators_wait {
             None
         } else {
             Some(Duration::from_millis(ROUND))
@@ -243,6 +250,7 @@ impl<'a> Queue<'a> {
         framing: &impl Framing,
     ) -> io::Result<Instant> {
         self.poll.poll(&mut self.events, longest)?;
+        self.is_short = false;
         let now = Instant::now(clock)?;
         for event in self.events.iter() {
             match event.token() {
