@@ -9,6 +9,7 @@ import collections
 import contextlib
 import os
 import random
+import resource
 import shutil
 import signal
 import socket
@@ -296,6 +297,26 @@ def check_hold_over(server, _):
     return f"a client waited {waited:.2f} s (about 1 s), and {gone:.2f} s for an operator who is gone (at most 0.5 s)"
 
 
+def check_descriptors(server, _):
+    """Operators who come while the system has no file for them, and no client can give way, wait for one."""
+    count, files = 60, Path(f"/proc/{server.child.pid}/fd")
+    with contextlib.ExitStack() as opened:
+        with holding(server) as held:
+            clients = [opened.enter_context(server.client()) for _ in range(count)]
+            for number, client in enumerate(clients):
+                client.send(lock(f"art/{number}"))
+            resource.prlimit(server.child.pid, resource.RLIMIT_NOFILE, (len(list(files.iterdir())) + 20,) * 2)
+            operators = [subprocess.Popen(server.command("status"), stdout=subprocess.PIPE, stderr=subprocess.PIPE)
+                         for _ in range(3)]
+            time.sleep(0.5)
+            held.stdin.close()
+        replies = collections.Counter(client.reply()[0] for client in clients)
+        ended = [(it.communicate(timeout=20)[1], it.returncode) for it in operators]
+    require(replies == {201: count}, f"of {count} clients: {dict(replies)}")
+    require(ended == [(b"", 0)] * 3, f"the operators: {ended}")
+    return f"{count} clients and 3 operators, with room for 20"
+
+
 def store(client, data):
     """Stores an object."""
     status, _ = client.ask(put(data))
@@ -518,6 +539,7 @@ CHECKS = {
     "damaged": check_damaged,
     "hold": check_hold,
     "hold-over": check_hold_over,
+    "descriptors": check_descriptors,
     "stop": check_stop,
     "reload": check_reload,
     "status": check_status,
