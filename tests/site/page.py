@@ -36,12 +36,22 @@ POLICY = (
 )
 MARKUP = "art/<script>document.title='x'</script><img src=x onerror=alert(1)>.psd"
 REVERSED = "art/hero\u202edsp.exe"
+# Paths that look like others, and what the page shows of them: a reversed name, a space that does not break, a letter in its
+# decomposed form, a blank that no font draws, a space before a slash; and one in its composed form, which is as it is.
+SHOWN = {
+    REVERSED: "art/hero\\u{202e}dsp.exe",
+    "art/hero\u00a01.psd": "art/hero\\u{a0}1.psd",
+    "art/cafe\u0301.psd": "art/cafe\\u{301}.psd",
+    "art/hero\u2800.psd": "art/hero\\u{2800}.psd",
+    "art /hero.psd": "art\\u{20}/hero.psd",
+    "art/gr\u00fcn.psd": "art/gr\u00fcn.psd",
+}
 NO_FORCE = "art/shot10.psd: P0: no policy row allows force"
 RELEASE, OTHER = "refs/heads/release/1.0", "refs/heads/other"
 FIRST = [("ann", "art/hero.psd", MAIN), ("bob", "art/ship.psd", MAIN), ("ann", "art/tree 2.psd", RELEASE),
          ("bob", MARKUP, MAIN), ("ann", REVERSED, MAIN), ("ann", "art/shot10.psd", MAIN),
          ("bob", "art/shot9.psd", RELEASE), ("bob", "art/left.psd", MAIN), ("ann", "art/none.psd", OTHER),
-         ("bob", "art/nobody.psd", OTHER)]
+         ("bob", "art/nobody.psd", OTHER), *(("bob", path, MAIN) for path in SHOWN if path != REVERSED)]
 COLUMNS = ("path", "owner", "since", "branch")
 
 
@@ -79,7 +89,7 @@ class Studio(Site):
 
 def escaped(path):
     """A path as the page shows it."""
-    return path.replace("\u202e", "\\u{202e}")
+    return SHOWN.get(path, path)
 
 
 def branch_of(ref, named):
@@ -198,7 +208,8 @@ def try_list(site, page):
     own = {escaped(path) for user, path, ref in FIRST if user == "ann" and ref in (MAIN, RELEASE)}
     site.equal(set(ours), own, "ann's own are marked")
     site.expect(MARKUP in page.shown(), "a path with elements of HTML is shown as text")
-    site.expect(escaped(REVERSED) in page.shown(), "a character that changes the direction is shown as an escape")
+    for path, shown in SHOWN.items():
+        site.expect(shown in page.shown(), f"of {path!a} is shown {shown}")
     elements = page.run("return document.querySelectorAll('#rows img, #rows script').length")
     found = page.browser.title, alert_is_present()(page.browser), elements
     site.equal(found, ("Locks of studio/film", False, 0), "and nothing of it runs")
