@@ -1,0 +1,182 @@
+"""Tries what a push may take of the server's machine: deploy/programs/forced-command and pre-receive, with the real git.
+
+A stand-in for custody allows everything, so no program is needed; the client is this suite, which sends what no client
+of Git would. A check fails if a push of some kilobytes takes memory without a bound, if the hook takes a push that it
+cannot judge, or if it does not refuse one in words.
+"""
+import hashlib
+import resource
+import subprocess
+import sys
+import tempfile
+import time
+import zlib
+from pathlib import Path
+
+from tests.studio.checks import Checks, arguments
+from tests.studio.clone import Workroom
+from tests.studio.policy import FILM
+from tests.studio.program import TOP
+from tests.studio.site import placed
+
+STAND_IN = """#!/bin/sh
+case $1:$* in
+policy:*--rows*) printf '%s\\n' 'effect = "allow"' 'users = ["*"]' 'repos = ["*"]' 'rights = ["pull", "push"]' ;;
+policy:*) echo 'allowed by row 1' ;;
+pushcheck:*) exec sed 's/^/ok: /' ;;
+esac
+"""
+# In the place of git: one of its commands is killed, as when the memory of the machine is used up.
+KILLED = """#!/bin/sh
+if [ "$1" = symbolic-ref ]; then
+    kill -KILL $$
+fi
+exec @git "$@"
+"""
+NONE, FLUSH = "0" * 40, b"0000"
+BLOB, DELTA = 3, 7
+# A file of 8 MiB, and how often a second one has it.
+PART, PARTS = 1 << 23, 270
+MANY = 10_000
+
+
+def line_of(text):
+    """A line of Git's protocol."""
+    return b"%04x" % (len(text) + 4) + text
+
+
+def number(value, first=7):
+    """A number of a pack: its lowest bits first, which may be fewer than 7 in the first byte."""
+    data, value = [value & ((1 << first) - 1)], value >> first
+    while value:
+        data[-1] |= 0x80 if len(data) > 1 or first == 7 else 0
+        data.append(value & 0x7F)
+        value >>= 7
+    return data
+
+
+def entry(kind, data, base=b""):
+    """An object of a pack."""
+    size = number(len(data), 4)
+    size[0] |= kind << 4 | (0x80 if len(size) > 1 else 0)
+    return bytes(size) + base + zlib.compress(data, 9)
+
+
+def pack(*entries):
+    """A pack of these objects."""
+    data = b"PACK" + (2).to_bytes(4, "big") + len(entries).to_bytes(4, "big") + b"".join(entries)
+    return data + hashlib.sha1(data).digest()
+
+
+def bomb():
+    """A pack of two files, of which the second one is the first one many times over."""
+    file = bytes(PART)
+    name = hashlib.sha1(b"blob %d\0" % PART + file).digest()
+    # A piece of a delta: 8 MiB of the other file, from its beginning.
+    delta = bytes(number(PART)) + bytes(number(PART * PARTS)) + b"\xc0\x80" * PARTS
+    return pack(entry(BLOB, file), entry(DELTA, delta, name))
+
+
+class Gate(Workroom):
+    """A repository of Git with the hook, and the forced command for the key of bob."""
+
+    def __init__(self, room, checks):
+        super().__init__(room, checks)
+        for name in ("forced-command", "pre-receive"):
+            text = (TOP / "deploy/programs" / name).read_text(encoding="utf-8")
+            self.write(f"lib/{name}", placed(text, room, 0), 0o755)
+        self.write("bin/custody", STAND_IN, 0o755)
+        self.write_key(["bob"], f"{room}/lib/forced-command")
+        self.bare = Path(room, "git", f"{FILM}.git")
+        self.git("init", "-q", "-b", "main", "--bare", self.bare)
+        self.git("-C", self.bare, "config", "receive.fsckObjects", "true")
+        (self.bare / "hooks/pre-receive").symlink_to(f"{room}/lib/pre-receive")
+        tree = self.git("-C", self.bare, "mktree", given="").strip()
+        who = ("-c", "user.name=bob", "-c", "user.email=bob@studio")
+        self.commit = self.git("-C", self.bare, *who, "commit-tree", "-m", "Nothing", tree).strip()
+        self.git("-C", self.bare, "update-ref", "refs/heads/main", self.commit)
+
+    def git(self, *words, given=None):
+        """What a command of Git prints."""
+        return self.run("git", *words, given=given)[1]
+
+    def refs(self):
+        """Each ref of the repository, with its commit."""
+        return self.git("-C", self.bare, "--no-replace-objects", "for-each-ref")
+
+    def start(self):
+        """What receives a push of bob's."""
+        more = {"SSH_ORIGINAL_COMMAND": f"git-receive-pack '/{FILM}.git'", "SSH_USER_AUTH": f"{self.room}/user_auth"}
+        return subprocess.Popen([f"{self.room}/lib/forced-command", "bob"], stdin=subprocess.PIPE,
+                                stdout=subprocess.PIPE, stderr=subprocess.STDOUT, env=self.environment | more)
+
+    def push(self, names, data=pack(), new=None):
+        """Pushes refs of these names, all new, with a pack. Returns what was printed, and whether a ref moved."""
+        before, lines = self.refs(), [f"{NONE} {new or self.commit} ".encode() + it for it in names]
+        lines[0] += b"\0 report-status"
+        with self.start() as child:
+            output, _ = child.communicate(b"".join(map(line_of, lines)) + FLUSH + data)
+        return output.decode(errors="replace"), self.refs() != before
+
+    def refused(self, what, words, *names, **more):
+        """A push is refused whole, in these words and without a list of Python's."""
+        text, has_moved = self.push(names, **more)
+        self.expect(words in text and "Traceback" not in text and not has_moved, f"{what} is refused: {words}",
+                    text[-1000:])
+
+
+def try_packs(gate):
+    """The memory and the time of Git, which unpacks a push before it asks the hook."""
+    with gate.start() as child:
+        child.stdout.read(4)
+        limits = Path("/proc", str(child.pid), "limits").read_text(encoding="utf-8")
+        child.communicate(FLUSH)
+    found = {line[:26].strip(): line[26:].split()[1] for line in limits.splitlines()}
+    found = found["Max data size"], found["Max cpu time"]
+    gate.expect(found == (str(2 << 30), "3600"), "Git gets 2 GiB of memory and an hour of a processor for a push", found)
+    data, began = bomb(), time.monotonic()
+    gate.refused(f"a pack of {len(data)} bytes with a file of {PART * PARTS >> 20} MiB", "unpacker error",
+                 b"refs/heads/bomb", data=data)
+    taken, most = time.monotonic() - began, resource.getrusage(resource.RUSAGE_CHILDREN).ru_maxrss >> 10
+    gate.expect(taken < 10 and most < 300, f"after {taken:.1f} s, with {most} MB (at most 10 s, 300 MB)")
+
+
+def try_refs(gate):
+    """Names of refs, and how many."""
+    text, has_moved = gate.push([b"refs/heads/side"])
+    gate.expect("ok refs/heads/side" in text and has_moved, "a branch is pushed", text)
+    for name in (b"refs/heads/a\nb", b"refs/heads/a b", b"refs/heads/\x1b[2J", b"-d", b"HEAD"):
+        gate.refused(f"the name {name[:14]!r}", "a name that Git does not take", name)
+    gate.refused("a ref by which Git shows another object", "no ref of refs/replace",
+                 f"refs/replace/{gate.commit}".encode())
+    began = time.monotonic()
+    gate.refused(f"a push of {MANY + 1} branches", f"more than {MANY:,} branches and tags",
+                 *(b"refs/heads/many/%d" % it for it in range(MANY + 1)))
+    taken = time.monotonic() - began
+    gate.expect(taken < 10, f"after {taken:.1f} s (at most 10 s)")
+
+
+def try_killed(gate):
+    """A command of Git that is killed within the hook."""
+    git = gate.run("sh", "-c", "command -v git")[1].strip()
+    gate.write("killed/git", KILLED.replace("@git", git), 0o755)
+    path = f"PATH={gate.room}/killed:{gate.environment['PATH']}"
+    words = ["env", path, "CUSTODY_USER=bob", f"CUSTODY_REPO={FILM}", f"{gate.room}/lib/pre-receive"]
+    status, text = gate.run(*words, folder=gate.bare, given=f"{NONE} {gate.commit} refs/heads/new\n", may_fail=True)
+    gate.expect(status == 1 and "Git could not read it" in text,
+                "if it is not known whether a ref is the name of another one, it is not pushed", f"{status}: {text}")
+
+
+def main():
+    """Runs the suite."""
+    checks = Checks()
+    arguments(__doc__).parse_args()
+    with tempfile.TemporaryDirectory() as room:
+        gate = Gate(room, checks)
+        for part in (try_packs, try_refs, try_killed):
+            checks.part(part.__name__.removeprefix("try_"), lambda: part(gate))
+    return checks.end()
+
+
+if __name__ == "__main__":
+    sys.exit(main())
