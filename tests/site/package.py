@@ -8,7 +8,9 @@ gives anybody more than is needed.
 import os
 import re
 import shutil
+import socket
 import stat
+import subprocess
 import sys
 import tempfile
 from pathlib import Path
@@ -135,6 +137,9 @@ def try_upgrade(checks, scripts):
         names = sorted(it.name for it in (machine.home / "db").iterdir())
         checks.expect(kept == [0, 0] and names == ["custody.db", "custody.db-wal"],
                       "its removal leaves the database, and not the spare file", names)
+        (machine.home / "db/spare").mkdir()
+        status, said = machine.run(*REMOVE)
+        checks.expect(status == 0, "a folder in the place of the spare file is not in the way", said)
 
 
 def try_unit(checks):
@@ -148,6 +153,25 @@ def try_unit(checks):
     checks.expect(count >= 2 * (CLIENTS + OPERATORS), f"it has {count} descriptors, for {CLIENTS} clients")
     score = int(values.get("OOMScoreAdjust", 0))
     checks.expect(-1000 < score < 0, f"others are ended before it if memory is used up: {score}")
+
+
+def try_group(checks):
+    """The drop-in waits for the socket, and not for one of a server that has ended."""
+    text = (TOP / "deploy/systemd/custody-group.conf").read_text(encoding="utf-8")
+    command = re.search(r"^ExecStartPost=/bin/sh -c '(.*)'$", text, re.M)[1]
+    with tempfile.TemporaryDirectory() as room, subprocess.Popen(["sleep", "20"]) as child:
+        words = ["timeout", "5", "env", f"MAINPID={child.pid}", "sh", "-c", command.replace("/run/custody", room)]
+        with socket.socket(socket.AF_UNIX) as control:
+            control.bind(f"{room}/control")
+            os.chmod(f"{room}/control", 0o600)
+            status, _, errors = run(words)
+            mode = stat.S_IMODE(os.stat(f"{room}/control").st_mode)
+        checks.expect((status, mode) == (0, 0o660), f"the drop-in gives the socket the mode {mode:04o}", errors)
+        os.unlink(f"{room}/control")
+        child.kill()
+        child.wait()
+        status, _, errors = run(words)
+        checks.expect(status == 1, "it does not wait for the socket of a server that has ended", f"{status}: {errors}")
 
 
 def try_git_folder(checks):
@@ -176,6 +200,7 @@ def main():
     try_late_link(checks, options.scripts)
     try_upgrade(checks, options.scripts)
     try_unit(checks)
+    try_group(checks)
     try_git_folder(checks)
     return checks.end()
 
