@@ -2,7 +2,7 @@
 
 DPKG_ROOT names the folder, and stand-ins for the commands that need root or systemd write down their words. A check
 fails if a script follows a link that the user custody made, changes something before it refuses one, does not say which
-path it is, or does not do what it has to where there is no link; or if the unit, or the folder of the Git repositories,
+path it is, or does not do what it has to where there is no link; or if the unit, or a folder that the pages have made,
 gives anybody more than is needed.
 """
 import os
@@ -174,15 +174,18 @@ def try_group(checks):
         checks.expect(status == 1, "it does not wait for the socket of a server that has ended", f"{status}: {errors}")
 
 
-def try_git_folder(checks):
-    """The command of the page makes a folder of Git repositories that other users of the machine cannot enter."""
-    page = (TOP / "docs/operating/install.md").read_text(encoding="utf-8")
-    command = re.search(r"`(install -d [^`]*/srv/git/studio)`", page)[1]
-    with tempfile.TemporaryDirectory() as room:
-        words = re.sub(r" -[og] custody", "", command).replace("/srv/git", f"{room}/git").split()
-        status, _, errors = run(words)
-        mode = stat.S_IMODE(os.stat(f"{room}/git/studio").st_mode)
-        checks.expect(status == 0 and mode == 0o750, f"`{command}` makes a folder with the mode {mode:04o}", errors)
+def try_folders(checks):
+    """The commands of the pages make folders of Git repositories and of copies that other users of the machine cannot
+    enter."""
+    for page, pattern, wanted in (("install", r"`(install -d [^`]*(/srv/git/studio))`", 0o750),
+                                  ("runbook", r"-- (mkdir [^\n]*(/backup/film))\n", 0o700)):
+        text = (TOP / f"docs/operating/{page}.md").read_text(encoding="utf-8")
+        command, folder = re.search(pattern, text).groups()
+        with tempfile.TemporaryDirectory() as room:
+            words = re.sub(r" -[og] custody", "", command).replace(folder, room + folder).split()
+            status, _, errors = run(words)
+            mode = stat.S_IMODE(os.stat(room + folder).st_mode)
+            checks.expect(status == 0 and mode == wanted, f"`{command}` makes a folder with the mode {mode:04o}", errors)
 
 
 def main():
@@ -201,7 +204,7 @@ def main():
     try_upgrade(checks, options.scripts)
     try_unit(checks)
     try_group(checks)
-    try_git_folder(checks)
+    try_folders(checks)
     return checks.end()
 
 
