@@ -33,6 +33,8 @@ WRONG = {
     "a head with two lengths": (f"POST /a HTTP/1.1\r\n{TOKEN}Content-Length: 1\r\nContent-Length: 2\r\n", BAD_HEAD),
     "a body with a coding": (f"POST /a HTTP/1.1\r\n{TOKEN}Transfer-Encoding: gzip\r\n", NO_CODING),
 }
+# What a field may have before and after what it says: the server does not look at such spaces and tabs.
+SPACES = [*(("", "\t" * it) for it in range(10)), ("\t", ""), ("\t \t", ""), ("", " \t "), ("", "\t" * 300)]
 # Nobody may push to the default branch but ann; what is no ref is asked about as that branch.
 NO_REFS = ("refs/heads/a..b", "refs/heads/a b", "refs//main", "main", "refs/heads/" + "a" * 300, DEEP + "/h", '"}}')
 
@@ -165,6 +167,24 @@ def try_fields(site):
     site.expect(not wrong, "no reply has nginx's version, and each asks browsers to use TLS alone", wrong)
 
 
+def try_spellings(site):
+    """However the field of a token is written, the token has 10 requests at a time, and no log has it."""
+    token, refused = "5" * 64, 0
+    with contextlib.ExitStack() as kept:
+        for number, (before, after) in enumerate(SPACES):
+            connection = kept.enter_context(contextlib.closing(site.connect(timeout=0.5)))
+            connection.connect()
+            head = (f"PUT {where_of(oid=f'{number:064}')} HTTP/1.1", "Host: localhost", f"Content-Length: {SMALL}",
+                    f"Authorization:{before} Bearer {token}{after}", "", "x")
+            connection.sock.sendall("\r\n".join(head).encode())
+            with contextlib.suppress(OSError):
+                refused += b" 429 " in connection.sock.recv(100)
+    site.expect(refused == len(SPACES) - 10, f"of {len(SPACES)} requests with a token in as many spellings, {refused} are "
+                "429")
+    logs = [it.name for it in Path(site.room).glob("*.log") if token in it.read_text(encoding="utf-8")]
+    site.expect(not logs, "and no log of nginx has the token", logs)
+
+
 def try_wrong(site):
     """What nginx itself refuses gets a reply in the form of the server's."""
     for what, (head, wanted) in WRONG.items():
@@ -185,6 +205,6 @@ def try_wrong(site):
 def try_uploads(site):
     """Uploads under a policy of their own."""
     site.change_policy(rows=ROWS)
-    for part in (try_refused, try_methods, try_passed, try_fields, try_wrong):
+    for part in (try_refused, try_methods, try_passed, try_fields, try_wrong, try_spellings):
         part(site)
     site.change_policy()
