@@ -143,11 +143,12 @@ def try_upgrade(checks, scripts):
 
 
 def try_unit(checks):
-    """What the unit says of the network, of descriptors and of memory that is used up."""
+    """What the unit says of the network, of the Git repositories, of descriptors and of memory that is used up."""
     lines = (TOP / "deploy/systemd/custody.service").read_text().splitlines()
     values = dict(it.split("=", 1) for it in lines if "=" in it and not it.startswith("#"))
     checks.expect((values.get("IPAddressDeny"), values.get("IPAddressAllow")) == ("any", "localhost"),
                   "the unit lets the server connect to this machine alone")
+    checks.expect(values.get("InaccessiblePaths") == "-/srv", "it hides the Git repositories from the server")
     count = int(values.get("LimitNOFILE", 1024))
     # The connections of clients and operators, and what is opened beside them.
     checks.expect(count >= 2 * (CLIENTS + OPERATORS), f"it has {count} descriptors, for {CLIENTS} clients")
