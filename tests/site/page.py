@@ -35,7 +35,7 @@ POLICY = (
     row("allow", ["vic"], ["pull", "list"]),
 )
 MARKUP = "art/<script>document.title='x'</script><img src=x onerror=alert(1)>.psd"
-REVERSED = "art/hero\u202edsp.exe"
+REVERSED = "art/hero\u202edsp\u00a0.exe"
 NO_FORCE = "art/shot10.psd: P0: no policy row allows force"
 RELEASE, OTHER = "refs/heads/release/1.0", "refs/heads/other"
 FIRST = [("ann", "art/hero.psd", MAIN), ("bob", "art/ship.psd", MAIN), ("ann", "art/tree 2.psd", RELEASE),
@@ -79,7 +79,7 @@ class Studio(Site):
 
 def escaped(path):
     """A path as the page shows it."""
-    return path.replace("\u202e", "\\u{202e}")
+    return path.replace("\u202e", "\\u{202e}").replace("\u00a0", "\\u{a0}")
 
 
 def branch_of(ref, named):
@@ -198,7 +198,8 @@ def try_list(site, page):
     own = {escaped(path) for user, path, ref in FIRST if user == "ann" and ref in (MAIN, RELEASE)}
     site.equal(set(ours), own, "ann's own are marked")
     site.expect(MARKUP in page.shown(), "a path with elements of HTML is shown as text")
-    site.expect(escaped(REVERSED) in page.shown(), "a character that changes the direction is shown as an escape")
+    site.expect(escaped(REVERSED) in page.shown(),
+                "what changes the direction, and a space of another kind, is shown as an escape")
     elements = page.run("return document.querySelectorAll('#rows img, #rows script').length")
     found = page.browser.title, alert_is_present()(page.browser), elements
     site.equal(found, ("Locks of studio/film", False, 0), "and nothing of it runs")
