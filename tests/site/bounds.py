@@ -23,7 +23,12 @@ STAND_IN = """#!/bin/sh
 case $1:$* in
 policy:*--rows*) printf '%s\\n' 'effect = "allow"' 'users = ["*"]' 'repos = ["*"]' 'rights = ["pull", "push"]' ;;
 policy:*) echo 'allowed by row 1' ;;
-pushcheck:*) exec sed 's/^/ok: /' ;;
+pushcheck:*)
+    # While it is asked, ann locks what is in the file.
+    if [ -e @room/late ]; then sleep 2 && mv @room/late @room/locks; fi
+    exec sed 's/^/ok: /'
+    ;;
+locks:*) if [ -e @room/locks ]; then cat @room/locks; fi ;;
 esac
 """
 # In the place of git: one of its commands is killed, as when the memory of the machine is used up.
@@ -85,20 +90,27 @@ class Gate(Workroom):
         for name in ("forced-command", "pre-receive"):
             text = (TOP / "deploy/programs" / name).read_text(encoding="utf-8")
             self.write(f"lib/{name}", placed(text, room, 0), 0o755)
-        self.write("bin/custody", STAND_IN, 0o755)
+        self.write("bin/custody", STAND_IN.replace("@room", room), 0o755)
         self.write_key(["bob"], f"{room}/lib/forced-command")
         self.bare = Path(room, "git", f"{FILM}.git")
         self.git("init", "-q", "-b", "main", "--bare", self.bare)
         self.git("-C", self.bare, "config", "receive.fsckObjects", "true")
         (self.bare / "hooks/pre-receive").symlink_to(f"{room}/lib/pre-receive")
-        tree = self.git("-C", self.bare, "mktree", given="").strip()
-        who = ("-c", "user.name=bob", "-c", "user.email=bob@studio")
-        self.commit = self.git("-C", self.bare, *who, "commit-tree", "-m", "Nothing", tree).strip()
+        self.commit = self.commit_of([])
         self.git("-C", self.bare, "update-ref", "refs/heads/main", self.commit)
 
     def git(self, *words, given=None):
         """What a command of Git prints."""
         return self.run("git", *words, given=given)[1]
+
+    def commit_of(self, names, text=""):
+        """A commit with these files in a folder."""
+        blob = self.git("-C", self.bare, "hash-object", "-w", "--stdin", given=text).strip()
+        files = "".join(f"100644 blob {blob}\t{it}\n" for it in names)
+        folder = self.git("-C", self.bare, "mktree", given=files).strip()
+        tree = self.git("-C", self.bare, "mktree", given=f"040000 tree {folder}\tart\n").strip()
+        who = ("-c", "user.name=bob", "-c", "user.email=bob@studio")
+        return self.git("-C", self.bare, *who, "commit-tree", "-m", "Files", tree).strip()
 
     def refs(self):
         """Each ref of the repository, with its commit."""
@@ -110,9 +122,10 @@ class Gate(Workroom):
         return subprocess.Popen([f"{self.room}/lib/forced-command", "bob"], stdin=subprocess.PIPE,
                                 stdout=subprocess.PIPE, stderr=subprocess.STDOUT, env=self.environment | more)
 
-    def push(self, names, data=pack(), new=None):
-        """Pushes refs of these names, all new, with a pack. Returns what was printed, and whether a ref moved."""
-        before, lines = self.refs(), [f"{NONE} {new or self.commit} ".encode() + it for it in names]
+    def push(self, names, data=pack(), old=NONE, new=None):
+        """Pushes refs of these names with a pack: new ones at the commit of main, if no commits are given. Returns what
+        was printed, and whether a ref moved."""
+        before, lines = self.refs(), [f"{old} {new or self.commit} ".encode() + it for it in names]
         lines[0] += b"\0 report-status"
         with self.start() as child:
             output, _ = child.communicate(b"".join(map(line_of, lines)) + FLUSH + data)
@@ -167,13 +180,33 @@ def try_killed(gate):
                 "if it is not known whether a ref is the name of another one, it is not pushed", f"{status}: {text}")
 
 
+def try_late(gate):
+    """A lock that is made while the server is asked about a large push, which takes some time."""
+    old, new = gate.commit_of("abc"), gate.commit_of("abc", "changed")
+    more, less = gate.commit_of("abcd"), gate.commit_of("bc")
+    for what, path, before, after, is_in_the_way in (
+            ("a file that changes", "art/a", old, new, True), ("a file that is new", "art/d", old, more, True),
+            ("a file that is removed", "art/a", old, less, True), ("a branch that is removed", "art/a", old, NONE, True),
+            ("a file that stays", "art/a", old, more, False), ("a file that is not there", "art/x/y", old, new, False),
+            ("a file of a new branch", "art/a", NONE, old, True)):
+        if before != NONE:
+            gate.git("-C", gate.bare, "update-ref", "refs/heads/late", before)
+        gate.write("late", f"7 refs/heads/late ann 2026-11-29T00:00:00Z {path}\n8 refs/heads/main ann 2026 art/b\n")
+        text, has_moved = gate.push([b"refs/heads/late"], old=before, new=after)
+        says = f"{path}: ann has locked it (lock 7)" in text
+        gate.expect((says, has_moved) == (is_in_the_way, not is_in_the_way), f"a lock that is made meanwhile on {what} "
+                    f"is {'' if is_in_the_way else 'not '}in the way of the push", text[-1000:])
+        gate.git("-C", gate.bare, "update-ref", "-d", "refs/heads/late")
+        Path(gate.room, "locks").unlink()
+
+
 def main():
     """Runs the suite."""
     checks = Checks()
     arguments(__doc__).parse_args()
     with tempfile.TemporaryDirectory() as room:
         gate = Gate(room, checks)
-        for part in (try_packs, try_refs, try_killed):
+        for part in (try_packs, try_refs, try_killed, try_late):
             checks.part(part.__name__.removeprefix("try_"), lambda: part(gate))
     return checks.end()
 
