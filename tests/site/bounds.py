@@ -169,13 +169,17 @@ def try_refs(gate):
     gate.expect(taken < 10, f"after {taken:.1f} s (at most 10 s)")
 
 
-def try_killed(gate):
-    """A command of Git that is killed within the hook."""
+def try_hook(gate):
+    """The hook by itself: with the limits of a machine that has less, and with a command of Git that is killed."""
+    words = ["env", "CUSTODY_USER=bob", f"CUSTODY_REPO={FILM}"]
+    line = f"{NONE} {gate.commit} refs/heads/new\n"
+    less = ("sh", "-c", "ulimit -d 600000 && ulimit -t 200 && exec \"$0\"", f"{gate.room}/lib/pre-receive")
+    status, text = gate.run(*words, *less, folder=gate.bare, given=line, may_fail=True)
+    gate.expect((status, text) == (0, ""), "the hook runs where it may have less memory and time", f"{status}: {text}")
     git = gate.run("sh", "-c", "command -v git")[1].strip()
     gate.write("killed/git", KILLED.replace("@git", git), 0o755)
-    path = f"PATH={gate.room}/killed:{gate.environment['PATH']}"
-    words = ["env", path, "CUSTODY_USER=bob", f"CUSTODY_REPO={FILM}", f"{gate.room}/lib/pre-receive"]
-    status, text = gate.run(*words, folder=gate.bare, given=f"{NONE} {gate.commit} refs/heads/new\n", may_fail=True)
+    words += [f"PATH={gate.room}/killed:{gate.environment['PATH']}", f"{gate.room}/lib/pre-receive"]
+    status, text = gate.run(*words, folder=gate.bare, given=line, may_fail=True)
     gate.expect(status == 1 and "Git could not read it" in text,
                 "if it is not known whether a ref is the name of another one, it is not pushed", f"{status}: {text}")
 
@@ -206,7 +210,7 @@ def main():
     arguments(__doc__).parse_args()
     with tempfile.TemporaryDirectory() as room:
         gate = Gate(room, checks)
-        for part in (try_packs, try_refs, try_killed, try_late):
+        for part in (try_packs, try_refs, try_hook, try_late):
             checks.part(part.__name__.removeprefix("try_"), lambda: part(gate))
     return checks.end()
 
