@@ -184,6 +184,22 @@ def try_hook(gate):
                 "if it is not known whether a ref is the name of another one, it is not pushed", f"{status}: {text}")
 
 
+def try_no_hook(gate):
+    """Git passes over a hook that it cannot run."""
+    link, program = gate.bare / "hooks/pre-receive", Path(gate.room, "lib/pre-receive")
+    says = f"The hook of {FILM} cannot be run"
+    program.chmod(0o644)
+    gate.refused("a push to a repository whose hook is no program", says, b"refs/heads/unjudged")
+    program.chmod(0o755)
+    link.unlink()
+    link.symlink_to(f"{gate.room}/none/pre-receive")
+    gate.refused("a push to one whose hook is a link to nothing", says, b"refs/heads/unjudged")
+    link.unlink()
+    text, has_moved = gate.push([b"refs/heads/no-hook"])
+    gate.expect(has_moved, "a repository may have no hook", text)
+    link.symlink_to(program)
+
+
 def try_late(gate):
     """A lock that is made while the server is asked about a large push, which takes some time."""
     old, new = gate.commit_of("abc"), gate.commit_of("abc", "changed")
@@ -210,7 +226,7 @@ def main():
     arguments(__doc__).parse_args()
     with tempfile.TemporaryDirectory() as room:
         gate = Gate(room, checks)
-        for part in (try_packs, try_refs, try_hook, try_late):
+        for part in (try_packs, try_refs, try_hook, try_no_hook, try_late):
             checks.part(part.__name__.removeprefix("try_"), lambda: part(gate))
     return checks.end()
 
