@@ -142,6 +142,19 @@ def try_upgrade(checks, scripts):
         checks.expect(status == 0, "a folder in the place of the spare file is not in the way", said)
 
 
+def try_keys(checks, scripts):
+    """The keys are not the package's: no upgrade replaces them, and a purge removes them."""
+    text = (TOP / "deploy/package.sh").read_text(encoding="utf-8")
+    checks.expect("$root/etc/custody/authorized_keys" not in text, "the package has no file of keys")
+    with tempfile.TemporaryDirectory() as room:
+        machine = Machine(room, scripts, is_earlier=False)
+        keys = machine.top / "etc/custody/authorized_keys"
+        keys.parent.mkdir(parents=True)
+        keys.write_text("a key")
+        found = [(machine.run(*words)[0], keys.exists(), keys.parent.exists()) for words in (REMOVE, PURGE)]
+        checks.expect(found == [(0, True, True), (0, False, False)], "the keys stay until a purge", found)
+
+
 def try_unit(checks):
     """What the unit says of the network, of the Git repositories, of descriptors and of memory that is used up."""
     lines = (TOP / "deploy/systemd/custody.service").read_text().splitlines()
@@ -203,6 +216,7 @@ def main():
     try_file(checks, options.scripts)
     try_late_link(checks, options.scripts)
     try_upgrade(checks, options.scripts)
+    try_keys(checks, options.scripts)
     try_unit(checks)
     try_group(checks)
     try_folders(checks)
