@@ -1,8 +1,8 @@
-"""Tries what a push may take of the server's machine: deploy/programs/forced-command and pre-receive, with the real git.
+"""Tries what users of Git may take of the machine: deploy/programs/forced-command and pre-receive, with the real git.
 
 A stand-in for custody allows everything, so no program is needed; the client is this suite, which sends what no client
-of Git would. A check fails if a push of some kilobytes takes memory without a bound, if the hook takes a push that it
-cannot judge, or if it does not refuse one in words.
+of Git would. A check fails if a push of some kilobytes or a clone takes memory without a bound, if a push is taken that
+nothing has judged, or that a later lock is in the way of, or if one is not refused in words.
 """
 import hashlib
 import resource
@@ -43,6 +43,13 @@ BLOB, DELTA = 3, 7
 # A file of 8 MiB, and how often a second one has it.
 PART, PARTS = 1 << 23, 270
 MANY = 10_000
+# The size of a large file, and of a piece of it.
+LARGE, PIECE = 64 << 20, 1 << 20
+
+
+def most_memory():
+    """The most memory that a process of this suite had, in MB. Each of its parts has a bound for it."""
+    return resource.getrusage(resource.RUSAGE_CHILDREN).ru_maxrss >> 10
 
 
 def line_of(text):
@@ -96,17 +103,29 @@ class Gate(Workroom):
         self.git("init", "-q", "-b", "main", "--bare", self.bare)
         self.git("-C", self.bare, "config", "receive.fsckObjects", "true")
         (self.bare / "hooks/pre-receive").symlink_to(f"{room}/lib/pre-receive")
-        self.commit = self.commit_of([])
+        self.commit = self.commit_of({})
         self.git("-C", self.bare, "update-ref", "refs/heads/main", self.commit)
 
     def git(self, *words, given=None):
         """What a command of Git prints."""
         return self.run("git", *words, given=given)[1]
 
-    def commit_of(self, names, text=""):
-        """A commit with these files in a folder."""
-        blob = self.git("-C", self.bare, "hash-object", "-w", "--stdin", given=text).strip()
-        files = "".join(f"100644 blob {blob}\t{it}\n" for it in names)
+    def file(self, text):
+        """A file with this text."""
+        return self.git("-C", self.bare, "hash-object", "-w", "--stdin", given=text).strip()
+
+    def large_file(self, first):
+        """A file of the size LARGE by itself, as Git stores those of a small push. It begins with this number."""
+        parts = [b"blob %d\0" % LARGE, b"%08d" % first + bytes(PIECE - 8), *[bytes(PIECE)] * (LARGE // PIECE - 1)]
+        digest, packer = hashlib.sha1(b"".join(parts)).hexdigest(), zlib.compressobj(1)
+        path = self.bare / "objects" / digest[:2] / digest[2:]
+        path.parent.mkdir(exist_ok=True)
+        path.write_bytes(b"".join([*map(packer.compress, parts), packer.flush()]))
+        return digest
+
+    def commit_of(self, files):
+        """A commit with these files in a folder, by their names."""
+        files = "".join(f"100644 blob {blob}\t{name}\n" for name, blob in files.items())
         folder = self.git("-C", self.bare, "mktree", given=files).strip()
         tree = self.git("-C", self.bare, "mktree", given=f"040000 tree {folder}\tart\n").strip()
         who = ("-c", "user.name=bob", "-c", "user.email=bob@studio")
@@ -116,9 +135,9 @@ class Gate(Workroom):
         """Each ref of the repository, with its commit."""
         return self.git("-C", self.bare, "--no-replace-objects", "for-each-ref")
 
-    def start(self):
-        """What receives a push of bob's."""
-        more = {"SSH_ORIGINAL_COMMAND": f"git-receive-pack '/{FILM}.git'", "SSH_USER_AUTH": f"{self.room}/user_auth"}
+    def start(self, command="git-receive-pack"):
+        """What receives a push of bob's, or another command of Git."""
+        more = {"SSH_ORIGINAL_COMMAND": f"{command} '/{FILM}.git'", "SSH_USER_AUTH": f"{self.room}/user_auth"}
         return subprocess.Popen([f"{self.room}/lib/forced-command", "bob"], stdin=subprocess.PIPE,
                                 stdout=subprocess.PIPE, stderr=subprocess.STDOUT, env=self.environment | more)
 
@@ -140,18 +159,31 @@ class Gate(Workroom):
 
 def try_packs(gate):
     """The memory and the time of Git, which unpacks a push before it asks the hook."""
-    with gate.start() as child:
-        child.stdout.read(4)
-        limits = Path("/proc", str(child.pid), "limits").read_text(encoding="utf-8")
-        child.communicate(FLUSH)
-    found = {line[:26].strip(): line[26:].split()[1] for line in limits.splitlines()}
-    found = found["Max data size"], found["Max cpu time"]
-    gate.expect(found == (str(2 << 30), "3600"), "Git gets 2 GiB of memory and an hour of a processor for a push", found)
+    for command in ("git-receive-pack", "git-upload-pack"):
+        with gate.start(command) as child:
+            child.stdout.read(4)
+            limits = Path("/proc", str(child.pid), "limits").read_text(encoding="utf-8")
+            child.communicate(FLUSH)
+        found = {line[:26].strip(): line[26:].split()[1] for line in limits.splitlines()}
+        found = found["Max data size"], found["Max cpu time"]
+        gate.expect(found == (str(2 << 30), "3600"), f"{command} has 2 GiB of memory and an hour of a processor", found)
     data, began = bomb(), time.monotonic()
     gate.refused(f"a pack of {len(data)} bytes with a file of {PART * PARTS >> 20} MiB", "unpacker error",
                  b"refs/heads/bomb", data=data)
-    taken, most = time.monotonic() - began, resource.getrusage(resource.RUSAGE_CHILDREN).ru_maxrss >> 10
-    gate.expect(taken < 10 and most < 300, f"after {taken:.1f} s, with {most} MB (at most 10 s, 300 MB)")
+    taken, most = time.monotonic() - began, most_memory()
+    gate.expect(taken < 10 and most < 100, f"after {taken:.1f} s, with {most} MB (at most 10 s, 100 MB)")
+
+
+def try_clone(gate):
+    """The memory of Git for a clone of large files."""
+    commit = gate.commit_of({f"{it}.psd": gate.large_file(it) for it in range(6)})
+    gate.git("-C", gate.bare, "update-ref", "refs/heads/large", commit)
+    with gate.start("git-upload-pack") as child:
+        output, _ = child.communicate(line_of(f"want {commit}\n".encode()) + FLUSH + line_of(b"done\n"))
+    gate.git("-C", gate.bare, "update-ref", "-d", "refs/heads/large")
+    most = most_memory()
+    gate.expect(b"PACK" in output and most < 100, f"six files of {LARGE >> 20} MiB are sent with {most} MB (at most 100)",
+                output[-300:])
 
 
 def try_refs(gate):
@@ -202,8 +234,9 @@ def try_no_hook(gate):
 
 def try_late(gate):
     """A lock that is made while the server is asked about a large push, which takes some time."""
-    old, new = gate.commit_of("abc"), gate.commit_of("abc", "changed")
-    more, less = gate.commit_of("abcd"), gate.commit_of("bc")
+    one, other = gate.file("one"), gate.file("other")
+    old, new, more, less = (gate.commit_of(dict.fromkeys(names, blob))
+                            for names, blob in (("abc", one), ("abc", other), ("abcd", one), ("bc", one)))
     for what, path, before, after, is_in_the_way in (
             ("a file that changes", "art/a", old, new, True), ("a file that is new", "art/d", old, more, True),
             ("a file that is removed", "art/a", old, less, True), ("a branch that is removed", "art/a", old, NONE, True),
@@ -226,7 +259,7 @@ def main():
     arguments(__doc__).parse_args()
     with tempfile.TemporaryDirectory() as room:
         gate = Gate(room, checks)
-        for part in (try_packs, try_refs, try_hook, try_no_hook, try_late):
+        for part in (try_packs, try_clone, try_refs, try_hook, try_no_hook, try_late):
             checks.part(part.__name__.removeprefix("try_"), lambda: part(gate))
     return checks.end()
 
