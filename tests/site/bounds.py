@@ -25,7 +25,7 @@ policy:*--rows*) printf '%s\\n' 'effect = "allow"' 'users = ["*"]' 'repos = ["*"
 policy:*) echo 'allowed by row 1' ;;
 pushcheck:*)
     # While it is asked, ann locks what is in the file.
-    if [ -e @room/late ]; then sleep 2 && mv @room/late @room/locks; fi
+    if [ -e @room/late ]; then sleep 1.2 && mv @room/late @room/locks; fi
     exec sed 's/^/ok: /'
     ;;
 locks:*) if [ -e @room/locks ]; then cat @room/locks; fi ;;
