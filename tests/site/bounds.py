@@ -182,8 +182,8 @@ def try_clone(gate):
         output, _ = child.communicate(line_of(f"want {commit}\n".encode()) + FLUSH + line_of(b"done\n"))
     gate.git("-C", gate.bare, "update-ref", "-d", "refs/heads/large")
     most = most_memory()
-    gate.expect(b"PACK" in output and most < 100, f"six files of {LARGE >> 20} MiB are sent with {most} MB (at most 100)",
-                output[-300:])
+    gate.expect(b"PACK" in output and most < 100,
+                f"six files of {LARGE >> 20} MiB are sent with {most} MB (at most 100)", output[-300:])
 
 
 def try_refs(gate):
@@ -239,7 +239,8 @@ def try_late(gate):
                             for names, blob in (("abc", one), ("abc", other), ("abcd", one), ("bc", one)))
     for what, path, before, after, is_in_the_way in (
             ("a file that changes", "art/a", old, new, True), ("a file that is new", "art/d", old, more, True),
-            ("a file that is removed", "art/a", old, less, True), ("a branch that is removed", "art/a", old, NONE, True),
+            ("a file that is removed", "art/a", old, less, True),
+            ("a branch that is removed", "art/a", old, NONE, True),
             ("a file that stays", "art/a", old, more, False), ("a file that is not there", "art/x/y", old, new, False),
             ("a file of a new branch", "art/a", NONE, old, True)):
         if before != NONE:

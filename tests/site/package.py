@@ -199,7 +199,8 @@ def try_folders(checks):
             words = re.sub(r" -[og] custody", "", command).replace(folder, room + folder).split()
             status, _, errors = run(words)
             mode = stat.S_IMODE(os.stat(room + folder).st_mode)
-            checks.expect(status == 0 and mode == wanted, f"`{command}` makes a folder with the mode {mode:04o}", errors)
+            checks.expect(status == 0 and mode == wanted, f"`{command}` makes a folder with the mode {mode:04o}",
+                          errors)
 
 
 def main():

@@ -179,8 +179,8 @@ def try_spellings(site):
             connection.sock.sendall("\r\n".join(head).encode())
             with contextlib.suppress(OSError):
                 refused += b" 429 " in connection.sock.recv(100)
-    site.expect(refused == len(SPACES) - 10, f"of {len(SPACES)} requests with a token in as many spellings, {refused} are "
-                "429")
+    site.expect(refused == len(SPACES) - 10,
+                f"of {len(SPACES)} requests with a token in as many spellings, {refused} are 429")
     logs = [it.name for it in Path(site.room).glob("*.log") if token in it.read_text(encoding="utf-8")]
     site.expect(not logs, "and no log of nginx has the token", logs)
 
