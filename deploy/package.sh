@@ -52,10 +52,6 @@ install -m 644 "$top/deploy/sshd/custody.conf" "$documents/examples/sshd-custody
 install -m 644 "$top/deploy/systemd/custody-group.conf" "$top/examples/policy.toml" "$documents/examples"
 # The home of the user, which is root's; and what nginx keeps of requests and replies, for which a disk may be mounted there.
 install -d -m 755 "$root/var/lib/custody" "$root/var/spool/custody"
-cat > "$root/etc/custody/authorized_keys" << 'END'
-# One line for each key, with the name of its user, as /usr/lib/custody/custody-user writes it; sshd takes no other line:
-# restrict,command="/usr/lib/custody/forced-command ann" ssh-ed25519 AAAA... ann@studio
-END
 install -m 644 "$top/docs/locks.png" "$documents"
 
 # The licence, in Debian's form: the text is a field, so its empty lines have a dot.
@@ -162,7 +158,8 @@ Description: Git LFS object and lock server
  at a time lock a path. Every reply and every stored change is proved to be what
  a short, readable definition allows.
 END
-printf '/etc/custody/%s\n' policy.toml authorized_keys > "$root/DEBIAN/conffiles"
+# The keys, in /etc/custody/authorized_keys, are no conffile: an upgrade could replace them.
+echo /etc/custody/policy.toml > "$root/DEBIAN/conffiles"
 install -m 755 -t "$root/DEBIAN" "$top/deploy/debian/postinst" "$top/deploy/debian/prerm" "$top/deploy/debian/postrm"
 # What lintian is to pass over: the server is started by the unit alone, which confines it; and in the program a text that
 # ends with "user" is next to one that begins with "a".

@@ -121,6 +121,8 @@ SUITES = [
           15, ("nginx", "openssh-server", "openssl", "git", "git-lfs", "curl")),
     Suite("keys", "tests.site.keys", "sshd takes only keys with the forced command, and those that are removed end.",
           0, ("openssh-server", "git")),
+    Suite("bounds", "tests.site.bounds", "Pushes and clones of Git take no more of the machine than they may.",
+          0, ("git",), quick=()),
     Suite("blocks", "tests.site.blocks", "Each block of commands in the operating pages runs, and does what it says.",
           1, ("nginx", "openssh-server", "openssl", "git", "git-lfs", "sqlite3")),
     Suite("page", "tests.site.page", "The page with the locks works in a browser.",

@@ -129,6 +129,9 @@ def try_too_much(trial):
         stage.refused("a reply of 200 MB to an upload", stage.run(str(stage.folder), stage.socket), "longer than")
         server.replies["/objects/batch"] = 200, b"[" * 100_000
         stage.refused("a reply of 100,000 levels", stage.down(), "not one of Git LFS")
+        actions = [{"oid": OID, "size": 5, "actions": {"download": {"href": 5}}}]
+        server.replies["/objects/batch"] = 200, json.dumps({"objects": actions}).encode()
+        stage.refused("a number in the place of an address", stage.down(), "not one of Git LFS")
         for stream in ("1", "2"):
             stage.room.write("bin/ssh", f"#!/bin/sh\nyes | head -c {HUGE} >&{stream}\n", 0o755)
             stage.refused(f"a token of 200 MB on stream {stream} of ssh",

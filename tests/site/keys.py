@@ -4,8 +4,10 @@ sshd has deploy/sshd/custody.conf and deploy/programs/forced-command, with the p
 key without the forced command opens a connection, if a key that was removed goes on to work, or if the program takes
 what is not one public key, loses a key of another, or leaves the file with another owner or mode.
 """
+import fcntl
 import getpass
 import os
+import stat
 import subprocess
 import sys
 import tempfile
@@ -73,12 +75,14 @@ def try_adding(desk):
     desk.keys.chmod(0o640)
     if os.getuid() == 0:
         os.chown(desk.keys, 1, 2)
-    before = desk.keys.stat()
-    ran = [desk.do("add", user, given=public[key]) for user, key in OWNERS]
+    # While the old file is open, no new one gets its number.
+    with open(desk.keys, "rb") as old:
+        before = os.fstat(old.fileno())
+        ran = [desk.do("add", user, given=public[key]) for user, key in OWNERS]
+        after = desk.keys.stat()
     wanted = head + "".join(desk.line(user, public[key]) for user, key in OWNERS)
     desk.expect(all(status == 0 for status, _ in ran) and desk.text() == wanted, "a second key of a user is one more",
                 f"{ran}\n{desk.text()}")
-    after = desk.keys.stat()
     desk.expect((after.st_mode, after.st_uid, after.st_gid) == (before.st_mode, before.st_uid, before.st_gid)
                 and after.st_ino != before.st_ino, "the file is a new one, with the owner and the mode of the old one")
     status, text = desk.do("add", "ann", given=public["ann"].replace("\n", "\r\n"))
@@ -138,6 +142,21 @@ def try_changes(desk):
         it.join()
     found = [desk.text().count(desk.line(f"user-{number}", it)) for number, it in enumerate(public)]
     desk.expect(found == [1] * AT_ONCE, f"of {AT_ONCE} keys that are added at once, each is there", found)
+
+
+def try_lock(desk):
+    """Whoever may read the folder and the file of the keys cannot keep a key from being removed."""
+    desk.do("add", "zoe", given=desk.public["zoe"])
+    opened = [os.open(it, os.O_RDONLY) for it in (desk.room, desk.keys)]
+    for file in opened:
+        fcntl.flock(file, fcntl.LOCK_EX)
+    status, text = desk.run("timeout", "5", desk.program, "remove", "zoe", may_fail=True)
+    desk.expect(status == 0 and desk.line("zoe", desk.public["zoe"]) not in desk.text(),
+                "a key is removed while somebody else locks the folder and the file", f"status {status}: {text}")
+    for file in opened:
+        os.close(file)
+    mode = stat.S_IMODE(os.stat(f"{desk.room}/custody-user.lock").st_mode)
+    desk.expect(mode == 0o600, f"what the program locks has the mode {mode:04o}")
 
 
 def ssh_words(site, key, *more):
@@ -216,7 +235,7 @@ def main():
     options, checks = arguments(__doc__).parse_args(), Checks()
     with tempfile.TemporaryDirectory() as room:
         desk = Desk(room, checks)
-        for part in (try_adding, try_refusals, try_changes):
+        for part in (try_adding, try_refusals, try_changes, try_lock):
             checks.part(part.__name__.removeprefix("try_"), lambda: part(desk))
     with tempfile.TemporaryDirectory() as room, Site(options.program, room, ROWS, checks) as site:
         Path(room, "bin").mkdir()

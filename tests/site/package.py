@@ -2,13 +2,15 @@
 
 DPKG_ROOT names the folder, and stand-ins for the commands that need root or systemd write down their words. A check
 fails if a script follows a link that the user custody made, changes something before it refuses one, does not say which
-path it is, or does not do what it has to where there is no link; or if the unit, or the folder of the Git repositories,
+path it is, or does not do what it has to where there is no link; or if the unit, or a folder that the pages have made,
 gives anybody more than is needed.
 """
 import os
 import re
 import shutil
+import socket
 import stat
+import subprocess
 import sys
 import tempfile
 from pathlib import Path
@@ -135,14 +137,31 @@ def try_upgrade(checks, scripts):
         names = sorted(it.name for it in (machine.home / "db").iterdir())
         checks.expect(kept == [0, 0] and names == ["custody.db", "custody.db-wal"],
                       "its removal leaves the database, and not the spare file", names)
+        (machine.home / "db/spare").mkdir()
+        status, said = machine.run(*REMOVE)
+        checks.expect(status == 0, "a folder in the place of the spare file is not in the way", said)
+
+
+def try_keys(checks, scripts):
+    """The keys are not the package's: no upgrade replaces them, and a purge removes them."""
+    text = (TOP / "deploy/package.sh").read_text(encoding="utf-8")
+    checks.expect("$root/etc/custody/authorized_keys" not in text, "the package has no file of keys")
+    with tempfile.TemporaryDirectory() as room:
+        machine = Machine(room, scripts, is_earlier=False)
+        keys = machine.top / "etc/custody/authorized_keys"
+        keys.parent.mkdir(parents=True)
+        keys.write_text("a key")
+        found = [(machine.run(*words)[0], keys.exists(), keys.parent.exists()) for words in (REMOVE, PURGE)]
+        checks.expect(found == [(0, True, True), (0, False, False)], "the keys stay until a purge", found)
 
 
 def try_unit(checks):
-    """What the unit says of the network, of descriptors and of memory that is used up."""
+    """What the unit says of the network, of the Git repositories, of descriptors and of memory that is used up."""
     lines = (TOP / "deploy/systemd/custody.service").read_text().splitlines()
     values = dict(it.split("=", 1) for it in lines if "=" in it and not it.startswith("#"))
     checks.expect((values.get("IPAddressDeny"), values.get("IPAddressAllow")) == ("any", "localhost"),
                   "the unit lets the server connect to this machine alone")
+    checks.expect(values.get("InaccessiblePaths") == "-/srv", "it hides the Git repositories from the server")
     count = int(values.get("LimitNOFILE", 1024))
     # The connections of clients and operators, and what is opened beside them.
     checks.expect(count >= 2 * (CLIENTS + OPERATORS), f"it has {count} descriptors, for {CLIENTS} clients")
@@ -150,15 +169,38 @@ def try_unit(checks):
     checks.expect(-1000 < score < 0, f"others are ended before it if memory is used up: {score}")
 
 
-def try_git_folder(checks):
-    """The command of the page makes a folder of Git repositories that other users of the machine cannot enter."""
-    page = (TOP / "docs/operating/install.md").read_text(encoding="utf-8")
-    command = re.search(r"`(install -d [^`]*/srv/git/studio)`", page)[1]
-    with tempfile.TemporaryDirectory() as room:
-        words = re.sub(r" -[og] custody", "", command).replace("/srv/git", f"{room}/git").split()
+def try_group(checks):
+    """The drop-in waits for the socket, and not for one of a server that has ended."""
+    text = (TOP / "deploy/systemd/custody-group.conf").read_text(encoding="utf-8")
+    command = re.search(r"^ExecStartPost=/bin/sh -c '(.*)'$", text, re.M)[1]
+    with tempfile.TemporaryDirectory() as room, subprocess.Popen(["sleep", "20"]) as child:
+        words = ["timeout", "5", "env", f"MAINPID={child.pid}", "sh", "-c", command.replace("/run/custody", room)]
+        with socket.socket(socket.AF_UNIX) as control:
+            control.bind(f"{room}/control")
+            os.chmod(f"{room}/control", 0o600)
+            status, _, errors = run(words)
+            mode = stat.S_IMODE(os.stat(f"{room}/control").st_mode)
+        checks.expect((status, mode) == (0, 0o660), f"the drop-in gives the socket the mode {mode:04o}", errors)
+        os.unlink(f"{room}/control")
+        child.kill()
+        child.wait()
         status, _, errors = run(words)
-        mode = stat.S_IMODE(os.stat(f"{room}/git/studio").st_mode)
-        checks.expect(status == 0 and mode == 0o750, f"`{command}` makes a folder with the mode {mode:04o}", errors)
+        checks.expect(status == 1, "it does not wait for the socket of a server that has ended", f"{status}: {errors}")
+
+
+def try_folders(checks):
+    """The commands of the pages make folders of Git repositories and of copies that other users of the machine cannot
+    enter."""
+    for page, pattern, wanted in (("install", r"`(install -d [^`]*(/srv/git/studio))`", 0o750),
+                                  ("runbook", r"-- (mkdir [^\n]*(/backup/film))\n", 0o700)):
+        text = (TOP / f"docs/operating/{page}.md").read_text(encoding="utf-8")
+        command, folder = re.search(pattern, text).groups()
+        with tempfile.TemporaryDirectory() as room:
+            words = re.sub(r" -[og] custody", "", command).replace(folder, room + folder).split()
+            status, _, errors = run(words)
+            mode = stat.S_IMODE(os.stat(room + folder).st_mode)
+            checks.expect(status == 0 and mode == wanted, f"`{command}` makes a folder with the mode {mode:04o}",
+                          errors)
 
 
 def main():
@@ -175,8 +217,10 @@ def main():
     try_file(checks, options.scripts)
     try_late_link(checks, options.scripts)
     try_upgrade(checks, options.scripts)
+    try_keys(checks, options.scripts)
     try_unit(checks)
-    try_git_folder(checks)
+    try_group(checks)
+    try_folders(checks)
     return checks.end()
 
 

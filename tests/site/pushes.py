@@ -339,13 +339,13 @@ def try_many(site, pushes):
 
 def without_hook(site, pushes, count):
     """How long a push of as many paths takes if there is no hook."""
-    hook = Path(site.room, "lib/pre-receive")
-    hook.chmod(0o644)
+    hook = Path(site.room, "git", f"{FILM}.git", "hooks/pre-receive")
+    unused = hook.rename(hook.with_name("unused"))
     pushes.write_many(count, "again ")
     began = time.monotonic()
     pushes.git("push", "-q", "--no-verify", "origin", "main")
     taken = time.monotonic() - began
-    hook.chmod(0o755)
+    unused.rename(hook)
     return taken
 
 

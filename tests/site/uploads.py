@@ -2,6 +2,7 @@
 import contextlib
 import glob
 import http.client
+import json
 import os
 import subprocess
 from pathlib import Path
@@ -20,6 +21,20 @@ ROWS = (
     row("allow", ["bob"], WORK, refs=[MAIN, "refs/heads/art/"]),
     row("allow", ["ann", "carl"], WORK),
 )
+# Requests that nginx refuses itself: what is sent after the first line, and the reply.
+BAD_HEAD, NO_CODING = (400, "H1: bad request head"), (501, "H2: transfer codings are not served")
+TOKEN = f"Host: localhost\r\nAuthorization: Bearer {'0' * 64}\r\n"
+WRONG = {
+    "no request": ("\x01\r\n", BAD_HEAD),
+    "a head without Host": ("GET /a HTTP/1.1\r\n", BAD_HEAD),
+    "a long field without a token": (f"GET /a HTTP/1.1\r\nHost: localhost\r\nX: {'x' * 40_000}\r\n", BAD_HEAD),
+    "a long target": (f"GET /{'a' * 9_000} HTTP/1.1\r\n{TOKEN}", BAD_HEAD),
+    "a long field": (f"GET /a HTTP/1.1\r\n{TOKEN}X: {'x' * 40_000}\r\n", BAD_HEAD),
+    "a head with two lengths": (f"POST /a HTTP/1.1\r\n{TOKEN}Content-Length: 1\r\nContent-Length: 2\r\n", BAD_HEAD),
+    "a body with a coding": (f"POST /a HTTP/1.1\r\n{TOKEN}Transfer-Encoding: gzip\r\n", NO_CODING),
+}
+# What a field may have before and after what it says: the server does not look at such spaces and tabs.
+SPACES = [*(("", "\t" * it) for it in range(10)), ("\t", ""), ("\t \t", ""), ("", " \t "), ("", "\t" * 300)]
 # Nobody may push to the default branch but ann; what is no ref is asked about as that branch.
 NO_REFS = ("refs/heads/a..b", "refs/heads/a b", "refs//main", "main", "refs/heads/" + "a" * 300, DEEP + "/h", '"}}')
 
@@ -152,9 +167,44 @@ def try_fields(site):
     site.expect(not wrong, "no reply has nginx's version, and each asks browsers to use TLS alone", wrong)
 
 
+def try_spellings(site):
+    """However the field of a token is written, the token has 10 requests at a time, and no log has it."""
+    token, refused = "5" * 64, 0
+    with contextlib.ExitStack() as kept:
+        for number, (before, after) in enumerate(SPACES):
+            connection = kept.enter_context(contextlib.closing(site.connect(timeout=0.5)))
+            connection.connect()
+            head = (f"PUT {where_of(oid=f'{number:064}')} HTTP/1.1", "Host: localhost", f"Content-Length: {SMALL}",
+                    f"Authorization:{before} Bearer {token}{after}", "", "x")
+            connection.sock.sendall("\r\n".join(head).encode())
+            with contextlib.suppress(OSError):
+                refused += b" 429 " in connection.sock.recv(100)
+    site.expect(refused == len(SPACES) - 10,
+                f"of {len(SPACES)} requests with a token in as many spellings, {refused} are 429")
+    logs = [it.name for it in Path(site.room).glob("*.log") if token in it.read_text(encoding="utf-8")]
+    site.expect(not logs, "and no log of nginx has the token", logs)
+
+
+def try_wrong(site):
+    """What nginx itself refuses gets a reply in the form of the server's."""
+    for what, (head, wanted) in WRONG.items():
+        with contextlib.closing(site.connect(timeout=10)) as connection:
+            connection.connect()
+            with contextlib.suppress(OSError):
+                connection.sock.sendall(f"{head}\r\n".encode())
+            reply = http.client.HTTPResponse(connection.sock)
+            reply.begin()
+            found, kind = (reply.status, reply.read().decode()), reply.headers.get("Content-Type")
+        site.expect(found == (wanted[0], json.dumps({"message": wanted[1]}, separators=(",", ":")))
+                    and kind == "application/vnd.git-lfs+json", f"{what} is {wanted[0]}, {wanted[1]}", found)
+    for where in ("/-/malformed", "/-/granted"):
+        found = ask(site, "GET", where, "0" * 64)
+        site.expect(found[0] == 404, f"{where} is no target", found)
+
+
 def try_uploads(site):
     """Uploads under a policy of their own."""
     site.change_policy(rows=ROWS)
-    for part in (try_refused, try_methods, try_passed, try_fields):
+    for part in (try_refused, try_methods, try_passed, try_fields, try_wrong, try_spellings):
         part(site)
     site.change_policy()

@@ -86,6 +86,8 @@ def try_confinement():
             Path(folder, "try").unlink()
     check(not allowed, "it can write neither its home, nor the keys, the policy, the Git repositories or the programs",
           allowed)
+    status, text = run_as_server("ls", "/srv")
+    check(status != 0, "nor read the Git repositories", text)
 
 
 NEIGHBOUR = """import ctypes, sys
