@@ -162,9 +162,12 @@ def try_history(site, pushes):
     merge = pushes.git("commit-tree", "-p", "origin/main", "-p", "HEAD", "-m", "A merge", "HEAD^{tree}")[1].strip()
     pushes.refused("a merge that brings a locked path to main", ["art/1.psd"], f"{merge}:refs/heads/main")
     commit = pushes.git("rev-parse", "HEAD")[1].strip()
-    pushes.passes("a replacement of a commit, which looks like main", f"origin/main:refs/replace/{commit}")
-    pushes.refused("the commit itself is looked at", ["art/1.psd: ann has locked it"])
-    pushes.passes("the replacement is removed", f":refs/replace/{commit}")
+    pushes.refused("a replacement of a commit, which looks like main", ["no ref of refs/replace can be pushed here"],
+                   f"origin/main:refs/replace/{commit}")
+    bare = f"{site.room}/git/{FILM}.git"
+    site.run("git", "-C", bare, "update-ref", f"refs/replace/{commit}", "refs/heads/main")
+    pushes.refused("with one that the server has, the commit itself is looked at", ["art/1.psd: ann has locked it"])
+    pushes.passes("and it can be removed", f":refs/replace/{commit}")
 
 
 def memory_of_hook(site):

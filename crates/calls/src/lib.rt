@@ -27,7 +27,7 @@ pub struct Given<'g> {
     /// The moment of the call.
     pub now: Moment,
     /// The policy, if there is one.
-    pub policy: Option<&'g Policy>,
+    pub policy: &'g Option<Policy>,
     /// The most bytes of a write, and the number of writes that succeed.
     pub most: usize,
     pub writes: u64,
@@ -60,7 +60,7 @@ impl Hands {
 /// The store refuses or memory runs out; then the call left the tables as they were. The words mean nothing to the call, or
 /// what it returned contradicts another call.
 pub fn call<S: Storage>(
-    given: Given<'_>,
+    given: &Given<'_>,
     store: &mut Store<S>,
     hands: &mut Hands,
     name: &str,

@@ -4,7 +4,7 @@ use crate::Given;
 use crate::fault::Fault;
 use crate::words::{answer, count, lock_id, path, ref_name, repo, user, word};
 use locks::{Lock, LockFault};
-use names::LockPath;
+use names::{LockPath, Moment};
 use pushcheck::PushVerdict;
 use std::alloc::Global;
 use tables::{Alter, NewLock, Store};
@@ -42,11 +42,11 @@ fn made(alloc: Global, word: &str, lock: &Lock) -> Result<String, Fault> {
 
 /// Makes a lock: its repository, its ref, its owner, and its path.
 fn create<S: Alter>(
-    given: Given<'_>,
+    alloc: Global,
+    now: Moment,
     store: &mut Store<S>,
     words: &[&str],
 ) -> Result<String, Fault> {
-    let alloc = given.alloc;
     let repo = repo(alloc, word(words, 0)?)?;
     let ref_name = ref_name(alloc, word(words, 1)?)?;
     let owner = user(alloc, word(words, 2)?)?;
@@ -56,7 +56,7 @@ fn create<S: Alter>(
         ref_name: &ref_name,
         path: &path,
         owner: &owner,
-        moment: given.now,
+        moment: now,
     };
     match locks::create(alloc, store, &lock) {
         Ok(lock) => made(alloc, "made", &lock),
@@ -129,7 +129,11 @@ fn paths(alloc: Global, words: &[&str]) -> Result<Vec<LockPath>, Fault> {
 }
 
 /// The verdicts on a push: the user, the repository, the ref, and the paths.
-fn push<S: Alter>(given: Given<'_>, store: &mut Store<S>, words: &[&str]) -> Result<String, Fault> {
+fn push<S: Alter>(
+    given: &Given<'_>,
+    store: &mut Store<S>,
+    words: &[&str],
+) -> Result<String, Fault> {
     let alloc = given.alloc;
     let Some(policy) = given.policy else {
         return Err(Fault::Script("there is no policy"));
@@ -149,14 +153,14 @@ fn push<S: Alter>(given: Given<'_>, store: &mut Store<S>, words: &[&str]) -> Res
 
 /// Makes the call of this word, if it is one about locks.
 pub(crate) fn call<S: Alter>(
-    given: Given<'_>,
+    given: &Given<'_>,
     store: &mut Store<S>,
     name: &str,
     words: &[&str],
 ) -> Result<Option<String>, Fault> {
     let alloc = given.alloc;
     Ok(Some(match name {
-        "lock" => create(given, store, words)?,
+        "lock" => create(alloc, given.now, store, words)?,
         "unlock" => remove(alloc, store, words)?,
         "lock-at" => at(alloc, store, words)?,
         "lock-with" => with(alloc, store, words)?,

@@ -90,7 +90,7 @@ fn retired<S: Alter>(alloc: Global, store: &mut Store<S>, words: &[&str]) -> Res
 /// Writes an object out: its upload, and the bytes that it has to begin with. Returns their number, and whether a write
 /// failed.
 fn write_out<S: Alter>(
-    given: Given<'_>,
+    given: &Given<'_>,
     store: &mut Store<S>,
     hands: &Hands,
     words: &[&str],
@@ -114,7 +114,11 @@ fn write_out<S: Alter>(
 }
 
 /// The numbers of tokens, objects, removed objects and locks that a user sees of a repository.
-fn view<S: Alter>(given: Given<'_>, store: &mut Store<S>, words: &[&str]) -> Result<String, Fault> {
+fn view<S: Alter>(
+    given: &Given<'_>,
+    store: &mut Store<S>,
+    words: &[&str],
+) -> Result<String, Fault> {
     let alloc = given.alloc;
     let Some(policy) = given.policy else {
         return Err(Fault::Script("there is no policy"));
@@ -129,7 +133,7 @@ fn view<S: Alter>(given: Given<'_>, store: &mut Store<S>, words: &[&str]) -> Res
 
 /// Makes the call of this word, if it is one about objects.
 pub(crate) fn call<S: Alter>(
-    given: Given<'_>,
+    given: &Given<'_>,
     store: &mut Store<S>,
     hands: &mut Hands,
     name: &str,

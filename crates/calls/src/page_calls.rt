@@ -164,7 +164,7 @@ fn limit_line(alloc: Global, text: &str) -> Result<String, Fault> {
 
 /// Makes the call of this word, if it is one about pages.
 pub(crate) fn call<S: Alter>(
-    given: Given<'_>,
+    given: &Given<'_>,
     store: &mut Store<S>,
     name: &str,
     words: &[&str],

@@ -3,7 +3,7 @@
 use crate::Given;
 use crate::fault::Fault;
 use crate::words::{count, moment, number, operation, repo, user, word};
-use names::Operation;
+use names::{Moment, Operation};
 use sha2::{Digest, Sha256};
 use std::alloc::Global;
 use tables::{Alter, NewToken, Store, TokenRow};
@@ -47,12 +47,12 @@ fn text_of(alloc: Global, answer: Result<String, TokenFault>) -> Result<String, 
 /// Issues a token, or offers it: the byte of which its random bytes have 32, its user, its repository, its operation, and
 /// its lifetime in seconds.
 fn issue<S: Alter>(
-    given: Given<'_>,
+    alloc: Global,
+    now: Moment,
     store: &mut Store<S>,
     words: &[&str],
     is_offer: bool,
 ) -> Result<String, Fault> {
-    let alloc = given.alloc;
     let Ok(byte) = u8::from_str_radix(word(words, 0)?, 16) else {
         return Err(Fault::Script("a byte has two hexadecimal digits"));
     };
@@ -62,7 +62,7 @@ fn issue<S: Alter>(
         user: &user,
         repo: &repo,
         operation: operation(word(words, 3)?)?,
-        now: given.now,
+        now,
         seconds: number(word(words, 4)?)?,
         random: &[byte; 32],
     };
@@ -75,7 +75,7 @@ fn issue<S: Alter>(
 
 /// The caller whom a field names, or the rule that refuses it.
 fn caller<S: Alter>(
-    given: Given<'_>,
+    given: &Given<'_>,
     store: &mut Store<S>,
     field: Option<&[u8]>,
 ) -> Result<String, Fault> {
@@ -120,7 +120,7 @@ fn of_all<S: Alter>(alloc: Global, store: &mut Store<S>, words: &[&str]) -> Resu
 
 /// Makes the call of this word, if it is one about tokens.
 pub(crate) fn call<S: Alter>(
-    given: Given<'_>,
+    given: &Given<'_>,
     store: &mut Store<S>,
     name: &str,
     words: &[&str],
@@ -129,8 +129,8 @@ pub(crate) fn call<S: Alter>(
     let alloc = given.alloc;
     Ok(Some(match name {
         "token" => add(alloc, store, words)?,
-        "issue" => issue(given, store, words, false)?,
-        "offer" => issue(given, store, words, true)?,
+        "issue" => issue(alloc, given.now, store, words, false)?,
+        "offer" => issue(alloc, given.now, store, words, true)?,
         "prune" => count(alloc, tokens::prune(store, given.now)?)?,
         "caller" => caller(given, store, Some(text.as_bytes()))?,
         "no-caller" => caller(given, store, None)?,

@@ -154,7 +154,7 @@ fn chunk<S: Alter>(
 
 /// Makes the call of this word, if it is one about an upload.
 pub(crate) fn call<S: Alter>(
-    given: Given<'_>,
+    given: &Given<'_>,
     store: &mut Store<S>,
     hands: &mut Hands,
     name: &str,

@@ -33,11 +33,11 @@ fn make_call<S: Storage>(
     let given = Given {
         alloc,
         now: *now,
-        policy: policy.as_ref(),
+        policy: &*policy,
         most: *most,
         writes: *writes,
     };
-    let found = match call(given, store, hands, step.word.as_str(), text) {
+    let found = match call(&given, store, hands, step.word.as_str(), text) {
         Ok(Some(lines)) => lines,
         Ok(None) => return Ok(false),
         Err(Fault::Store(_)) if wanted.as_slice() == b"refused\n".as_slice() => return Ok(true),

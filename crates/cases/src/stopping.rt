@@ -1,7 +1,7 @@
 //! A machine that stops at each call of a file in turn. After its restart there is what was before, or what is after,
 //! whole: the latter exactly if it was reported.
 
-use crate::files::{Disks, Plan, copy_of, crash, files_after, with_files};
+use crate::files::{Disks, Done, Plan, copy_of, crash, files_after, with_files};
 use crate::running::{Located, Setting, located};
 use crate::scene::Scene;
 use crate::script::Step;
@@ -49,7 +49,8 @@ impl Work<'_> {
         };
         let plan = Plan::steps(self.work);
         let (mut files, done) = with_files(self.setting, copies, scene, names, plan, false);
-        let is_done = match done.work {
+        let Done { work, held: _ } = done;
+        let is_done = match work {
             Ok(()) => true,
             Err((_, Fault::Stopped | Fault::Store(_))) => false,
             Err(differs) => return Err(differs),

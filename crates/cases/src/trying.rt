@@ -1,7 +1,7 @@
 //! A work that is done once, while a test refuses some of its memory (tests/server/allocations.py). If it is refused,
 //! the store has what it had before, and after a restart that or what it has after the work, whole.
 
-use crate::files::{Disks, Plan, Taken, crash, with_files};
+use crate::files::{Disks, Done, Plan, Taken, crash, with_files};
 use crate::running::{Located, Setting};
 use crate::scene::Scene;
 use crate::script::Step;
@@ -48,22 +48,21 @@ impl Work<'_> {
     ) -> Taken {
         let plan = Plan::steps(steps);
         let (files, found) = with_files(self.setting, files, scene, names, plan, false);
-        if !differs(&found.work) {
-            return found.work;
+        let Done { work, held: _ } = found;
+        if !differs(&work) {
+            return work;
         }
         let plan = Plan::steps(others);
-        with_files(self.setting, files, scene, names, plan, false)
-            .1
-            .work
+        let (_, found) = with_files(self.setting, files, scene, names, plan, false);
+        found.work
     }
 
     /// Compares what there is without the work.
     fn expect_before(&self, scene: &mut Scene, names: &mut Names) -> Taken {
         let copies = self.copies(u64::MAX, u64::MAX)?;
         let plan = Plan::steps(self.before);
-        with_files(self.setting, copies, scene, names, plan, false)
-            .1
-            .work
+        let (_, found) = with_files(self.setting, copies, scene, names, plan, false);
+        found.work
     }
 
     /// Does the work once, and compares what there is then, and after a restart.
@@ -79,14 +78,15 @@ impl Work<'_> {
         let (mut files, done) = with_files(self.setting, copies, scene, names, plan, false);
         let is_usable = files.may_be_used();
         crash(&mut files);
-        match done.work {
+        let Done { work, held } = done;
+        match work {
             Ok(()) => {
-                done.held?;
+                held?;
                 self.expect_one(files, scene, names, self.after, self.after)
             }
             Err(refused) => {
                 let again = self.expect_one(files, scene, names, self.before, self.after);
-                judge_refusal(self.line, refused, done.held, is_usable, again)
+                judge_refusal(self.line, refused, held, is_usable, again)
             }
         }
     }
