@@ -324,17 +324,20 @@ def try_tokens(trial):
     require(status == 0 and count_files(other) < 900, "the tokens were not removed in time")
     trial.expect(f"and all of them, if meanwhile: {text.strip()}", end_of(ran), 1000, 0)
     trial.check(len(place.digests()) == 1, "with one more token")
+    # More than are copied in 2 seconds, in groups of 100.
+    count = 4000
+    place, folder = trial.place([10_000] * count), trial.folder()
     for source, to in ((place, folder), (folder, trial.place()), (place, trial.place())):
         servers = [it for it in (source, to) if isinstance(it, Place)]
         for server in servers:
             server.change_policy(seconds=2)
         before, begun = [len(it.digests()) for it in servers], time.monotonic()
         ran = trial.mirror(source, to)
-        taken, issued = time.monotonic() - begun, [len(it.digests()) - count for it, count in zip(servers, before)]
-        # At most one for each of 10 groups, and one each time that one has expired.
-        holds = ran[0] == 0 and taken > 2 and all(1 < it <= 10 + taken for it in issued)
-        trial.check(holds, f"1000 objects in {taken:.1f} s, with {issued} tokens of 2 seconds: {ran[1].strip()}", ran)
-        trial.check(objects_of(to) == place.objects() and len(place.objects()) == 1000, "each is there")
+        taken, issued = time.monotonic() - begun, [len(it.digests()) - had for it, had in zip(servers, before)]
+        # At most one for each group, and one each time that one has expired.
+        holds = ran[0] == 0 and taken > 2 and all(1 < it <= count // 100 + taken for it in issued)
+        trial.check(holds, f"{count} objects in {taken:.1f} s, with {issued} tokens of 2 seconds: {ran[1].strip()}", ran)
+        trial.check(objects_of(to) == place.objects() and len(place.objects()) == count, "each is there")
 
 
 def try_restarts(trial):
