@@ -114,12 +114,12 @@ def try_tokens(site):
                 text)
     # The client does not use what expires within 5 seconds.
     site.change_policy(seconds=7)
-    site.ann.add_files("expiring", 2000, 1_000)
+    site.ann.add_files("expiring", 4000, 1_000)
     site.ann.git("config", "lfs.concurrenttransfers", "1")
     began = time.monotonic()
     status, text = site.ann.tried(*PUSH)
     taken = time.monotonic() - began
-    site.expect(status == 0 and taken > 7, f"a push of 2000 files with tokens of 7 seconds passes, in {taken:.1f} s",
+    site.expect(status == 0 and taken > 7, f"a push of 4000 files with tokens of 7 seconds passes, in {taken:.1f} s",
                 text)
     site.ann.git("config", "lfs.concurrenttransfers", "8")
     site.change_policy()
