@@ -242,13 +242,16 @@ def try_git_lfs(trial):
 
 
 def kill_often(trial, words, seconds, look):
-    """Kills ten runs, each within a tenth of the time that a whole one takes. Returns what `look` found after each."""
+    """Kills ten runs, each within about a tenth of the time that a whole one takes; fewer, but three, if all is copied
+    before. Returns what `look` found after each."""
     found = []
     for _ in range(10):
         ran = trial.start(*words)
         time.sleep(random.uniform(0.2, 0.3 + seconds / 10))
         ran.kill()
         status, _, _ = end_of(ran)
+        if status == 0 and len(found) >= 3:
+            break
         require(status == -signal.SIGKILL, f"a run ended with {status} before it was killed")
         found.append(look())
     return found
@@ -269,7 +272,7 @@ def try_killed(trial):
 
     found = kill_often(trial, (place, folder), seconds, look)
     counts = [count for count, _ in found]
-    trial.check(0 < counts[-1] < 600, f"killed ten times on the way to a folder, with {counts} whole objects in it")
+    trial.check(0 < counts[-1] < 600, f"killed {len(counts)} times on the way to a folder, with {counts} whole objects in it")
     trial.check(any(it for _, it in found), f"{sum(it for _, it in found)} of them left a file without a name")
     trial.expect("the next run copies the rest", trial.mirror(place, folder), 600 - counts[-1], counts[-1])
     trial.check(stored(folder) == listed and others(folder) == {"lock", "locks.txt"},
@@ -282,7 +285,7 @@ def try_killed(trial):
         return len(back.objects())
 
     counts = kill_often(trial, (folder, back), 2 * seconds, look_back)
-    trial.check(0 < counts[-1] < 600, f"killed ten times on the way back, with {counts} whole objects there")
+    trial.check(0 < counts[-1] < 600, f"killed {len(counts)} times on the way back, with {counts} whole objects there")
     trial.expect("the next run copies the rest", trial.mirror(folder, back), 600 - counts[-1], counts[-1])
     trial.check(back.objects() == listed and back.is_whole(),
                 "the new server lists the same, and `custody check` finds all whole")
