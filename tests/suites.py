@@ -136,5 +136,5 @@ SUITES = [
     Suite("release", "tests.site.release", "Checkouts use the files of a release, and prove again what is changed.",
           5, ("rt", "git", "git-lfs", "pandoc", "binutils")),
     Suite("allocations", "tests.server.allocations", "Each allocation that is refused leaves what was, or what is after.",
-          5, ("gcc", "rt")),
+          2, ("gcc", "rt")),
 ]
