@@ -4,7 +4,7 @@ ghost use Rattle.std.specs.Prelude.{◌≡◌, None, option_map};
 ghost use Rattle.std.specs.Option.{option_copied};
 ghost use Rattle.std.specs.List.{find};
 ghost use Rattle.names.specs.Names.{repo_text, user_text};
-ghost use Rattle.policy.specs.Access.{AccessIsRight, is_allowing, may, may_push_something, push_to, settles};
+ghost use Rattle.policy.specs.Access.{AccessIsRight, is_allowing, may, settles};
 ghost use Rattle.policy.specs.Values.{policy_view, question_view, row_view};
 
 use crate::decisions::decide;
@@ -63,7 +63,8 @@ impl Row {
 }
 
 fn first_settling<'a>(rows: &'a [Row], question: &Question<'_>) -> Option<&'a Row>
-    ensures { option_copied result ≡ find (λ row. settles (question_view question.now) (row_view row)) rows.entry.now }
+    ensures { option_copied result
+        ≡ find (λ row. settles (question_view question.now) (row_view row)) rows.entry.now }
 {
     rows.iter().find(|row| row.settles(question))
 }
