@@ -57,8 +57,9 @@ impl Hands {
 ///
 /// # Errors
 ///
-/// The store refuses or memory runs out; then the call left the tables as they were. The words mean nothing to the call, or
-/// what it returned contradicts another call.
+/// `Store` if the store refuses, and `Memory` if memory runs out: each transaction of the call is then made whole or not at
+/// all, so a call of several may have made some of them, and `Memory` may follow a call that was made. Another fault if the
+/// words mean nothing to the call, or if what it returned contradicts another call.
 pub fn call<S: Storage>(
     given: &Given<'_>,
     store: &mut Store<S>,

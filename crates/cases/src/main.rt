@@ -98,7 +98,7 @@ fn script_of(rt: &HostRuntime, file: &str) -> Result<Script, Fault> {
     }
 }
 
-/// The scripts that were read: what their names stand for, the steps that begin each case, and the tally.
+/// The scripts that were read: the values of their names, the steps that begin each case, and the tally.
 #[derive(Drop)]
 struct Run {
     names: Names,

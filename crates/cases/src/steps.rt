@@ -11,8 +11,8 @@ use sqlite_value::value::ValueRef;
 use std::alloc::Global;
 use tables::{Alter, Storage, Store};
 
-/// Makes the call of the step, and compares the lines that it returns with the step's rows; the row `refused` stands for
-/// the store's refusal. Returns whether the step is a call.
+/// Makes the call of the step, and compares the lines that it returns with the step's rows; the row `refused` is wanted if
+/// the store refuses. Returns whether the step is a call.
 fn make_call<S: Storage>(
     alloc: Global,
     store: &mut Store<S>,

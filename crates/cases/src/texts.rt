@@ -100,7 +100,7 @@ impl Names {
         Ok(())
     }
 
-    /// The number of these digits, or of the digits that this name stands for.
+    /// The number of these digits, or of those that are the value of this name.
     fn count(&self, word: &str) -> Result<usize, Fault> {
         let digits = match number(word) {
             Ok(count) => return Ok(count as usize),
@@ -112,7 +112,7 @@ impl Names {
         }
     }
 
-    /// The text, with what the names in it stand for.
+    /// The text, with the value of each name in it.
     pub(crate) fn written(&self, text: &str) -> Result<Vec<u8>, Fault> {
         let mut bytes = Vec::new(self.alloc);
         let mut rest = text;

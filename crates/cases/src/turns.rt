@@ -5,7 +5,7 @@ use crate::script::Step;
 use calls::{Fault, number};
 use std::alloc::Global;
 
-/// A step, and the number for which `i` stands.
+/// A step, and the value of the name `i` in it.
 #[derive(Clone, Copy)]
 pub(crate) struct Turn<'s> {
     pub step: &'s Step,
@@ -14,10 +14,14 @@ pub(crate) struct Turn<'s> {
 
 /// The first and the last number of a repetition.
 fn bounds(step: &Step) -> Result<(u64, u64), Fault> {
-    match step.rest.as_str().split_once(' ') {
-        Some((first, last)) => Ok((number(first)?, number(last)?)),
-        None => Err(Fault::Script("a repetition has a first and a last number")),
+    let Some((first, last)) = step.rest.as_str().split_once(' ') else {
+        return Err(Fault::Script("a repetition has a first and a last number"));
+    };
+    let (first, last) = (number(first)?, number(last)?);
+    if first > last {
+        return Err(Fault::Script("a repetition ends before it begins"));
     }
+    Ok((first, last))
 }
 
 /// Appends the steps for one number.

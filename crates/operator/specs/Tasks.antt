@@ -105,6 +105,19 @@ IsFaultOf world _ fault = IsPlain fault
 abbrev pub FailsAs : {S : Type 0} (g : Ghosts S) → Store S → Store S → World → Task → TaskFault → Type 0
 FailsAs g old new world task fault = Fails g (IsStepOf task) (MayFollow task fault) old new world × IsFaultOf world task fault
 
+-- ---- the tables
+
+-- the task is a question, whose answer changes nothing
+abbrev pub IsQuestion : Task → Type 0
+IsQuestion (May asked) = ⊤
+IsQuestion (CheckPush push) = ⊤
+IsQuestion (Foresee asked) = ⊤
+IsQuestion (ListLocks repo) = ⊤
+IsQuestion (ListObjects repo) = ⊤
+IsQuestion (ListTokens repo now) = ⊤
+IsQuestion (Usage policy now) = ⊤
+IsQuestion _ = ⊥
+
 -- ---- both
 
 -- the task did what it is to do, or failed

@@ -1,8 +1,8 @@
 //! What an operator asks for.
 
 ghost use Rattle.std.specs.Prelude.{◌≡◌, OnOk};
-ghost use Rattle.refinement.specs.Left.{From};
-ghost use Rattle.operator.specs.Tasks.{Ran};
+ghost use Rattle.refinement.specs.Left.{From, KeepsTables};
+ghost use Rattle.operator.specs.Tasks.{IsQuestion, Ran};
 
 use crate::escapes::Destination;
 use crate::faults::TaskFault;
@@ -64,8 +64,8 @@ impl Task<'_> {
     /// It takes at most one step of the definitions, and none but its own: a token is issued, the expired ones are removed,
     /// or one object is. It succeeds or fails as the definitions say: if Git may begin, each path may be pushed, or a reply
     /// is foreseen. A repair leaves the tables as they are: each object of a world has the bytes of its name. After an error
-    /// the world is the same, but for an `Output` after tokens or an object were removed. `Ok` means that all output was
-    /// written.
+    /// the world is the same, but for an `Output` after tokens or an object were removed. A question or a list leaves the
+    /// tables as they are, whatever becomes of it. `Ok` means that all output was written.
     ///
     /// # Errors
     ///
@@ -80,6 +80,7 @@ impl Task<'_> {
     ) -> Result<(), TaskFault>
         ensures world { From S.Store store.old store.new (λ world.
             Ran S.Store store.old store.new world self.now result) }
+        ensures tables { IsQuestion self.now → KeepsTables S.Store store.old store.new }
         ensures good { OnOk result (K.failed output.new ≡ K.failed output.old) }
     {
         match self {

@@ -23,7 +23,7 @@ use Rattle.faults.specs.declared.faults.Fault.{Fault}
 use Rattle.std.specs.declared.net.unix.UnixStream.{UnixStream}
 use Rattle.server.specs.Commands.{AreReadings, IsAnswered, IsBegun, IsMomentOf, IsRead, IsClean, IsEnded, IsGoneOn, IsRequestDone, is_stopped, made_of, operator_in, policy_after}
 use Rattle.server.specs.declared.waiting.Waiting.{Waiting}
-use Rattle.server.specs.Jobs.{Reason, for_caller, goes_on, ends, Job, seen_before, seen_for, IsTurn, IsFor, AreJobs, AreStopped, HasFinished, first_turn, turn_in, policy_left, waiting_after, waiting_left, Call, idles, observes, seen_in, Calls, Converses, Tidies, Helps, Serves, ServesMore, ServesClean}
+use Rattle.server.specs.Jobs.{Reason, for_caller, goes_on, ends, Job, seen_before, seen_for, IsMomentAtMost, IsTurn, IsFor, AreJobs, AreStopped, HasFinished, first_turn, turn_in, policy_left, waiting_after, waiting_left, Call, idles, observes, seen_in, Calls, Converses, Tidies, Helps, Serves, ServesMore, ServesClean}
 
 -- ---- what is observed of a machine
 
@@ -171,8 +171,9 @@ module _ {M : Type 0} (m : machine.Ghosts M) where
     }
 
     -- the store was tidied, and no message served
-    pub turn_unserved : (policy : Policy) (a b : Store S) (u v : M) (calls : List Call) → From g a b (Tidies g a b) → Calls m u calls v → From g a b (λ world. Helps m g (IsTurn policy) a b u v world)
-    turn_unserved policy a b u v calls p made = from_weaker g a b _ _ (λ world t. record { calls = calls; made = made; done = t.0; own = inl t.1 }) p
+    pub turn_unserved : (policy : Policy) (a b : Store S) (u v : M) (calls : List Call) → From g a b (Tidies g a b) → Calls m u calls v → IsMomentAtMost (seen_in calls)
+        → From g a b (λ world. Helps m g (IsTurn policy) a b u v world)
+    turn_unserved policy a b u v calls p made few = from_weaker g a b _ _ (λ world t. record { calls = calls; made = made; done = t.0; own = inl (t.1, few) }) p
 
     -- a turn leaves the server as it is
     pub from_turn : (policy : Policy) (a b : Store S) (u v : M) → From g a b (λ world. Helps m g (IsTurn policy) a b u v world)

@@ -1,5 +1,5 @@
 -- What a server does: a list of jobs, each for somebody who called it.
-use Rattle.std.specs.Prelude.{◌≡◌, ◌⊎◌, ◌++◌, ℕ, ◌≤◌, ◌+◌, Bool, true, false, flat_map, is_none, is_some, sum_by, List, [], ◌∷◌, map, Option, Some, None, MatchOption, Result, Ok, Err, if◌then◌else◌}
+use Rattle.std.specs.Prelude.{◌≡◌, ◌⊎◌, ◌++◌, ℕ, ◌≤◌, ◌+◌, Bool, true, false, flat_map, is_none, is_some, sum_by, List, [], ◌∷◌, map, Option, Some, None, MatchOption, Result, Ok, Err, if◌then◌else◌, ⊤}
 use Rattle.std.specs.declared.net.unix.UnixStream.{UnixStream}
 use Rattle.sqlite_trees.specs.declared.store.Store.{Ghosts}
 use Rattle.policy.specs.declared.policies.Policy.{Policy}
@@ -44,10 +44,17 @@ seen_before _ = []
 abbrev pub seen_for : Job → List Observation
 seen_for job = seen_before job.reason ++ job.seen
 
--- a turn of a client: the exchanges of a connection, under the policy and at the machine's moment; or no step
+-- nothing was observed, or the moment alone
+abbrev pub IsMomentAtMost : List Observation → Type 0
+IsMomentAtMost [] = ⊤
+IsMomentAtMost (timed now ∷ []) = ⊤
+IsMomentAtMost _ = ⊥
+
+-- a turn of a client: the exchanges of a connection, under the policy and at the machine's moment; or no step, and at most the
+-- moment was observed
 abbrev pub IsTurn : Policy → World → List Observation → List Event → (kept : World) → Type 0
 IsTurn policy world seen steps kept =
-    (steps ≡ []) ⊎ ((now : ℕ) × (seen ≡ timed now ∷ []) × (exchanges : List Exchange)
+    ((steps ≡ []) × IsMomentAtMost seen) ⊎ ((now : ℕ) × (seen ≡ timed now ∷ []) × (exchanges : List Exchange)
     × AreUnder (setting_of policy now) exchanges × (steps ≡ map exchanged exchanges))
 
 -- the steps are those that the caller asked for, with what was observed; none for an operator who waits, who is sent nothing but

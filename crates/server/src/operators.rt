@@ -1,6 +1,6 @@
 //! Answers operators, who call a server on its control socket.
 
-ghost use Rattle.std.specs.Prelude.{◌≡◌, [], ℕ, List, IfOk, OnErr, ⊤};
+ghost use Rattle.std.specs.Prelude.{◌≡◌, [], ℕ, List, IfOk, OnErr, OnOk, ⊤};
 ghost use Rattle.command_line.specs.declared.args.OperatorCommand.TheVariants.{Authenticate, Foresee, Hold, Reload, Status as GetStatus};
 ghost use Rattle.refinement.specs.Left.{From, Reads};
 ghost use Rattle.server.specs.Commands.{AreReadings, HasEndedSo, IsAnswered, IsDone, IsMomentOf, IsObeyed, IsRead, IsEnded, IsInspection, IsRequestDone, IsSilent, RunsAs, made_of};
@@ -118,8 +118,9 @@ impl OperatorContext<'_> {
         task: &Task<'_>,
         output: &mut K,
     ) -> Result<(), Fault>
-        ensures { From S.Store store.old store.new (λ world.
+        ensures done { From S.Store store.old store.new (λ world.
             RunsAs S.Store store.old store.new world task.now result) }
+        ensures good { OnOk result (K.failed output.new ≡ K.failed output.old) }
     {
         task.run(self.alloc, store, Destination::Other, output)?;
         Ok(())
@@ -133,9 +134,10 @@ impl OperatorContext<'_> {
         asked: &TokenArgs<'_>,
         output: &mut K,
     ) -> Result<(), Fault>
-        ensures { (input : List ℕ) → From S.Store store.old store.new (λ world.
+        ensures done { (input : List ℕ) → From S.Store store.old store.new (λ world.
             Helps M.Machine S.Store (IsDone self.now.policy.now (Authenticate asked.entry.now) input result)
             store.old store.new machine.old machine.new world) }
+        ensures good { OnOk result (K.failed output.new ≡ K.failed output.old) }
     {
         let now = moment_of(machine, asked.now)?;
         let Some(repo) = repo_at(self.policy, asked.path) else {
@@ -155,9 +157,10 @@ impl OperatorContext<'_> {
         input: &[u8],
         output: &mut K,
     ) -> Result<(), Fault>
-        ensures { From S.Store store.old store.new (λ world.
+        ensures done { From S.Store store.old store.new (λ world.
             Helps M.Machine S.Store (IsDone self.now.policy.now (Foresee asked.entry.now) input.now result)
             store.old store.new machine.old machine.new world) }
+        ensures good { OnOk result (K.failed output.new ≡ K.failed output.old) }
     {
         let now = moment_of(machine, asked.now)?;
         let message = message_in(self.alloc, &asked.repo, input)?;
@@ -173,9 +176,10 @@ impl OperatorContext<'_> {
         input: &[u8],
         output: &mut K,
     ) -> Result<(), Fault>
-        ensures { From S.Store store.old store.new (λ world.
+        ensures done { From S.Store store.old store.new (λ world.
             Helps M.Machine S.Store (IsDone self.now.policy.now command.now input.now result)
             store.old store.new machine.old machine.new world) }
+        ensures good { OnOk result (K.failed output.new ≡ K.failed output.old) }
     {
         if let Some(task) = plain_task(command, None) {
             return self.work(store, &task, output);
@@ -225,6 +229,7 @@ impl OperatorContext<'_> {
             × IsObeyed self.now.is_busy self.now.stream.now (Hold seconds) outcome (seen_in calls)) }
         ensures err { OnErr result ((calls : List Call)
             × Calls M.Machine machine.old calls machine.new × AreReadings (seen_in calls)) }
+        ensures good { OnOk result (K.failed output.new ≡ K.failed output.old) }
     {
         print(output, b"held\n")?;
         if machine.wait_for(self.stream, seconds) {
@@ -246,6 +251,7 @@ impl OperatorContext<'_> {
             × IsObeyed self.now.is_busy self.now.stream.now Reload outcome (seen_in calls)) }
         ensures err { OnErr result ((calls : List Call)
             × Calls M.Machine machine.old calls machine.new × AreReadings (seen_in calls)) }
+        ensures good { OnOk result (K.failed output.new ≡ K.failed output.old) }
     {
         let policy = machine.policy()?;
         let mut line = policy_line(self.alloc, &policy)?;
@@ -278,10 +284,11 @@ impl OperatorContext<'_> {
         machine: &mut M,
         output: &mut K,
     ) -> Result<Outcome, Fault>
-        ensures { (input : List ℕ) → From S.Store store.old store.new (λ world.
+        ensures done { (input : List ℕ) → From S.Store store.old store.new (λ world.
             Helps M.Machine S.Store (HasEndedSo self.now.policy.now self.now.is_busy
             self.now.stream.now GetStatus input result)
             store.old store.new machine.old machine.new world) }
+        ensures good { OnOk result (K.failed output.new ≡ K.failed output.old) }
     {
         let gauges = machine.gauges();
         let stored = self.stored(store)?;
@@ -315,10 +322,11 @@ impl OperatorContext<'_> {
         input: &[u8],
         output: &mut K,
     ) -> Result<Outcome, Fault>
-        ensures { From S.Store store.old store.new (λ world.
+        ensures done { From S.Store store.old store.new (λ world.
             Helps M.Machine S.Store (HasEndedSo self.now.policy.now self.now.is_busy
             self.now.stream.now command.now input.now result)
             store.old store.new machine.old machine.new world) }
+        ensures good { OnOk result (K.failed output.new ≡ K.failed output.old) }
     {
         match command {
             OperatorCommand::Check => self.inspect(store, Purpose::Check),
@@ -342,10 +350,11 @@ impl OperatorContext<'_> {
         body: &[u8],
         output: &mut K,
     ) -> Result<Outcome, Fault>
-        ensures { From S.Store store.old store.new (λ world.
+        ensures done { From S.Store store.old store.new (λ world.
             Helps M.Machine S.Store (IsRequestDone self.now.policy.now self.now.is_busy
             self.now.stream.now body.now result)
             store.old store.new machine.old machine.new world) }
+        ensures good { OnOk result (K.failed output.new ≡ K.failed output.old) }
     {
         let alloc = self.alloc;
         let Some(Request { input, words }) = read_request(alloc, body)? else {

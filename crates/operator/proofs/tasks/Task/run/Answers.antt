@@ -1,5 +1,6 @@
 use Rattle.operator.proofs.Ran.{ran_checked, ran_reads, ran_repaired, ran_still, ran_sweep}
-use Rattle.operator.proofs.Prelude.{reads_none}
+use Rattle.operator.proofs.Prelude.{⊤, reads_none, subst}
+use Rattle.operator.specs.Tasks.{IsQuestion}
 use Rattle.operator.proofs.tasks.Task.run.Goals as goal
 
 pub returns-in-Issue-clause-world : goal.returns-in-Issue-clause-world
@@ -43,3 +44,44 @@ returns-in-CheckObjects-clause-world g c = rw c.in-CheckObjects.is (ran_checked 
 
 pub returns-in-Repair-clause-world : goal.returns-in-Repair-clause-world
 returns-in-Repair-clause-world g c = rw c.in-Repair.is (ran_repaired g.S.Store _ c.args.store.now c.inspect_all-in-Repair.new.store c.inspect_all-in-Repair.result c.inspect_all-in-Repair.ensures.world)
+
+-- ---- the tables
+
+pub returns-in-May-clause-tables : goal.returns-in-May-clause-tables
+returns-in-May-clause-tables g c = λ _. (reads_none g.S.Store c.args.store.now (λ _. ⊤) (λ _ _ _. tt)).same
+
+pub returns-in-CheckPush-clause-tables : goal.returns-in-CheckPush-clause-tables
+returns-in-CheckPush-clause-tables g c = λ _. c.check_push.ensures.reads.same
+
+pub returns-in-Foresee-clause-tables : goal.returns-in-Foresee-clause-tables
+returns-in-Foresee-clause-tables g c = λ _. c.print_foreseen.ensures.reads.same
+
+pub returns-in-ListLocks-clause-tables : goal.returns-in-ListLocks-clause-tables
+returns-in-ListLocks-clause-tables g c = λ _. c.list_locks.ensures.reads.same
+
+pub returns-in-ListObjects-clause-tables : goal.returns-in-ListObjects-clause-tables
+returns-in-ListObjects-clause-tables g c = λ _. c.list_objects.ensures.reads.same
+
+pub returns-in-ListTokens-clause-tables : goal.returns-in-ListTokens-clause-tables
+returns-in-ListTokens-clause-tables g c = λ _. c.list_tokens.ensures.reads.same
+
+pub returns-in-Usage-clause-tables : goal.returns-in-Usage-clause-tables
+returns-in-Usage-clause-tables g c = λ _. c.list_usage.ensures.reads.same
+
+pub returns-in-Issue-clause-tables : goal.returns-in-Issue-clause-tables
+returns-in-Issue-clause-tables g c = λ question. absurd (subst IsQuestion c.in-Issue.is question)
+
+pub returns-in-Prune-clause-tables : goal.returns-in-Prune-clause-tables
+returns-in-Prune-clause-tables g c = λ question. absurd (subst IsQuestion c.in-Prune.is question)
+
+pub returns-in-Sweep-clause-tables : goal.returns-in-Sweep-clause-tables
+returns-in-Sweep-clause-tables g c = λ question. absurd (subst IsQuestion c.in-Sweep.is question)
+
+pub returns-in-Retire-clause-tables : goal.returns-in-Retire-clause-tables
+returns-in-Retire-clause-tables g c = λ question. absurd (subst IsQuestion c.in-Retire.is question)
+
+pub returns-in-CheckObjects-clause-tables : goal.returns-in-CheckObjects-clause-tables
+returns-in-CheckObjects-clause-tables g c = λ question. absurd (subst IsQuestion c.in-CheckObjects.is question)
+
+pub returns-in-Repair-clause-tables : goal.returns-in-Repair-clause-tables
+returns-in-Repair-clause-tables g c = λ question. absurd (subst IsQuestion c.in-Repair.is question)

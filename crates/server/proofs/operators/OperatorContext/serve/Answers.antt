@@ -36,4 +36,4 @@ returns g c =
     let last = c.end.ensures.ended in
     rw c.end.ensures.made
     (from_served g.M.Machine g.S.Store c.args.self.now.policy.now c.args.self.now.is_busy operator c.as_slice.result.now c.answer-ended.result c.args.store.now c.answer-ended.new.store c.args.machine.now c.read_body.new.machine c.send.new.self c.answer-ended.new.machine c.end.new.machine
-    read.0 (observes begins ∷ []) last.0 read.1 (rw c.as_slice.ensures.value read.2) (one_seen g.M.Machine c.read_body.new.machine c.send.new.self begins c.in_ok-send.ensures.ok) refl last.1 last.2 c.answer-ended.ensures)
+    read.0 (observes begins ∷ []) last.0 read.1 (rw c.as_slice.ensures.value read.2) (one_seen g.M.Machine c.read_body.new.machine c.send.new.self begins c.in_ok-send.ensures.ok) refl last.1 last.2 c.answer-ended.ensures.done)
