@@ -9,3 +9,4 @@ pub mod Patterned
 pub mod Covered
 pub mod Steps
 pub mod WholeText
+pub mod Indexed

@@ -13,6 +13,7 @@ mod entries;
 mod faults;
 mod keys;
 mod numbered;
+mod path_index;
 mod patterns;
 mod policies;
 mod questions;
