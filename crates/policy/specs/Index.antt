@@ -1,5 +1,5 @@
 -- An index of rows by their patterns of paths: which rows may hold a path.
-use Rattle.std.specs.Prelude.{◌≡◌, ℕ, zero, suc, ◌+◌, ◌*◌, ◌%◌, ◌<◌, ◌≤◌, Bool, true, false, List, [], ◌∷◌, length, map, take, get_or, All, Vec, ◌==◌}
+use Rattle.std.specs.Prelude.{◌≡◌, ℕ, ◌+◌, ◌*◌, ◌%◌, ◌<◌, ◌≤◌, Bool, true, false, List, [], ◌∷◌, Option, Some, None, length, map, take, get_or, slice_get, All, Vec, ◌==◌}
 use Rattle.std.specs.List.{list_any}
 use Rattle.std.specs.Global.{Global}
 use Rattle.model.specs.Policy.{Question, Decision, decision_by, denied}
@@ -22,23 +22,24 @@ buckets_view = map (λ bucket. bucket.items)
 abbrev pub bucket_of : List (List ℕ) → ℕ → List ℕ
 bucket_of buckets hash = get_or buckets (hash % length buckets) []
 
--- the path patterns of the row at the position
-abbrev pub paths_at : List NumberedRow → ℕ → List (List ℕ)
-paths_at [] n = []
-paths_at (numbered ∷ rows) zero = numbered.row.paths
-paths_at (numbered ∷ rows) (suc n) = paths_at rows n
+-- the path patterns of the row, if there is one
+abbrev pub paths_of : Option NumberedRow → List (List ℕ)
+paths_of None = []
+paths_of (Some numbered) = numbered.row.paths
+
+-- there is a row, and it holds the ref and the path
+abbrev pub row_covers : Question → Option NumberedRow → Bool
+row_covers q None = false
+row_covers q (Some numbered) = covers_place q numbered.row
+
+-- the row decides; if there is none, it is denied
+abbrev pub decision_of : Option NumberedRow → Decision
+decision_of None = denied 0
+decision_of (Some numbered) = decision_by numbered.row.effect numbered.number
 
 -- the row at the position holds the ref and the path
 abbrev pub covers_at : Question → List NumberedRow → ℕ → Bool
-covers_at q [] n = false
-covers_at q (numbered ∷ rows) zero = covers_place q numbered.row
-covers_at q (numbered ∷ rows) (suc n) = covers_at q rows n
-
--- the row at the position decides; if there is no such row, it is denied
-abbrev pub decision_at : List NumberedRow → ℕ → Decision
-decision_at [] n = denied 0
-decision_at (numbered ∷ rows) zero = decision_by numbered.row.effect numbered.number
-decision_at (numbered ∷ rows) (suc n) = decision_at rows n
+covers_at q rows n = row_covers q (slice_get rows n)
 
 -- the position is in the bucket
 abbrev pub has : List ℕ → ℕ → Bool
@@ -50,7 +51,7 @@ AreIndexed buckets n = All (λ pattern. has (bucket_of buckets (hashed 0 pattern
 
 -- each row is in the bucket of each of its path patterns
 abbrev pub IsIndex : List NumberedRow → List (List ℕ) → Type 0
-IsIndex rows buckets = (n : ℕ) → AreIndexed buckets n (paths_at rows n)
+IsIndex rows buckets = (n : ℕ) → AreIndexed buckets n (paths_of (slice_get rows n))
 
 -- buckets after positions were added
 pub record HaveGrown (old new : List (List ℕ)) : Type 0 where
@@ -65,9 +66,10 @@ IsFound q rows n = n < length rows → covers_at q rows n ≡ true
 abbrev pub NoneBefore : Question → List NumberedRow → ℕ → List ℕ → Type 0
 NoneBefore q rows n = All (λ other. covers_at q rows other ≡ true → n ≤ other)
 
--- no row of the buckets of the folders of the path, and of the path, that holds the ref and the path is before the position
+-- of the buckets of the path and of its folders, no row that holds the ref and the path is before the position
 pub record AreSearched (q : Question) (rows : List NumberedRow) (buckets : List (List ℕ)) (path : List ℕ) (n : ℕ) : Type 0 where
-  pub folders : (i : ℕ) → i < length path → get_or path i 0 ≡ 47 → NoneBefore q rows n (bucket_of buckets (hashed 0 (take (i + 1) path)))
+  pub folders : (i : ℕ) → i < length path → get_or path i 0 ≡ 47
+      → NoneBefore q rows n (bucket_of buckets (hashed 0 (take (i + 1) path)))
   pub whole : NoneBefore q rows n (bucket_of buckets (hashed 0 path))
 
 -- the position is that of the first row that holds the ref and the path; if none does, it is past the rows

@@ -1,13 +1,13 @@
 //! The rows that can decide the questions of one user for one right in one repository.
 
-ghost use Rattle.std.specs.Prelude.{◌≡◌, IfOk, map, option_map};
+ghost use Rattle.std.specs.Prelude.{◌≡◌, IfOk, map, option_map, slice_get};
 ghost use Rattle.std.specs.List.{list_any};
 ghost use Rattle.names.specs.Names.{ref_text, repo_text, path_text, user_text};
 ghost use Rattle.model.specs.Policy.{decide};
 ghost use Rattle.model.specs.Views.{may_allow_push};
 ghost use Rattle.policy.specs.Values.{policy_view, question_view, decision_view, row_view, numbered_view};
 ghost use Rattle.policy.specs.Applicable.{applicable_rows, covers_place, question_on, ApplicableRowsDecide};
-ghost use Rattle.policy.specs.Index.{decision_at};
+ghost use Rattle.policy.specs.Index.{decision_of};
 
 use crate::decisions::decided;
 use crate::numbered::NumberedRow;
@@ -59,7 +59,7 @@ pub struct ApplicableRows<'a> {
 
 /// The verdict of the row at the position, or a denial if there is no such row.
 fn verdict_at(rows: &[NumberedRow<'_>], position: usize) -> Verdict
-    ensures { decision_view result ≡ decision_at (map numbered_view rows.now) position }
+    ensures { decision_view result ≡ decision_of (slice_get (map numbered_view rows.now) position) }
 {
     if position < rows.len() {
         let numbered = &rows[position];

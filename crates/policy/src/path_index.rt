@@ -28,7 +28,7 @@ fn hash_of(text: &[u8]) -> u32
     hash
 }
 
-/// The number of the bucket, of so many, of the texts with this hash.
+/// The number of the bucket of the texts with this hash.
 fn bucket_number(hash: u32, buckets: usize) -> usize
     requires { 0 < buckets }
     ensures number { result ≡ hash % buckets }
@@ -40,7 +40,8 @@ fn bucket_number(hash: u32, buckets: usize) -> usize
 /// Adds the position to the bucket of the text.
 fn add(buckets: &mut Vec<Vec<usize>>, text: &[u8], position: usize) -> Result<(), AllocError>
     requires { 0 < vec_len buckets.old }
-    ensures grown { OnOk result (HaveGrown (buckets_view buckets.old.items) (buckets_view buckets.new.items)) }
+    ensures grown { OnOk result
+        (HaveGrown (buckets_view buckets.old.items) (buckets_view buckets.new.items)) }
     ensures added { OnOk result (IsTrue
         (has (bucket_of (buckets_view buckets.new.items) (hashed 0 text.now)) position)) }
 {
@@ -56,8 +57,10 @@ fn add_all(
     position: usize,
 ) -> Result<(), AllocError>
     requires { 0 < vec_len buckets.old }
-    ensures grown { OnOk result (HaveGrown (buckets_view buckets.old.items) (buckets_view buckets.new.items)) }
-    ensures added { OnOk result (AreIndexed (buckets_view buckets.new.items) position (texts spelled.now)) }
+    ensures grown { OnOk result
+        (HaveGrown (buckets_view buckets.old.items) (buckets_view buckets.new.items)) }
+    ensures added { OnOk result
+        (AreIndexed (buckets_view buckets.new.items) position (texts spelled.now)) }
 {
     for text in spelled {
         add(buckets, text.as_bytes(), position)?;
@@ -89,7 +92,8 @@ fn empty_buckets(alloc: Global, count: usize) -> Result<Vec<Vec<usize>>, AllocEr
 /// The buckets with the positions of the rows.
 fn buckets_for(alloc: Global, rows: &[NumberedRow<'_>]) -> Result<Vec<Vec<usize>>, AllocError>
     ensures buckets { IfOk result (λ buckets. 0 < vec_len buckets) }
-    ensures index { IfOk result (λ buckets. IsIndex (map numbered_view rows.now) (buckets_view buckets.items)) }
+    ensures index { IfOk result (λ buckets.
+        IsIndex (map numbered_view rows.now) (buckets_view buckets.items)) }
 {
     let mut buckets = empty_buckets(alloc, bucket_count(rows))?;
     for (position, numbered) in rows.iter().enumerate() {
@@ -111,6 +115,9 @@ pub(crate) struct IndexedRows<'a> {
 }
 
 impl<'a> IndexedRows<'a> {
+    ghost use Rattle.policy.specs.Searches.{rows_in, buckets_in};
+
+    /// Makes the index of the rows.
     pub fn new(alloc: Global, rows: Vec<NumberedRow<'a>>) -> Result<IndexedRows<'a>, AllocError>
         ensures { IfOk result (λ indexed. indexed.rows ≡ rows.entry) }
     {
@@ -120,17 +127,17 @@ impl<'a> IndexedRows<'a> {
 
     /// Whether the row at the position holds the ref and the path.
     fn covers_at(&self, position: usize, question: &Question) -> bool
-        ensures { result ≡ covers_at (question_view question.now) (map numbered_view self.now.rows.items) position }
+        ensures { result ≡ covers_at (question_view question.now) (rows_in self.now) position }
     {
         position < self.rows.len() && self.rows[position].covers_place(question)
     }
 
     /// The other position, if it is less than this one and its row holds the ref and the path; else this one.
     fn lesser(&self, other: usize, question: &Question, position: usize) -> usize
-        requires { IsFound (question_view question.now) (map numbered_view self.now.rows.items) position }
-        ensures found { IsFound (question_view question.now) (map numbered_view self.now.rows.items) result }
+        requires { IsFound (question_view question.now) (rows_in self.now) position }
+        ensures found { IsFound (question_view question.now) (rows_in self.now) result }
         ensures least { result ≤ position }
-        ensures first { covers_at (question_view question.now) (map numbered_view self.now.rows.items) other ≡ true
+        ensures first { covers_at (question_view question.now) (rows_in self.now) other ≡ true
             → result ≤ other }
     {
         if other < position && self.covers_at(other, question) {
@@ -142,11 +149,11 @@ impl<'a> IndexedRows<'a> {
 
     /// The least of the position and those of the rows in the bucket that hold the ref and the path.
     fn least(&self, hash: u32, question: &Question, position: usize) -> usize
-        requires { IsFound (question_view question.now) (map numbered_view self.now.rows.items) position }
-        ensures found { IsFound (question_view question.now) (map numbered_view self.now.rows.items) result }
+        requires { IsFound (question_view question.now) (rows_in self.now) position }
+        ensures found { IsFound (question_view question.now) (rows_in self.now) result }
         ensures least { result ≤ position }
-        ensures first { NoneBefore (question_view question.now) (map numbered_view self.now.rows.items) result
-            (bucket_of (buckets_view self.now.buckets.items) hash) }
+        ensures first { NoneBefore (question_view question.now) (rows_in self.now) result
+            (bucket_of (buckets_in self.now) hash) }
     {
         let mut least = position;
         for other in &self.buckets[bucket_number(hash, self.buckets.len())] {
@@ -157,11 +164,11 @@ impl<'a> IndexedRows<'a> {
 
     /// The same, if the byte with which the hashed text ends is a slash; else the position.
     fn least_in_folder(&self, byte: u8, hash: u32, question: &Question, position: usize) -> usize
-        requires { IsFound (question_view question.now) (map numbered_view self.now.rows.items) position }
-        ensures found { IsFound (question_view question.now) (map numbered_view self.now.rows.items) result }
+        requires { IsFound (question_view question.now) (rows_in self.now) position }
+        ensures found { IsFound (question_view question.now) (rows_in self.now) result }
         ensures least { result ≤ position }
-        ensures first { byte ≡ 47 → NoneBefore (question_view question.now) (map numbered_view self.now.rows.items)
-            result (bucket_of (buckets_view self.now.buckets.items) hash) }
+        ensures first { byte ≡ 47 → NoneBefore (question_view question.now) (rows_in self.now) result
+            (bucket_of (buckets_in self.now) hash) }
     {
         if byte == b'/' {
             self.least(hash, question, position)
@@ -172,11 +179,11 @@ impl<'a> IndexedRows<'a> {
 
     /// The same, in the buckets of each folder of the path and of the path.
     fn least_on_path(&self, path: &[u8], question: &Question, position: usize) -> usize
-        requires { IsFound (question_view question.now) (map numbered_view self.now.rows.items) position }
-        ensures found { IsFound (question_view question.now) (map numbered_view self.now.rows.items) result }
+        requires { IsFound (question_view question.now) (rows_in self.now) position }
+        ensures found { IsFound (question_view question.now) (rows_in self.now) result }
         ensures least { result ≤ position }
-        ensures first { AreSearched (question_view question.now) (map numbered_view self.now.rows.items)
-            (buckets_view self.now.buckets.items) path.now result }
+        ensures first { AreSearched (question_view question.now) (rows_in self.now)
+            (buckets_in self.now) path.now result }
     {
         let mut least = position;
         let mut hash = 0;
@@ -189,7 +196,7 @@ impl<'a> IndexedRows<'a> {
 
     /// The position of the first row that holds the ref and the path; the number of rows, if none does.
     pub fn first(&self, question: &Question) -> usize
-        ensures { IsFirst (question_view question.now) (map numbered_view self.now.rows.items) result }
+        ensures { IsFirst (question_view question.now) (rows_in self.now) result }
     {
         let least = self.least(hash_of(b"*"), question, self.rows.len());
         match question.path_text() {

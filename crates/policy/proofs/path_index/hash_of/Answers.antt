@@ -5,4 +5,7 @@ use Rattle.policy.proofs.path_index.hash_of.Goals as goal
 
 pub loop-byte-preserved : goal.loop-byte-preserved
 loop-byte-preserved c =
-    c.mixed-hash.ensures ∙ ap (λ (h : ℕ). mixed h (get_or c.args.text.now c.loop-byte.byte-index 0)) c.loop-byte.invariant ∙ sym (hashed_more c.args.text.now c.loop-byte.byte-index 0 c.loop-byte-test.true)
+    let i = c.loop-byte.byte-index in
+    let text = c.args.text.now in
+    c.mixed-hash.ensures ∙ ap (λ (h : ℕ). mixed h (get_or text i 0)) c.loop-byte.invariant
+    ∙ sym (hashed_more text i 0 c.loop-byte-test.true)
