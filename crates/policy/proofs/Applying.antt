@@ -1,10 +1,9 @@
 -- The rows that apply to a question decide it as the policy does.
-use Rattle.policy.proofs.Prelude.{◌≡◌, ◌∙◌, ℕ, ◌+◌, ◌<◌, Bool, true, false, ◌&&◌, List, [], ◌∷◌, length, map, drop, get_or, Option, cond, refl, ap, filter, Question, Decision, decision_by, decide, decide_from, held_by, numbered_from, applies, covers_place, decide_among, question_on, ApplicableRowsDecide, policy_view, question_view, row_view, numbered_view}
+use Rattle.policy.proofs.Prelude.{◌≡◌, ◌∙◌, ℕ, ◌+◌, Bool, true, false, ◌&&◌, List, [], ◌∷◌, map, Option, cond, refl, ap, filter, Question, Decision, decision_by, decide, decide_from, held_by, numbered_from, applies, covers_place, decide_among, question_on, ApplicableRowsDecide, policy_view, question_view, numbered_view}
 use Rattle.model.specs.Policy.{Row}
 use Rattle.policy.specs.Applicable.{NumberedRow}
 use Rattle.policy.specs.declared.numbered.NumberedRow as code
 use Rattle.policy.specs.declared.applicable.ApplicableRows.{ApplicableRows}
-use Rattle.policy.proofs.Steps.{map-drop}
 
 pub regrouped : (named ref path right : Bool) → (named && ref && path && right) ≡ ((named && right) && (ref && path))
 regrouped false ref path right = refl
@@ -37,15 +36,10 @@ applicable_rows_decide policy q ref path = decided q ref path 1 policy.rows
 -- ---- the rows that were chosen
 
 -- they decide as the policy does
-pub chosen_decide : (rows : ApplicableRows) (ref path : Option (List ℕ)) (items : List code.NumberedRow) → items ≡ rows.rows.items
+pub chosen_decide : (rows : ApplicableRows) (ref path : Option (List ℕ)) (items : List code.NumberedRow) → items ≡ rows.indexed.rows.items
     → decide_among (map numbered_view items) (question_on (question_view rows.question) ref path)
     ≡ decide (policy_view rows.policy.now) (question_on (question_view rows.question) ref path)
 chosen_decide rows ref path items is =
     ap (λ (r : List code.NumberedRow). decide_among (map numbered_view r) (question_on (question_view rows.question) ref path)) is
     ∙ ap (λ (r : List NumberedRow). decide_among r (question_on (question_view rows.question) ref path)) rows.are_those_of_the_policy
     ∙ applicable_rows_decide (policy_view rows.policy.now) (question_view rows.question) ref path
-
--- a row that holds the ref and the path decides, if none before it does
-pub place_decides : (q : Question) (items : List code.NumberedRow) (i : ℕ) (x : code.NumberedRow) → i < length items → x ≡ get_or items i x
-    → covers_place q (row_view x.row.now) ≡ true → decide_among (map numbered_view (drop i items)) q ≡ decision_by x.row.now.effect x.number
-place_decides q items i x inside same here = rw (map-drop numbered_view items i x inside same, here) refl

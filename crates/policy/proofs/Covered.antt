@@ -16,7 +16,7 @@ pub both : (a b : Bool) → a ≡ true → b ≡ true → (a && b) ≡ true
 both a b is is2 = rw (is, is2) refl
 
 -- what follows from each of two tests follows from either
-either : (P : Type 0) (a b : Bool) → (a ≡ true → P) → (b ≡ true → P) → (a || b) ≡ true → P
+pub either : (P : Type 0) (a b : Bool) → (a ≡ true → P) → (b ≡ true → P) → (a || b) ≡ true → P
 either P true b f g is = f refl
 either P false b f g is = g is
 
@@ -37,14 +37,14 @@ any_of_all P f g (x ∷ xs) from all is =
 
 -- ---- patterns
 
-same_text : (a b : List ℕ) → bytes_eq a b ≡ true → a ≡ b
+pub same_text : (a b : List ℕ) → bytes_eq a b ≡ true → a ≡ b
 same_text a b = (bytes_eq-Decides a b).0
 
 -- the pattern ends in a slash, and the text begins with it
-abbrev is_folder_of : List ℕ → List ℕ → Bool
+abbrev pub is_folder_of : List ℕ → List ℕ → Bool
 is_folder_of pattern text = ends_with (λ a b. a == b) pattern (codes "/") && begins pattern text
 
-rest_of : (pattern text : List ℕ) → begins pattern text ≡ true → text ≡ pattern ++ drop (length pattern) text
+pub rest_of : (pattern text : List ℕ) → begins pattern text ≡ true → text ≡ pattern ++ drop (length pattern) text
 rest_of pattern text is = (starts_is Decides-eqb text pattern (begins pattern text) refl).0 is
 
 begins_with : (pattern text rest : List ℕ) → text ≡ pattern ++ rest → begins pattern text ≡ true

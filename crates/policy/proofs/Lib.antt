@@ -10,3 +10,4 @@ pub mod Patterned
 pub mod Covered
 pub mod Steps
 pub mod WholeText
+pub mod Indexed

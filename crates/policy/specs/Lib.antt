@@ -1,6 +1,8 @@
 pub mod Ranges
 pub mod Repos
 pub mod Values
+pub mod Index
+pub mod Searches
 pub mod Language
 pub mod Reading
 pub mod Lines

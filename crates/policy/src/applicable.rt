@@ -1,15 +1,17 @@
 //! The rows that can decide the questions of one user for one right in one repository.
 
-ghost use Rattle.std.specs.Prelude.{◌≡◌, IfOk, map, option_map};
+ghost use Rattle.std.specs.Prelude.{◌≡◌, IfOk, map, option_map, slice_get};
 ghost use Rattle.std.specs.List.{list_any};
 ghost use Rattle.names.specs.Names.{ref_text, repo_text, path_text, user_text};
 ghost use Rattle.model.specs.Policy.{decide};
 ghost use Rattle.model.specs.Views.{may_allow_push};
 ghost use Rattle.policy.specs.Values.{policy_view, question_view, decision_view, row_view, numbered_view};
 ghost use Rattle.policy.specs.Applicable.{applicable_rows, covers_place, question_on, ApplicableRowsDecide};
+ghost use Rattle.policy.specs.Index.{decision_of};
 
 use crate::decisions::decided;
 use crate::numbered::NumberedRow;
+use crate::path_index::IndexedRows;
 use crate::patterns::{hold_if_named, patterns_of};
 use crate::policies::Policy;
 use crate::questions::{Question, Verdict};
@@ -33,7 +35,7 @@ impl<'a> NumberedRow<'a> {
     }
 
     /// Whether the row holds the ref and the path.
-    fn covers_place(&self, question: &Question) -> bool
+    pub(crate) fn covers_place(&self, question: &Question) -> bool
         ensures { result ≡ covers_place (question_view question.now) (row_view self.now.row.now) }
     {
         hold_if_named(&self.refs, question.ref_text())
@@ -50,9 +52,21 @@ impl<'a> NumberedRow<'a> {
 pub struct ApplicableRows<'a> {
     policy: &'a Policy,
     question: Question<'a>,
-    rows: Vec<NumberedRow<'a>>,
-    pub ghost are_those_of_the_policy: { map numbered_view rows.items
+    indexed: IndexedRows<'a>,
+    pub ghost are_those_of_the_policy: { map numbered_view indexed.rows.items
         ≡ applicable_rows (policy_view policy.now) (question_view question) },
+}
+
+/// The verdict of the row at the position, or a denial if there is no such row.
+fn verdict_at(rows: &[NumberedRow<'_>], position: usize) -> Verdict
+    ensures { decision_view result ≡ decision_of (slice_get (map numbered_view rows.now) position) }
+{
+    if position < rows.len() {
+        let numbered = &rows[position];
+        decided(numbered.row.effect, numbered.number)
+    } else {
+        Verdict::Deny(0)
+    }
 }
 
 /// The rows that apply to the question, in the order of the file.
@@ -110,7 +124,7 @@ impl<'a> ApplicableRows<'a> {
         Ok(ApplicableRows {
             policy,
             question,
-            rows,
+            indexed: IndexedRows::new(alloc, rows)?,
         })
     }
 
@@ -127,12 +141,7 @@ impl<'a> ApplicableRows<'a> {
             path,
             ..self.question
         };
-        for numbered in &self.rows {
-            if numbered.covers_place(&question) {
-                return decided(numbered.row.effect, numbered.number);
-            }
-        }
-        Verdict::Deny(0)
+        verdict_at(&self.indexed.rows, self.indexed.first(&question))
     }
 }
 

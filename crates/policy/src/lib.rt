@@ -14,6 +14,7 @@ mod entries;
 mod faults;
 mod keys;
 mod numbered;
+mod path_index;
 mod patterns;
 mod policies;
 mod questions;
