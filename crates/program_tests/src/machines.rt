@@ -10,7 +10,7 @@ use names::{Moment, Oid, RepoName, Size};
 use policy::Policy;
 use server::{Finish, Server};
 use service::{End, Routes};
-use sockets::{Caller, Client, Ended, Front};
+use sockets::{Caller, Client, Ended, Front, Unsent};
 use std::io::{Read, Write};
 use std::net::Shutdown;
 use std::os::unix::net::UnixStream;
@@ -68,6 +68,16 @@ impl Machine for Script {
     fn send(&mut self, operator: &UnixStream, bytes: &[u8]) -> Result<(), Fault> {
         let mut stream = operator;
         stream.write_all(bytes).map_err(|_| Fault::Operator)
+    }
+
+    fn end_reply(
+        &mut self,
+        operator: &UnixStream,
+        unsent: Unsent,
+        end: &[u8],
+    ) -> Result<(), Fault> {
+        self.send(operator, unsent.as_slice())?;
+        self.send(operator, end)
     }
 
     fn policy(&mut self) -> Result<Policy, Fault> {

@@ -18,7 +18,7 @@ use metrics::{Counts, Turn};
 use names::{Counted, Moment};
 use policy::Policy;
 use service::{End, Routes};
-use sockets::{Caller, Client, Course, Ended, Front, PatientReader, PatientWriter};
+use sockets::{Caller, Client, Course, Ended, Front, PatientReader, PatientWriter, Unsent};
 use std::alloc::Global;
 use std::cell::Cell;
 use std::io::{self, Write};
@@ -361,7 +361,11 @@ impl<C: Clock> Server<'_, C> {
                         Ok(None)
                     }
                     Outcome::Began(inspection) => {
-                        *waiting = Some(Waiting { stream, inspection });
+                        *waiting = Some(Waiting {
+                            stream,
+                            inspection,
+                            unsent: Unsent::new(self.alloc),
+                        });
                         Ok(None)
                     }
                 }
