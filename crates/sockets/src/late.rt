@@ -1,5 +1,7 @@
 //! Replies to operators whose sockets do not take all of them at once.
 
+ghost use Rattle.std.specs.Prelude.{◌≡◌, ◌≤◌, ◌++◌, [], length, IfOk, OnOk};
+
 use crate::patience::is_pause;
 use mio::unix::SourceFd;
 use mio::{Interest, Poll, Token};
@@ -27,10 +29,13 @@ pub struct Unsent {
     bytes: Vec<u8>,
     /// How many of them were sent.
     sent: usize,
+    pub ghost in_bounds: { sent ≤ length bytes.items },
 }
 
 /// Writes bytes, and does not wait. Returns how many the socket took: none if it has no room.
-fn write_now(stream: &UnixStream, bytes: &[u8]) -> io::Result<usize> {
+fn write_now(stream: &UnixStream, bytes: &[u8]) -> io::Result<usize>
+    ensures { IfOk result (λ count. count ≤ length bytes.now) }
+{
     stream.set_nonblocking(true)?;
     let mut stream = stream;
     match stream.write(bytes) {
@@ -40,8 +45,12 @@ fn write_now(stream: &UnixStream, bytes: &[u8]) -> io::Result<usize> {
 }
 
 impl Unsent {
+    ghost use Rattle.sockets.specs.Unsent.{IsEndOf, rest_of};
+
     /// Nothing.
-    pub fn new(alloc: Global) -> Unsent {
+    pub fn new(alloc: Global) -> Unsent
+        ensures { rest_of result ≡ [] }
+    {
         Unsent {
             bytes: Vec::new(alloc),
             sent: 0,
@@ -49,8 +58,10 @@ impl Unsent {
     }
 
     /// The bytes that were not sent.
-    pub fn as_slice(&self) -> &[u8] {
-        self.bytes.as_slice().get(self.sent..).unwrap_or(&[])
+    pub fn as_slice(&self) -> &[u8]
+        ensures { result.now ≡ rest_of self.now }
+    {
+        &self.bytes.as_slice()[self.sent..]
     }
 
     /// Adds bytes to be sent after the others.
@@ -58,7 +69,9 @@ impl Unsent {
     /// # Errors
     ///
     /// Fails if there is no memory.
-    pub fn push(&mut self, bytes: &[u8]) -> Result<(), AllocError> {
+    pub fn push(&mut self, bytes: &[u8]) -> Result<(), AllocError>
+        ensures { OnOk result (rest_of self.new ≡ rest_of self.old ++ bytes.now) }
+    {
         self.bytes.extend_from_slice(bytes)
     }
 
@@ -67,13 +80,15 @@ impl Unsent {
     /// # Errors
     ///
     /// Fails if the operator has closed the connection.
-    pub fn send(&mut self, operator: &UnixStream) -> io::Result<bool> {
+    pub fn send(&mut self, operator: &UnixStream) -> io::Result<bool>
+        ensures { IsEndOf (rest_of self.old) (rest_of self.new) }
+    {
         let rest = self.as_slice();
-        let count = write_now(operator, rest.get(..PIECE).unwrap_or(rest))?;
-        self.sent = self.sent.saturating_add(count);
-        if self.sent >= self.bytes.len() {
-            self.bytes.clear();
+        let count = write_now(operator, &rest[..rest.len().min(PIECE)])?;
+        self.sent += count;
+        if self.sent == self.bytes.len() {
             self.sent = 0;
+            self.bytes.clear();
         }
         Ok(count > 0)
     }
