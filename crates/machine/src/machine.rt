@@ -112,7 +112,7 @@ pub trait Machine {
     ///
     /// # Errors
     ///
-    /// `Operator` if he has gone, or if no more such replies are kept. The reply has no end then.
+    /// `Operator` if he has gone, or if the system has no room for what is left. The reply has no end then.
     fn end_reply(
         &mut self,
         operator: &UnixStream,

@@ -133,7 +133,7 @@ struct LateReply {
     unsent: Unsent,
     /// When the operator's socket took the last bytes.
     since: Instant,
-    /// Whether the operator has closed the connection.
+    /// Whether the operator has closed the connection, or gives way to another one.
     is_closed: bool,
 }
 
@@ -188,11 +188,37 @@ impl LateReplies {
         self.may_send = true;
     }
 
-    /// Keeps the rest of a reply. The caller may close the operator's connection.
+    /// Which of the operators has taken nothing for the longest time.
+    fn most_silent(&self) -> Option<usize> {
+        let mut found: Option<(usize, Instant)> = None;
+        for (index, reply) in self.replies.iter().enumerate() {
+            match found {
+                Some((_, least)) if least <= reply.since => {}
+                _ => found = Some((index, reply.since)),
+            }
+        }
+        found.map(|(index, _)| index)
+    }
+
+    /// Closes the connection of that operator, if there are as many replies as may be.
+    fn make_room(&mut self) {
+        if self.replies.len() < MOST {
+            return;
+        }
+        if let Some(index) = self.most_silent()
+            && let Some(reply) = self.replies.get_mut(index)
+        {
+            reply.is_closed = true;
+        }
+        self.replies.retain(|reply| !reply.is_closed);
+    }
+
+    /// Keeps the rest of a reply. The caller may close the operator's connection. If there are as many replies as may be, the
+    /// operator gives way who has taken nothing for the longest time.
     ///
     /// # Errors
     ///
-    /// Fails if there are as many replies as are kept, if the system refuses to watch the socket, and if there is no memory.
+    /// Fails if the system has no descriptor or refuses to watch the socket, and if there is no memory.
     pub(crate) fn push(
         &mut self,
         poll: &Poll,
@@ -200,9 +226,7 @@ impl LateReplies {
         unsent: Unsent,
         now: Instant,
     ) -> io::Result<()> {
-        if self.replies.len() >= MOST {
-            return Err(ErrorKind::WouldBlock.into());
-        }
+        self.make_room();
         let operator = operator.try_clone()?;
         let handle = operator.as_raw_fd();
         poll.registry()

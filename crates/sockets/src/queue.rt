@@ -387,12 +387,13 @@ impl<'a> Queue<'a> {
     }
 
     /// Sends the end of a reply to an operator, after what his socket has not taken yet of it. What it does not take at once
-    /// is sent while others are served: nobody waits for him. An operator who takes nothing for ten minutes is left.
+    /// is sent while others are served: nobody waits for him. His connection is closed if he takes nothing for ten minutes,
+    /// and if there are more than eight such operators, and he has taken nothing for longer than the others.
     ///
     /// # Errors
     ///
-    /// Fails if the operator has closed the connection, if eight others have not taken all of their replies, if the system
-    /// has no descriptor or no memory, and if the clock failed. The reply has no end then.
+    /// Fails if the operator has closed the connection, if the system has no descriptor or no memory, and if the clock
+    /// failed. The reply has no end then.
     pub fn end_reply(
         &mut self,
         operator: &UnixStream,
