@@ -12,9 +12,10 @@ use command_line::RANDOM;
 use faults::Fault;
 use metrics::Gauges;
 use names::Moment;
+use outbox::Unsent;
 use policy::Policy;
 use service::End;
-use sockets::{Caller, Client, Ended, Front, Queue, Unsent};
+use sockets::{Caller, Client, Ended, Front, Queue};
 use std::fs;
 use std::io::{self, ErrorKind, Read, Write};
 use std::os::unix::net::UnixStream;
@@ -113,12 +114,7 @@ pub trait Machine {
     /// # Errors
     ///
     /// `Operator` if he has gone, or if the system has no room for what is left. The reply has no end then.
-    fn end_reply(
-        &mut self,
-        operator: &UnixStream,
-        unsent: Unsent,
-        end: &[u8],
-    ) -> Result<(), Fault>
+    fn end_reply(&mut self, operator: &UnixStream, unsent: Unsent, end: &[u8]) -> Result<(), Fault>
         ensures ok { OnOk result (observed self.old self.new (sent operator.now end.now)) }
         ensures err { OnErr result (idled self.old self.new) };
 

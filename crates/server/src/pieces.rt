@@ -9,7 +9,7 @@ use faults::Fault;
 use memchr::memrchr;
 use names::{Counted, DeviceFault, Sink};
 use operator::print;
-use sockets::{OperatorWriter, Unsent};
+use outbox::{OperatorWriter, Unsent};
 use std::os::unix::net::UnixStream;
 
 /// Sends what a command prints, each write as a piece. A longer write ends with a line, if it has one.

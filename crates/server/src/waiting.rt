@@ -11,7 +11,7 @@ use faults::Fault;
 use machine::Machine;
 use names::Sink;
 use operator::{Advance, Inspection, print};
-use sockets::Unsent;
+use outbox::Unsent;
 use std::alloc::Global;
 use std::io::Write;
 use std::os::unix::net::UnixStream;

@@ -6,7 +6,6 @@
 
 mod client;
 mod control_socket;
-mod late;
 mod listening;
 mod patience;
 mod queue;
@@ -14,7 +13,6 @@ mod room;
 
 pub use client::{Client, Extent, Framing, Front};
 pub use control_socket::ControlSocket;
-pub use late::{OperatorWriter, Unsent};
 pub use listening::listen;
 pub use patience::{Course, PatientReader, PatientWriter};
 pub use queue::{Caller, Queue};

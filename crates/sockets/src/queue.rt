@@ -4,11 +4,11 @@ ghost use Rattle.std.specs.Prelude.{◌≡◌, IfOk, OnErr, IfSome};
 ghost use Rattle.sockets.specs.Turns.{kind_of, other_than, turn_after};
 
 use crate::client::{Client, Framing, Front};
-use crate::late::{LATE, LateReplies, Unsent};
 use crate::room::{Ended, LONGEST_LEAVING, Limits, ROUND, Room};
 use mio::event::Events;
 use mio::unix::SourceFd;
 use mio::{Interest, Poll, Token};
+use outbox::{Outbox, Unsent};
 use std::io::{self, ErrorKind};
 use std::net::{TcpListener, TcpStream};
 use std::os::fd::AsRawFd;
@@ -20,6 +20,9 @@ use std::time::{Clock, Duration, Instant};
 const CLIENTS: Token = Token(0);
 
 const OPERATORS: Token = Token(1);
+
+/// The token of the operators who have not taken all of their replies.
+const READERS: Token = Token(2);
 
 /// How many events the system reports at a time.
 const NEWS: usize = 1_024;
@@ -77,7 +80,7 @@ pub struct Queue<'a> {
     turn: Kind,
     room: Room,
     /// The replies to operators that are not sent yet.
-    late: LateReplies,
+    outbox: Outbox,
     /// Whether further clients are accepted.
     is_open: bool,
     /// Whether a connection may wait at the listener of the clients, and at that of the operators.
@@ -129,7 +132,7 @@ impl<'a> Queue<'a> {
             control,
             turn: Kind::Operator,
             room: Room::new(rt.alloc(), limits)?,
-            late: LateReplies::new(rt.alloc()),
+            outbox: Outbox::new(rt.alloc()),
             is_open: true,
             clients_wait: false,
             operators_wait: false,
@@ -235,7 +238,7 @@ impl<'a> Queue<'a> {
 
     /// Whether nobody is connected, and nobody waits at the listeners.
     fn is_idle(&self) -> bool {
-        let is_empty = self.room.is_empty() && self.late.is_empty();
+        let is_empty = self.room.is_empty() && self.outbox.is_empty();
         is_empty && !self.clients_wait && !self.operators_wait
     }
 
@@ -243,7 +246,7 @@ impl<'a> Queue<'a> {
     /// may have waited for too long if there are any. `None` is without a limit.
     fn patience(&self) -> Option<Duration> {
         let may_accept = self.operators_wait && !self.is_short;
-        let may_send = self.late.may_send();
+        let may_send = self.outbox.may_send();
         if self.room.has_ready() || self.room.has_ended() || may_accept || may_send {
             Some(Duration::ZERO)
         } else if self.is_idle() {
@@ -268,11 +271,11 @@ impl<'a> Queue<'a> {
             match event.token() {
                 CLIENTS => self.clients_wait = true,
                 OPERATORS => self.operators_wait = true,
-                LATE => self.late.wake(),
+                READERS => self.outbox.wake(),
                 token => self.room.look(token, now, framing),
             }
         }
-        self.late.go_on(now);
+        self.outbox.go_on(now);
         self.admit(now, framing)?;
         self.room.expire(now);
         Ok(now)
@@ -374,13 +377,13 @@ impl<'a> Queue<'a> {
     pub fn settle(&mut self, clock: &impl Clock, framing: &impl Framing) -> io::Result<()> {
         let start = Instant::now(clock)?;
         'looks: for _ in 0..u64::MAX {
-            if self.room.is_empty() && self.late.is_empty() {
+            if self.room.is_empty() && self.outbox.is_empty() {
                 break;
             }
             let longest = self.patience();
             let now = self.look(longest, clock, framing)?;
             if now.duration_since(start) >= Duration::from_secs(LONGEST_LEAVING) {
-                self.late.clear();
+                self.outbox.clear();
             }
         }
         Ok(())
@@ -406,8 +409,7 @@ impl<'a> Queue<'a> {
         if unsent.as_slice().is_empty() {
             return Ok(());
         }
-        self.late
-            .push(&self.poll, operator, unsent, Instant::now(clock)?)
+        self.outbox.push(&self.poll, READERS, operator, unsent, Instant::now(clock)?)
     }
 
     /// Takes a client back after a turn whose message was handed out.

@@ -1,6 +1,6 @@
 -- What an operator's socket has not taken yet of a reply.
 use Rattle.std.specs.Prelude.{◌≡◌, ℕ, List, drop}
-use Rattle.sockets.specs.declared.late.Unsent.{Unsent}
+use Rattle.outbox.specs.declared.unsent.Unsent.{Unsent}
 
 -- the bytes that were not sent
 abbrev pub rest_of : Unsent → List ℕ
