@@ -49,15 +49,18 @@ impl Reply {
 /// The replies that are sent while others are served.
 #[derive(Drop)]
 pub struct Outbox {
+    /// By which a poll names the operators' sockets.
+    token: Token,
     replies: Vec<Reply>,
     /// Whether a socket may take bytes now.
     may_send: bool,
 }
 
 impl Outbox {
-    /// No replies.
-    pub fn new(alloc: Global) -> Outbox {
+    /// No replies. A poll names the sockets of operators by this token.
+    pub fn new(alloc: Global, token: Token) -> Outbox {
         Outbox {
+            token,
             replies: Vec::new(alloc),
             may_send: false,
         }
@@ -103,8 +106,8 @@ impl Outbox {
         self.replies.retain(|reply| !reply.is_closed);
     }
 
-    /// Keeps the rest of a reply, whose socket the poll names by this token. The caller may close the operator's connection. If there are as many replies as may be, the
-    /// operator gives way who has taken nothing for the longest time.
+    /// Keeps the rest of a reply. The caller may close the operator's connection. If there are as many replies as may be,
+    /// the operator gives way who has taken nothing for the longest time.
     ///
     /// # Errors
     ///
@@ -112,7 +115,6 @@ impl Outbox {
     pub fn push(
         &mut self,
         poll: &Poll,
-        token: Token,
         operator: &UnixStream,
         unsent: Unsent,
         now: Instant,
@@ -121,7 +123,7 @@ impl Outbox {
         let operator = operator.try_clone()?;
         let handle = operator.as_raw_fd();
         poll.registry()
-            .register(&mut SourceFd(&handle), token, Interest::WRITABLE)?;
+            .register(&mut SourceFd(&handle), self.token, Interest::WRITABLE)?;
         let reply = Reply {
             operator,
             unsent,

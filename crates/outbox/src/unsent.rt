@@ -85,17 +85,23 @@ impl Unsent {
     }
 }
 
-/// Sends to an operator what his socket takes at once, and keeps the rest in memory, in order.
+/// Sends to an operator what his socket takes at once, and keeps the rest in memory, in order. After a write that failed it
+/// takes nothing more.
 #[derive(Drop)]
 pub struct OperatorWriter<'a> {
     operator: &'a UnixStream,
     unsent: Unsent,
+    has_failed: bool,
 }
 
 impl<'a> OperatorWriter<'a> {
     /// Sends to this operator, first what was not sent before.
     pub fn new(operator: &'a UnixStream, unsent: Unsent) -> OperatorWriter<'a> {
-        OperatorWriter { operator, unsent }
+        OperatorWriter {
+            operator,
+            unsent,
+            has_failed: false,
+        }
     }
 
     /// Returns what the socket has not taken.
@@ -105,11 +111,23 @@ impl<'a> OperatorWriter<'a> {
     }
 }
 
-impl Write for OperatorWriter<'_> {
-    fn write(&mut self, bytes: &[u8]) -> io::Result<usize> {
+impl OperatorWriter<'_> {
+    /// Keeps bytes, and sends what the operator's socket takes.
+    fn push(&mut self, bytes: &[u8]) -> io::Result<()> {
         self.unsent.push(bytes)?;
         self.unsent.send(self.operator)?;
-        Ok(bytes.len())
+        Ok(())
+    }
+}
+
+impl Write for OperatorWriter<'_> {
+    fn write(&mut self, bytes: &[u8]) -> io::Result<usize> {
+        if self.has_failed {
+            return Err(ErrorKind::BrokenPipe.into());
+        }
+        let pushed = self.push(bytes);
+        self.has_failed = pushed.is_err();
+        pushed.map(|()| bytes.len())
     }
 
     fn flush(&mut self) -> io::Result<()> {

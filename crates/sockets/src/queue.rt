@@ -132,7 +132,7 @@ impl<'a> Queue<'a> {
             control,
             turn: Kind::Operator,
             room: Room::new(rt.alloc(), limits)?,
-            outbox: Outbox::new(rt.alloc()),
+            outbox: Outbox::new(rt.alloc(), READERS),
             is_open: true,
             clients_wait: false,
             operators_wait: false,
@@ -409,7 +409,8 @@ impl<'a> Queue<'a> {
         if unsent.as_slice().is_empty() {
             return Ok(());
         }
-        self.outbox.push(&self.poll, READERS, operator, unsent, Instant::now(clock)?)
+        self.outbox
+            .push(&self.poll, operator, unsent, Instant::now(clock)?)
     }
 
     /// Takes a client back after a turn whose message was handed out.
