@@ -283,6 +283,7 @@ fn nothing_is_done_after_a_stop(rt: HostRuntime) {
         Ok(finish) => assert!(rt; finish.connections == 0 && finish.stopped_by.is_some()),
         Err(_) => panic!(rt; "the server was not stopped"),
     }
+    drop(script);
     expect_replies(
         &rt,
         readers,

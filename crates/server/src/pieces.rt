@@ -62,7 +62,7 @@ impl<W: Sink> Pieces<W> {
     ///
     /// # Errors
     ///
-    /// `Operator` if not all of it was sent.
+    /// `Operator` if it was neither sent nor kept.
     fn send(&mut self, stream: Stream, content: &[u8]) -> Result<(), Fault>
         requires { IsPieceSize (length content.now) }
         ensures sent { OnOk result (Appends (W.taken self.old.to) (W.taken self.new.to)
@@ -81,7 +81,7 @@ impl<W: Sink> Pieces<W> {
     ///
     /// # Errors
     ///
-    /// `Operator` if not all of it was sent.
+    /// `Operator` if it was neither sent nor kept.
     pub(crate) fn send_errors(&mut self, text: &[u8]) -> Result<(), Fault> {
         if text.is_empty() {
             return Ok(());
@@ -93,7 +93,7 @@ impl<W: Sink> Pieces<W> {
     ///
     /// # Errors
     ///
-    /// `Operator` if not all of it was sent.
+    /// `Operator` if it was neither sent nor kept.
     pub(crate) fn send_progress(&mut self, text: &[u8]) -> Result<(), Fault>
         ensures { IfErr result (λ fault. fault ≡ Fault.Operator) }
     {

@@ -22,11 +22,11 @@ pub(crate) struct Reply<'a> {
 }
 
 impl Reply<'_> {
-    /// Sends what a command wrote to its error stream, and then the end of the reply.
+    /// Sends what a command wrote to its error stream, and then the end of the reply, both after what was not sent yet.
     ///
     /// # Errors
     ///
-    /// `Operator` if not all was sent.
+    /// `Operator` if the operator has gone, or if the system has no room for what he has not taken.
     fn send_end<M: Machine>(
         &self,
         machine: &mut M,

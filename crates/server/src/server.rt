@@ -362,10 +362,12 @@ impl<C: Clock> Server<'_, C> {
                         Ok(None)
                     }
                     Outcome::Began(inspection) => {
+                        // Nothing was printed yet.
+                        let unsent = Unsent::new(self.alloc);
                         *waiting = Some(Waiting {
                             stream,
                             inspection,
-                            unsent: Unsent::new(self.alloc),
+                            unsent,
                         });
                         Ok(None)
                     }
