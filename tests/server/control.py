@@ -444,6 +444,54 @@ def check_reload(server, _):
     return "a right was taken away and given back between two requests of a connection; 4 policies were refused"
 
 
+# How an operator reads slowly: so many bytes, after each pause.
+SIP, PAUSE = 4_096, 0.3
+
+
+def read_slowly(output, is_over):
+    """Reads 4 KB every 0.3 s until it is over, and then the rest. Returns all."""
+    pieces = []
+    while not is_over.wait(PAUSE):
+        pieces.append(os.read(output.fileno(), SIP))
+    return b"".join((*pieces, output.read()))
+
+
+def list_slowly(server, count, act):
+    """Calls `act` while this many operators read a list of locks slowly. Returns what each got: its output, the status,
+    and the error stream."""
+    words = server.command("locks", "--repo", FILM)
+    lists = [subprocess.Popen(words, stdout=subprocess.PIPE, stderr=subprocess.PIPE) for _ in range(count)]
+    printed = {}
+    with beside(*(lambda is_over, it=it: printed.update({it: read_slowly(it.stdout, is_over)}) for it in lists)):
+        time.sleep(1)
+        act()
+    return [(printed[it], it.wait(timeout=10), it.stderr.read()) for it in lists]
+
+
+def check_slow_operators(server, _):
+    """Operators who read 4 KB every 0.3 s of a list of 3,000 locks hold nobody up, and get the list of the moment at which
+    they asked: one, two at once, and eight of nine. A server that is stopped gives such an operator 2 seconds."""
+    count, waits, whole, cut = 3_000, [], {}, (1, b"custody: control socket\n")
+    with server.client() as client:
+        for number in range(count):
+            require(client.ask(lock(f"{number:04}/{'x' * 990}"))[0] == 201, "no lock")
+    for slow in (1, 2, 9):
+        whole = (server.via("locks", "--repo", FILM)[1].encode(), 0, b"")
+        require(len(whole[0]) > count * 990, "the list is short")
+        ended = list_slowly(server, slow, lambda: waits.extend(server.time_of_lock(f"{slow}/{n}") for n in range(10)))
+        others = [it[1:] for it in ended if it != whole]
+        require(others == [cut] * (slow > 8), f"beside {slow - len(others)} whole lists of {slow}: {others}")
+    require(max(waits) <= 1, f"a lock took {max(waits):.2f} s")
+    begun = time.monotonic()
+    (printed, *ended), = list_slowly(server, 1, lambda: require(server.via("stop")[0] == 0, "the server has not stopped"))
+    taken = time.monotonic() - begun
+    require((*ended,) == cut and whole[0].startswith(printed), f"after a stop: {len(printed)} bytes, {ended}")
+    server.child.wait(timeout=5)
+    server.start()
+    return (f"{len(waits)} locks beside up to nine lists of {len(whole[0])} bytes, the slowest in "
+            f"{max(waits) * 1000:.0f} ms (at most 1000); a stop took {taken:.1f} s")
+
+
 def check_status(server, _):
     """The status counts what was done, and promtool finds nothing to say of it."""
     with server.client() as client:
@@ -543,6 +591,7 @@ CHECKS = {
     "hold": check_hold,
     "hold-over": check_hold_over,
     "descriptors": check_descriptors,
+    "slow-operators": check_slow_operators,
     "stop": check_stop,
     "reload": check_reload,
     "status": check_status,

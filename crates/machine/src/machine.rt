@@ -12,6 +12,7 @@ use command_line::RANDOM;
 use faults::Fault;
 use metrics::Gauges;
 use names::Moment;
+use outbox::Unsent;
 use policy::Policy;
 use service::End;
 use sockets::{Caller, Client, Ended, Front, Queue};
@@ -21,7 +22,7 @@ use std::os::unix::net::UnixStream;
 use std::rt::HostRuntime;
 use std::time::{Clock, Duration, Instant};
 
-/// How long an operator may take to send a command, and to take each part of a reply, in seconds.
+/// How long an operator may take to send a command, and to take the beginning of a reply, in seconds.
 const PATIENCE: u64 = 2;
 
 /// How long an operator pauses whose request has arrived, in milliseconds.
@@ -98,13 +99,23 @@ pub trait Machine {
         ensures ok { OnOk result (observed self.old self.new (received operator.now piece.new)) }
         ensures err { OnErr result (idled self.old self.new) };
 
-    /// Sends bytes to an operator.
+    /// Sends bytes to an operator, the first ones of a reply, or one that refuses a request.
     ///
     /// # Errors
     ///
     /// `Operator` if not all were sent.
     fn send(&mut self, operator: &UnixStream, bytes: &[u8]) -> Result<(), Fault>
         ensures ok { OnOk result (observed self.old self.new (sent operator.now bytes.now)) }
+        ensures err { OnErr result (idled self.old self.new) };
+
+    /// Sends the end of a reply to an operator, after what his socket has not taken yet of it. Does not wait for him: what
+    /// the socket does not take at once is sent later, while others are served.
+    ///
+    /// # Errors
+    ///
+    /// `Operator` if he has gone, or if the system has no room for what is left. The reply has no end then.
+    fn end_reply(&mut self, operator: &UnixStream, unsent: Unsent, end: &[u8]) -> Result<(), Fault>
+        ensures ok { OnOk result (observed self.old self.new (sent operator.now end.now)) }
         ensures err { OnErr result (idled self.old self.new) };
 
     /// Drops what an operator still sends, for a moment: a close with unread bytes would reset the connection, and the
@@ -154,7 +165,8 @@ pub trait Machine {
     fn shut_at_once(&mut self)
         ensures { idled self.old self.new };
 
-    /// Waits until each client whose connection was closed has closed its side, for at most two seconds.
+    /// Waits until each client whose connection was closed has closed its side, and until operators have taken what is left
+    /// of their replies, for at most two seconds.
     fn settle(&mut self)
         ensures { idled self.old self.new };
 }
@@ -176,6 +188,7 @@ impl<C: Clock> Read for TimedReader<'_, C> {
         if left.is_zero() {
             return Err(ErrorKind::TimedOut.into());
         }
+        self.stream.set_nonblocking(false)?;
         self.stream.set_read_timeout(Some(left))?;
         let mut stream = self.stream;
         stream.read(piece)
@@ -315,6 +328,17 @@ impl<C: Clock> Machine for Sockets<'_, C> {
 
     fn send(&mut self, operator: &UnixStream, bytes: &[u8]) -> Result<(), Fault> {
         write_to(operator, bytes).map_err(|_| Fault::Operator)
+    }
+
+    fn end_reply(
+        &mut self,
+        operator: &UnixStream,
+        unsent: Unsent,
+        end: &[u8],
+    ) -> Result<(), Fault> {
+        self.queue
+            .end_reply(operator, unsent, end, self.clock)
+            .map_err(|_| Fault::Operator)
     }
 
     fn drop_rest(&mut self, operator: &UnixStream) {

@@ -7,6 +7,7 @@ use faults::Fault;
 use machine::Machine;
 use metrics::Gauges;
 use names::{Moment, Oid, RepoName, Size};
+use outbox::Unsent;
 use policy::Policy;
 use server::{Finish, Server};
 use service::{End, Routes};
@@ -24,6 +25,8 @@ use tables::{Alter, LastChunk, NewUpload, Store};
 struct Script {
     operators: Vec<UnixStream>,
     policies: Vec<Result<Policy, Fault>>,
+    /// What is to be sent later, of all replies.
+    late: Vec<u8>,
 }
 
 impl Machine for Script {
@@ -68,6 +71,20 @@ impl Machine for Script {
     fn send(&mut self, operator: &UnixStream, bytes: &[u8]) -> Result<(), Fault> {
         let mut stream = operator;
         stream.write_all(bytes).map_err(|_| Fault::Operator)
+    }
+
+    fn end_reply(
+        &mut self,
+        operator: &UnixStream,
+        unsent: Unsent,
+        end: &[u8],
+    ) -> Result<(), Fault> {
+        if unsent.as_slice().is_empty() {
+            return self.send(operator, end);
+        }
+        let kept = self.late.extend_from_slice(unsent.as_slice());
+        kept.and_then(|()| self.late.extend_from_slice(end))
+            .map_err(|_| Fault::Memory)
     }
 
     fn policy(&mut self) -> Result<Policy, Fault> {
@@ -174,7 +191,7 @@ fn store_damaged<S: Alter>(rt: &impl Tester, store: &mut Store<S>, names: &[&[u8
 fn serve(
     rt: &impl Tester,
     host: &HostRuntime,
-    mut machine: Script,
+    machine: &mut Script,
     damaged: &[&[u8; 64]],
 ) -> Result<Finish, Fault> {
     let mut store = unwrap(rt, Store::open_memory(rt.alloc()));
@@ -188,7 +205,7 @@ fn serve(
     };
     let policy = unwrap(rt, Policy::read(rt.alloc(), POLICY));
     let mut errors = Vec::new(rt.alloc());
-    let served = server.run(&mut store, &mut machine, policy, 1, &mut errors);
+    let served = server.run(&mut store, machine, policy, 1, &mut errors);
     assert!(rt; errors.is_empty());
     served
 }
@@ -201,6 +218,19 @@ fn reply_to(rt: &impl Tester, reader: &mut UnixStream) -> Vec<u8> {
     bytes
 }
 
+/// A machine with these operators, and with these policies.
+fn script_of(
+    rt: &impl Tester,
+    operators: Vec<UnixStream>,
+    policies: Vec<Result<Policy, Fault>>,
+) -> Script {
+    Script {
+        operators,
+        policies,
+        late: Vec::new(rt.alloc()),
+    }
+}
+
 /// Asserts what the operators have got.
 fn expect_replies(rt: &impl Tester, mut readers: Vec<UnixStream>, replies: &[&[u8]]) {
     assert!(rt; readers.len() == replies.len());
@@ -210,6 +240,9 @@ fn expect_replies(rt: &impl Tester, mut readers: Vec<UnixStream>, replies: &[&[u
 }
 
 const PUSH: &str = "pushcheck ann studio/film refs/heads/main";
+
+/// The same for a user whom no row allows anything.
+const ZOE: &str = "pushcheck zoe studio/film refs/heads/main";
 
 #[test]
 fn the_next_command_has_the_policy_that_was_read(rt: HostRuntime) {
@@ -225,11 +258,8 @@ fn the_next_command_has_the_policy_that_was_read(rt: HostRuntime) {
     let mut policies = Vec::new(rt.alloc());
     let read = unwrap(&rt, Policy::read(rt.alloc(), other.as_str()));
     unwrap(&rt, policies.push(Ok(read)));
-    let script = Script {
-        operators: callers,
-        policies,
-    };
-    assert!(rt; serve(&rt, &rt, script, &[]).is_err());
+    let mut script = script_of(&rt, callers, policies);
+    assert!(rt; serve(&rt, &rt, &mut script, &[]).is_err());
     let denied = b"\x03\x03\0\0\0\x17denied by row 0: a.txt\n\x01";
     expect_replies(
         &rt,
@@ -248,14 +278,12 @@ fn the_next_command_has_the_policy_that_was_read(rt: HostRuntime) {
 fn nothing_is_done_after_a_stop(rt: HostRuntime) {
     let calls = [("sweep", ""), ("stop", ""), ("sweep", "")];
     let Operators { callers, readers } = operators_of(&rt, &rt, &calls);
-    let script = Script {
-        operators: callers,
-        policies: Vec::new(rt.alloc()),
-    };
-    match serve(&rt, &rt, script, &[]) {
+    let mut script = script_of(&rt, callers, Vec::new(rt.alloc()));
+    match serve(&rt, &rt, &mut script, &[]) {
         Ok(finish) => assert!(rt; finish.connections == 0 && finish.stopped_by.is_some()),
         Err(_) => panic!(rt; "the server was not stopped"),
     }
+    drop(script);
     expect_replies(
         &rt,
         readers,
@@ -282,12 +310,62 @@ const CHECKED: &[&[u8]] = &[
 fn a_check_gives_way(rt: HostRuntime) {
     let calls = [("check", ""), ("repair", ""), ("sweep", "")];
     let Operators { callers, readers } = operators_of(&rt, &rt, &calls);
-    let script = Script {
-        operators: callers,
-        policies: Vec::new(rt.alloc()),
-    };
-    assert!(rt; serve(&rt, &rt, script, &NAMES).is_err());
+    let mut script = script_of(&rt, callers, Vec::new(rt.alloc()));
+    assert!(rt; serve(&rt, &rt, &mut script, &NAMES).is_err());
     expect_replies(&rt, readers, CHECKED);
+}
+
+/// A path, and the line of its verdict.
+const PATH: &str = "textures/a/b\n";
+
+const DENIED: &str = "denied by row 0: textures/a/b\n";
+
+/// A text this many times.
+fn times(rt: &impl Tester, text: &str, count: usize) -> String {
+    let mut all = String::new(rt.alloc());
+    for _ in 0..count {
+        unwrap(rt, all.push_str(text));
+    }
+    all
+}
+
+/// The output in a reply, and what follows its last piece.
+fn output_in<'r>(rt: &impl Tester, reply: &'r [u8]) -> (Vec<u8>, &'r [u8]) {
+    let mut output = Vec::new(rt.alloc());
+    let mut rest = reply.get(1..).unwrap_or(&[]);
+    for _ in 0..reply.len() {
+        let Some((&[3, a, b, c, d], pieces)) = rest.split_first_chunk::<5>() else {
+            break;
+        };
+        let size = u32::from_be_bytes([a, b, c, d]) as usize;
+        unwrap(
+            rt,
+            output.extend_from_slice(pieces.get(..size).unwrap_or(&[])),
+        );
+        rest = pieces.get(size..).unwrap_or(&[]);
+    }
+    (output, rest)
+}
+
+/// A socket takes about 200,000 bytes of which nothing is read.
+#[test]
+fn what_a_socket_does_not_take_is_sent_before_the_end(rt: HostRuntime) {
+    let paths = times(&rt, PATH, 10_000);
+    let Operators {
+        callers,
+        mut readers,
+    } = operators_of(&rt, &rt, &[(ZOE, paths.as_str())]);
+    let mut script = script_of(&rt, callers, Vec::new(rt.alloc()));
+    assert!(rt; serve(&rt, &rt, &mut script, &[]).is_err());
+    let Some(reader) = readers.first_mut() else {
+        panic!(&rt; "there is no operator");
+    };
+    let mut reply = reply_to(&rt, reader);
+    assert!(rt; reply.len() > 1 && !script.late.is_empty());
+    unwrap(&rt, reply.extend_from_slice(script.late.as_slice()));
+    let (output, end) = output_in(&rt, reply.as_slice());
+    assert!(rt; output.as_slice() == times(&rt, DENIED, 10_000).as_bytes());
+    assert!(rt; end == b"\x01".as_slice());
 }
 
 /// Lines of a status.
@@ -310,11 +388,8 @@ fn a_status_has_what_the_machine_knows(rt: HostRuntime) {
         callers,
         mut readers,
     } = operators_of(&rt, &rt, &[("sweep", ""), ("status", "")]);
-    let script = Script {
-        operators: callers,
-        policies: Vec::new(rt.alloc()),
-    };
-    assert!(rt; serve(&rt, &rt, script, &[]).is_err());
+    let mut script = script_of(&rt, callers, Vec::new(rt.alloc()));
+    assert!(rt; serve(&rt, &rt, &mut script, &[]).is_err());
     let Some(reader) = readers.get_mut(1) else {
         panic!(&rt; "there is no second operator");
     };

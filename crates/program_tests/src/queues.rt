@@ -1,6 +1,7 @@
 //! The order in which the callers of a server are answered: operators and clients in turn, clients as their messages arrive.
 
 use crate::harness::{Tester, unwrap};
+use outbox::{OperatorWriter, Unsent};
 use sockets::{Caller, Client, Course, Extent, Framing, Limits, PatientReader, Queue, listen};
 use std::cell::Cell;
 use std::fs;
@@ -346,4 +347,101 @@ fn two_hundred_clients_connect_before_one_is_accepted(rt: HostRuntime) {
         unwrap(&rt, waiting.push(client));
     }
     assert!(rt; waiting.len() == CLIENTS);
+}
+
+/// The bytes that a test sends to an operator: more than a socket takes of which nothing is read, and all different nearby.
+fn long_reply(rt: &impl Tester) -> Vec<u8> {
+    let mut bytes = Vec::new(rt.alloc());
+    for number in 0..300_000_u32 {
+        unwrap(rt, bytes.extend_from_slice(&number.to_be_bytes()));
+    }
+    bytes
+}
+
+/// Begins a reply, ends it, and closes the server's side. Returns that of the operator.
+fn reply_late(
+    rt: &impl Tester,
+    host: &HostRuntime,
+    queue: &mut Queue<'_>,
+    reply: &[u8],
+) -> UnixStream {
+    let (operator, reader) = unwrap(rt, UnixStream::pair(host));
+    let mut writer = OperatorWriter::new(&operator, Unsent::new(rt.alloc()));
+    for piece in reply.chunks(10_000) {
+        unwrap(rt, writer.write_all(piece));
+    }
+    let unsent = writer.into_unsent();
+    assert!(rt; !unsent.as_slice().is_empty());
+    unwrap(rt, queue.end_reply(&operator, unsent, b"end", host));
+    reader
+}
+
+/// Reads all of a reply, and has the queue look after each read. Nobody calls meanwhile.
+fn read_on(
+    rt: &impl Tester,
+    host: &HostRuntime,
+    queue: &mut Queue<'_>,
+    reader: &mut UnixStream,
+) -> Vec<u8> {
+    let mut all = Vec::new(rt.alloc());
+    let mut piece = [0; 4_096];
+    for _ in 0..1_000 {
+        let count = unwrap(rt, reader.read(&mut piece));
+        if count == 0 {
+            break;
+        }
+        unwrap(rt, all.extend_from_slice(piece.get(..count).unwrap_or(&[])));
+        assert!(rt; unwrap(rt, take_ready(host, queue)).0 == b'?');
+    }
+    all
+}
+
+#[test]
+fn a_reply_is_sent_as_its_operator_reads(rt: HostRuntime) {
+    let listener = unwrap(&rt, listen(&rt, "127.0.0.1:0"));
+    let listeners = Listeners {
+        clients: &listener,
+        operators: None,
+    };
+    let mut queue = queue_of(&rt, &rt, listeners, 3);
+    let mut reply = long_reply(&rt);
+    let mut reader = reply_late(&rt, &rt, &mut queue, reply.as_slice());
+    let mut client = connect(&rt, &rt, &listener);
+    unwrap(&rt, client.write_all(b"a0\n"));
+    assert!(rt; unwrap(&rt, take(&rt, &mut queue)) == (b'a', 3));
+    let all = read_on(&rt, &rt, &mut queue, &mut reader);
+    unwrap(&rt, reply.extend_from_slice(b"end"));
+    assert!(rt; all.as_slice() == reply.as_slice());
+}
+
+/// Eight replies are sent while others are served. The ninth takes the place of the first, which has waited for longest, and
+/// has no end then. A queue that settles leaves all of them after two seconds.
+#[test]
+fn the_operator_who_is_silent_for_longest_gives_way(rt: HostRuntime) {
+    let listener = unwrap(&rt, listen(&rt, "127.0.0.1:0"));
+    let listeners = Listeners {
+        clients: &listener,
+        operators: None,
+    };
+    let mut queue = queue_of(&rt, &rt, listeners, 3);
+    let mut reply = long_reply(&rt);
+    let mut readers = Vec::new(rt.alloc());
+    for _ in 0..9 {
+        let reader = reply_late(&rt, &rt, &mut queue, reply.as_slice());
+        unwrap(&rt, readers.push(reader));
+    }
+    unwrap(&rt, reply.extend_from_slice(b"end"));
+    let mut whole = Vec::new(rt.alloc());
+    for reader in readers.iter_mut().take(2) {
+        let all = read_on(&rt, &rt, &mut queue, reader);
+        assert!(rt; reply.as_slice().starts_with(all.as_slice()));
+        unwrap(&rt, whole.push(all.len() == reply.len()));
+    }
+    assert!(rt; whole.as_slice() == [false, true].as_slice());
+    unwrap(&rt, queue.settle(&rt, &Letters));
+    for reader in readers.iter_mut().skip(2) {
+        let mut all = Vec::new(rt.alloc());
+        unwrap(&rt, reader.read_to_end(&mut all));
+        assert!(rt; all.len() < reply.len() && reply.as_slice().starts_with(all.as_slice()));
+    }
 }

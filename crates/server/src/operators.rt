@@ -10,7 +10,7 @@ ghost use Rattle.policy.specs.Values.{repo_view};
 
 use crate::foreseeing::message_in;
 use crate::outcomes::Outcome;
-use crate::pieces::Pieces;
+use crate::pieces::{OperatorPieces, Pieces};
 use crate::reply::Reply;
 use crate::requests::{access_question, plain_task, push_of, token_request};
 use command_line::{ForeseeArgs, OperatorCommand, TokenArgs};
@@ -18,8 +18,9 @@ use control::{PrefixFault, Request, VERSION, read_request, refusal_bytes, reques
 use faults::Fault;
 use machine::{Machine, policy_line};
 use metrics::{Counts, Stored, status_text};
-use names::{Counted, Moment, Sink};
+use names::{Moment, Sink};
 use operator::{Destination, Inspection, Purpose, Task, print, repo_at};
+use outbox::Unsent;
 use policy::{Policy, Repo};
 use std::alloc::Global;
 use std::io::Write;
@@ -366,11 +367,11 @@ impl OperatorContext<'_> {
 
     /// Ends the reply to a request that ended so, unless an inspection was begun, and reports if that failed. Returns what
     /// becomes of the server.
-    fn end<M: Machine, W: Sink, E: Write>(
+    fn end<M: Machine, E: Write>(
         &self,
         machine: &mut M,
         ended: Result<Outcome, Fault>,
-        pieces: &mut Pieces<W>,
+        pieces: OperatorPieces<'_>,
         errors: &mut E,
     ) -> Outcome
         ensures made { result ≡ made_of ended }
@@ -416,8 +417,8 @@ impl OperatorContext<'_> {
         let start = Instant::now(clock).map_err(|_| Fault::Operator)?;
         let body = read_body(self.alloc, machine, self.stream, start)?;
         machine.send(self.stream, &[VERSION])?;
-        let mut pieces = Pieces::new(Counted::new(self.stream));
+        let mut pieces = Pieces::to_operator(self.stream, Unsent::new(self.alloc));
         let ended = self.answer(store, machine, body.as_slice(), &mut pieces);
-        Ok(self.end(machine, ended, &mut pieces, errors))
+        Ok(self.end(machine, ended, pieces, errors))
     }
 }

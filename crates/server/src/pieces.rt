@@ -7,14 +7,32 @@ ghost use Rattle.control.specs.Replies.{IsPieceSize, longest_piece, piece_bytes}
 use control::{LONGEST_PIECE, Stream, piece_head};
 use faults::Fault;
 use memchr::memrchr;
-use names::{DeviceFault, Sink};
+use names::{Counted, DeviceFault, Sink};
 use operator::print;
+use outbox::{OperatorWriter, Unsent};
+use std::os::unix::net::UnixStream;
 
 /// Sends what a command prints, each write as a piece. A longer write ends with a line, if it has one.
 #[derive(Drop)]
 pub(crate) struct Pieces<W> {
     to: W,
     failures: u64,
+}
+
+/// The pieces of a reply to an operator, who holds nobody up: what his socket does not take is kept.
+pub(crate) type OperatorPieces<'a> = Pieces<Counted<OperatorWriter<'a>>>;
+
+impl<'a> Pieces<Counted<OperatorWriter<'a>>> {
+    /// Sends pieces to an operator, after what was not sent before.
+    pub(crate) fn to_operator(operator: &'a UnixStream, unsent: Unsent) -> OperatorPieces<'a> {
+        Pieces::new(Counted::new(OperatorWriter::new(operator, unsent)))
+    }
+
+    /// Returns what the operator's socket has not taken.
+    pub(crate) fn into_unsent(self) -> Unsent {
+        let Pieces { to, .. } = self;
+        to.into_inner().into_unsent()
+    }
 }
 
 /// How many bytes of a write are sent in one piece: all of them, or those of the lines that fit.
@@ -44,7 +62,7 @@ impl<W: Sink> Pieces<W> {
     ///
     /// # Errors
     ///
-    /// `Operator` if not all of it was sent.
+    /// `Operator` if it was neither sent nor kept.
     fn send(&mut self, stream: Stream, content: &[u8]) -> Result<(), Fault>
         requires { IsPieceSize (length content.now) }
         ensures sent { OnOk result (Appends (W.taken self.old.to) (W.taken self.new.to)
@@ -63,7 +81,7 @@ impl<W: Sink> Pieces<W> {
     ///
     /// # Errors
     ///
-    /// `Operator` if not all of it was sent.
+    /// `Operator` if it was neither sent nor kept.
     pub(crate) fn send_errors(&mut self, text: &[u8]) -> Result<(), Fault> {
         if text.is_empty() {
             return Ok(());
@@ -75,7 +93,7 @@ impl<W: Sink> Pieces<W> {
     ///
     /// # Errors
     ///
-    /// `Operator` if not all of it was sent.
+    /// `Operator` if it was neither sent nor kept.
     pub(crate) fn send_progress(&mut self, text: &[u8]) -> Result<(), Fault>
         ensures { IfErr result (λ fault. fault ≡ Fault.Operator) }
     {

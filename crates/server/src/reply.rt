@@ -5,11 +5,10 @@ ghost use Rattle.server.specs.Commands.{IsReplied};
 ghost use Rattle.server.specs.Jobs.{Call, Calls, seen_in};
 ghost use Rattle.faults.specs.Statuses.{status_of_end};
 
-use crate::pieces::Pieces;
+use crate::pieces::OperatorPieces;
 use control::Status;
 use faults::{Fault, print_fault, refuse};
 use machine::Machine;
-use names::Sink;
 use std::alloc::Global;
 use std::io::Write;
 use std::os::unix::net::UnixStream;
@@ -23,31 +22,31 @@ pub(crate) struct Reply<'a> {
 }
 
 impl Reply<'_> {
-    /// Sends what a command wrote to its error stream, and then the end of the reply.
+    /// Sends what a command wrote to its error stream, and then the end of the reply, both after what was not sent yet.
     ///
     /// # Errors
     ///
-    /// `Operator` if not all was sent.
-    fn send_end<M: Machine, W: Sink>(
+    /// `Operator` if the operator has gone, or if the system has no room for what he has not taken.
+    fn send_end<M: Machine>(
         &self,
         machine: &mut M,
         status: Status,
         text: &[u8],
-        pieces: &mut Pieces<W>,
+        mut pieces: OperatorPieces<'_>,
     ) -> Result<(), Fault>
         ensures { (calls : List Call) × Calls M.Machine machine.old calls machine.new
             × IsReplied self.now.stream.now status (seen_in calls) }
     {
         pieces.send_errors(text)?;
-        machine.send(self.stream, &[status.code()])
+        machine.end_reply(self.stream, pieces.into_unsent(), &[status.code()])
     }
 
     /// Ends the reply to a request that ended so, and reports if that failed.
-    pub(crate) fn end<M: Machine, W: Sink, E: Write>(
+    pub(crate) fn end<M: Machine, E: Write>(
         &self,
         machine: &mut M,
         ended: Result<(), Fault>,
-        pieces: &mut Pieces<W>,
+        pieces: OperatorPieces<'_>,
         errors: &mut E,
     )
         ensures { (calls : List Call) × Calls M.Machine machine.old calls machine.new

@@ -16,6 +16,7 @@ use faults::{Fault, is_good, print_fault};
 use machine::Machine;
 use metrics::{Counts, Turn};
 use names::{Counted, Moment};
+use outbox::Unsent;
 use policy::Policy;
 use service::{End, Routes};
 use sockets::{Caller, Client, Course, Ended, Front, PatientReader, PatientWriter};
@@ -361,7 +362,13 @@ impl<C: Clock> Server<'_, C> {
                         Ok(None)
                     }
                     Outcome::Began(inspection) => {
-                        *waiting = Some(Waiting { stream, inspection });
+                        // Nothing was printed yet.
+                        let unsent = Unsent::new(self.alloc);
+                        *waiting = Some(Waiting {
+                            stream,
+                            inspection,
+                            unsent,
+                        });
                         Ok(None)
                     }
                 }

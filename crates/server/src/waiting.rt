@@ -9,8 +9,9 @@ use crate::pieces::Pieces;
 use crate::reply::Reply;
 use faults::Fault;
 use machine::Machine;
-use names::{Counted, Sink};
+use names::Sink;
 use operator::{Advance, Inspection, print};
+use outbox::Unsent;
 use std::alloc::Global;
 use std::io::Write;
 use std::os::unix::net::UnixStream;
@@ -21,6 +22,8 @@ use tables::{Alter, Store};
 pub(crate) struct Waiting {
     pub stream: UnixStream,
     pub inspection: Inspection,
+    /// What his socket has not taken yet of the reply.
+    pub unsent: Unsent,
 }
 
 /// Goes on with an inspection, and sends what it prints, and how far it is. Returns whether it is done.
@@ -50,7 +53,7 @@ fn advance<S: Alter, W: Sink>(
 impl Waiting {
     /// Goes on with the inspection: about 1 MiB, or 64 objects. If it has ended, so does the reply, and nobody waits.
     pub(crate) fn go_on<S: Alter, M: Machine, E: Write>(
-        mut self,
+        self,
         alloc: Global,
         store: &mut Store<S>,
         machine: &mut M,
@@ -60,18 +63,30 @@ impl Waiting {
             → Helps M.Machine S.Store (IsGoneOn self.stream (operator_in result))
             store.old store.new machine.old machine.new world × IsClean result) }
     {
-        let mut pieces = Pieces::new(Counted::new(&self.stream));
-        let advanced = advance(alloc, store, &mut self.inspection, &mut pieces);
+        let Waiting {
+            stream,
+            mut inspection,
+            unsent,
+        } = self;
+        let mut pieces = Pieces::to_operator(&stream, unsent);
+        let advanced = advance(alloc, store, &mut inspection, &mut pieces);
         let ended = match advanced {
-            Ok(false) => return Some(self),
+            Ok(false) => {
+                let unsent = pieces.into_unsent();
+                return Some(Waiting {
+                    stream,
+                    inspection,
+                    unsent,
+                });
+            }
             Ok(true) => Ok(()),
             Err(fault) => Err(fault),
         };
         let reply = Reply {
             alloc,
-            stream: &self.stream,
+            stream: &stream,
         };
-        reply.end(machine, ended, &mut pieces, errors);
+        reply.end(machine, ended, pieces, errors);
         None
     }
 }

@@ -4,10 +4,11 @@ ghost use Rattle.std.specs.Prelude.{◌≡◌, IfOk, OnErr, IfSome};
 ghost use Rattle.sockets.specs.Turns.{kind_of, other_than, turn_after};
 
 use crate::client::{Client, Framing, Front};
-use crate::room::{Ended, Limits, ROUND, Room};
+use crate::room::{Ended, LONGEST_LEAVING, Limits, ROUND, Room};
 use mio::event::Events;
 use mio::unix::SourceFd;
 use mio::{Interest, Poll, Token};
+use outbox::{Outbox, Unsent};
 use std::io::{self, ErrorKind};
 use std::net::{TcpListener, TcpStream};
 use std::os::fd::AsRawFd;
@@ -19,6 +20,9 @@ use std::time::{Clock, Duration, Instant};
 const CLIENTS: Token = Token(0);
 
 const OPERATORS: Token = Token(1);
+
+/// The token of the operators who have not taken all of their replies.
+const READERS: Token = Token(2);
 
 /// How many events the system reports at a time.
 const NEWS: usize = 1_024;
@@ -75,6 +79,8 @@ pub struct Queue<'a> {
     /// The kind that is answered first.
     turn: Kind,
     room: Room,
+    /// The replies to operators that are not sent yet.
+    outbox: Outbox,
     /// Whether further clients are accepted.
     is_open: bool,
     /// Whether a connection may wait at the listener of the clients, and at that of the operators.
@@ -126,6 +132,7 @@ impl<'a> Queue<'a> {
             control,
             turn: Kind::Operator,
             room: Room::new(rt.alloc(), limits)?,
+            outbox: Outbox::new(rt.alloc(), READERS),
             is_open: true,
             clients_wait: false,
             operators_wait: false,
@@ -229,20 +236,28 @@ impl<'a> Queue<'a> {
         Ok(found)
     }
 
+    /// Whether nobody is connected, and nobody waits at the listeners.
+    fn is_idle(&self) -> bool {
+        let is_empty = self.room.is_empty() && self.outbox.is_empty();
+        is_empty && !self.clients_wait && !self.operators_wait
+    }
+
     /// How long a look for the next one to answer may wait: not at all if there is something to do, and until a connection
     /// may have waited for too long if there are any. `None` is without a limit.
     fn patience(&self) -> Option<Duration> {
         let may_accept = self.operators_wait && !self.is_short;
-        if self.room.has_ready() || self.room.has_ended() || may_accept {
+        let may_send = self.outbox.may_send();
+        if self.room.has_ready() || self.room.has_ended() || may_accept || may_send {
             Some(Duration::ZERO)
-        } else if self.room.is_empty() && !self.clients_wait && !self.operators_wait {
+        } else if self.is_idle() {
             None
         } else {
             Some(Duration::from_millis(ROUND))
         }
     }
 
-    /// Looks at those of whom the system has news, and waits for some for at most this long. Returns when it looked.
+    /// Looks at those of whom the system has news, and waits for some for at most this long. Sends to operators what they
+    /// take. Returns when it looked.
     fn look(
         &mut self,
         longest: Option<Duration>,
@@ -256,9 +271,11 @@ impl<'a> Queue<'a> {
             match event.token() {
                 CLIENTS => self.clients_wait = true,
                 OPERATORS => self.operators_wait = true,
+                READERS => self.outbox.wake(),
                 token => self.room.look(token, now, framing),
             }
         }
+        self.outbox.go_on(now);
         self.admit(now, framing)?;
         self.room.expire(now);
         Ok(now)
@@ -351,20 +368,49 @@ impl<'a> Queue<'a> {
         self.room.send_all_away();
     }
 
-    /// Waits until each client whose connection was closed has closed its side, for at most two seconds.
+    /// Waits until each client whose connection was closed has closed its side, and until what is left of replies to
+    /// operators is sent, for at most two seconds.
     ///
     /// # Errors
     ///
     /// Fails if a listener or the clock did.
     pub fn settle(&mut self, clock: &impl Clock, framing: &impl Framing) -> io::Result<()> {
+        let start = Instant::now(clock)?;
         'looks: for _ in 0..u64::MAX {
-            if self.room.is_empty() {
+            if self.room.is_empty() && self.outbox.is_empty() {
                 break;
             }
             let longest = self.patience();
-            self.look(longest, clock, framing)?;
+            let now = self.look(longest, clock, framing)?;
+            if now.duration_since(start) >= Duration::from_secs(LONGEST_LEAVING) {
+                self.outbox.clear();
+            }
         }
         Ok(())
+    }
+
+    /// Sends the end of a reply to an operator, after what his socket has not taken yet of it. What it does not take at once
+    /// is sent while others are served: nobody waits for him. His connection is closed if he takes nothing for ten minutes,
+    /// and if there are more than eight such operators, and he has taken nothing for longer than the others.
+    ///
+    /// # Errors
+    ///
+    /// Fails if the operator has closed the connection, if the system has no descriptor or no memory, and if the clock
+    /// failed. The reply has no end then.
+    pub fn end_reply(
+        &mut self,
+        operator: &UnixStream,
+        mut unsent: Unsent,
+        end: &[u8],
+        clock: &impl Clock,
+    ) -> io::Result<()> {
+        unsent.push(end)?;
+        unsent.send(operator)?;
+        if unsent.as_slice().is_empty() {
+            return Ok(());
+        }
+        self.outbox
+            .push(&self.poll, operator, unsent, Instant::now(clock)?)
     }
 
     /// Takes a client back after a turn whose message was handed out.

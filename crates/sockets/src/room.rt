@@ -14,7 +14,7 @@ use std::os::fd::AsRawFd;
 use std::time::{Duration, Instant};
 
 /// How long a client whose connection was closed may take to close its side, in seconds.
-const LONGEST_LEAVING: u64 = 2;
+pub(crate) const LONGEST_LEAVING: u64 = 2;
 
 /// How often clients that have waited for too long are looked for, in milliseconds.
 pub(crate) const ROUND: u64 = 250;
@@ -22,8 +22,8 @@ pub(crate) const ROUND: u64 = 250;
 /// The length of a turn after which the waiting times of all clients start again, in seconds.
 const LONG_TURN: u64 = 1;
 
-/// The token of the connection with key 0. Those below it are of the listeners.
-const FIRST: usize = 2;
+/// The token of the connection with key 0. Those below it are of the listeners, and of operators.
+const FIRST: usize = 3;
 
 /// What clients may do that send nothing.
 #[derive(Clone, Copy)]

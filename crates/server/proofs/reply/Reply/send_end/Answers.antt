@@ -9,7 +9,7 @@ returns-in_err-send_errors g c = ([], refl, tt)
 pub returns : goal.returns
 returns g c =
     let operator = c.args.self.now.stream.now in
-    let sent = sent_or_not g.M.Machine c.args.machine.now c.send.new.self c.send.result operator (c.code.result ∷ []) c.send.ensures.ok c.send.ensures.err in (
+    let sent = sent_or_not g.M.Machine c.args.machine.now c.end_reply.new.self c.end_reply.result operator (c.code.result ∷ []) c.end_reply.ensures.ok c.end_reply.ensures.err in (
       sent.0,
       sent.1,
       elim sent.2 [
