@@ -220,10 +220,12 @@ class SecondServer(SiteServer):
         room = f"{site.room}/second"
         for program in ("custody-user", "forced-command"):
             text = Path(site.room, "lib", program).read_text(encoding="utf-8")
-            for name in ("control", "policy.toml", "git", "authorized_keys", "lib"):
+            for name in ("control", "places", "git", "authorized_keys", "lib"):
                 text = text.replace(f"{site.room}/{name}", f"{room}/{name}")
             site.write(f"second/lib/{program}", text, 0o755)
-        super().__init__(site.server.program, room, (row("allow", ["mirror"], ["push"]), row("allow", ["ann"], WORK)))
+        Path(room, "places").mkdir()
+        rows = (row("allow", ["mirror"], ["pull", "push"]), row("allow", ["ann"], WORK))
+        super().__init__(site.server.program, room, rows)
         site.make_repository(FILM, room)
         self.add_keys(site)
 
