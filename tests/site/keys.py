@@ -224,13 +224,13 @@ def try_policy(site):
     site.write("policy.toml", "no policy")
     bob.passes("a file that the server has not read is in the way of nobody", "fetch", "-q", "origin")
     site.change_policy(rows=(row("deny", ["bob"], ["push"], refs=["refs/heads/main"]), *ROWS))
-    bob.passes("a row that denies some pushes leaves the others to the hook", "push", "-q", "origin", "HEAD:refs/heads/b")
+    bob.passes("a row that denies some pushes leaves others to the hook", "push", "-q", "origin", "HEAD:refs/heads/a")
     site.change_policy(rows=(row("allow", ["bob"], ["push"]),))
     refuses(site, "bob may push and not pull", no_pull, RECEIVE, UPLOAD)
     site.change_policy()
     site.make_repository("studio/none")
-    refuses(site, "a repository that the policy does not have", "custody: ", RECEIVE.replace(FILM, "studio/none"),
-            UPLOAD.replace(FILM, "studio/none"))
+    refuses(site, "a repository that the policy does not have", "R1: no such repository",
+            RECEIVE.replace(FILM, "studio/none"), UPLOAD.replace(FILM, "studio/none"))
     site.server.end(signal.SIGTERM)
     refuses(site, "no server runs", "The Git LFS server is not running: try again in a minute", RECEIVE, UPLOAD, ISSUE)
     site.server.start()

@@ -363,7 +363,7 @@ def try_users(site, pushes):
     site.expect(status != 0 and "does not let carl pull from studio/film" in text,
                 "carl, whom no row names, may not clone", text)
     site.run("git", "init", "-q", "--bare", f"{site.room}/git/other/film.git")
-    vera.fails("nor vera a repository that the policy does not have", "repository", "ls-remote",
+    vera.fails("nor vera a repository that the policy does not have", "R1: no such repository", "ls-remote",
                site.remote("other/film"))
     policy = Path(site.room, "policy.toml")
     whole = policy.read_text()

@@ -174,7 +174,8 @@ def begin(site, kept, number, field, method="PUT", rest="content/"):
     connection = kept.enter_context(contextlib.closing(site.connect(timeout=0.5)))
     connection.connect()
     where = target(f"{rest}{number:064}" if rest.endswith("/") else rest)
-    head = (f"{method} {where} HTTP/1.1", "Host: localhost", f"Content-Length: {SMALL}", f"Authorization:{field}", "", "x")
+    fields = ("Host: localhost", f"Content-Length: {SMALL}", f"Authorization:{field}")
+    head = (f"{method} {where} HTTP/1.1", *fields, "", "x")
     connection.sock.sendall("\r\n".join(head).encode())
     with contextlib.suppress(OSError):
         return int(connection.sock.recv(100).split()[1])
@@ -202,8 +203,8 @@ def try_made_up(site):
         found = [begin(site, kept, number, f" Bearer {number:064x}", *kinds[number % len(kinds)])
                  for number in range(MADE_UP)]
         served = [ask(site, "GET", target("locks"), token)[0], ask(site, "PUT", content(name_of(data)), token, data)[0]]
-    site.expect(served == [200, 200], f"beside {MADE_UP} requests with made-up tokens, which are not whole, a request and "
-                "an upload with a token are served", served)
+    site.expect(served == [200, 200], f"beside {MADE_UP} requests with made-up tokens, which are not whole, a request "
+                "and an upload with a token are served", served)
     site.expect(set(found) == {401}, "and none of these waits for its body", found)
 
 

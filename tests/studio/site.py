@@ -66,7 +66,8 @@ def connection_to(port, certificate=None, source=None, timeout=120):
 def placed(text, room, port):
     """A text of the documents or of deploy/ with the paths of a folder, and the server's port."""
     paths = {"/run/custody/control": f"{room}/control", "/run/custody/git": f"{room}/places",
-             "/run/custody-user.lock": f"{room}/custody-user.lock", "/var/lib/custody/db": f"{room}/state", "/etc/custody": room, "/srv/git": f"{room}/git",
+             "/run/custody-user.lock": f"{room}/custody-user.lock", "/var/lib/custody/db": f"{room}/state",
+             "/etc/custody": room, "/srv/git": f"{room}/git",
              "/usr/lib/custody": f"{room}/lib", "/var/log/nginx": room,
              "/backup": f"{room}/backup", "127.0.0.1:8080": f"127.0.0.1:{port}"}
     for old, new in paths.items():
