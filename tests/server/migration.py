@@ -28,7 +28,7 @@ LOCKS = """1 refs/heads/main ann 2016-05-17T15:49:06Z art/hero.psd
 4 refs/heads/release/1 bob 2016-05-17T15:49:06Z art/hero.psd
 """
 # These commands read the policy.
-WITH_POLICY = ["session", "serve", "authenticate", "pushcheck"]
+WITH_POLICY = ["session", "serve", "authenticate", "may", "pushcheck"]
 REFUSED = (1, "", "custody: store G1\n")
 
 
@@ -99,6 +99,7 @@ def check_refused(options, room):
         ["session"],
         ["serve", "--listen", "127.0.0.1:0"],
         ["authenticate", "--user", "ann", FILM, "download"],
+        ["may", "--user", "ann", "--repo", FILM, "pull"],
         ["pushcheck", "--user", "ann", "--repo", FILM, "--ref", MAIN],
     ]
     for name, *more in commands:

@@ -10,7 +10,7 @@ use faults::Fault;
 use machine::{moment, read_policy, read_random};
 use names::{Sink, Source};
 use operator::{Destination, LONGEST_PATHS, Task, repo_at};
-use server::{message_in, plain_task, push_of, token_request};
+use server::{access_question, message_in, plain_task, push_of, token_request};
 use service::LONGEST_MESSAGE;
 use std::alloc::Global;
 use std::io::IsTerminal;
@@ -126,8 +126,8 @@ fn foresee<S: Start, R: Source, K: Sink>(
 ///
 /// `Clock`, `PolicyFile`, `Policy`, `Repository`, `Random`, `BadPath`, `TooManyPaths` and `NoMessage`, which leave the
 /// database unopened; `Store`, `Token` (K1, K2), `NoCaller`, `NoObject` and `Memory`; `Output` if the input could not be
-/// read, or a line not be written; and `Reported` if a path may not be pushed, or an object is damaged. After any of them
-/// the world is as before, but for `Output` after tokens were pruned or an object was retired, and except perhaps if the
+/// read, or a line not be written; and `Reported` if Git may not begin, a path may not be pushed, or an object is damaged.
+/// After any of them the world is as before, but for `Output` after tokens were pruned or an object was retired, and except perhaps if the
 /// database failed within the change.
 pub(crate) fn operate<S: Start, R: Source, K: Sink>(
     rt: &HostRuntime,
@@ -148,6 +148,11 @@ pub(crate) fn operate<S: Start, R: Source, K: Sink>(
     match command {
         OperatorCommand::Authenticate(asked) => {
             authenticate(rt, files, asked, destination, output, start)
+        }
+        OperatorCommand::May(asked) => {
+            let policy = read_policy(rt, files.policy)?;
+            let task = Task::May(access_question(&policy, asked)?);
+            run_task(rt, files.db, &task, destination, output, start)
         }
         OperatorCommand::PushCheck(asked) => {
             push_check(rt, files, asked, input, destination, output, start)

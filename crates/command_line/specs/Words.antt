@@ -4,13 +4,20 @@ use Rattle.names.specs.Texts.{is_hex_64, last_moment}
 use Rattle.names.specs.Names.{user_text, repo_text, ref_text}
 use Rattle.names.specs.declared.operations.Operation.{Operation}
 use Rattle.names.specs.declared.operations.Operation.TheVariants.{Download, Upload}
+use Rattle.policy.specs.declared.access.Access.{Access}
+use Rattle.policy.specs.declared.access.Access.TheVariants.{Pull, Push}
 use Rattle.command_line.specs.declared.args.OperatorCommand.{OperatorCommand}
-use Rattle.command_line.specs.declared.args.OperatorCommand.TheVariants.{Authenticate, Tokens, Prune, PushCheck, Foresee, Locks, Objects, Usage, Check, Repair, Sweep, Retire, Status, Hold, Reload, Stop}
+use Rattle.command_line.specs.declared.args.OperatorCommand.TheVariants.{Authenticate, Tokens, Prune, May, PushCheck, Foresee, Locks, Objects, Usage, Check, Repair, Sweep, Retire, Status, Hold, Reload, Stop}
 
 -- the word of an operation
 abbrev pub operation_word : Operation → List ℕ
 operation_word Download = codes "download"
 operation_word Upload = codes "upload"
+
+-- the word of what Git asks for
+abbrev pub access_word : Access → List ℕ
+access_word Pull = codes "pull"
+access_word Push = codes "push"
 
 -- the word of a moment, in decimal; no word if no moment is named
 abbrev pub moment_words : Option ℕ → List (List ℕ)
@@ -22,6 +29,7 @@ abbrev pub command_words : OperatorCommand → List (List ℕ)
 command_words (Authenticate args) = codes "authenticate" ∷ user_text args.user ∷ args.path.now ∷ operation_word args.operation ∷ moment_words args.now
 command_words (Tokens args) = codes "tokens" ∷ repo_text args.repo ∷ moment_words args.now
 command_words (Prune moment) = codes "prune" ∷ moment_words moment
+command_words (May args) = codes "may" ∷ user_text args.user ∷ repo_text args.repo ∷ access_word args.access ∷ []
 command_words (PushCheck args) = codes "pushcheck" ∷ user_text args.user ∷ repo_text args.repo ∷ ref_text args.ref_name ∷ []
 command_words (Foresee args) = codes "foresee" ∷ user_text args.user ∷ repo_text args.repo ∷ moment_words args.now
 command_words (Locks repo) = codes "locks" ∷ repo_text repo ∷ []

@@ -9,11 +9,12 @@ ghost use Rattle.command_line.specs.Words.{IsCommand, IsHold, IsMoment};
 
 use crate::commands::program;
 use crate::faults::ArgsFault;
-use crate::parameters::{UPLOAD, Usage};
+use crate::parameters::{PUSH, UPLOAD, Usage};
 use crate::policy_args::{PolicyArgs, policy_args};
 use clap::ArgMatches;
 use clap::error::ErrorKind;
 use names::{Moment, Oid, Operation, RefName, RepoName, UserName};
+use policy::Access;
 use std::alloc::Global;
 
 /// The largest number of connections that an argument can give.
@@ -59,6 +60,8 @@ pub enum OperatorCommand<'a> {
     Tokens(TokensArgs),
     /// The command `prune`, with the moment that was given.
     Prune(Option<Moment>),
+    /// The command `may`.
+    May(MayArgs),
     /// The command `pushcheck`.
     PushCheck(PushArgs),
     /// The command `foresee`.
@@ -146,6 +149,17 @@ pub struct TokensArgs {
     pub repo: RepoName,
     /// The moment at which the tokens are valid; `None` for the clock's.
     pub now: Option<Moment>,
+}
+
+/// The arguments of `may`.
+#[derive(Debug, Drop)]
+pub struct MayArgs {
+    /// The user who runs Git.
+    pub user: UserName,
+    /// The repository that Git asks about.
+    pub repo: RepoName,
+    /// What Git asks for.
+    pub access: Access,
 }
 
 /// The arguments of `pushcheck`.
@@ -317,6 +331,23 @@ fn tokens_args(alloc: Global, matches: &ArgMatches<'_>) -> Result<TokensArgs, Ar
     })
 }
 
+/// What Git asks for, as an argument that `clap` accepted says.
+fn access_of(matches: &ArgMatches<'_>) -> Access {
+    if value_of(matches, "access") == PUSH {
+        Access::Push
+    } else {
+        Access::Pull
+    }
+}
+
+fn may_args(alloc: Global, matches: &ArgMatches<'_>) -> Result<MayArgs, ArgsFault> {
+    Ok(MayArgs {
+        user: user_of(alloc, matches)?,
+        repo: repo_of(alloc, matches)?,
+        access: access_of(matches),
+    })
+}
+
 fn push_args(alloc: Global, matches: &ArgMatches<'_>) -> Result<PushArgs, ArgsFault> {
     Ok(PushArgs {
         user: user_of(alloc, matches)?,
@@ -384,6 +415,7 @@ fn operator_command_of<'a>(
         "authenticate" => Some(OperatorCommand::Authenticate(token_args(alloc, matches)?)),
         "tokens" => Some(OperatorCommand::Tokens(tokens_args(alloc, matches)?)),
         "prune" => Some(OperatorCommand::Prune(now_of(matches)?)),
+        "may" => Some(OperatorCommand::May(may_args(alloc, matches)?)),
         "pushcheck" => Some(OperatorCommand::PushCheck(push_args(alloc, matches)?)),
         "foresee" => Some(OperatorCommand::Foresee(foresee_args(alloc, matches)?)),
         "locks" => Some(OperatorCommand::Locks(repo_of(alloc, matches)?)),

@@ -15,7 +15,7 @@ mod server_commands;
 mod words;
 
 pub use args::{
-    Command, Files, ForeseeArgs, OperatorCommand, PushArgs, RetireArgs, ServeArgs, SessionArgs,
+    Command, Files, ForeseeArgs, MayArgs, OperatorCommand, PushArgs, RetireArgs, ServeArgs, SessionArgs,
     TokenArgs, TokensArgs, read_args,
 };
 pub use faults::ArgsFault;

@@ -56,6 +56,18 @@ lock is not in the way. This is what a hook of a Git server asks before it accep
 The status is 0 if every path is ok, 1 if one is not or something was refused, and 2 if the arguments \
 or the paths are wrong.";
 
+const MAY_ABOUT: &str = "Says whether Git may pull from a repository, or push to it, for a user";
+
+const MAY_LONG_ABOUT: &str = "\
+Says whether Git may pull from a repository, or push to it, for a user.
+
+It prints \"yes\" or \"no\". A push may begin if, of the rows of the policy that hold the user, the repository and the \
+right to push, one allows it for some ref, and no row before that one denies every push. So after \"no\" nothing could be \
+pushed; after \"yes\" a hook asks \"pushcheck\" about each path. This is what a forced command of sshd asks before it \
+runs Git.
+
+The status is 0 after \"yes\", 1 after \"no\" or if something was refused, and 2 if the arguments are wrong.";
+
 const FORESEE_ABOUT: &str =
     "Prints the reply that a user would get to the message on standard input";
 
@@ -237,6 +249,20 @@ const OPERATION: Parameter = Parameter {
     kind: Kind::Operation,
 };
 
+const ACCESS: Parameter = Parameter {
+    name: "access",
+    value_name: "ACCESS",
+    help: "What Git asks for: to pull is git-upload-pack, to push is git-receive-pack",
+    kind: Kind::Access,
+};
+
+const ASKER: Parameter = Parameter {
+    name: "user",
+    value_name: "U",
+    help: "Who runs Git: 1 to 40 of a-z, 0-9, _ and -",
+    kind: Kind::Required,
+};
+
 const OID: Parameter = Parameter {
     name: "oid",
     value_name: "OID",
@@ -287,6 +313,15 @@ const FORESEE: CommandText = CommandText {
     long_about: FORESEE_LONG_ABOUT,
     parameters: &[DB, VIA, POLICY, SENDER, REPO, NOW],
     example: "Example:\n  custody foresee --via /run/custody/control --user ann --repo studio/film < request",
+};
+
+const MAY: CommandText = CommandText {
+    name: "may",
+    usage: "custody may (--db FILE --policy FILE | --via SOCKET) --user U --repo R ACCESS [--explain]",
+    about: MAY_ABOUT,
+    long_about: MAY_LONG_ABOUT,
+    parameters: &[DB, VIA, POLICY, ASKER, REPO, ACCESS],
+    example: "Example:\n  custody may --via /run/custody/control --user ann --repo studio/film push",
 };
 
 const LOCKS: CommandText = CommandText {
@@ -353,7 +388,7 @@ const RETIRE: CommandText = CommandText {
 };
 
 /// The commands about tokens, and about what a user may do.
-const ACCESS_COMMANDS: [CommandText; 5] = [AUTHENTICATE, TOKENS, PRUNE, PUSHCHECK, FORESEE];
+const ACCESS_COMMANDS: [CommandText; 6] = [AUTHENTICATE, TOKENS, PRUNE, MAY, PUSHCHECK, FORESEE];
 
 /// The commands about what is stored.
 const STORAGE_COMMANDS: [CommandText; 7] = [LOCKS, OBJECTS, USAGE, CHECK, REPAIR, SWEEP, RETIRE];

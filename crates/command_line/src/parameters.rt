@@ -26,6 +26,8 @@ pub(crate) enum Kind {
     Argument,
     /// The same for the operation of a token, which has two values.
     Operation,
+    /// The same for what Git asks for, which has two values.
+    Access,
 }
 
 /// An option or an argument of a command.
@@ -45,6 +47,11 @@ pub const RANDOM: &str = "/dev/urandom";
 pub(crate) const DOWNLOAD: &str = "download";
 
 pub(crate) const UPLOAD: &str = "upload";
+
+/// What Git may ask for.
+pub(crate) const PULL: &str = "pull";
+
+pub(crate) const PUSH: &str = "push";
 
 /// The name of the option for the socket.
 const VIA: &str = "via";
@@ -115,6 +122,7 @@ fn arg_of<'a>(alloc: Global, parameter: &Parameter) -> Result<Arg<'a>, AllocErro
         Kind::Operation => {
             Ok(argument(alloc, parameter).value_parser([DOWNLOAD, UPLOAD].as_slice()))
         }
+        Kind::Access => Ok(argument(alloc, parameter).value_parser([PULL, PUSH].as_slice())),
     }
 }
 

@@ -3,9 +3,10 @@
 //! A command has one list of words: its name, and then its arguments in a fixed order.
 
 ghost use Rattle.std.specs.Prelude.{◌≡◌, ◌≢◌, ◌<◌, ◌≤◌, ◌^◌, ◌↔◌, ℕ, Option, [], ◌∷◌, ◌++◌, length, map, slice_index, codes, decimal, string_bytes, IsTrue, IfOk, IfErr, IfSome, IfNone};
-ghost use Rattle.command_line.specs.Words.{operation_word, moment_words, command_words, IsMoment, IsHold, IsCommand, AreNoCommand};
+ghost use Rattle.command_line.specs.Words.{access_word, operation_word, moment_words, command_words, IsMoment, IsHold, IsCommand, AreNoCommand};
 ghost use Rattle.command_line.specs.declared.args.TokenArgs.{TokenArgs};
 ghost use Rattle.command_line.specs.declared.args.TokensArgs.{TokensArgs};
+ghost use Rattle.command_line.specs.declared.args.MayArgs.{MayArgs};
 ghost use Rattle.command_line.specs.declared.args.PushArgs.{PushArgs};
 ghost use Rattle.command_line.specs.declared.args.ForeseeArgs.{ForeseeArgs};
 ghost use Rattle.command_line.specs.declared.args.RetireArgs.{RetireArgs};
@@ -13,16 +14,18 @@ ghost use Rattle.names.specs.declared.texts.UserName.{UserName};
 ghost use Rattle.names.specs.declared.texts.RepoName.{RepoName};
 ghost use Rattle.names.specs.declared.texts.RefName.{RefName};
 ghost use Rattle.names.specs.declared.operations.Operation.{Operation};
+ghost use Rattle.policy.specs.declared.access.Access.{Access};
 ghost use Rattle.names.specs.Texts.{is_hex_64, last_moment};
 ghost use Rattle.names.specs.Names.{user_text, repo_text, ref_text};
 
 use crate::args::{
-    ForeseeArgs, LONGEST_HOLD, OperatorCommand, PushArgs, RetireArgs, TokenArgs, TokensArgs,
+    ForeseeArgs, LONGEST_HOLD, MayArgs, OperatorCommand, PushArgs, RetireArgs, TokenArgs, TokensArgs,
     number_in,
 };
 use crate::faults::ArgsFault;
-use crate::parameters::{DOWNLOAD, UPLOAD};
+use crate::parameters::{DOWNLOAD, PULL, PUSH, UPLOAD};
 use names::{Moment, Oid, Operation, RefName, RepoName, UserName};
+use policy::Access;
 use std::alloc::{AllocError, Global};
 
 /// Copies of these texts, and then the word of the moment, if there is one.
@@ -86,6 +89,19 @@ fn operation_in(word: &str) -> Result<Operation, ArgsFault>
     match word {
         "download" => Ok(Operation::Download),
         "upload" => Ok(Operation::Upload),
+        _ => Err(ArgsFault::NoCommand),
+    }
+}
+
+/// What Git asks for with this word.
+fn access_in(word: &str) -> Result<Access, ArgsFault>
+    ensures ok { IfOk result (λ access. word.now ≡ access_word access) }
+    ensures none { IfErr result (λ fault. fault ≡ ArgsFault.NoCommand →
+        (access : Access) → word.now ≢ access_word access) }
+{
+    match word {
+        "pull" => Ok(Access::Pull),
+        "push" => Ok(Access::Push),
         _ => Err(ArgsFault::NoCommand),
     }
 }
@@ -183,6 +199,24 @@ fn read_tokens_args(alloc: Global, words: &[String]) -> Result<TokensArgs, ArgsF
     Ok(TokensArgs {
         repo: repo_in(alloc, repo)?,
         now: now_in(now)?,
+    })
+}
+
+/// The arguments of `may` with these words.
+fn read_may_args(alloc: Global, words: &[String]) -> Result<MayArgs, ArgsFault>
+    ensures ok { IfOk result (λ args. codes "may" ∷ map string_bytes words.now
+        ≡ command_words (OperatorCommand.May args)) }
+    ensures none { IfErr result (λ fault. fault ≡ ArgsFault.NoCommand →
+        (args : MayArgs) → codes "may" ∷ map string_bytes words.now
+        ≢ command_words (OperatorCommand.May args)) }
+{
+    let [user, repo, access] = words else {
+        return Err(ArgsFault::NoCommand);
+    };
+    Ok(MayArgs {
+        user: user_in(alloc, user)?,
+        repo: repo_in(alloc, repo)?,
+        access: access_in(access)?,
     })
 }
 
@@ -302,6 +336,32 @@ impl TokenArgs<'_> {
     }
 }
 
+impl MayArgs {
+    /// The word of what Git asks for.
+    fn access_word(&self) -> &str
+        ensures { result.now ≡ access_word self.now.access }
+    {
+        match self.access {
+            Access::Pull => PULL,
+            Access::Push => PUSH,
+        }
+    }
+
+    /// The words of `may` with these arguments.
+    fn words(&self, alloc: Global) -> Result<Vec<String>, AllocError>
+        ensures { IfOk result (λ words. map string_bytes words.items
+            ≡ command_words (OperatorCommand.May self.now)) }
+    {
+        let texts = [
+            "may",
+            self.user.as_str(),
+            self.repo.as_str(),
+            self.access_word(),
+        ];
+        words_with(alloc, &texts, None)
+    }
+}
+
 impl PushArgs {
     /// The words of `pushcheck` with these arguments.
     fn words(&self, alloc: Global) -> Result<Vec<String>, AllocError>
@@ -342,6 +402,7 @@ impl<'a> OperatorCommand<'a> {
                 words_with(alloc, &["tokens", args.repo.as_str()], args.now)
             }
             OperatorCommand::Prune(now) => words_with(alloc, &["prune"], *now),
+            OperatorCommand::May(args) => args.words(alloc),
             OperatorCommand::PushCheck(args) => args.words(alloc),
             OperatorCommand::Foresee(args) => {
                 let texts = ["foresee", args.user.as_str(), args.repo.as_str()];
@@ -382,6 +443,7 @@ impl<'a> OperatorCommand<'a> {
             "authenticate" => Ok(OperatorCommand::Authenticate(read_token_args(alloc, rest)?)),
             "tokens" => Ok(OperatorCommand::Tokens(read_tokens_args(alloc, rest)?)),
             "prune" => Ok(OperatorCommand::Prune(now_in(rest)?)),
+            "may" => Ok(OperatorCommand::May(read_may_args(alloc, rest)?)),
             "pushcheck" => Ok(OperatorCommand::PushCheck(read_push_args(alloc, rest)?)),
             "foresee" => Ok(OperatorCommand::Foresee(read_foresee_args(alloc, rest)?)),
             "locks" => Ok(OperatorCommand::Locks(read_repo(alloc, rest)?)),

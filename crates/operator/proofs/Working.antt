@@ -4,7 +4,7 @@ use Rattle.sqlite_trees.specs.declared.store.Store.{Ghosts}
 use Rattle.tables.specs.declared.Store.{Store}
 use Rattle.operator.specs.declared.faults.TaskFault.{TaskFault}
 use Rattle.operator.specs.declared.tasks.Task.{Task}
-use Rattle.operator.specs.declared.tasks.Task.TheVariants.{Issue, Prune, CheckPush, Foresee, ListLocks, ListObjects, ListTokens, Usage, CheckObjects, Repair, Sweep, Retire}
+use Rattle.operator.specs.declared.tasks.Task.TheVariants.{Issue, Prune, May, CheckPush, Foresee, ListLocks, ListObjects, ListTokens, Usage, CheckObjects, Repair, Sweep, Retire}
 use Rattle.operator.specs.Failing.{Attempts}
 use Rattle.operator.specs.Tasks.{Does, FailsAs, HasDone, HasEnded, IsStepOf, Ran, WorksAs}
 
@@ -110,6 +110,7 @@ module _ {S : Type 0} (g : Ghosts S) where
   does_as a b (Prune now) world d = as_takes (λ steps kept. HasDone world (Prune now) steps) a b world _ _ d.1 (d.0, refl)
   does_as a b Sweep world d = as_keeps (λ steps kept. HasDone world Sweep steps) a b world d.1.0 refl
   does_as a b (Retire repo oid) world d = as_takes (λ steps kept. HasDone world (Retire repo oid) steps) a b world _ _ d.2 (d.0, d.1, refl)
+  does_as a b (May asked) world d = as_still (λ steps kept. HasDone world (May asked) steps) a b world d.0 (d.1, refl)
   does_as a b (CheckPush push) world d = as_still (λ steps kept. HasDone world (CheckPush push) steps) a b world d.0 (d.1, refl)
   does_as a b (Foresee asked) world d = as_still (λ steps kept. HasDone world (Foresee asked) steps) a b world d.0 (d.1, refl)
   does_as a b (ListLocks repo) world d = as_still (λ steps kept. HasDone world (ListLocks repo) steps) a b world d refl

@@ -2,7 +2,8 @@
 use Rattle.std.specs.Prelude.{◌≡◌, ◌⊎◌, ℕ, Bool, true, false, List, [], ◌∷◌, map, Option, Some, Result, Ok, Err, MatchResult, ⊤}
 use Rattle.std.specs.List.{list_all}
 use Rattle.sqlite_trees.specs.declared.store.Store.{Ghosts}
-use Rattle.names.specs.Names.{repo_text, path_text}
+use Rattle.names.specs.Names.{repo_text, path_text, user_text}
+use Rattle.policy.specs.Access.{may}
 use Rattle.policy.specs.Values.{policy_view}
 use Rattle.model.specs.World.{World, Token}
 use Rattle.model.specs.Operator.{Removal, removal_of, token_verdict}
@@ -21,11 +22,16 @@ use Rattle.operator.specs.Works.{Works, steps_of}
 use Rattle.operator.specs.declared.faults.TaskFault.{TaskFault}
 use Rattle.operator.specs.declared.faults.TaskFault.TheVariants.{NoCaller, Reported}
 use Rattle.operator.specs.declared.foreseeing.Foresight.{Foresight}
+use Rattle.operator.specs.declared.permitting.AccessQuestion.{AccessQuestion}
 use Rattle.operator.specs.declared.pushing.Push.{Push}
 use Rattle.operator.specs.declared.tasks.Task.{Task}
-use Rattle.operator.specs.declared.tasks.Task.TheVariants.{Issue, Prune, CheckPush, Foresee, ListLocks, ListObjects, ListTokens, Usage, CheckObjects, Repair, Sweep, Retire}
+use Rattle.operator.specs.declared.tasks.Task.TheVariants.{Issue, Prune, May, CheckPush, Foresee, ListLocks, ListObjects, ListTokens, Usage, CheckObjects, Repair, Sweep, Retire}
 
 -- ---- success
+
+-- Git may begin
+abbrev pub may_begin : AccessQuestion → Bool
+may_begin asked = may asked.access (policy_view asked.policy.now) (user_text asked.user.now) (repo_text asked.repo.now)
 
 -- the path may be pushed
 abbrev pub is_free : PushVerdict → Bool
@@ -38,13 +44,14 @@ may_push world push =
     list_all is_free (push_verdicts (policy_view push.policy.now) world (push_by push.user.now push.repo.now push.ref_name.now) (map path_text push.paths.items))
 
 -- the token is issued, the expired ones are removed, no upload is left staged, or the object is removed, now or before; the
--- other tasks only read: each path may be pushed, a reply is foreseen; a repair finds no damaged object in a world, and leaves
--- the tables
+-- other tasks only read: Git may begin, each path may be pushed, a reply is foreseen; a repair finds no damaged object in a
+-- world, and leaves the tables
 abbrev pub Does : {S : Type 0} (g : Ghosts S) → Store S → Store S → World → Task → Type 0
 Does g old new world (Issue policy asked) = (text : List ℕ) × Issues g world old new asked text
 Does g old new world (Prune now) = (n : ℕ) × Prunes g world now old new (Ok n)
 Does g old new world Sweep = (n : ℕ) × Sweeps g world old new (Ok n)
 Does g old new world (Retire repo oid) = IsRemoved g old new world (repo_text repo.now) oid.now
+Does g old new world (May asked) = Leads g old new world (λ bound. bound) × (may_begin asked ≡ true)
 Does g old new world (CheckPush push) = Leads g old new world (λ bound. bound) × (may_push world push ≡ true)
 Does g old new world (Foresee asked) = Leads g old new world (λ bound. bound) × HasForetold world asked
 Does g old new world (ListLocks repo) = Leads g old new world (λ bound. bound)
@@ -69,6 +76,11 @@ MayFollow (Prune now) fault = IsOutput fault
 MayFollow (Retire repo oid) fault = IsOutput fault
 MayFollow _ fault = ⊥
 
+-- Git may not begin
+abbrev pub IsAccessFault : AccessQuestion → TaskFault → Type 0
+IsAccessFault asked Reported = may_begin asked ≡ false
+IsAccessFault asked fault = IsPlain fault
+
 -- not each path of the push may be pushed
 abbrev pub IsPushFault : World → Push → TaskFault → Type 0
 IsPushFault world push Reported = may_push world push ≡ false
@@ -79,9 +91,10 @@ abbrev pub IsForesightFault : World → Foresight → TaskFault → Type 0
 IsForesightFault world asked NoCaller = Foretells world asked (Err NoCaller)
 IsForesightFault world asked fault = IsPlain fault
 
--- the fault is the task's own, as the definitions say: a path may not be pushed, a token may not be issued, no reply is
--- foreseen, or there is no object; no object of a world is damaged
+-- the fault is the task's own, as the definitions say: Git may not begin, a path may not be pushed, a token may not be issued,
+-- no reply is foreseen, or there is no object; no object of a world is damaged
 abbrev pub IsFaultOf : World → Task → TaskFault → Type 0
+IsFaultOf world (May asked) fault = IsAccessFault asked fault
 IsFaultOf world (CheckPush push) fault = IsPushFault world push fault
 IsFaultOf world (Issue policy asked) fault = IsTokenFault world asked fault
 IsFaultOf world (Foresee asked) fault = IsForesightFault world asked fault
@@ -101,7 +114,7 @@ Ran g old new world task result = MatchResult result (λ _. Does g old new world
 -- ---- the steps of both
 
 -- the steps of a task that succeeded: its token was issued, the expired ones were removed, the object was removed, now or
--- before; each path may be pushed, a reply is foreseen; the other tasks take none
+-- before; Git may begin, each path may be pushed, a reply is foreseen; the other tasks take none
 abbrev pub HasDone : World → Task → List Event → Type 0
 HasDone world (Issue policy asked) steps =
     (token : Token) × (token_verdict world (token_asked asked) ≡ Ok token)
@@ -109,6 +122,7 @@ HasDone world (Issue policy asked) steps =
 HasDone world (Prune now) steps = (n : ℕ) × (steps ≡ prunes now (Some n) ∷ [])
 HasDone world (Retire repo oid) steps =
     (given : Removal) × IsGone given × (steps ≡ retires (repo_text repo.now) oid.now (Some given) ∷ [])
+HasDone world (May asked) steps = (may_begin asked ≡ true) × (steps ≡ [])
 HasDone world (CheckPush push) steps = (may_push world push ≡ true) × (steps ≡ [])
 HasDone world (Foresee asked) steps = HasForetold world asked × (steps ≡ [])
 HasDone world _ steps = steps ≡ []

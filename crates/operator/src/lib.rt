@@ -1,5 +1,5 @@
 //! The commands of an operator, over an open database: tokens are issued and removed, locks, objects, tokens and what
-//! each repository uses are listed, the paths of a push are checked, replies are foreseen, objects are hashed again, and
+//! each repository uses are listed, Git is let in or not, the paths of a push are checked, replies are foreseen, objects are hashed again, and
 //! uploads that were not completed, objects that may not be kept, and objects that are damaged, are removed.
 //!
 //! A [`Task`] is a command whose words, files and input were read. [`Task::run`] writes what the command prints. It is
@@ -21,6 +21,7 @@ mod listing_tokens;
 mod listing_usage;
 mod output;
 mod paths;
+mod permitting;
 mod pruning;
 mod pushing;
 mod reopening;
@@ -35,6 +36,7 @@ pub use inspecting::{Advance, Inspection, Purpose};
 pub use issuing::repo_at;
 pub use output::{Lines, print};
 pub use paths::{LONGEST_PATHS, PathsFault, paths_in};
+pub use permitting::AccessQuestion;
 pub use pushing::Push;
 pub use reopening::reopening_law;
 pub use tasks::Task;

@@ -13,6 +13,7 @@ use crate::listing_locks::list_locks;
 use crate::listing_objects::list_objects;
 use crate::listing_tokens::list_tokens;
 use crate::listing_usage::list_usage;
+use crate::permitting::{AccessQuestion, print_access};
 use crate::pruning::prune;
 use crate::pushing::{Push, check_push};
 use crate::retiring::retire;
@@ -31,6 +32,8 @@ pub enum Task<'a> {
     Issue(&'a Policy, TokenRequest<'a>),
     /// Remove the tokens that are not valid at the moment.
     Prune(Moment),
+    /// Say whether Git may begin.
+    May(AccessQuestion<'a>),
     /// Check the paths of a push.
     CheckPush(Push<'a>),
     /// Foresee the reply to a request.
@@ -59,14 +62,15 @@ impl Task<'_> {
     /// destination is what the output writes to: on a terminal, control characters of paths are escaped.
     ///
     /// It takes at most one step of the definitions, and none but its own: a token is issued, the expired ones are removed,
-    /// or one object is. It succeeds or fails as the definitions say: if each path may be pushed, or a reply is foreseen. A
-    /// repair leaves the tables as they are: each object of a world has the bytes of its name. After an error the world is
-    /// the same, but for an `Output` after tokens or an object were removed. `Ok` means that all output was written.
+    /// or one object is. It succeeds or fails as the definitions say: if Git may begin, each path may be pushed, or a reply
+    /// is foreseen. A repair leaves the tables as they are: each object of a world has the bytes of its name. After an error
+    /// the world is the same, but for an `Output` after tokens or an object were removed. `Ok` means that all output was
+    /// written.
     ///
     /// # Errors
     ///
-    /// `Store`, `Token`, `NoCaller`, `NoObject` and `Memory`; `Output` if a line could not be written; and `Reported` if a
-    /// path may not be pushed, or an object is damaged.
+    /// `Store`, `Token`, `NoCaller`, `NoObject` and `Memory`; `Output` if a line could not be written; and `Reported` if
+    /// Git may not begin, a path may not be pushed, or an object is damaged.
     pub fn run<S: Alter, K: Sink>(
         &self,
         alloc: Global,
@@ -81,6 +85,7 @@ impl Task<'_> {
         match self {
             Task::Issue(policy, asked) => grant(alloc, store, policy, asked, output),
             Task::Prune(now) => prune(store, *now, output),
+            Task::May(asked) => print_access(asked, output),
             Task::CheckPush(push) => check_push(alloc, store, push, destination, output),
             Task::Foresee(asked) => print_foreseen(alloc, store, asked, destination, output),
             Task::ListLocks(repo) => list_locks(alloc, store, repo, destination, output),

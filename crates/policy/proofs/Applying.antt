@@ -6,7 +6,7 @@ use Rattle.policy.specs.declared.numbered.NumberedRow as code
 use Rattle.policy.specs.declared.applicable.ApplicableRows.{ApplicableRows}
 use Rattle.policy.proofs.Steps.{map-drop}
 
-regrouped : (named ref path right : Bool) → (named && ref && path && right) ≡ ((named && right) && (ref && path))
+pub regrouped : (named ref path right : Bool) → (named && ref && path && right) ≡ ((named && right) && (ref && path))
 regrouped false ref path right = refl
 regrouped true true true true = refl
 regrouped true true true false = refl

@@ -5,14 +5,14 @@ use Rattle.policy.specs.Covering.{hold_all, have_all, CoveringRowMatches}
 
 -- ---- tests
 
-or_left : (a b : Bool) → a ≡ true → (a || b) ≡ true
+pub or_left : (a b : Bool) → a ≡ true → (a || b) ≡ true
 or_left a b is = rw is refl
 
-or_right : (a b : Bool) → b ≡ true → (a || b) ≡ true
+pub or_right : (a b : Bool) → b ≡ true → (a || b) ≡ true
 or_right true b is = refl
 or_right false b is = is
 
-both : (a b : Bool) → a ≡ true → b ≡ true → (a && b) ≡ true
+pub both : (a b : Bool) → a ≡ true → b ≡ true → (a && b) ≡ true
 both a b is is2 = rw (is, is2) refl
 
 -- what follows from each of two tests follows from either
@@ -22,7 +22,7 @@ either P false b f g is = g is
 
 -- ---- lists
 
-any_weaker : {A : Type 0} (f g : A → Bool) (xs : List A) → ((x : A) → f x ≡ true → g x ≡ true) → list_any f xs ≡ true → list_any g xs ≡ true
+pub any_weaker : {A : Type 0} (f g : A → Bool) (xs : List A) → ((x : A) → f x ≡ true → g x ≡ true) → list_any f xs ≡ true → list_any g xs ≡ true
 any_weaker f g [] all is = is
 any_weaker f g (x ∷ xs) all is =
     either (list_any g (x ∷ xs) ≡ true) (f x) (list_any f xs) (λ here. or_left (g x) (list_any g xs) (all x here))

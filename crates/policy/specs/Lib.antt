@@ -5,5 +5,6 @@ pub mod Language
 pub mod Reading
 pub mod Lines
 pub mod Applicable
+pub mod Access
 pub mod Patterns
 pub mod Covering

@@ -6,6 +6,7 @@
 //! matches it; [`ApplicableRows`] answers many of them about different refs and paths.
 #![tactic(auto)]
 
+mod access;
 mod applicable;
 mod covering;
 mod decisions;
@@ -23,6 +24,7 @@ mod sentences;
 mod tables;
 mod texts;
 
+pub use access::{Access, access_law};
 pub use applicable::{ApplicableRows, applicable_law};
 pub use covering::covering_law;
 pub use decisions::decide;

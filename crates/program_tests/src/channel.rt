@@ -138,6 +138,14 @@ lock a studio/film {"path":"art/hero.psd"}
 reply 201 {"lock":{"id":"1","locked_at":"2016-05-17T15:49:06Z","owner":{"name":"ann"},"path":"art/hero.psd"}}
 via locks --repo studio/film
 | 1 refs/heads/main ann 2016-05-17T15:49:06Z art/hero.psd
+via may --user bob --repo studio/film pull
+| yes
+via may --user zoe --repo studio/film push
+| no
+status 1
+via may --user bob --repo studio/none push
+error custody: R1: no such repository
+status 1
 via pushcheck --user bob --repo studio/film --ref refs/heads/main
 line a.txt
 line art/hero.psd
@@ -243,6 +251,9 @@ const REFUSED: &[&str] = &[
     "prune 01463503600",
     "prune 253402300800",
     "prune now",
+    "may ann studio/film",
+    "may ann studio/film upload",
+    "may ann studio/film push pull",
     "pushcheck ann studio/film main",
     "foresee ann film",
     "tokens",

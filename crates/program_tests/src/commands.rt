@@ -273,6 +273,7 @@ const HELPS: &[(&str, &[&str])] = &[
             "serve",
             "authenticate",
             "prune",
+            "may",
             "pushcheck",
             "policy",
             "locks",
@@ -349,6 +350,10 @@ const HELPS: &[(&str, &[&str])] = &[
     ("hold --help", &["--via <SOCKET>", "--seconds <N>"]),
     ("reload --help", &["--via <SOCKET>"]),
     ("stop --help", &["--via <SOCKET>"]),
+    (
+        "may --help",
+        &["--db <FILE>", "--policy <FILE>", "--user <U>", "--repo <R>", "<ACCESS>"],
+    ),
     (
         "pushcheck --help",
         &[

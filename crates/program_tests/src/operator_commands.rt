@@ -84,6 +84,108 @@ fn paths_are_checked_before_a_push(rt: HostRuntime) {
     perform(&rt, &rt, "checked", POLICY, CHECKED);
 }
 
+/// Rows of which some deny every push, some only a part, some before another one allows, and some after.
+const ROWS: &str = r#"
+base = "https://lfs.example"
+token_seconds = 3600
+
+[[repo]]
+name = "studio/film"
+default_ref = "refs/heads/main"
+quota = 1000000
+
+[[repo]]
+name = "studio/game"
+default_ref = "refs/heads/main"
+quota = 1000000
+
+[[row]]
+effect = "deny"
+users = ["bob"]
+repos = ["*"]
+refs = ["*"]
+paths = ["*"]
+rights = ["pull", "push", "list", "lock", "force"]
+
+[[row]]
+effect = "deny"
+users = ["cem"]
+repos = ["*"]
+refs = ["refs/heads/main"]
+paths = ["*"]
+rights = ["pull", "push"]
+
+[[row]]
+effect = "deny"
+users = ["dan"]
+repos = ["*"]
+refs = ["*"]
+paths = ["art/"]
+rights = ["push"]
+
+[[row]]
+effect = "deny"
+users = ["eve"]
+repos = ["studio/game"]
+refs = ["refs/heads/main", "*"]
+paths = ["art/", "*"]
+rights = ["push"]
+
+[[row]]
+effect = "allow"
+users = ["fay"]
+repos = ["studio/"]
+refs = ["refs/heads/fay"]
+paths = ["fay/"]
+rights = ["push"]
+
+[[row]]
+effect = "deny"
+users = ["fay"]
+repos = ["*"]
+refs = ["*"]
+paths = ["*"]
+rights = ["push"]
+
+[[row]]
+effect = "allow"
+users = ["*"]
+repos = ["studio/film", "studio/game"]
+refs = ["*"]
+paths = ["*"]
+rights = ["push", "pull"]
+"#;
+
+/// A user, a repository, what Git asks for, and whether it may begin by [`ROWS`].
+const ACCESSES: &[(&str, &str, &str, bool)] = &[
+    ("ann", "studio/film", "pull", true),
+    ("ann", "studio/film", "push", true),
+    ("bob", "studio/film", "pull", false),
+    ("bob", "studio/film", "push", false),
+    ("cem", "studio/film", "pull", true),
+    ("cem", "studio/film", "push", true),
+    ("dan", "studio/film", "push", true),
+    ("eve", "studio/film", "push", true),
+    ("eve", "studio/game", "push", false),
+    ("eve", "studio/game", "pull", true),
+    ("fay", "studio/game", "push", true),
+];
+
+#[test]
+fn git_may_begin_unless_all_is_denied(rt: HostRuntime) {
+    prepare(&rt, &rt, "accesses", ROWS);
+    for &(user, repo, access, may) in ACCESSES {
+        let line = unwrap(
+            &rt,
+            format!(in rt.alloc(); "may --db @/db --policy @/policy --user {user} --repo {repo} {access}"),
+        );
+        let ran = run(&rt, &rt, "accesses", line.as_str(), "");
+        let is_as_wanted = if may { ran.is(0, "yes\n", "") } else { ran.is(1, "no\n", "") };
+        assert!(&rt; is_as_wanted, "{line}");
+    }
+    remove(&rt, "accesses");
+}
+
 /// Tokens of a repository, and what it uses. The digits are those that `sha256sum` prints of the tokens' texts.
 const LISTED: &str = r#"
 $ tokens --db @/db --repo studio/film
@@ -219,6 +321,17 @@ $ objects --db @/db --repo studio/film/art
 error custody: bad value for --repo
 status 2
 missing db
+# the policy before its repository, and that before the database
+$ may --db @/db --policy @/nowhere --user bob --repo studio/none push
+error custody: policy not read
+status 1
+missing db
+$ may --db @ --policy @/policy --user bob --repo studio/none push
+error custody: R1: no such repository
+status 1
+$ may --db @ --policy @/policy --user bob --repo studio/film push
+error custody: store G2
+status 1
 # the policy before the paths
 $ pushcheck --db @/db --policy @/nowhere --user bob --repo studio/film --ref refs/heads/main
 >> a//b

@@ -4,7 +4,7 @@ use Rattle.std.specs.declared.net.unix.UnixStream.{UnixStream}
 use Rattle.sqlite_trees.specs.declared.store.Store.{Ghosts}
 use Rattle.tables.specs.declared.Store.{Store}
 use Rattle.hex.specs.Hex.{encode_lower}
-use Rattle.names.specs.Names.{path_text, user_text}
+use Rattle.names.specs.Names.{path_text, repo_text, user_text}
 use Rattle.policy.specs.Values.{policy_view}
 use Rattle.policy.specs.declared.policies.Policy.{Policy}
 use Rattle.model.specs.World.{World}
@@ -22,6 +22,7 @@ use Rattle.command_line.specs.Words.{command_words}
 use Rattle.command_line.specs.declared.args.OperatorCommand.{OperatorCommand}
 use Rattle.command_line.specs.declared.args.OperatorCommand.TheVariants as command
 use Rattle.command_line.specs.declared.args.ForeseeArgs.{ForeseeArgs}
+use Rattle.command_line.specs.declared.args.MayArgs.{MayArgs}
 use Rattle.command_line.specs.declared.args.PushArgs.{PushArgs}
 use Rattle.command_line.specs.declared.args.TokenArgs.{TokenArgs}
 use Rattle.operator.specs.Listed.{AreLinesOf}
@@ -32,6 +33,7 @@ use Rattle.operator.specs.declared.foreseeing.Foresight.{Foresight}
 use Rattle.operator.specs.declared.inspecting.Inspection.{Inspection}
 use Rattle.operator.specs.declared.inspecting.Purpose.{Purpose}
 use Rattle.operator.specs.declared.inspecting.Purpose.TheVariants.{Check, Repair}
+use Rattle.operator.specs.declared.permitting.AccessQuestion.{AccessQuestion}
 use Rattle.operator.specs.declared.pushing.Push.{Push}
 use Rattle.operator.specs.declared.tasks.Task.{Task}
 use Rattle.operator.specs.declared.tasks.Task.TheVariants as task
@@ -72,6 +74,12 @@ IsTokenOf policy asked seen request =
     × (repo : List ℕ) × IsRepoAt asked.path.now repo × HasRepo (policy_view policy) repo
     × (token_asked request ≡ token_of asked repo now (policy_view policy).token_seconds random)
 
+-- what Git asks of the policy's repository for the user
+abbrev pub IsAccessOf : Policy → MayArgs → AccessQuestion → Type 0
+IsAccessOf policy asked question =
+    (question.policy.now ≡ policy) × (question.user.now ≡ asked.user) × (question.repo.now ≡ asked.repo)
+    × (question.access ≡ asked.access) × HasRepo (policy_view policy) (repo_text asked.repo)
+
 -- a push to the ref by the user, under the policy, of the paths in the lines of the input
 abbrev pub IsPushOf : Policy → PushArgs → (input : List ℕ) → Push → Type 0
 IsPushOf policy asked input push =
@@ -92,6 +100,7 @@ abbrev pub IsTaskOf : Policy → OperatorCommand → (input : List ℕ) → List
 IsTaskOf policy (command.Authenticate asked) input seen (task.Issue by request) =
     (by.now ≡ policy) × IsTokenOf policy asked seen request
 IsTaskOf policy (command.Prune named) input seen (task.Prune now) = IsMomentOf named now seen
+IsTaskOf policy (command.May asked) input seen (task.May question) = IsAccessOf policy asked question × (seen ≡ [])
 IsTaskOf policy (command.PushCheck asked) input seen (task.CheckPush push) =
     IsPushOf policy asked input push × (seen ≡ [])
 IsTaskOf policy (command.Foresee asked) input seen (task.Foresee f) =

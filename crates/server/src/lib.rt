@@ -15,5 +15,5 @@ mod traffic;
 mod waiting;
 
 pub use foreseeing::{GivenMessage, message_in};
-pub use requests::{plain_task, push_of, token_request};
+pub use requests::{access_question, plain_task, push_of, token_request};
 pub use server::{Finish, Server};

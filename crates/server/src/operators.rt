@@ -12,7 +12,7 @@ use crate::foreseeing::message_in;
 use crate::outcomes::Outcome;
 use crate::pieces::Pieces;
 use crate::reply::Reply;
-use crate::requests::{plain_task, push_of, token_request};
+use crate::requests::{access_question, plain_task, push_of, token_request};
 use command_line::{ForeseeArgs, OperatorCommand, TokenArgs};
 use control::{PrefixFault, Request, VERSION, read_request, refusal_bytes, request_size};
 use faults::Fault;
@@ -186,6 +186,10 @@ impl OperatorContext<'_> {
             OperatorCommand::Prune(named) => {
                 let now = moment_of(machine, *named)?;
                 self.work(store, &Task::Prune(now), output)
+            }
+            OperatorCommand::May(asked) => {
+                let question = access_question(self.policy, asked)?;
+                self.work(store, &Task::May(question), output)
             }
             OperatorCommand::PushCheck(asked) => {
                 let push = push_of(self.alloc, self.policy, asked, input)?;

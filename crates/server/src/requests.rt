@@ -3,12 +3,12 @@
 ghost use Rattle.std.specs.Prelude.{◌≡◌, IfNone, IfOk, IfSome};
 ghost use Rattle.names.specs.Names.{repo_text};
 ghost use Rattle.tokens.specs.Issuing.{token_asked};
-ghost use Rattle.server.specs.Commands.{IsPlainTask, IsPushOf, NeedsMore, token_of};
+ghost use Rattle.server.specs.Commands.{IsAccessOf, IsPlainTask, IsPushOf, NeedsMore, token_of};
 
-use command_line::{OperatorCommand, PushArgs, TokenArgs};
+use command_line::{MayArgs, OperatorCommand, PushArgs, TokenArgs};
 use faults::Fault;
 use names::{Moment, RepoName};
-use operator::{Push, Task, paths_in};
+use operator::{AccessQuestion, Push, Task, paths_in};
 use policy::Policy;
 use std::alloc::Global;
 use std::io::Stderr;
@@ -53,6 +53,28 @@ pub fn plain_task<'a>(
         OperatorCommand::Sweep => Some(Task::Sweep),
         OperatorCommand::Retire(asked) => Some(Task::Retire(&asked.repo, &asked.oid)),
         _ => None,
+    }
+}
+
+/// Returns what Git asks, by these arguments, of a repository of the policy.
+///
+/// # Errors
+///
+/// `Repository` if the policy does not have it.
+pub fn access_question<'a>(
+    policy: &'a Policy,
+    asked: &'a MayArgs,
+) -> Result<AccessQuestion<'a>, Fault>
+    ensures { IfOk result (IsAccessOf policy.entry.now asked.entry.now) }
+{
+    match policy.repo(asked.repo.as_str()) {
+        Some(_) => Ok(AccessQuestion {
+            policy,
+            user: &asked.user,
+            repo: &asked.repo,
+            access: asked.access,
+        }),
+        None => Err(Fault::Repository),
     }
 }
 

@@ -1,4 +1,5 @@
 use Rattle.operator.proofs.Ran.{ran_checked, ran_reads, ran_repaired, ran_still, ran_sweep}
+use Rattle.operator.proofs.Prelude.{reads_none}
 use Rattle.operator.proofs.tasks.Task.run.Goals as goal
 
 pub returns-in-Issue-clause-world : goal.returns-in-Issue-clause-world
@@ -12,6 +13,12 @@ returns-in-Sweep-clause-world g c = rw c.in-Sweep.is (ran_sweep g.S.Store _ c.ar
 
 pub returns-in-Retire-clause-world : goal.returns-in-Retire-clause-world
 returns-in-Retire-clause-world g c = rw c.in-Retire.is c.retire.ensures.world
+
+pub returns-in-May-clause-world : goal.returns-in-May-clause-world
+returns-in-May-clause-world g c =
+    rw c.in-May.is
+    (ran_reads g.S.Store _ c.args.store.now c.args.store.now _ _ c.print_access.result
+    (reads_none g.S.Store c.args.store.now _ (λ honest world h. c.print_access.ensures.may)))
 
 pub returns-in-CheckPush-clause-world : goal.returns-in-CheckPush-clause-world
 returns-in-CheckPush-clause-world g c = rw c.in-CheckPush.is (ran_reads g.S.Store _ c.args.store.now c.check_push.new.store _ _ c.check_push.result c.check_push.ensures.reads)

@@ -1,4 +1,4 @@
-use Rattle.std.proofs.Common.{◌≡◌, ◌∙◌, ◌||◌, Bool, List, [], ◌∷◌, map, refl, sym, ap, subst}
+use Rattle.std.proofs.Common.{◌≡◌, ◌∙◌, ◌||◌, Bool, List, [], ◌∷◌, map, refl, sym, ap}
 use Rattle.std.specs.List.{list_any}
 use Rattle.names.specs.Names.{repo_text, user_text}
 use Rattle.model.specs.Views.{may_allow_push}
