@@ -257,8 +257,8 @@ def try_move(site, book, second):
     here, there = site.server.objects(), second.objects()
     site.expect(there == here and len(here) == count + 3, f"the second server has the same {count + 3} objects",
                 str(there)[:300])
-    site.ann.fails("the first server takes no push", "row 1 of the policy denies it", "push", "--no-verify", "origin",
-                   "main:refs/heads/late")
+    site.ann.fails("the first server takes no push", "does not let ann push to studio/film", "push", "--no-verify",
+                   "origin", "main:refs/heads/late")
     moved = Clone(site, "moved", "ann", {"core.sshCommand": site.ssh_command("second-ann")})
     status, text = moved.take(site.remote())
     same = site.run("diff", "-r", "-x", ".git", site.ann.folder, moved.folder, may_fail=True)
