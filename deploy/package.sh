@@ -109,11 +109,17 @@ changes | gzip -9 -n > "$documents/changelog.gz"
   default. If you never changed it, it has no repository any more; the example
   that it had is in /usr/share/doc/custody/examples/policy.toml.
 
-  The forced command asks the policy before it serves Git: without a row that
-  allows a user pull, or push, in a repository, Git is refused there too. Look
-  at the rows before the upgrade. Pushes of Git, in
+  The forced command asks the running server before it serves Git: without a row
+  that allows a user pull, or for a push pull and push, in a repository, Git is
+  refused there too. Look at the rows before the upgrade, and restart the server
+  after it: until then nobody is served by Git over SSH. Pushes of Git, in
   /usr/share/doc/custody/operating/ssh-and-git.md, has a hook by which locks and
-  rows hold at a push. The site for nginx has a new page.
+  rows hold at a push.
+
+  Copy /usr/share/doc/custody/examples/nginx-site again, with your name and your
+  certificate: the site for nginx has a new page, and reads no body before the
+  server knows its token. If SSH and Git have a user of their own, copy
+  custody-group.conf from there too.
 
   The forced command serves a key only as long as it is in
   /etc/custody/authorized_keys, for which sshd has to say which key it was. Copy

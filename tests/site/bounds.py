@@ -4,6 +4,7 @@ A stand-in for custody allows everything, so no program is needed; the client is
 of Git would. A check fails if a push of some kilobytes or a clone takes memory without a bound, if a push is taken that
 nothing has judged, or that a later lock is in the way of, or if one is not refused in words.
 """
+import contextlib
 import hashlib
 import resource
 import subprocess
@@ -21,8 +22,7 @@ from tests.studio.site import placed
 
 STAND_IN = """#!/bin/sh
 case $1:$* in
-policy:*--rows*) printf '%s\\n' 'effect = "allow"' 'users = ["*"]' 'repos = ["*"]' 'rights = ["pull", "push"]' ;;
-policy:*) echo 'allowed by row 1' ;;
+may:*) echo yes ;;
 pushcheck:*)
     # While it is asked, ann locks what is in the file.
     if [ -e @room/late ]; then sleep 1.2 && mv @room/late @room/locks; fi
@@ -43,6 +43,8 @@ BLOB, DELTA = 3, 7
 # A file of 8 MiB, and how often a second one has it.
 PART, PARTS = 1 << 23, 270
 MANY = 10_000
+# How often a user may run a command of Git at a time.
+PLACES = {"git-receive-pack": 4, "git-upload-pack": 16}
 # The size of a large file, and of a piece of it.
 LARGE, PIECE = 64 << 20, 1 << 20
 
@@ -98,7 +100,8 @@ class Gate(Workroom):
             text = (TOP / "deploy/programs" / name).read_text(encoding="utf-8")
             self.write(f"lib/{name}", placed(text, room, 0), 0o755)
         self.write("bin/custody", STAND_IN.replace("@room", room), 0o755)
-        self.write_key(["bob"], f"{room}/lib/forced-command")
+        Path(room, "places").mkdir()
+        self.write_key(["bob", "ann"], f"{room}/lib/forced-command")
         self.bare = Path(room, "git", f"{FILM}.git")
         self.git("init", "-q", "-b", "main", "--bare", self.bare)
         self.git("-C", self.bare, "config", "receive.fsckObjects", "true")
@@ -135,10 +138,10 @@ class Gate(Workroom):
         """Each ref of the repository, with its commit."""
         return self.git("-C", self.bare, "--no-replace-objects", "for-each-ref")
 
-    def start(self, command="git-receive-pack"):
-        """What receives a push of bob's, or another command of Git."""
+    def start(self, command="git-receive-pack", user="bob"):
+        """What receives a push of the user's, or another command of Git."""
         more = {"SSH_ORIGINAL_COMMAND": f"{command} '/{FILM}.git'", "SSH_USER_AUTH": f"{self.room}/user_auth"}
-        return subprocess.Popen([f"{self.room}/lib/forced-command", "bob"], stdin=subprocess.PIPE,
+        return subprocess.Popen([f"{self.room}/lib/forced-command", user], stdin=subprocess.PIPE,
                                 stdout=subprocess.PIPE, stderr=subprocess.STDOUT, env=self.environment | more)
 
     def push(self, names, data=pack(), old=NONE, new=None):
@@ -172,6 +175,27 @@ def try_packs(gate):
                  b"refs/heads/bomb", data=data)
     taken, most = time.monotonic() - began, most_memory()
     gate.expect(taken < 10 and most < 100, f"after {taken:.1f} s, with {most} MB (at most 10 s, 100 MB)")
+
+
+def try_places(gate):
+    """How many commands of Git a user may run at a time."""
+    for command, most in PLACES.items():
+        with contextlib.ExitStack() as held:
+            running = [held.enter_context(gate.start(command)) for _ in range(most)]
+            begun = [child.stdout.read(4) for child in running]
+            with gate.start(command) as child:
+                text = child.communicate()[0].decode(errors="replace")
+            gate.expect(set(begun) == {begun[0]} and f"bob runs {command} {most} times already" in text,
+                        f"bob runs {command} {most} times at a time, and no more", f"{begun}\n{text}")
+            running[0].kill()
+            running[0].wait()
+            for user, what in (("bob", "one more if one was killed"), ("ann", "ann has places of her own")):
+                child = held.enter_context(gate.start(command, user))
+                running.append(child)
+                found = child.stdout.read(4)
+                gate.expect(found == begun[0], what, found)
+            for child in running[1:]:
+                child.communicate(FLUSH)
 
 
 def try_clone(gate):
@@ -260,7 +284,7 @@ def main():
     arguments(__doc__).parse_args()
     with tempfile.TemporaryDirectory() as room:
         gate = Gate(room, checks)
-        for part in (try_packs, try_clone, try_refs, try_hook, try_no_hook, try_late):
+        for part in (try_packs, try_places, try_clone, try_refs, try_hook, try_no_hook, try_late):
             checks.part(part.__name__.removeprefix("try_"), lambda: part(gate))
     return checks.end()
 

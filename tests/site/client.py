@@ -91,7 +91,6 @@ class Studio(Workroom):
         files = f"--db {room}/custody.db --policy {self.policy}"
         forced = (TOP / "deploy/programs/forced-command").read_text(encoding="utf-8")
         self.write("bin/forced-command", forced.replace('--via "$control"', files)
-                   .replace("/etc/custody/policy.toml", str(self.policy))
                    .replace("/etc/custody/authorized_keys", f"{room}/authorized_keys"), 0o755)
         self.write_key(("ann", "bob"))
         Path(room, "bin/custody").symlink_to(options.program)

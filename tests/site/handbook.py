@@ -220,10 +220,12 @@ class SecondServer(SiteServer):
         room = f"{site.room}/second"
         for program in ("custody-user", "forced-command"):
             text = Path(site.room, "lib", program).read_text(encoding="utf-8")
-            for name in ("control", "policy.toml", "git", "authorized_keys", "lib"):
+            for name in ("control", "places", "git", "authorized_keys", "lib"):
                 text = text.replace(f"{site.room}/{name}", f"{room}/{name}")
             site.write(f"second/lib/{program}", text, 0o755)
-        super().__init__(site.server.program, room, (row("allow", ["mirror"], ["push"]), row("allow", ["ann"], WORK)))
+        Path(room, "places").mkdir()
+        rows = (row("allow", ["mirror"], ["pull", "push"]), row("allow", ["ann"], WORK))
+        super().__init__(site.server.program, room, rows)
         site.make_repository(FILM, room)
         self.add_keys(site)
 
@@ -255,8 +257,8 @@ def try_move(site, book, second):
     here, there = site.server.objects(), second.objects()
     site.expect(there == here and len(here) == count + 3, f"the second server has the same {count + 3} objects",
                 str(there)[:300])
-    site.ann.fails("the first server takes no push", "row 1 of the policy denies it", "push", "--no-verify", "origin",
-                   "main:refs/heads/late")
+    site.ann.fails("the first server takes no push", "does not let ann push to studio/film", "push", "--no-verify",
+                   "origin", "main:refs/heads/late")
     moved = Clone(site, "moved", "ann", {"core.sshCommand": site.ssh_command("second-ann")})
     status, text = moved.take(site.remote())
     same = site.run("diff", "-r", "-x", ".git", site.ann.folder, moved.folder, may_fail=True)

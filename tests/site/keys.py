@@ -1,12 +1,14 @@
-"""Tries the keys of users: deploy/programs/custody-user, what sshd takes, and a connection that outlives its key.
+"""Tries the keys of users: deploy/programs/custody-user, what sshd takes, and what the forced command then serves.
 
 sshd has deploy/sshd/custody.conf and deploy/programs/forced-command, with the paths of a folder. A check fails if a
-key without the forced command opens a connection, if a key that was removed goes on to work, or if the program takes
-what is not one public key, loses a key of another, or leaves the file with another owner or mode.
+key without the forced command opens a connection, if a key that was removed goes on to work, if the program takes what
+is not one public key, loses a key of another, or leaves the file with another owner or mode; or if Git is served to
+somebody whom the policy of the running server denies it.
 """
 import fcntl
 import getpass
 import os
+import signal
 import stat
 import subprocess
 import sys
@@ -22,7 +24,7 @@ from tests.studio.site import Site, placed
 
 ROWS = (row("allow", ["*"], WORK),)
 ISSUE = f"git-lfs-authenticate {FILM} upload"
-RECEIVE = f"git-receive-pack '{FILM}.git'"
+RECEIVE, UPLOAD = f"git-receive-pack '{FILM}.git'", f"git-upload-pack '{FILM}.git'"
 REMOVED = "is not a key of bob any more"
 AT_ONCE = 20
 # The users of the first keys, and the names of the keys.
@@ -194,6 +196,46 @@ def try_lines(site):
     site.expect(status == 255 and "Permission denied" in text, "nor a certificate of the machine's own authority", text)
 
 
+def refuses(site, what, says, *commands):
+    """Commands of bob's over SSH are refused in words, and nothing of the repository is shown."""
+    for command in commands:
+        status, text = over_ssh(site, "bob", command)
+        site.expect(status == 1 and says in text and "agent=git" not in text,
+                    f"{what}: {command.split()[0]} is refused, {says}", f"status {status}: {text}")
+
+
+def try_policy(site):
+    """Git is served as the policy says that the running server has. The repository has no hook."""
+    Path(site.room, "git", f"{FILM}.git", "hooks/pre-receive").unlink()
+    bob, push = site.clone("bob"), ("push", "-q", "origin", "HEAD:refs/heads/main")
+    bob.begin(site.remote())
+    bob.path("notes.txt").write_text("of bob", encoding="utf-8")
+    bob.commit("A note")
+    no_push, no_pull = (f"The policy does not let bob {it} {FILM}" for it in ("push to", "pull from"))
+    site.change_policy(rows=(row("deny", ["bob"], [*WORK, "force"]), *ROWS))
+    what = "row 1 denies bob all, and row 2 allows it"
+    refuses(site, what, no_push, RECEIVE)
+    refuses(site, what, no_pull, UPLOAD)
+    bob.fails(f"{what}: a push is refused", no_push, *push)
+    site.server.set_policy(site.server.policy())
+    bob.fails("nor does it pass by a change of the file that the server has not read", no_push, *push)
+    site.reload()
+    bob.passes("when the server has read it, it passes", *push)
+    site.write("policy.toml", "no policy")
+    bob.passes("a file that the server has not read is in the way of nobody", "fetch", "-q", "origin")
+    site.change_policy(rows=(row("deny", ["bob"], ["push"], refs=["refs/heads/main"]), *ROWS))
+    bob.passes("a row that denies some pushes leaves others to the hook", "push", "-q", "origin", "HEAD:refs/heads/a")
+    site.change_policy(rows=(row("allow", ["bob"], ["push"]),))
+    refuses(site, "bob may push and not pull", no_pull, RECEIVE, UPLOAD)
+    site.change_policy()
+    site.make_repository("studio/none")
+    refuses(site, "a repository that the policy does not have", "R1: no such repository",
+            RECEIVE.replace(FILM, "studio/none"), UPLOAD.replace(FILM, "studio/none"))
+    site.server.end(signal.SIGTERM)
+    refuses(site, "no server runs", "The Git LFS server is not running: try again in a minute", RECEIVE, UPLOAD, ISSUE)
+    site.server.start()
+
+
 def try_open(site):
     """A connection that is open when its key is removed."""
     control = f"{site.room}/open"
@@ -204,12 +246,12 @@ def try_open(site):
         words = ssh_words(site, "bob", "-S", control)
         with subprocess.Popen([*words, RECEIVE], env=site.environment, stdin=subprocess.PIPE,
                               stdout=subprocess.PIPE, stderr=subprocess.DEVNULL) as push:
-            site.expect(b"capabilities" in push.stdout.readline(), "and begins a push")
+            site.expect(b"report-status" in push.stdout.readline(), "and begins a push")
             status, text = site.run(f"{site.room}/lib/custody-user", "remove", "bob", may_fail=True)
             site.expect(status == 0 and "removed 1 keys of bob, and ended 1 commands" in text, text.strip(), text)
             site.expect(comes_true(lambda: push.poll() is not None, 10) and push.returncode != 0, "the push has ended")
             push.kill()
-        for command in (ISSUE, RECEIVE, f"git-upload-pack '{FILM}.git'"):
+        for command in (ISSUE, RECEIVE, UPLOAD):
             status, text = over_ssh(site, "bob", command, "-S", control)
             site.expect(status == 1 and REMOVED in text, f"over the open connection {command} is refused", text)
         site.expect(master.poll() is None and Path(control).exists(), "which is open still")
@@ -243,7 +285,7 @@ def main():
         site.install()
         site.start_sshd(("ann", "bob"))
         site.make_repository(FILM)
-        for part in (try_lines, try_open):
+        for part in (try_lines, try_policy, try_open):
             checks.part(part.__name__.removeprefix("try_"), lambda: part(site))
     return checks.end()
 

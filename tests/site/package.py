@@ -170,7 +170,7 @@ def try_unit(checks):
 
 
 def try_group(checks):
-    """The drop-in waits for the socket, and not for one of a server that has ended."""
+    """The drop-in waits for the socket, and not for one of a server that has ended. It opens the folder of Git too."""
     text = (TOP / "deploy/systemd/custody-group.conf").read_text(encoding="utf-8")
     command = re.search(r"^ExecStartPost=/bin/sh -c '(.*)'$", text, re.M)[1]
     with tempfile.TemporaryDirectory() as room, subprocess.Popen(["sleep", "20"]) as child:
@@ -178,9 +178,11 @@ def try_group(checks):
         with socket.socket(socket.AF_UNIX) as control:
             control.bind(f"{room}/control")
             os.chmod(f"{room}/control", 0o600)
+            os.mkdir(f"{room}/git", 0o700)
             status, _, errors = run(words)
-            mode = stat.S_IMODE(os.stat(f"{room}/control").st_mode)
-        checks.expect((status, mode) == (0, 0o660), f"the drop-in gives the socket the mode {mode:04o}", errors)
+            modes = [stat.S_IMODE(os.stat(f"{room}/{name}").st_mode) for name in ("control", "git")]
+        checks.expect((status, modes) == (0, [0o660, 0o770]), f"the drop-in gives the socket the mode {modes[0]:04o}, "
+                      f"and the folder of Git {modes[1]:04o}", errors)
         os.unlink(f"{room}/control")
         child.kill()
         child.wait()

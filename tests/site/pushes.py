@@ -363,13 +363,13 @@ def try_users(site, pushes):
     site.expect(status != 0 and "does not let carl pull from studio/film" in text,
                 "carl, whom no row names, may not clone", text)
     site.run("git", "init", "-q", "--bare", f"{site.room}/git/other/film.git")
-    vera.fails("nor vera another owner's repository", "does not let vera pull from other/film", "ls-remote",
+    vera.fails("nor vera a repository that the policy does not have", "R1: no such repository", "ls-remote",
                site.remote("other/film"))
     policy = Path(site.room, "policy.toml")
     whole = policy.read_text()
     policy.write_text("no policy")
     status, text = pushes.git("fetch", "origin", may_fail=True)
-    site.expect(status != 0 and "The policy has no answer" in text, "without a policy nobody is served", text)
+    site.expect(status == 0, "the server has its policy until it reads another one", text)
     policy.write_text(whole)
 
 
@@ -377,17 +377,19 @@ def try_silence(site, pushes):
     """A server that does not answer."""
     pushes.change("notes.txt", "of bob, again")
     site.server.end(signal.SIGTERM)
-    pushes.refused("no push passes while the server is down", ["the Git LFS server is not running"])
+    pushes.refused("no push passes while the server is down", ["The Git LFS server is not running"])
     site.server.start()
-    hook = Path(site.room, "lib/pre-receive")
-    text = hook.read_text()
-    hook.write_text(text.replace("PATIENCE = 300", "PATIENCE = 1"))
+    hook = Path(site.room, "lib/pre-receive").read_text(encoding="utf-8")
+    impatient = site.write("impatient", hook.replace("PATIENCE = 300", "PATIENCE = 1"), 0o755)
+    bare = f"{site.room}/git/{FILM}.git"
+    commit = site.run("git", "-C", bare, "rev-parse", "main")[1].strip()
     words = site.server.command("hold", "--seconds", "20")
     with subprocess.Popen(words, stdin=subprocess.PIPE, stdout=subprocess.PIPE) as held:
         held.stdout.readline()
-        pushes.refused("nor while it does not answer", ["did not answer"])
+        status, text = site.run("env", "CUSTODY_USER=bob", f"CUSTODY_REPO={FILM}", f"CUSTODY_VIA={site.room}/control",
+                                impatient, folder=bare, given=f"{'0' * 40} {commit} refs/heads/held\n", may_fail=True)
+        site.expect(status == 1 and "did not answer" in text, "nor while it does not answer", text)
         held.communicate()
-    hook.write_text(text)
     pushes.passes("it passes when the server is there again")
     pushes.clone.fails("a push by a path says that nobody knows whose it is", "did not come over SSH", "push",
                        "--no-verify", f"{site.room}/git/{FILM}.git", "main:refs/heads/local")

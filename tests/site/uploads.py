@@ -13,6 +13,8 @@ from tests.studio.policy import FILM, GAME, MAIN, WORK, row
 from tests.studio.program import content, name_of, target
 
 LARGEST, SENT, SMALL = 4 << 30, 4_000_000, 1_000
+# More requests than an address may have at a time.
+MADE_UP = 70
 ART, DEEP = "refs/heads/art/new", "refs/heads/art/" + "/".join("abcdefg")
 ROWS = (
     row("deny", ["bob"], ["push"], refs=[MAIN]),
@@ -167,22 +169,43 @@ def try_fields(site):
     site.expect(not wrong, "no reply has nginx's version, and each asks browsers to use TLS alone", wrong)
 
 
+def begin(site, kept, number, field, method="PUT", rest="content/"):
+    """Begins a small request, and leaves it unfinished. Returns the status of the reply that comes at once, if any."""
+    connection = kept.enter_context(contextlib.closing(site.connect(timeout=0.5)))
+    connection.connect()
+    where = target(f"{rest}{number:064}" if rest.endswith("/") else rest)
+    fields = ("Host: localhost", f"Content-Length: {SMALL}", f"Authorization:{field}")
+    head = (f"{method} {where} HTTP/1.1", *fields, "", "x")
+    connection.sock.sendall("\r\n".join(head).encode())
+    with contextlib.suppress(OSError):
+        return int(connection.sock.recv(100).split()[1])
+    return None
+
+
 def try_spellings(site):
     """However the field of a token is written, the token has 10 requests at a time, and no log has it."""
-    token, refused = "5" * 64, 0
+    token = site.server.token()
     with contextlib.ExitStack() as kept:
-        for number, (before, after) in enumerate(SPACES):
-            connection = kept.enter_context(contextlib.closing(site.connect(timeout=0.5)))
-            connection.connect()
-            head = (f"PUT {where_of(oid=f'{number:064}')} HTTP/1.1", "Host: localhost", f"Content-Length: {SMALL}",
-                    f"Authorization:{before} Bearer {token}{after}", "", "x")
-            connection.sock.sendall("\r\n".join(head).encode())
-            with contextlib.suppress(OSError):
-                refused += b" 429 " in connection.sock.recv(100)
-    site.expect(refused == len(SPACES) - 10,
-                f"of {len(SPACES)} requests with a token in as many spellings, {refused} are 429")
+        found = [begin(site, kept, number, f"{before} Bearer {token}{after}")
+                 for number, (before, after) in enumerate(SPACES)]
+    refused = found.count(429)
+    site.expect(refused == len(SPACES) - 10 and found.count(None) == 10,
+                f"of {len(SPACES)} requests with a token in as many spellings, {refused} are 429", found)
     logs = [it.name for it in Path(site.room).glob("*.log") if token in it.read_text(encoding="utf-8")]
     site.expect(not logs, "and no log of nginx has the token", logs)
+
+
+def try_made_up(site):
+    """Whoever makes tokens up, and never ends a request, keeps nobody of the same address from being served."""
+    token, data = site.server.token(), os.urandom(SMALL)
+    kinds = (("PUT", "content/"), ("POST", "objects/batch"), ("POST", "locks"), ("GET", "locks"), ("GET", "content/"))
+    with contextlib.ExitStack() as kept:
+        found = [begin(site, kept, number, f" Bearer {number:064x}", *kinds[number % len(kinds)])
+                 for number in range(MADE_UP)]
+        served = [ask(site, "GET", target("locks"), token)[0], ask(site, "PUT", content(name_of(data)), token, data)[0]]
+    site.expect(served == [200, 200], f"beside {MADE_UP} requests with made-up tokens, which are not whole, a request "
+                "and an upload with a token are served", served)
+    site.expect(set(found) == {401}, "and none of these waits for its body", found)
 
 
 def try_wrong(site):
@@ -205,6 +228,7 @@ def try_wrong(site):
 def try_uploads(site):
     """Uploads under a policy of their own."""
     site.change_policy(rows=ROWS)
-    for part in (try_refused, try_methods, try_passed, try_fields, try_wrong, try_spellings):
+    for part in (try_refused, try_methods, try_passed, try_fields, try_wrong, try_spellings,
+                 try_made_up):
         part(site)
     site.change_policy()

@@ -65,8 +65,9 @@ def connection_to(port, certificate=None, source=None, timeout=120):
 
 def placed(text, room, port):
     """A text of the documents or of deploy/ with the paths of a folder, and the server's port."""
-    paths = {"/run/custody/control": f"{room}/control", "/run/custody-user.lock": f"{room}/custody-user.lock",
-             "/var/lib/custody/db": f"{room}/state", "/etc/custody": room, "/srv/git": f"{room}/git",
+    paths = {"/run/custody/control": f"{room}/control", "/run/custody/git": f"{room}/places",
+             "/run/custody-user.lock": f"{room}/custody-user.lock", "/var/lib/custody/db": f"{room}/state",
+             "/etc/custody": room, "/srv/git": f"{room}/git",
              "/usr/lib/custody": f"{room}/lib", "/var/log/nginx": room,
              "/backup": f"{room}/backup", "127.0.0.1:8080": f"127.0.0.1:{port}"}
     for old, new in paths.items():
@@ -146,7 +147,8 @@ class Site(Workroom):
         return connection_to(self.https, self.certificate, source, timeout)
 
     def install(self):
-        """Installs the programs of deploy/ as the package does."""
+        """Installs the programs of deploy/ as the package does, with the folder that the unit makes for Git."""
+        Path(self.room, "places").mkdir()
         for name in PROGRAMS:
             text = (TOP / "deploy/programs" / name).read_text(encoding="utf-8")
             self.write(f"lib/{name}", placed(text, self.room, self.server.port), 0o755)

@@ -91,6 +91,8 @@ def try_group():
     check(via(*issue_words(), user="git")[0] == 0 and via(*issue_words(), user="other")[0] == 1,
           "with the group, the user git may use the control socket, and another may not", mode_of(CONTROL))
     check(run("ls", database().parent, user="git")[0] != 0, "and git may not enter the folder of the database")
+    check(mode_of("/run/custody/git") == "custody 0770", "but the folder in which its commands are counted",
+          mode_of("/run/custody/git"))
     must("chown", "-R", "git:git", "/srv/git/studio")
     configuration = Path("/etc/ssh/sshd_config.d/custody.conf")
     configuration.write_text(configuration.read_text().replace("Match User custody", "Match User git"))

@@ -69,6 +69,8 @@ def try_ssh():
           "a repository that the policy lacks is R1", text)
     check(sshd_setting("custody", "disableforwarding") == "yes" and sshd_setting("custody", "permittty") == "no",
           "sshd forwards nothing for custody, and gives no terminal, whatever a key's line says")
+    seconds = int(sshd_setting("custody", "clientaliveinterval")) * int(sshd_setting("custody", "clientalivecountmax"))
+    check(seconds == 120, f"it gives up a client that has not answered for {seconds} s")
     check(".ssh/authorized_keys" in sshd_setting("root", "authorizedkeysfile"),
           "and reads the keys of others where it did")
     check(mode_of(keys_file()).startswith("root "), "the keys are root's", f"{keys_file()}: {mode_of(keys_file())}")

@@ -102,10 +102,13 @@ def try_limits():
     good = refused and all(it.status == 429 and "message" in it.text and "retry-after" in it.fields for it in refused)
     check(8 <= held <= 16 and good, f"one token has {held} requests at a time, and the others are 429 with a message",
           refused[0] if refused else "")
-    held, refused = hold([f"{number:064}" for number in range(100)], 100)
+    held, refused = hold([token() for _ in range(10)], 100)
     check(16 < held < 100 and refused and all(it.status == 429 for it in refused),
           f"one address has {held} requests at a time", refused[0] if refused else "")
     check(ask("GET", LOCKS, bearer(one)).status == 200, "and is served again after that")
+    held, refused = hold([f"{number:064}" for number in range(100)], 100)
+    check(held == 0 and all(it.status == 401 for it in refused), "with made-up tokens it has none",
+          [str(it) for it in refused if it.status != 401][:3])
 
 
 def try_prefix():
@@ -116,11 +119,12 @@ def try_prefix():
     for address in ("fd00:1::1", "fd00:1::2", "fd00:2::1", "fd00:9::9"):
         must("ip", "-6", "address", "add", f"{address}/128", "dev", "lo", "nodad")
     must("systemctl", "restart", "nginx")
+    tokens = [token() for _ in range(10)]
 
     def begin(source, number):
         """A request that is not whole, from this address, and the status that it gets at once."""
-        oid = f"{number:064}"
-        connection = begun("PUT", content(oid), bearer(oid), 1000, 500, host="fd00:9::9", source=source)
+        field = bearer(tokens[number % len(tokens)])
+        connection = begun("PUT", content(f"{number:064}"), field, 1000, 500, host="fd00:9::9", source=source)
         return connection, reply_of(connection, 0.2).status
 
     begun_here = [begin(f"fd00:1::{1 + number % 2}", number) for number in range(80)]

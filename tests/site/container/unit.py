@@ -136,7 +136,8 @@ def try_modes():
     check(mode_of(HOME).startswith("root "), "the home of custody is root's", mode_of(HOME))
     modes = {str(it): mode_of(it) for it in (database(), f"{database()}-wal", CONTROL)}
     check(set(modes.values()) == {"custody 0600"}, "the database, its log and the control socket are 0600", modes)
-    check(mode_of("/run/custody") == "custody 0700", "the folder of the control socket is 0700")
+    modes = {it: mode_of(it) for it in ("/run/custody", "/run/custody/git")}
+    check(set(modes.values()) == {"custody 0700"}, "the folders of the control socket and of Git are 0700", modes)
     outside = Path("/var/tmp/outside")
     shutil.rmtree(outside, ignore_errors=True)
     outside.mkdir(mode=0o755)
