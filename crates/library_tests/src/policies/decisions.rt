@@ -167,6 +167,130 @@ fn a_question_without_a_ref(rt: HostRuntime) {
     expect_verdicts(&rt, source.as_str(), WITHOUT_A_REF);
 }
 
+/// Folders of several depths, the first of them twice, files with the text of a folder, and `*` beside others.
+const NESTED_FOLDERS: &str = r#"
+[[row]]
+effect = "deny"
+users = ["*"]
+repos = ["*"]
+refs = ["*"]
+paths = ["film/shot/010/", "film/shot/010/"]
+rights = ["lock"]
+
+[[row]]
+effect = "allow"
+users = ["*"]
+repos = ["*"]
+refs = ["*"]
+paths = ["film/shot/", "film/shot/010/plate.exr", "readme"]
+rights = ["lock"]
+
+[[row]]
+effect = "deny"
+users = ["*"]
+repos = ["*"]
+refs = ["refs/heads/main"]
+paths = ["readme", "*", "film/"]
+rights = ["lock"]
+
+[[row]]
+effect = "allow"
+users = ["*"]
+repos = ["*"]
+refs = ["*"]
+paths = ["film", "film/"]
+rights = ["lock"]
+
+[[row]]
+effect = "deny"
+users = ["*"]
+repos = ["*"]
+refs = ["refs/heads/side"]
+paths = ["art/", "*"]
+rights = ["lock"]
+
+[[row]]
+effect = "allow"
+users = ["*"]
+repos = ["*"]
+refs = ["*"]
+paths = ["*"]
+rights = ["lock"]
+"#;
+
+const SIDE: Option<&str> = Some("refs/heads/side");
+
+/// Questions, and the verdicts.
+const ON_NESTED_FOLDERS: &[(Asked, Verdict)] = &[
+    (
+        (
+            "ann",
+            FILM,
+            Right::Lock,
+            MAIN,
+            Some("film/shot/010/plate.exr"),
+        ),
+        Verdict::Deny(1),
+    ),
+    (
+        (
+            "ann",
+            FILM,
+            Right::Lock,
+            MAIN,
+            Some("film/shot/020/plate.exr"),
+        ),
+        Verdict::Allow(2),
+    ),
+    (
+        ("ann", FILM, Right::Lock, MAIN, Some("film/shot/010")),
+        Verdict::Allow(2),
+    ),
+    (
+        ("ann", FILM, Right::Lock, MAIN, Some("readme")),
+        Verdict::Allow(2),
+    ),
+    (
+        ("ann", FILM, Right::Lock, MAIN, Some("film/shot")),
+        Verdict::Deny(3),
+    ),
+    (
+        ("ann", FILM, Right::Lock, SIDE, Some("film/shot")),
+        Verdict::Allow(4),
+    ),
+    (
+        ("ann", FILM, Right::Lock, SIDE, Some("film")),
+        Verdict::Allow(4),
+    ),
+    (
+        ("ann", FILM, Right::Lock, SIDE, Some("films")),
+        Verdict::Deny(5),
+    ),
+    (
+        ("ann", FILM, Right::Lock, SIDE, Some("readme/first")),
+        Verdict::Deny(5),
+    ),
+    (
+        (
+            "ann",
+            FILM,
+            Right::Lock,
+            Some("refs/heads/next"),
+            Some("art/hero.psd"),
+        ),
+        Verdict::Allow(6),
+    ),
+    (("ann", FILM, Right::Lock, MAIN, None), Verdict::Deny(3)),
+    (("ann", FILM, Right::Lock, SIDE, None), Verdict::Deny(5)),
+    (("ann", FILM, Right::Lock, None, None), Verdict::Allow(6)),
+];
+
+#[test]
+fn folders_within_folders(rt: HostRuntime) {
+    let source = join(&rt, TOP, REPO, NESTED_FOLDERS);
+    expect_verdicts(&rt, source.as_str(), ON_NESTED_FOLDERS);
+}
+
 /// Questions, and the verdicts.
 const WITHOUT_A_ROW: &[(Asked, Verdict)] = &[(
     ("ann", FILM, Right::Pull, None, None),
