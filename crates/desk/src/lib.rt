@@ -16,6 +16,7 @@ mod readers;
 mod receiving;
 mod replies;
 mod rights;
+mod sight;
 mod store_reader;
 mod unlocking;
 mod uploading;

@@ -11,7 +11,7 @@ ghost use Rattle.forms.specs.Replies.{IsAnswer, denial_status};
 ghost use Rattle.policy.specs.Values.{policy_view, question_view};
 ghost use Rattle.locks.specs.Finding.{lock_seen};
 ghost use Rattle.desk.specs.Rights.{Judges, case_policy, case_repo, case_user, allow_on, denial_view, list_question};
-ghost use Rattle.desk.specs.Askers.{asker_policy, asker_repo, asker_user, has_right, may_list_or_lock};
+ghost use Rattle.desk.specs.Askers.{asker_policy, asker_repo, asker_user, has_right, may_list_or_lock, AreRowsFor};
 ghost use Rattle.desk.specs.Replies.{IsReplyOf};
 
 use crate::cases::{Case, Denial};
@@ -147,6 +147,24 @@ pub(crate) fn may_push(case: &Case<'_>, ref_name: &RefName) -> Result<(), Denial
     )
 }
 
+/// The rows of the policy that decide on which refs and paths the user has the right.
+pub(crate) fn rows_for<'a>(
+    alloc: Global,
+    asker: &Asker<'a>,
+    right: Right,
+) -> Result<ApplicableRows<'a>, AllocError>
+    ensures { IfOk result (λ rows. AreRowsFor asker.entry.now right rows) }
+{
+    let question = Question {
+        user: asker.user,
+        repo: asker.repo,
+        right,
+        ref_name: None,
+        path: None,
+    };
+    ApplicableRows::new(alloc, asker.policy, question)
+}
+
 /// The rows of the policy that decide which locks the caller may list.
 pub(crate) fn list_rows<'a>(
     alloc: Global,
@@ -155,14 +173,7 @@ pub(crate) fn list_rows<'a>(
     ensures policy { IfOk result (λ rows. policy_view rows.policy.now ≡ case_policy case.entry.now) }
     ensures question { IfOk result (λ rows. question_view rows.question ≡ list_question case.entry.now) }
 {
-    let question = Question {
-        user: case.user,
-        repo: case.repo.name(),
-        right: Right::List,
-        ref_name: None,
-        path: None,
-    };
-    ApplicableRows::new(alloc, case.policy, question)
+    rows_for(alloc, &asker_of(case), Right::List)
 }
 
 /// Whether the policy allows what the rows were chosen for on the ref and the path of the lock.

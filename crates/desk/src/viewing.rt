@@ -12,7 +12,8 @@ ghost use Rattle.locks.specs.Finding.{lock_seen};
 ghost use Rattle.desk.specs.Askers.{asker_policy, asker_repo, asker_user};
 ghost use Rattle.desk.specs.Views.{digest_cmp, own_of, own_seen, size_of_row, size_seen, view_seen};
 
-use crate::rights::{Asker, sees, sees_objects};
+use crate::rights::{Asker, sees_objects};
+use crate::sight::Sight;
 use crate::views::{ObjectSize, OwnToken, View};
 use locks::Lock;
 use names::{Oid, RepoName, UserName};
@@ -126,12 +127,12 @@ fn seen_retired<S: Alter>(
 }
 
 /// Keeps the locks that the user sees.
-fn keep_seen(rows: &mut Vec<Lock>, asker: &Asker<'_>)
-    ensures { map (lock_seen (asker_repo asker.now)) rows.new.items
-        ≡ filter (sees (asker_policy asker.now) (asker_user asker.now))
-        (map (lock_seen (asker_repo asker.now)) rows.old.items) }
+fn keep_seen(rows: &mut Vec<Lock>, sight: &Sight<'_>)
+    ensures { map (lock_seen (asker_repo sight.now.asker)) rows.new.items
+        ≡ filter (sees (asker_policy sight.now.asker) (asker_user sight.now.asker))
+        (map (lock_seen (asker_repo sight.now.asker)) rows.old.items) }
 {
-    rows.retain(|row| sees(asker, row));
+    rows.retain(|row| sight.sees(row));
 }
 
 /// The locks that the user sees, in rising ids.
@@ -145,8 +146,9 @@ fn seen_locks<S: Alter>(
         ≡ filter (sees (asker_policy asker.now) (asker_user asker.now))
         (locks_of (asker_repo asker.now) world))) }
 {
+    let sight = Sight::new(alloc, asker)?;
     let mut rows = locks::all(alloc, store, asker.repo)?;
-    keep_seen(&mut rows, asker);
+    keep_seen(&mut rows, &sight);
     Ok(rows)
 }
 

@@ -6,7 +6,7 @@ use Rattle.desk.proofs.viewing.keep_seen.Goals as goal
 
 pub returns : goal.returns
 returns c =
-    let asker = c.args.asker.now in
+    let asker = c.args.sight.now.asker in
     let seen = lock_seen (asker_repo asker) in
     ap (map seen) (filter_same _ (λ row. sees (asker_policy asker) (asker_user asker) (seen row)) _ (λ x b f k. search rules) _ _ c.retain.ensures.filtered)
     ∙ sym (filter-map (sees (asker_policy asker) (asker_user asker)) seen c.args.rows.now.items)
