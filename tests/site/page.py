@@ -368,7 +368,7 @@ def try_token(site, page):
     time.sleep(2.1)
     page.at("branches").send_keys(Keys.ENTER)
     page.until(lambda: page.at("line").is_displayed())
-    site.equal(page.status(), "the token is unknown or has expired", "when it has expired, the words are shown")
+    site.equal(page.status(), "A3: the token has expired", "when it has expired, the words are shown")
     kept = page.run("return sessionStorage.getItem('line')")
     site.expect(page.focus() == "line" and page.rows() == [] and kept is None and not page.at("list").is_displayed(),
                 "with the form, and without the list and the token", page.focus())

@@ -4,6 +4,7 @@ import glob
 import http.client
 import json
 import os
+import re
 import subprocess
 from pathlib import Path
 
@@ -15,6 +16,8 @@ from tests.studio.program import content, name_of, target
 LARGEST, SENT, SMALL = 4 << 30, 4_000_000, 1_000
 # More requests than an address may have at a time.
 MADE_UP = 70
+# Requests in less than half a minute.
+REPEATED = 20
 ART, DEEP = "refs/heads/art/new", "refs/heads/art/" + "/".join("abcdefg")
 ROWS = (
     row("deny", ["bob"], ["push"], refs=[MAIN]),
@@ -208,6 +211,22 @@ def try_made_up(site):
     site.expect(set(found) == {401}, "and none of these waits for its body", found)
 
 
+def replies(site):
+    """How many replies the server has written."""
+    return int(re.search(r"^custody_replies_total (\d+)$", site.via("status")[1], re.M)[1])
+
+
+def try_answers(site):
+    """What the server says of a token is kept for half a minute, and not on the disk."""
+    token, data, before = site.server.token(), os.urandom(SMALL), replies(site)
+    found = {ask(site, "PUT", content(name_of(data)), token, data)[0] for _ in range(REPEATED)}
+    count = replies(site) - before
+    site.expect(found == {200} and count == REPEATED + 1, f"for {REPEATED} uploads the server is asked {count} times",
+                found)
+    files = [str(it) for it in Path(site.room, "spool/known").rglob("*")]
+    site.expect(not files, "no file has the answer", files)
+
+
 def try_wrong(site):
     """What nginx itself refuses gets a reply in the form of the server's."""
     for what, (head, wanted) in WRONG.items():
@@ -229,6 +248,6 @@ def try_uploads(site):
     """Uploads under a policy of their own."""
     site.change_policy(rows=ROWS)
     for part in (try_refused, try_methods, try_passed, try_fields, try_wrong, try_spellings,
-                 try_made_up):
+                 try_made_up, try_answers):
         part(site)
     site.change_policy()

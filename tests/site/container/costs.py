@@ -4,6 +4,7 @@ import os
 import pwd
 import sqlite3
 import tempfile
+import threading
 import time
 
 from tests.site.container.keys import over_ssh
@@ -15,14 +16,16 @@ from tests.studio.program import LOCKS, content, lock, name_of
 from tests.studio.tables import copied
 
 
-def upload_wrong(text, size, results):
-    """Uploads bytes under a name that they do not have, and notes the status."""
+def upload_wrong(text, size, results, begun):
+    """Uploads bytes under a name that they do not have, half of them before all others have begun, and notes the
+    status."""
     with connect() as connection:
-        piece = b"x" * 1_000_000
+        half = b"x" * (size // 2)
         with contextlib.suppress(OSError):
-            connection.sendall(head_of("PUT", content("0" * 64), [*bearer(text), ("Content-Length", size)]))
-            for _ in range(size // len(piece)):
-                connection.sendall(piece)
+            connection.sendall(head_of("PUT", content("0" * 64), [*bearer(text), ("Content-Length", size)]) + half)
+        begun.wait()
+        with contextlib.suppress(OSError):
+            connection.sendall(half)
         results.append(reply_of(connection, 600).status)
 
 
@@ -31,7 +34,8 @@ def try_wrong_names(count=24, size=32_000_000):
     bad, good = token("ann"), token("bob")
     results, waits = [], []
     began = time.monotonic()
-    with beside(*[lambda _: upload_wrong(bad, size, results)] * count) as threads:
+    begun = threading.Barrier(count)
+    with beside(*[lambda _: upload_wrong(bad, size, results, begun)] * count) as threads:
         while any(it.is_alive() for it in threads):
             asked = time.monotonic()
             reply = ask("GET", LOCKS, bearer(good), seconds=600)
