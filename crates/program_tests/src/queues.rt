@@ -182,22 +182,21 @@ fn operators_and_clients_are_answered_in_turn(rt: HostRuntime) {
     unwrap(&rt, fs::remove_file(&rt, SOCKET));
 }
 
-/// What clients do, one letter each, in a queue of three connections; and which messages are served, or that a connection
-/// ended.
+/// What clients do, in a queue of three connections; and which messages are served, or that a connection ended.
 ///
-/// `+x` connects the client `x`, `x=TEXT;` sends the text, with `/` for the end of a line, `x.` ends its side, and `!`
+/// `+x` connects the client `x`, `x=TEXT` sends the text, with `/` for the end of a line, `x.` ends its side, and `!`
 /// answers the next caller.
 const STEPS: &[(&str, &str)] = &[
     // A second message in halves, beside another client.
-    ("+a+ba=a0/a;!b=b0/;!a=0/;!", "aba"),
+    ("+a +b a=a0/a ! b=b0/ ! a=0/ !", "aba"),
     // Many messages at once, and a client that comes later.
-    ("+aa=a0/a0/a0/;+bb=b0/;!!!!", "abaa"),
+    ("+a a=a0/a0/a0/ +b b=b0/ ! ! ! !", "abaa"),
     // Half a head beside others, and its end after a turn.
-    ("+aa=a0/a;!+bb=b0/;!a.b=b0/;!!", "ab-b"),
+    ("+a a=a0/a ! +b b=b0/ ! a. b=b0/ ! !", "ab-b"),
     // A body in halves. That of a long message is awaited in its turn alone.
-    ("+aa=a3/xy;+bb=b0/;!a=z;!", "ba"),
+    ("+a a=a3/xy +b b=b0/ ! a=z !", "ba"),
     // A fourth connection: the client that was silent for longest gives way.
-    ("+a+b+c+db=b0/;!d=d0/;!c=c0/;!", "bdc"),
+    ("+a +b +c +d b=b0/ ! d=d0/ ! c=c0/ !", "bdc"),
 ];
 
 /// The client of this letter, among those in alphabetical order.
@@ -205,18 +204,16 @@ fn place_of(letter: u8) -> usize {
     usize::from(letter.wrapping_sub(b'a'))
 }
 
-/// Does what follows a client's letter: sends a text, or ends the client's side. Returns the rest.
-fn act<'t>(rt: &impl Tester, clients: &mut [TcpStream], letter: u8, rest: &'t str) -> &'t str {
+/// Does a step of a client's letter: sends a text, or ends the client's side.
+fn act(rt: &impl Tester, clients: &mut [TcpStream], letter: u8, step: &str) {
     let client = unwrap(rt, clients.get_mut(place_of(letter)).ok_or(()));
-    if let Some(rest) = rest.strip_prefix(".") {
-        unwrap(rt, client.shutdown(Shutdown::Write));
-        return rest;
+    match step.split_once("=") {
+        Some((_, text)) => {
+            let text = unwrap(rt, text.replace(rt.alloc(), "/", "\n"));
+            unwrap(rt, client.write_all(text.as_bytes()));
+        }
+        None => unwrap(rt, client.shutdown(Shutdown::Write)),
     }
-    let rest = unwrap(rt, rest.strip_prefix("=").ok_or(()));
-    let (text, rest) = unwrap(rt, rest.split_once(";").ok_or(()));
-    let text = unwrap(rt, text.replace(rt.alloc(), "/", "\n"));
-    unwrap(rt, client.write_all(text.as_bytes()));
-    rest
 }
 
 /// Does the steps, and compares the record.
@@ -224,19 +221,12 @@ fn follow(rt: &impl Tester, host: &HostRuntime, listeners: Listeners<'_>, steps:
     let mut queue = queue_of(rt, host, listeners, 3);
     let mut clients = Vec::new(rt.alloc());
     let mut record = Vec::new(rt.alloc());
-    let mut rest = steps.0;
-    for _ in 0..steps.0.len() {
-        let Some(letter) = rest.bytes().next() else {
-            break;
-        };
-        rest = rest.get(1..).unwrap_or("");
-        match letter {
-            b'!' => unwrap(rt, record.push(unwrap(rt, take(host, &mut queue)).0)),
-            b'+' => {
-                unwrap(rt, clients.push(connect(rt, host, listeners.clients)));
-                rest = rest.get(1..).unwrap_or("");
-            }
-            _ => rest = act(rt, clients.as_mut_slice(), letter, rest),
+    for step in steps.0.split(' ') {
+        match step.bytes().next() {
+            Some(b'!') => unwrap(rt, record.push(unwrap(rt, take(host, &mut queue)).0)),
+            Some(b'+') => unwrap(rt, clients.push(connect(rt, host, listeners.clients))),
+            Some(letter) => act(rt, clients.as_mut_slice(), letter, step),
+            None => {}
         }
     }
     assert!(rt; record.as_slice() == steps.1.as_bytes(), "{}", steps.0);
