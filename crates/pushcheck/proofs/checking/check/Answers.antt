@@ -1,5 +1,6 @@
 use Rattle.std.proofs.Common.{rules, ◌≡◌, ◌∙◌, map, ap, ap₂}
 use Rattle.std.proofs.lemmas.List.{take_all}
+use Rattle.std.proofs.lemmas.Result.{err_from_is_err_and}
 use Rattle.names.specs.Names.{path_text}
 use Rattle.model.specs.PushChecks as model
 use Rattle.model.specs.PushChecks.{path_verdict, push_verdicts}
@@ -35,8 +36,9 @@ returns g c =
 
 pub returns-in_err-verdict : goal.returns-in_err-verdict
 returns-in_err-verdict g c =
+    let p = err_from_is_err_and c.from_residual-in_err-verdict.result c.from_residual-in_err-verdict.ensures.1 in
     reads_then g.S.Store c.args.store.now c.loop-path.store c.verdict_on.new.store _ _ _
-    (λ world laws before one. search rules) c.loop-path.invariant c.verdict_on.ensures
+    (λ world laws before one. rw p.1 tt) c.loop-path.invariant c.verdict_on.ensures
 
 pub returns-in_err-map_err : goal.returns-in_err-map_err
 returns-in_err-map_err g c =
