@@ -19,8 +19,8 @@ ghost use Rattle.names.specs.Texts.{is_hex_64, last_moment};
 ghost use Rattle.names.specs.Names.{user_text, repo_text, ref_text};
 
 use crate::args::{
-    ForeseeArgs, LONGEST_HOLD, MayArgs, OperatorCommand, PushArgs, RetireArgs, TokenArgs, TokensArgs,
-    number_in,
+    ForeseeArgs, LONGEST_HOLD, MayArgs, OperatorCommand, PushArgs, RetireArgs, TokenArgs,
+    TokensArgs, number_in,
 };
 use crate::faults::ArgsFault;
 use crate::parameters::{DOWNLOAD, PULL, PUSH, UPLOAD};

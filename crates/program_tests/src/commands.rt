@@ -352,7 +352,13 @@ const HELPS: &[(&str, &[&str])] = &[
     ("stop --help", &["--via <SOCKET>"]),
     (
         "may --help",
-        &["--db <FILE>", "--policy <FILE>", "--user <U>", "--repo <R>", "<ACCESS>"],
+        &[
+            "--db <FILE>",
+            "--policy <FILE>",
+            "--user <U>",
+            "--repo <R>",
+            "<ACCESS>",
+        ],
     ),
     (
         "pushcheck --help",

@@ -177,10 +177,16 @@ fn git_may_begin_unless_all_is_denied(rt: HostRuntime) {
     for &(user, repo, access, may) in ACCESSES {
         let line = unwrap(
             &rt,
-            format!(in rt.alloc(); "may --db @/db --policy @/policy --user {user} --repo {repo} {access}"),
+            format!(in rt.alloc();
+                "may --db @/db --policy @/policy --user {user} --repo {repo} {access}"
+            ),
         );
         let ran = run(&rt, &rt, "accesses", line.as_str(), "");
-        let is_as_wanted = if may { ran.is(0, "yes\n", "") } else { ran.is(1, "no\n", "") };
+        let is_as_wanted = if may {
+            ran.is(0, "yes\n", "")
+        } else {
+            ran.is(1, "no\n", "")
+        };
         assert!(&rt; is_as_wanted, "{line}");
     }
     remove(&rt, "accesses");
