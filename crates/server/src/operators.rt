@@ -389,9 +389,10 @@ impl OperatorContext<'_> {
                 return Outcome::Unchanged;
             }
         };
-        if !outcome.is_begun() {
-            reply.end(machine, Ok(()), pieces, errors);
+        if outcome.is_begun() {
+            return outcome;
         }
+        reply.end(machine, Ok(()), pieces, errors);
         outcome
     }
 
