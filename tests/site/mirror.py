@@ -274,7 +274,8 @@ def try_killed(trial):
     counts = [count for count, _ in found]
     trial.check(0 < counts[-1] < 600, f"killed {len(counts)} times on the way to a folder, with {counts} whole objects in it")
     trial.check(any(it for _, it in found), f"{sum(it for _, it in found)} of them left a file without a name")
-    trial.expect("the next run copies the rest", trial.mirror(place, folder), 600 - counts[-1], counts[-1])
+    there, _ = look()
+    trial.expect("the next run copies the rest", trial.mirror(place, folder), 600 - there, there)
     trial.check(stored(folder) == listed and others(folder) == {"lock", "locks.txt"},
                 "each is whole, and nothing else is there")
     back = trial.place()
@@ -286,7 +287,8 @@ def try_killed(trial):
 
     counts = kill_often(trial, (folder, back), 2 * seconds, look_back)
     trial.check(0 < counts[-1] < 600, f"killed {len(counts)} times on the way back, with {counts} whole objects there")
-    trial.expect("the next run copies the rest", trial.mirror(folder, back), 600 - counts[-1], counts[-1])
+    there = look_back()
+    trial.expect("the next run copies the rest", trial.mirror(folder, back), 600 - there, there)
     trial.check(back.objects() == listed and back.is_whole(),
                 "the new server lists the same, and `custody check` finds all whole")
 
