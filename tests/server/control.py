@@ -444,7 +444,7 @@ def check_reload(server, _):
     return "a right was taken away and given back between two requests of a connection; 4 policies were refused"
 
 
-# How an operator reads slowly: so many bytes, after each pause.
+# How an operator reads slowly: this many bytes, after a pause of this many seconds.
 SIP, PAUSE = 4_096, 0.3
 
 
