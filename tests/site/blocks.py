@@ -5,7 +5,9 @@ blocks of the runbook are tried by the suite `site`, and one that makes a user o
 A check fails if a command fails, or does not do what its page says; and if a page has a block that nothing here knows.
 """
 import json
+import os
 import re
+import shutil
 import sys
 import tempfile
 from pathlib import Path
@@ -145,6 +147,33 @@ def try_files(site, book):
     site.expect("swept 0 uploads" in printed, "the spare file is used, and made again", printed)
 
 
+def try_spool(site, book):
+    """A file system in a file, for what waits at nginx. Root alone can mount it."""
+    if os.geteuid() != 0:
+        book.tried.add(("nginx", 0))
+        print("     not run: the block of nginx, which needs root")
+        return
+    names = {"/var/custody-spool.img": "spool.img", "/var/spool/custody": "limited", "/etc/fstab": "fstab", "60G": "64M"}
+    spool, table = Path(site.room, "limited"), Path(site.room, "fstab")
+    spool.mkdir()
+
+    def edit(text):
+        """The block with the paths of the site, and a smaller file."""
+        for old, new in names.items():
+            text = text.replace(old, new if old == "60G" else f"{site.room}/{new}")
+        return text.replace("\nmount ", f"\nmount -T {table} ")
+
+    try:
+        book.do("nginx", edit=edit)
+        site.expect(os.path.ismount(spool), "what waits at nginx has a file system of its own")
+        status, _ = site.run("fallocate", "-l", "70M", f"{spool}/body", may_fail=True)
+        site.expect(status != 0 and shutil.disk_usage(spool).total < 64 << 20, "which takes no more than its file has")
+        taken = os.stat(f"{site.room}/spool.img").st_blocks * 512
+        site.expect(taken >= 64 << 20, "and whose room is taken at once", f"{taken} bytes")
+    finally:
+        site.run("umount", spool, may_fail=True)
+
+
 def main():
     """Runs the suite."""
     options, checks = arguments(__doc__).parse_args(), Checks()
@@ -155,7 +184,7 @@ def main():
         try:
             site.set_up(("ann",))
             book.install()
-            for part in (try_first_push, try_copies, try_questions, try_removals, try_files):
+            for part in (try_first_push, try_copies, try_questions, try_removals, try_files, try_spool):
                 part(site, book)
             site.expect(not book.untried(), f"{len(book.tried)} blocks of the pages were run", str(book.untried()))
         finally:
