@@ -22,7 +22,7 @@ if [ $# -gt 0 ]; then
 else
     work=$(mktemp -d "${TMPDIR:-/tmp}/custody-first-push.XXXXXX")
 fi
-mkdir "$work/bin" "$work/run"
+mkdir "$work/bin" "$work/run" "$work/run/git"
 ln -s "$program" "$work/bin/custody"
 
 server=
@@ -64,8 +64,8 @@ for user in ann bob; do
     echo "restrict,command=\"/usr/lib/custody/forced-command $user\" ssh-ed25519 AAAA-$user"
     echo "publickey ssh-ed25519 AAAA-$user" > "$work/key-$user"
 done > "$work/authorized_keys"
-sed -e "s|/run/custody/control|$work/run/control|" -e "s|/etc/custody/policy.toml|$work/policy.toml|" \
-    -e "s|/etc/custody/authorized_keys|$work/authorized_keys|" -e "s|/srv/git|$work/git|" "$top/deploy/programs/forced-command" > "$work/bin/forced-command"
+sed -e "s|/run/custody|$work/run|" -e "s|/etc/custody/authorized_keys|$work/authorized_keys|" \
+    -e "s|/srv/git|$work/git|" "$top/deploy/programs/forced-command" > "$work/bin/forced-command"
 cat > "$work/bin/ssh" << END
 #!/bin/sh
 for words in "\$@"; do :; done

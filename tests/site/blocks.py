@@ -1,4 +1,4 @@
-"""Runs each block of commands in the pages of docs/operating, on a site of this machine.
+"""Runs each block of commands in the pages of docs/operating, on a site of this machine, and examples/first-push.sh.
 
 The commands are those of the pages, with the paths of the site, and stand-ins for systemctl, runuser and apt. The
 blocks of the runbook are tried by the suite `site`, and one that makes a user of the machine by the suite `security`.
@@ -174,6 +174,17 @@ def try_spool(site, book):
         site.run("umount", spool, may_fail=True)
 
 
+def try_example(site, _):
+    """The command of README's first page, with this program as an installed one."""
+    folder = Path(site.room, "installed")
+    folder.mkdir()
+    (folder / "custody").symlink_to(site.server.program)
+    words = ["env", "-i", f"PATH={folder}:/usr/bin:/bin", TOP / "examples/first-push.sh", f"{site.room}/first-push"]
+    status, printed = site.run(*words, may_fail=True)
+    site.expect(status == 0 and "bob$ git lfs locks\n    art/hero.psd\tann" in printed,
+                "examples/first-push.sh pushes, clones and locks", printed)
+
+
 def main():
     """Runs the suite."""
     options, checks = arguments(__doc__).parse_args(), Checks()
@@ -184,7 +195,7 @@ def main():
         try:
             site.set_up(("ann",))
             book.install()
-            for part in (try_first_push, try_copies, try_questions, try_removals, try_files, try_spool):
+            for part in (try_first_push, try_copies, try_questions, try_removals, try_files, try_spool, try_example):
                 part(site, book)
             site.expect(not book.untried(), f"{len(book.tried)} blocks of the pages were run", str(book.untried()))
         finally:
