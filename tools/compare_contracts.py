@@ -23,7 +23,7 @@ def files(commit, folder, ending):
     """The paths and texts of the crates' files in this folder, those of tests aside."""
     for path in git("ls-tree", "-r", "--name-only", commit, "crates").splitlines():
         parts = path.split("/")
-        if parts[2] == folder and path.endswith(ending) and not parts[1].endswith("_tests"):
+        if len(parts) > 2 and parts[2] == folder and path.endswith(ending) and not parts[1].endswith("_tests"):
             yield path, git("show", f"{commit}:{path}")
 
 
