@@ -1,8 +1,8 @@
 #!/usr/bin/env python3
 """Times a list of locks, a push check and a foreseen reply under a policy that is nearly as large as one may be.
 
-There are 20,000 locks. The policy has 985 rows, each with 64 users and 64 folders; bob is in each of them, and no folder
-has a lock or a path that is asked about. So each row has to be looked at for each lock and each path, and none decides.
+There are 20,000 locks. The policy has 985 rows; 983 of them have 64 users, bob among them, and 64 folders, and no folder
+has a lock or a path that is asked about. So none of these rows decides about a lock or a path.
 It prints the median of several runs, with the lowest and the highest.
 
     bench/serve/rows.py [--rounds N] [--program FILE]
