@@ -15,11 +15,11 @@ use operator::print;
 use policy::Policy;
 use server::Server;
 use service::Routes;
-use sockets::{ControlSocket, Limits, Queue, listen};
+use sockets::{ControlSocket, Limits, OperatorStream, Queue, listen};
 use std::alloc::Global;
 use std::io::Write;
 use std::net::TcpListener;
-use std::os::unix::net::{UnixListener, UnixStream};
+use std::os::unix::net::UnixListener;
 use std::rt::HostRuntime;
 use std::time::{Clock, Duration};
 use tables::{Start, Storage, Store};
@@ -82,7 +82,7 @@ impl<C: Clock> ServeContext<'_, C> {
         listeners: Listeners<'_>,
         output: &mut K,
         errors: &mut E,
-    ) -> Result<Option<UnixStream>, Fault>
+    ) -> Result<Option<OperatorStream>, Fault>
         ensures world { From S.Store store.old store.new (λ world.
             ServesAll S.Store policy store.old store.new world) }
         ensures good { OnOk result (K.failed output.new ≡ K.failed output.old) }
@@ -119,7 +119,7 @@ impl<C: Clock> ServeContext<'_, C> {
         path: &str,
         output: &mut K,
         errors: &mut E,
-    ) -> Result<Option<UnixStream>, Fault>
+    ) -> Result<Option<OperatorStream>, Fault>
         ensures world { From S.Store store.old store.new (λ world.
             ServesAll S.Store policy store.old store.new world) }
         ensures good { OnOk result (K.failed output.new ≡ K.failed output.old) }
@@ -141,7 +141,7 @@ impl<C: Clock> ServeContext<'_, C> {
         listeners: Listeners<'_>,
         output: &mut K,
         errors: &mut E,
-    ) -> Result<Option<UnixStream>, Fault>
+    ) -> Result<Option<OperatorStream>, Fault>
         ensures world { From S.Store store.old store.new (λ world.
             ServesAll S.Store policy store.old store.new world) }
         ensures good { OnOk result (K.failed output.new ≡ K.failed output.old) }
@@ -161,7 +161,7 @@ struct Serving<'a, C, E> {
     listeners: Listeners<'a>,
     errors: &'a mut E,
     /// The operator who has stopped the server. He waits until the database is closed.
-    stopped_by: &'a mut Option<UnixStream>,
+    stopped_by: &'a mut Option<OperatorStream>,
 }
 
 impl<C: Clock, E: Write> Work for Serving<'_, C, E> {

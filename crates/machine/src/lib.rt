@@ -1,15 +1,18 @@
-//! The machine that a server runs on: who calls, the time, random bytes, what an operator sends.
+//! The machine that a server runs on: who calls, the time, random bytes, what clients and operators send and are sent.
 //!
 //! [`Machine`] is any such machine, and its contract records what it returns. [`Sockets`] is the one of the program. The
 //! commands over files use the same functions for the time, for random bytes and for the policy file.
 #![tactic(auto)]
 
+mod conversation;
 mod framing;
 mod machine;
 mod moments;
 mod policies;
 mod random;
+mod traffic;
 
+pub use conversation::{Conversation, Talked};
 pub use machine::{Machine, Sockets};
 pub use moments::moment;
 pub use policies::{policy_line, read_described, read_policy};

@@ -1,8 +1,10 @@
 //! The machine that a server runs on.
 
-ghost use Rattle.std.specs.Prelude.{⊤, IfNone, IfOk, IfSome, OnErr, OnOk};
-ghost use Rattle.machine.specs.Observations.{Observation, called, drawn, loaded, received, sent, timed, waited};
+ghost use Rattle.std.specs.Prelude.{◌≡◌, ⊤, IfNone, IfOk, IfSome, OnErr, OnOk};
+ghost use Rattle.refinement.specs.Left.{From};
+ghost use Rattle.machine.specs.Observations.{Observation, Talk, called, drawn, loaded, received, sent, talked, timed, waited};
 
+use crate::conversation::{Conversation, Talked, converse};
 use crate::framing::Messages;
 use crate::moments::moment;
 use crate::policies::read_described;
@@ -15,12 +17,13 @@ use names::Moment;
 use outbox::Unsent;
 use policy::Policy;
 use service::End;
-use sockets::{Caller, Client, Ended, Front, Queue};
+use sockets::{Caller, Client, Ended, Front, OperatorStream, Queue};
 use std::fs;
 use std::io::{self, ErrorKind, Read, Write};
 use std::os::unix::net::UnixStream;
 use std::rt::HostRuntime;
 use std::time::{Clock, Duration, Instant};
+use tables::{Storage, Store};
 
 /// How long an operator may take to send a command, and to take the beginning of a reply, in seconds.
 const PATIENCE: u64 = 2;
@@ -34,7 +37,8 @@ const DROPPED: u32 = 2_048;
 /// The bytes of a page of memory.
 const PAGE: u64 = 4_096;
 
-/// A machine that a server runs on: it returns who calls, the time, random bytes, and what an operator sends.
+/// A machine that a server runs on: it returns who calls, the time, random bytes, and what clients and operators send, and
+/// it sends the replies to them.
 ///
 /// What it returns is recorded: it is a relation between the machine before and after. So no step of a server depends on
 /// what the machine has not returned, and none on what it returned for another caller.
@@ -92,7 +96,7 @@ pub trait Machine {
     /// `Operator` if they did not arrive in time. The piece is unspecified then.
     fn receive(
         &mut self,
-        operator: &UnixStream,
+        operator: &OperatorStream,
         start: Instant,
         piece: &mut [u8],
     ) -> Result<(), Fault>
@@ -104,8 +108,23 @@ pub trait Machine {
     /// # Errors
     ///
     /// `Operator` if not all were sent.
-    fn send(&mut self, operator: &UnixStream, bytes: &[u8]) -> Result<(), Fault>
+    fn send(&mut self, operator: &OperatorStream, bytes: &[u8]) -> Result<(), Fault>
         ensures ok { OnOk result (observed self.old self.new (sent operator.now bytes.now)) }
+        ensures err { OnErr result (idled self.old self.new) };
+
+    /// Sends pieces of a reply to an operator, after what his socket has not taken yet of it. Does not wait for him: what the
+    /// socket does not take at once is kept.
+    ///
+    /// # Errors
+    ///
+    /// `Operator` if he has gone, or if there is no memory.
+    fn send_pieces(
+        &mut self,
+        operator: &OperatorStream,
+        unsent: &mut Unsent,
+        pieces: &[u8],
+    ) -> Result<(), Fault>
+        ensures ok { OnOk result (observed self.old self.new (sent operator.now pieces.now)) }
         ensures err { OnErr result (idled self.old self.new) };
 
     /// Sends the end of a reply to an operator, after what his socket has not taken yet of it. Does not wait for him: what
@@ -114,13 +133,18 @@ pub trait Machine {
     /// # Errors
     ///
     /// `Operator` if he has gone, or if the system has no room for what is left. The reply has no end then.
-    fn end_reply(&mut self, operator: &UnixStream, unsent: Unsent, end: &[u8]) -> Result<(), Fault>
+    fn end_reply(
+        &mut self,
+        operator: &OperatorStream,
+        unsent: Unsent,
+        end: &[u8],
+    ) -> Result<(), Fault>
         ensures ok { OnOk result (observed self.old self.new (sent operator.now end.now)) }
         ensures err { OnErr result (idled self.old self.new) };
 
     /// Drops what an operator still sends, for a moment: a close with unread bytes would reset the connection, and the
     /// operator could lose what was sent to him.
-    fn drop_rest(&mut self, operator: &UnixStream)
+    fn drop_rest(&mut self, operator: &OperatorStream)
         ensures { idled self.old self.new };
 
     /// Reads the policy file again.
@@ -133,7 +157,7 @@ pub trait Machine {
         ensures err { OnErr result (idled self.old self.new) };
 
     /// Waits until an operator closes his side of the connection, for at most this many seconds. Returns whether he did.
-    fn wait_for(&mut self, operator: &UnixStream, seconds: u64) -> bool
+    fn wait_for(&mut self, operator: &OperatorStream, seconds: u64) -> bool
         ensures { observed self.old self.new (waited operator.now seconds result) };
 
     /// Returns what the machine knows of the server.
@@ -144,13 +168,33 @@ pub trait Machine {
     fn ended(&mut self) -> Option<Ended>
         ensures { idled self.old self.new };
 
+    /// Holds the conversation of a client's turn over his connection. Returns what came of it; `None` if the system refuses
+    /// to set the option of the socket, and nothing was read or sent.
+    fn converse<S: Storage, T: Conversation>(
+        &mut self,
+        client: &mut Client,
+        store: &mut Store<S>,
+        conversation: &T,
+    ) -> Option<Talked>
+        ensures some { IfSome result (λ held. (talk : Talk)
+            × observed self.old self.new (talked client.old talk held.turn.served)
+            × From S.Store store.old store.new (λ world. T.leads conversation.now S.Store
+            talk held.turn.served store.old store.new world)) }
+        ensures none { IfNone result ((store.new ≡ store.old) × idled self.old self.new) };
+
     /// Takes back a client after a turn that ended so, and returns how its connection ended; `None` if it goes on, since
-    /// the whole message of the turn was read.
+    /// the whole message of the turn was read. This is the number of the connection from now on.
     ///
     /// # Errors
     ///
     /// `Clock`.
-    fn end_turn(&mut self, client: Client, front: &Front, end: End) -> Result<Option<End>, Fault>
+    fn end_turn(
+        &mut self,
+        client: Client,
+        number: u64,
+        front: &Front,
+        end: End,
+    ) -> Result<Option<End>, Fault>
         ensures { idled self.old self.new };
 
     /// Closes the connection of a client at once.
@@ -313,26 +357,37 @@ impl<C: Clock> Machine for Sockets<'_, C> {
 
     fn receive(
         &mut self,
-        operator: &UnixStream,
+        operator: &OperatorStream,
         start: Instant,
         piece: &mut [u8],
     ) -> Result<(), Fault> {
         let mut reader = TimedReader {
             clock: self.clock,
-            stream: operator,
+            stream: self.queue.stream_of(operator),
             start,
             time: PATIENCE,
         };
         reader.read_exact(piece).map_err(|_| Fault::Operator)
     }
 
-    fn send(&mut self, operator: &UnixStream, bytes: &[u8]) -> Result<(), Fault> {
-        write_to(operator, bytes).map_err(|_| Fault::Operator)
+    fn send(&mut self, operator: &OperatorStream, bytes: &[u8]) -> Result<(), Fault> {
+        write_to(self.queue.stream_of(operator), bytes).map_err(|_| Fault::Operator)
+    }
+
+    fn send_pieces(
+        &mut self,
+        operator: &OperatorStream,
+        unsent: &mut Unsent,
+        pieces: &[u8],
+    ) -> Result<(), Fault> {
+        self.queue
+            .send_pieces(operator, unsent, pieces)
+            .map_err(|_| Fault::Operator)
     }
 
     fn end_reply(
         &mut self,
-        operator: &UnixStream,
+        operator: &OperatorStream,
         unsent: Unsent,
         end: &[u8],
     ) -> Result<(), Fault> {
@@ -341,22 +396,22 @@ impl<C: Clock> Machine for Sockets<'_, C> {
             .map_err(|_| Fault::Operator)
     }
 
-    fn drop_rest(&mut self, operator: &UnixStream) {
+    fn drop_rest(&mut self, operator: &OperatorStream) {
         // The connection ends in any case.
-        let _ = drop_rest(operator);
+        let _ = drop_rest(self.queue.stream_of(operator));
     }
 
     fn policy(&mut self) -> Result<Policy, Fault> {
         read_described(self.rt, self.policy)
     }
 
-    fn wait_for(&mut self, operator: &UnixStream, seconds: u64) -> bool {
+    fn wait_for(&mut self, operator: &OperatorStream, seconds: u64) -> bool {
         let Ok(start) = Instant::now(self.clock) else {
             return false;
         };
         let mut reader = TimedReader {
             clock: self.clock,
-            stream: operator,
+            stream: self.queue.stream_of(operator),
             start,
             time: seconds,
         };
@@ -378,14 +433,38 @@ impl<C: Clock> Machine for Sockets<'_, C> {
         self.queue.ended()
     }
 
-    fn end_turn(&mut self, client: Client, front: &Front, end: End) -> Result<Option<End>, Fault> {
+    fn converse<S: Storage, T: Conversation>(
+        &mut self,
+        client: &mut Client,
+        store: &mut Store<S>,
+        conversation: &T,
+    ) -> Option<Talked> {
+        let mut front = client.begin(self.rt.alloc()).ok()?;
+        let turn = converse(
+            &self.queue,
+            self.clock,
+            client,
+            &mut front,
+            store,
+            conversation,
+        );
+        Some(Talked { turn, front })
+    }
+
+    fn end_turn(
+        &mut self,
+        client: Client,
+        number: u64,
+        front: &Front,
+        end: End,
+    ) -> Result<Option<End>, Fault> {
         if matches!(end, End::StoreRefused | End::StoreFailed) {
             self.refusals.count(self.rt, self.db);
         }
         let ended = match end {
             End::InputEnded if front.is_over() => self
                 .queue
-                .put_back(client, front, self.clock, &Messages)
+                .put_back(client, number, front, self.clock, &Messages)
                 .map(|()| None),
             End::Closed | End::StoreRefused => self
                 .queue

@@ -8,4 +8,4 @@ mod outbox;
 mod unsent;
 
 pub use outbox::Outbox;
-pub use unsent::{OperatorWriter, Unsent};
+pub use unsent::Unsent;

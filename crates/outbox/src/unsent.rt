@@ -1,6 +1,6 @@
 //! What an operator's socket has not taken yet of a reply.
 
-ghost use Rattle.std.specs.Prelude.{◌≡◌, ◌≤◌, ◌++◌, [], length, IfOk, OnOk};
+ghost use Rattle.std.specs.Prelude.{◌≡◌, ◌≤◌, ◌++◌, [], length, IfOk, OnErr, OnOk};
 
 use std::alloc::{AllocError, Global};
 use std::io::{self, ErrorKind, Write};
@@ -36,7 +36,7 @@ fn write_now(stream: &UnixStream, bytes: &[u8]) -> io::Result<usize>
 }
 
 impl Unsent {
-    ghost use Rattle.outbox.specs.Unsent.{IsEndOf, rest_of};
+    ghost use Rattle.outbox.specs.Unsent.{HasSent, rest_of};
 
     /// Nothing.
     pub fn new(alloc: Global) -> Unsent
@@ -59,9 +59,10 @@ impl Unsent {
     ///
     /// # Errors
     ///
-    /// Fails if there is no memory.
+    /// Fails if there is no memory, and adds none of them.
     pub fn push(&mut self, bytes: &[u8]) -> Result<(), AllocError>
-        ensures { OnOk result (rest_of self.new ≡ rest_of self.old ++ bytes.now) }
+        ensures ok { OnOk result (rest_of self.new ≡ rest_of self.old ++ bytes.now) }
+        ensures err { OnErr result (rest_of self.new ≡ rest_of self.old) }
     {
         self.bytes.extend_from_slice(bytes)
     }
@@ -70,9 +71,9 @@ impl Unsent {
     ///
     /// # Errors
     ///
-    /// Fails if the operator has closed the connection.
+    /// Fails if the operator has closed the connection. All bytes are left then.
     pub fn send(&mut self, operator: &UnixStream) -> io::Result<bool>
-        ensures { IsEndOf (rest_of self.old) (rest_of self.new) }
+        ensures { HasSent (rest_of self.old) (rest_of self.new) result }
     {
         let rest = self.as_slice();
         let count = write_now(operator, &rest[..rest.len().min(PIECE)])?;
@@ -82,55 +83,5 @@ impl Unsent {
             self.bytes.clear();
         }
         Ok(count > 0)
-    }
-}
-
-/// Sends to an operator what his socket takes at once, and keeps the rest in memory, in order. After a write that failed it
-/// takes nothing more.
-#[derive(Drop)]
-pub struct OperatorWriter<'a> {
-    operator: &'a UnixStream,
-    unsent: Unsent,
-    has_failed: bool,
-}
-
-impl<'a> OperatorWriter<'a> {
-    /// Sends to this operator, first what was not sent before.
-    pub fn new(operator: &'a UnixStream, unsent: Unsent) -> OperatorWriter<'a> {
-        OperatorWriter {
-            operator,
-            unsent,
-            has_failed: false,
-        }
-    }
-
-    /// Returns what the socket has not taken.
-    pub fn into_unsent(self) -> Unsent {
-        let OperatorWriter { unsent, .. } = self;
-        unsent
-    }
-}
-
-impl OperatorWriter<'_> {
-    /// Keeps bytes, and sends what the operator's socket takes.
-    fn push(&mut self, bytes: &[u8]) -> io::Result<()> {
-        self.unsent.push(bytes)?;
-        self.unsent.send(self.operator)?;
-        Ok(())
-    }
-}
-
-impl Write for OperatorWriter<'_> {
-    fn write(&mut self, bytes: &[u8]) -> io::Result<usize> {
-        if self.has_failed {
-            return Err(ErrorKind::BrokenPipe.into());
-        }
-        let pushed = self.push(bytes);
-        self.has_failed = pushed.is_err();
-        pushed.map(|()| bytes.len())
-    }
-
-    fn flush(&mut self) -> io::Result<()> {
-        Ok(())
     }
 }

@@ -4,32 +4,37 @@ use crate::harness::{Tester, unwrap};
 use crate::transcript::POLICY;
 use control::request_bytes;
 use faults::Fault;
-use machine::Machine;
+use machine::{Conversation, Machine, Talked};
 use metrics::Gauges;
 use names::{Moment, Oid, RepoName, Size};
 use outbox::Unsent;
 use policy::Policy;
 use server::{Finish, Server};
 use service::{End, Routes};
-use sockets::{Caller, Client, Ended, Front};
+use sockets::{Caller, Client, Ended, Front, Limits, OperatorStream, Queue, listen};
 use std::io::{Read, Write};
-use std::net::Shutdown;
+use std::net::{Shutdown, TcpListener};
 use std::os::unix::net::UnixStream;
 use std::rt::HostRuntime;
 use std::str;
 use std::time::{Duration, Instant};
-use tables::{Alter, LastChunk, NewUpload, Store};
+use tables::{Alter, LastChunk, NewUpload, Storage, Store};
+
+/// Where nobody calls.
+const ANY: &str = "127.0.0.1:0";
 
 /// A machine whose operators are known.
 #[derive(Drop)]
-struct Script {
-    operators: Vec<UnixStream>,
+struct Script<'a> {
+    /// Through which the operators are read from and written to. It has no callers of its own.
+    queue: Queue<'a>,
+    operators: Vec<OperatorStream>,
     policies: Vec<Result<Policy, Fault>>,
     /// What is to be sent later, of all replies.
     late: Vec<u8>,
 }
 
-impl Machine for Script {
+impl Machine for Script<'_> {
     ghost use Rattle.std.specs.Prelude.{⊤};
 
     ghost observed = { λ _ _ _. ⊤ };
@@ -60,22 +65,33 @@ impl Machine for Script {
 
     fn receive(
         &mut self,
-        operator: &UnixStream,
+        operator: &OperatorStream,
         _: Instant,
         piece: &mut [u8],
     ) -> Result<(), Fault> {
-        let mut stream = operator;
+        let mut stream = self.queue.stream_of(operator);
         stream.read_exact(piece).map_err(|_| Fault::Operator)
     }
 
-    fn send(&mut self, operator: &UnixStream, bytes: &[u8]) -> Result<(), Fault> {
-        let mut stream = operator;
+    fn send(&mut self, operator: &OperatorStream, bytes: &[u8]) -> Result<(), Fault> {
+        let mut stream = self.queue.stream_of(operator);
         stream.write_all(bytes).map_err(|_| Fault::Operator)
+    }
+
+    fn send_pieces(
+        &mut self,
+        operator: &OperatorStream,
+        unsent: &mut Unsent,
+        pieces: &[u8],
+    ) -> Result<(), Fault> {
+        self.queue
+            .send_pieces(operator, unsent, pieces)
+            .map_err(|_| Fault::Operator)
     }
 
     fn end_reply(
         &mut self,
-        operator: &UnixStream,
+        operator: &OperatorStream,
         unsent: Unsent,
         end: &[u8],
     ) -> Result<(), Fault> {
@@ -94,9 +110,9 @@ impl Machine for Script {
         self.policies.remove(0)
     }
 
-    fn drop_rest(&mut self, _: &UnixStream) {}
+    fn drop_rest(&mut self, _: &OperatorStream) {}
 
-    fn wait_for(&mut self, _: &UnixStream, _: u64) -> bool {
+    fn wait_for(&mut self, _: &OperatorStream, _: u64) -> bool {
         true
     }
 
@@ -115,7 +131,16 @@ impl Machine for Script {
         None
     }
 
-    fn end_turn(&mut self, _: Client, _: &Front, end: End) -> Result<Option<End>, Fault> {
+    fn converse<S: Storage, T: Conversation>(
+        &mut self,
+        _: &mut Client,
+        _: &mut Store<S>,
+        _: &T,
+    ) -> Option<Talked> {
+        None
+    }
+
+    fn end_turn(&mut self, _: Client, _: u64, _: &Front, end: End) -> Result<Option<End>, Fault> {
         Ok(Some(end))
     }
 
@@ -131,7 +156,7 @@ impl Machine for Script {
 /// The operators of a test: the sides that call the server, and those from which their replies are read.
 #[derive(Drop)]
 struct Operators {
-    callers: Vec<UnixStream>,
+    callers: Vec<OperatorStream>,
     readers: Vec<UnixStream>,
 }
 
@@ -146,7 +171,7 @@ fn add(rt: &impl Tester, host: &HostRuntime, all: &mut Operators, line: &str, in
     let (caller, mut reader) = unwrap(rt, UnixStream::pair(host));
     unwrap(rt, reader.write_all(unwrap(rt, request).as_slice()));
     unwrap(rt, reader.shutdown(Shutdown::Write));
-    unwrap(rt, all.callers.push(caller));
+    unwrap(rt, all.callers.push(OperatorStream::new(caller)));
     unwrap(rt, all.readers.push(reader));
 }
 
@@ -191,7 +216,7 @@ fn store_damaged<S: Alter>(rt: &impl Tester, store: &mut Store<S>, names: &[&[u8
 fn serve(
     rt: &impl Tester,
     host: &HostRuntime,
-    machine: &mut Script,
+    machine: &mut Script<'_>,
     damaged: &[&[u8; 64]],
 ) -> Result<Finish, Fault> {
     let mut store = unwrap(rt, Store::open_memory(rt.alloc()));
@@ -219,12 +244,19 @@ fn reply_to(rt: &impl Tester, reader: &mut UnixStream) -> Vec<u8> {
 }
 
 /// A machine with these operators, and with these policies.
-fn script_of(
+fn script_of<'a>(
     rt: &impl Tester,
-    operators: Vec<UnixStream>,
+    host: &HostRuntime,
+    listener: &'a TcpListener,
+    operators: Vec<OperatorStream>,
     policies: Vec<Result<Policy, Fault>>,
-) -> Script {
+) -> Script<'a> {
+    let limits = Limits {
+        idle: Duration::from_secs(30),
+        connections: 1,
+    };
     Script {
+        queue: unwrap(rt, Queue::new(host, listener, None, limits)),
         operators,
         policies,
         late: Vec::new(rt.alloc()),
@@ -258,7 +290,8 @@ fn the_next_command_has_the_policy_that_was_read(rt: HostRuntime) {
     let mut policies = Vec::new(rt.alloc());
     let read = unwrap(&rt, Policy::read(rt.alloc(), other.as_str()));
     unwrap(&rt, policies.push(Ok(read)));
-    let mut script = script_of(&rt, callers, policies);
+    let listener = unwrap(&rt, listen(&rt, ANY));
+    let mut script = script_of(&rt, &rt, &listener, callers, policies);
     assert!(rt; serve(&rt, &rt, &mut script, &[]).is_err());
     let denied = b"\x03\x03\0\0\0\x17denied by row 0: a.txt\n\x01";
     expect_replies(
@@ -278,7 +311,8 @@ fn the_next_command_has_the_policy_that_was_read(rt: HostRuntime) {
 fn nothing_is_done_after_a_stop(rt: HostRuntime) {
     let calls = [("sweep", ""), ("stop", ""), ("sweep", "")];
     let Operators { callers, readers } = operators_of(&rt, &rt, &calls);
-    let mut script = script_of(&rt, callers, Vec::new(rt.alloc()));
+    let listener = unwrap(&rt, listen(&rt, ANY));
+    let mut script = script_of(&rt, &rt, &listener, callers, Vec::new(rt.alloc()));
     match serve(&rt, &rt, &mut script, &[]) {
         Ok(finish) => assert!(rt; finish.connections == 0 && finish.stopped_by.is_some()),
         Err(_) => panic!(rt; "the server was not stopped"),
@@ -310,7 +344,8 @@ const CHECKED: &[&[u8]] = &[
 fn a_check_gives_way(rt: HostRuntime) {
     let calls = [("check", ""), ("repair", ""), ("sweep", "")];
     let Operators { callers, readers } = operators_of(&rt, &rt, &calls);
-    let mut script = script_of(&rt, callers, Vec::new(rt.alloc()));
+    let listener = unwrap(&rt, listen(&rt, ANY));
+    let mut script = script_of(&rt, &rt, &listener, callers, Vec::new(rt.alloc()));
     assert!(rt; serve(&rt, &rt, &mut script, &NAMES).is_err());
     expect_replies(&rt, readers, CHECKED);
 }
@@ -355,7 +390,8 @@ fn what_a_socket_does_not_take_is_sent_before_the_end(rt: HostRuntime) {
         callers,
         mut readers,
     } = operators_of(&rt, &rt, &[(ZOE, paths.as_str())]);
-    let mut script = script_of(&rt, callers, Vec::new(rt.alloc()));
+    let listener = unwrap(&rt, listen(&rt, ANY));
+    let mut script = script_of(&rt, &rt, &listener, callers, Vec::new(rt.alloc()));
     assert!(rt; serve(&rt, &rt, &mut script, &[]).is_err());
     let Some(reader) = readers.first_mut() else {
         panic!(&rt; "there is no operator");
@@ -388,7 +424,8 @@ fn a_status_has_what_the_machine_knows(rt: HostRuntime) {
         callers,
         mut readers,
     } = operators_of(&rt, &rt, &[("sweep", ""), ("status", "")]);
-    let mut script = script_of(&rt, callers, Vec::new(rt.alloc()));
+    let listener = unwrap(&rt, listen(&rt, ANY));
+    let mut script = script_of(&rt, &rt, &listener, callers, Vec::new(rt.alloc()));
     assert!(rt; serve(&rt, &rt, &mut script, &[]).is_err());
     let Some(reader) = readers.get_mut(1) else {
         panic!(&rt; "there is no second operator");

@@ -1,8 +1,8 @@
 //! The order in which the callers of a server are answered: operators and clients in turn, clients as their messages arrive.
 
 use crate::harness::{Tester, unwrap};
-use outbox::{OperatorWriter, Unsent};
-use sockets::{Caller, Client, Course, Extent, Framing, Limits, PatientReader, Queue, listen};
+use outbox::Unsent;
+use sockets::{Caller, Client, Course, Extent, Framing, Limits, Queue, listen};
 use std::cell::Cell;
 use std::fs;
 use std::io::{self, Read, Write};
@@ -68,18 +68,12 @@ fn serve(
     queue: &mut Queue<'_>,
     mut client: Client,
 ) -> io::Result<(u8, u64)> {
-    client.number = Some(1);
     let mut front = client.begin(host.alloc())?;
     let course = Cell::new(Course::new());
-    let mut reader = PatientReader {
-        clock: host,
-        stream: client.stream(),
-        course: &course,
-        front: &mut front,
-    };
+    let mut reader = queue.reader(&client, host, &course, &mut front);
     let mut message = Vec::new(host.alloc());
     let size = reader.read_to_end(&mut message)?;
-    queue.put_back(client, &front, clock, &Letters)?;
+    queue.put_back(client, 1, &front, clock, &Letters)?;
     Ok((message.first().copied().unwrap_or(b'?'), size as u64))
 }
 
@@ -356,11 +350,10 @@ fn reply_late(
     reply: &[u8],
 ) -> UnixStream {
     let (operator, reader) = unwrap(rt, UnixStream::pair(host));
-    let mut writer = OperatorWriter::new(&operator, Unsent::new(rt.alloc()));
+    let mut unsent = Unsent::new(rt.alloc());
     for piece in reply.chunks(10_000) {
-        unwrap(rt, writer.write_all(piece));
+        unwrap(rt, queue.send_pieces(&operator, &mut unsent, piece));
     }
-    let unsent = writer.into_unsent();
     assert!(rt; !unsent.as_slice().is_empty());
     unwrap(rt, queue.end_reply(&operator, unsent, b"end", host));
     reader

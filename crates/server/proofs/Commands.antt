@@ -1,7 +1,7 @@
 -- What was done for an operator, by the calls that his command makes.
-use Rattle.std.proofs.Common.{◌≡◌, inl, inr, ℕ, List, Result, Ok, Err, IfOk, OnErr, refl}
+use Rattle.std.proofs.Common.{◌≡◌, inl, inr, ℕ, List, Result, Ok, Err, refl}
 use Rattle.std.specs.Prelude.{Bool, ⊤}
-use Rattle.std.specs.declared.net.unix.UnixStream.{UnixStream}
+use Rattle.sockets.specs.declared.operator_stream.OperatorStream.{OperatorStream}
 use Rattle.sqlite_trees.specs.declared.store.Store.{Ghosts}
 use Rattle.policy.specs.declared.policies.Policy.{Policy}
 use Rattle.tables.specs.declared.Store.{Store}
@@ -11,7 +11,7 @@ use Rattle.operator.specs.declared.tasks.Task.{Task}
 use Rattle.faults.specs.declared.faults.Fault.{Fault}
 use Rattle.machine.specs.declared.machine.Machine as machine
 use Rattle.server.specs.declared.outcomes.Outcome.{Outcome}
-use Rattle.server.specs.Commands.{AreReadings, HasEndedSo, IsDone, IsObeyed, IsTaskOf, RunsAs, outcome_of}
+use Rattle.server.specs.Commands.{AreReadings, HasEndedSo, IsDone, IsTaskOf, Obeys, RunsAs, outcome_of}
 use Rattle.server.specs.Jobs.{seen_in, Call, Calls, Helps}
 use Rattle.server.proofs.Jobs.{from_done, from_idle, from_own}
 
@@ -28,13 +28,12 @@ module _ {M : Type 0} (m : machine.Ghosts M) {S : Type 0} (g : Ghosts S) where
   fault_helps policy command input ended a u v calls made readings fault failed = from_idle m g (IsDone policy command input ended) a u v calls made (λ world. inl (fault, failed, refl, readings))
 
   -- a command with a task ended as that did
-  pub outcome_helps : (policy : Policy) (busy : Bool) (operator : UnixStream) (command : OperatorCommand) (input : List ℕ) (done : Result ⊤ Fault) (a b : Store S) (u v : M)
+  pub outcome_helps : (policy : Policy) (busy : Bool) (operator : OperatorStream) (command : OperatorCommand) (input : List ℕ) (done : Result ⊤ Fault) (a b : Store S) (u v : M)
       → From g a b (λ world. Helps m g (IsDone policy command input done) a b u v world) → From g a b (λ world. Helps m g (HasEndedSo policy busy operator command input (outcome_of done)) a b u v world)
   outcome_helps policy busy operator command input done a b u v p = from_own m g (IsDone policy command input done) _ a b u v (λ world l steps kept own. inr (done, refl, own)) p
 
   -- a command for the server itself, whether it was obeyed or not
-  pub order_helps : (policy : Policy) (busy : Bool) (operator : UnixStream) (command : OperatorCommand) (input : List ℕ) (ended : Result Outcome Fault) (a : Store S) (u v : M)
-      → IfOk ended (λ outcome. (calls : List Call) × Calls m u calls v × IsObeyed busy operator command outcome (seen_in calls)) → OnErr ended ((calls : List Call) × Calls m u calls v × AreReadings (seen_in calls))
-      → From g a a (λ world. Helps m g (HasEndedSo policy busy operator command input ended) a a u v world)
-  order_helps policy busy operator command input (Ok outcome) a u v obeyed failed = from_idle m g _ a u v obeyed.0 obeyed.1 (λ world. inl (outcome, refl, obeyed.2, refl))
-  order_helps policy busy operator command input (Err fault) a u v obeyed failed = from_idle m g _ a u v failed.0 failed.1 (λ world. inr (Err fault, refl, inl (fault, refl, refl, failed.2)))
+  pub order_helps : (policy : Policy) (busy : Bool) (operator : OperatorStream) (command : OperatorCommand) (input : List ℕ) (ended : Result Outcome Fault) (a : Store S) (u v : M)
+      → (calls : List Call) × Calls m u calls v × Obeys busy operator command ended (seen_in calls) → From g a a (λ world. Helps m g (HasEndedSo policy busy operator command input ended) a a u v world)
+  order_helps policy busy operator command input ended a u v (calls, made, inl obeyed) = from_idle m g _ a u v calls made (λ world. inl (obeyed, refl))
+  order_helps policy busy operator command input ended a u v (calls, made, inr (fault, failed, readings)) = from_idle m g _ a u v calls made (λ world. inr (Err fault, failed, inl (fault, refl, refl, readings)))

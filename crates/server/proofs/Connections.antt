@@ -1,19 +1,23 @@
--- A connection that was served, as steps of a run.
-use Rattle.std.proofs.lemmas.List.Elements.{All-from_recursion}
+-- A talk with a client, as steps of a run.
 use Rattle.std.proofs.Common.{◌≡◌, ◌⊎◌, inl, inr, ℕ, Option, List, [], ◌∷◌, map, refl, sym, ap, subst}
+use Rattle.std.proofs.KnownBytes.{Consumes-nil}
+use Rattle.std.specs.Io.KnownBytes.{Consumes, IsAtEnd}
 use Rattle.sqlite_trees.specs.declared.store.Store.{Ghosts}
+use Rattle.model.specs.Cases.{Setting}
 use Rattle.model.specs.World.{World}
+use Rattle.model.specs.Sessions.{Session}
 use Rattle.model.specs.Steps.{Event, exchanged, Run}
 use Rattle.model.specs.Bounds.{Bound, next_world, bound_after, bound_of_run}
-use Rattle.policy.specs.declared.policies.Policy.{Policy}
-use Rattle.desk.specs.Asking.{setting_of}
 use Rattle.tables.specs.declared.Store.{Store}
-use Rattle.refinement.specs.Left.{IsBoundedBy}
+use Rattle.refinement.specs.Left.{From, IsBoundedBy}
+use Rattle.refinement.proofs.Leading.{from_weaker}
+use Rattle.service.specs.declared.ends.End.TheVariants.{InputEnded}
 use Rattle.service.specs.declared.ends.Served.{Served}
-use Rattle.service.specs.Served.{IsServed, IsUnserved}
+use Rattle.service.specs.Served.{Call, IsServed, IsUnserved, Serves, unread_session}
+use Rattle.machine.specs.Observations.{Talk}
 use Rattle.operator.specs.Works.{takes, steps_of, bound_of_works}
-use Rattle.operator.proofs.Working.{still_steps, works_still}
-use Rattle.server.specs.Jobs.{Converses}
+use Rattle.operator.proofs.Working.{still_kept, still_steps, works_still}
+use Rattle.server.specs.Jobs.{Converses, IsTalk}
 
 -- the steps of calls that each take one
 steps_taken : (events : List Event) → steps_of (map takes events) ≡ events
@@ -25,15 +29,30 @@ bound_taken : (world : World) (events : List Event) (bound : Bound) → bound_of
 bound_taken world [] bound = refl
 bound_taken world (event ∷ events) bound = bound_taken (next_world world event) events (bound_after world event bound)
 
+-- what the session theorem says of a call with this talk
+abbrev pub call_of : Setting → Talk → (failed_before failed_after : ℕ) → Call
+call_of setting talk failed_before failed_after = record {
+  setting = setting;
+  left = talk.left;
+  rest = talk.rest;
+  failed_before = failed_before;
+  failed_after = failed_after;
+  was = talk.was;
+  is = talk.is;
+}
+
+-- nothing was read
+unread : (left rest : Option (List ℕ)) → rest ≡ left → Consumes left rest []
+unread left rest same = subst (λ (bytes : Option (List ℕ)). Consumes left bytes []) (sym same) (Consumes-nil left)
+
 module _ {S : Type 0} (g : Ghosts S) where
   -- a connection leads the store by the steps of its exchanges, or by none
-  pub converses : (C : List ℕ → Type 0) (F R : Type 0) (policy : Policy) (now : ℕ) (was is : Option (List ℕ)) (a b : Store S) (world : World) (served : Served)
-      → ((bytes : List ℕ) × C bytes × IsServed g (setting_of policy now) bytes world a b was is served) ⊎ (F × R × IsUnserved g (setting_of policy now) world a b was is served) → Converses g policy now a b world
-  converses C F R policy now was is a b world served (inl (bytes, _, s)) =
+  converses : (setting : Setting) (talk : Talk) (before after : ℕ) (a b : Store S) (world : World) (served : Served) → (served.end ≡ InputEnded → IsAtEnd talk.rest)
+      → Serves g (call_of setting talk before after) world a b served → Converses g setting talk served a b world
+  converses setting talk before after a b world served ended (inl (bytes, read, s)) =
       let events = map exchanged s.exchanges in
+      let session : Session = record { setting = setting; bytes = bytes; exchanges = s.exchanges; written = s.written; answered = served.answered } in
       record {
-        exchanges = s.exchanges;
-        under = s.session.under;
         done = record {
           works = map takes events;
           kept = s.kept;
@@ -43,11 +62,36 @@ module _ {S : Type 0} (g : Ghosts S) where
             left = λ bound was. subst (IsBoundedBy g b) (sym (bound_taken world events bound)) (s.leads.left bound was);
           };
         };
-        steps = steps_taken events;
+        is = record {
+          session = session;
+          under = refl;
+          answered = refl;
+          read = read;
+          written = s.taken;
+          is = inl s.session;
+          steps_are = steps_taken events;
+          ended = ended;
+        };
       }
-  converses C F R policy now was is a b world served (inr (_, _, u)) = record {
-    exchanges = [];
-    under = All-from_recursion (λ e. e.setting ≡ setting_of policy now) [] tt;
-    done = works_still g a b world u.leads;
-    steps = still_steps g a b world u.leads;
-  }
+  converses setting talk before after a b world served ended (inr (_, same, u)) =
+      let done = works_still g a b world u.leads in
+      record {
+        done = done;
+        is =
+            subst (λ (w : World). IsTalk setting talk served world (steps_of done.works) w) (sym (still_kept g a b world u.leads))
+            (record {
+              session = unread_session setting u.written served.answered;
+              under = refl;
+              answered = refl;
+              read = unread talk.left talk.rest same;
+              written = u.taken;
+              is = inr u.session;
+              steps_are = still_steps g a b world u.leads;
+              ended = ended;
+            });
+      }
+
+  -- a talk is a session, by the session theorem
+  pub from_conversed : (setting : Setting) (talk : Talk) (before after : ℕ) (a b : Store S) (served : Served) → (served.end ≡ InputEnded → IsAtEnd talk.rest)
+      → From g a b (λ world. Serves g (call_of setting talk before after) world a b served) → From g a b (λ world. Converses g setting talk served a b world)
+  from_conversed setting talk before after a b served ended p = from_weaker g a b _ _ (λ world s. converses setting talk before after a b world served ended s) p

@@ -1,10 +1,11 @@
 -- An inspection that a server begins, and goes on with.
 use Rattle.std.specs.Prelude.{Bool, false, is_some, Option, Some, None, ⊤}
 use Rattle.std.proofs.Common.{◌≡◌, ◌≤◌, ◌+◌, ◌∙◌, inl, inr, ℕ, List, [], Result, Ok, Err, IfOk, IfErr, refl, rules, sym, subst}
-use Rattle.std.specs.declared.net.unix.UnixStream.{UnixStream}
+use Rattle.sockets.specs.declared.operator_stream.OperatorStream.{OperatorStream}
 use Rattle.sqlite_trees.specs.declared.store.Store.{Ghosts}
 use Rattle.faults.specs.Statuses.{of_task, status_of_end}
 use Rattle.faults.specs.declared.faults.Fault.{Fault}
+use Rattle.faults.specs.declared.faults.Fault.TheVariants as refusal
 use Rattle.policy.specs.declared.policies.Policy.{Policy}
 use Rattle.model.specs.World.{World}
 use Rattle.model.specs.Steps.{Event}
@@ -25,7 +26,7 @@ use Rattle.machine.specs.Observations.{Observation, called}
 use Rattle.server.specs.declared.outcomes.Outcome.{Outcome}
 use Rattle.server.specs.declared.outcomes.Outcome.TheVariants.{Unchanged, Stopped, Reloaded, Began}
 use Rattle.server.specs.declared.waiting.Waiting.{Waiting}
-use Rattle.server.specs.Commands.{HasEndedSo, IsAnswered, IsGoneOn, IsInspection, IsInspectionFault, IsObeyed, IsReplied, IsRequestDone, is_stopped, made_of, operator_in, policy_after}
+use Rattle.server.specs.Commands.{HasEndedSo, IsAnswered, IsClean, IsGoneOn, IsInspection, IsInspectionFault, IsObeyed, IsReplied, IsRequestDone, IsSentOn, is_stopped, made_of, operator_in, policy_after}
 use Rattle.server.specs.Jobs.{Call, Calls, Helps, IsFor, IsTurn, ServesClean, ServesMore, first_turn, for_caller, seen_in, waiting_after}
 use Rattle.server.proofs.Jobs.{clean_still, from_read, from_turn, helps_read, serves_one}
 use Rattle.outbox.specs.declared.unsent.Unsent.{Unsent}
@@ -43,20 +44,18 @@ plain_fault task.Memory plain = tt
 plain_fault task.Output plain = tt
 plain_fault task.Reported plain = absurd plain
 
-obeyed_clean : (busy : Bool) (operator : UnixStream) (command : OperatorCommand) (inspection : Inspection) (seen : List Observation) → IsObeyed busy operator command (Began inspection) seen → inspection.damaged ≡ 0
+obeyed_clean : (busy : Bool) (operator : OperatorStream) (command : OperatorCommand) (inspection : Inspection) (seen : List Observation) → IsObeyed busy operator command (Ok (Began inspection)) seen → inspection.damaged ≡ 0
 obeyed_clean busy operator command.Check inspection seen obeyed = obeyed.0.none
 obeyed_clean busy operator command.Repair inspection seen obeyed = obeyed.0.none
 obeyed_clean busy operator _ inspection seen obeyed = absurd obeyed
 
-done_clean : (policy : Policy) (busy : Bool) (operator : UnixStream) (command : OperatorCommand) (input : List ℕ) (inspection : Inspection) (world kept : World) (seen : List Observation) (steps : List Event)
+done_clean : (policy : Policy) (busy : Bool) (operator : OperatorStream) (command : OperatorCommand) (input : List ℕ) (inspection : Inspection) (world kept : World) (seen : List Observation) (steps : List Event)
     → HasEndedSo policy busy operator command input (Ok (Began inspection)) world seen steps kept → inspection.damaged ≡ 0
-done_clean policy busy operator command input inspection world kept seen steps (inl (outcome, is, obeyed, none)) =
-    let same : outcome ≡ Began inspection = cc in
-    obeyed_clean busy operator command inspection seen (subst (λ (o : Outcome). IsObeyed busy operator command o seen) same obeyed)
+done_clean policy busy operator command input inspection world kept seen steps (inl (obeyed, none)) = obeyed_clean busy operator command inspection seen obeyed
 done_clean policy busy operator command input inspection world kept seen steps (inr (Ok done, is, own)) = absurd (cc)
 done_clean policy busy operator command input inspection world kept seen steps (inr (Err fault, is, own)) = absurd (cc)
 
-request_clean : (policy : Policy) (busy : Bool) (operator : UnixStream) (body : List ℕ) (ended : Result Outcome Fault) (inspection : Inspection) (world kept : World) (seen : List Observation) (steps : List Event)
+request_clean : (policy : Policy) (busy : Bool) (operator : OperatorStream) (body : List ℕ) (ended : Result Outcome Fault) (inspection : Inspection) (world kept : World) (seen : List Observation) (steps : List Event)
     → Began inspection ≡ made_of ended → IsRequestDone policy busy operator body ended world seen steps kept → inspection.damaged ≡ 0
 request_clean policy busy operator body (Err fault) inspection world kept seen steps made done = absurd (cc)
 request_clean policy busy operator body (Ok outcome) inspection world kept seen steps made (inl (fault, is, none, silent)) = absurd (cc)
@@ -64,7 +63,7 @@ request_clean policy busy operator body (Ok outcome) inspection world kept seen 
     done_clean policy busy operator command input inspection world kept seen steps (subst (λ (o : Outcome). HasEndedSo policy busy operator command input (Ok o) world seen steps kept) (sym made) so)
 
 -- an inspection that was begun for an operator has found nothing damaged yet
-begun_clean : (policy : Policy) (busy : Bool) (operator : UnixStream) (inspection : Inspection) (world kept : World) (seen : List Observation) (steps : List Event)
+begun_clean : (policy : Policy) (busy : Bool) (operator : OperatorStream) (inspection : Inspection) (world kept : World) (seen : List Observation) (steps : List Event)
     → IsAnswered policy busy operator (Began inspection) world seen steps kept → inspection.damaged ≡ 0
 begun_clean policy busy operator inspection world kept seen steps (inl s) = request_clean policy busy operator s.body s.ended inspection world kept s.own steps s.made s.done
 begun_clean policy busy operator inspection world kept seen steps (inr (is, none, silent)) = absurd (cc)
@@ -82,28 +81,28 @@ module _ {S : Type 0} (g : Ghosts S) where
 
 module _ {M : Type 0} (m : machine.Ghosts M) {S : Type 0} (g : Ghosts S) where
   -- an operator's command, while somebody waits or nobody does
-  pub for_operator : (policy : Policy) (was : Option Waiting) (busy : Bool) (operator : UnixStream) (outcome : Outcome) (a b : Store S) (u v : M) → busy ≡ is_some was
+  pub for_operator : (policy : Policy) (was : Option Waiting) (busy : Bool) (operator : OperatorStream) (outcome : Outcome) (a b : Store S) (u v : M) → busy ≡ is_some was
       → From g a b (λ world. Helps m g (IsAnswered policy busy operator outcome) a b u v world) → From g a b (λ world. Helps m g (IsFor policy (operator_in was) (for_caller (Operator operator)) outcome) a b u v world)
   for_operator policy was busy operator outcome a b u v is p =
       subst (λ (x : Bool). From g a b (λ world. Helps m g (IsAnswered policy x operator outcome) a b u v world)) (is ∙ busy_is was) p
 
   -- an operator's command, after which the same one waits as before, or nobody
-  pub serves_kept : (policy : Policy) (was : Option Waiting) (busy : Bool) (operator : UnixStream) (outcome : Outcome) (a b : Store S) (u v w : M) (count : ℕ) → waiting_after (operator_in was) (for_caller (Operator operator)) outcome ≡ operator_in was
+  pub serves_kept : (policy : Policy) (was : Option Waiting) (busy : Bool) (operator : OperatorStream) (outcome : Outcome) (a b : Store S) (u v w : M) (count : ℕ) → waiting_after (operator_in was) (for_caller (Operator operator)) outcome ≡ operator_in was
       → m.observed u v (called (Operator operator)) → busy ≡ is_some was → From g a b (λ world. Helps m g (IsAnswered policy busy operator outcome) a b v w world)
       → From g a b (λ world. ServesClean m g policy was was a b u w world count count (policy_after policy outcome) (is_stopped outcome))
   serves_kept policy was busy operator outcome a b u v w count same call is p =
       clean_still m g policy (policy_after policy outcome) was (is_stopped outcome) a b u w count count
-      (subst (λ (who : Option UnixStream). From g a b (λ world. ServesMore m g policy (operator_in was) a b u w world count count (policy_after policy outcome) who (is_stopped outcome))) same
+      (subst (λ (who : Option OperatorStream). From g a b (λ world. ServesMore m g policy (operator_in was) a b u w world count count (policy_after policy outcome) who (is_stopped outcome))) same
       (serves_one m g policy (operator_in was) (Operator operator) outcome a b u v w count count call (search rules) (for_operator policy was busy operator outcome a b v w is p)))
 
   -- a client's turn
   pub serves_turn : (policy : Policy) (was : Option Waiting) (client : Client) (a b : Store S) (u v w : M) (before after : ℕ) → m.observed u v (called (from.Client client)) → after ≤ before + first_turn (from.Client client)
-      → From g a b (λ world. Helps m g (IsTurn policy) a b v w world) → From g a b (λ world. ServesClean m g policy was was a b u w world before after policy false)
+      → From g a b (λ world. Helps m g (IsTurn policy client) a b v w world) → From g a b (λ world. ServesClean m g policy was was a b u w world before after policy false)
   serves_turn policy was client a b u v w before after call few p =
-      clean_still m g policy policy was false a b u w before after (serves_one m g policy (operator_in was) (from.Client client) Unchanged a b u v w before after call few (from_turn m g policy a b v w p))
+      clean_still m g policy policy was false a b u w before after (serves_one m g policy (operator_in was) (from.Client client) Unchanged a b u v w before after call few (from_turn m g policy client a b v w p))
 
   -- an operator whose inspection was begun waits
-  pub serves_begun : (policy : Policy) (was : Option Waiting) (busy : Bool) (operator : UnixStream) (inspection : Inspection) (unsent : Unsent) (a b : Store S) (u v w : M) (count : ℕ) → m.observed u v (called (Operator operator)) → busy ≡ is_some was
+  pub serves_begun : (policy : Policy) (was : Option Waiting) (busy : Bool) (operator : OperatorStream) (inspection : Inspection) (unsent : Unsent) (a b : Store S) (u v w : M) (count : ℕ) → m.observed u v (called (Operator operator)) → busy ≡ is_some was
       → From g a b (λ world. Helps m g (IsAnswered policy busy operator (Began inspection)) a b v w world)
       → From g a b (λ world. ServesClean m g policy was (Some (record { stream = operator; inspection = inspection; unsent = unsent })) a b u w world count count policy false)
   serves_begun policy was busy operator inspection unsent a b u v w count call is p =
@@ -115,18 +114,24 @@ module _ {M : Type 0} (m : machine.Ghosts M) {S : Type 0} (g : Ghosts S) where
             (one.each honest world h, begun_clean policy busy operator inspection world own.done.kept (seen_in own.calls) _ own.own);
       }
 
-  -- it goes on
-  pub goes_still : (a b : Store S) (u : M) (operator : UnixStream) (was is : Inspection) (r : Result Bool Fault) → From g a b (λ _. Reads g a b (λ _. ⊤) × (was.damaged ≡ 0 → (is.damaged ≡ 0) × IfErr r IsInspectionFault))
-      → From g a b (λ world. was.damaged ≡ 0 → Helps m g (IsGoneOn operator (Some operator)) a b u u world × (is.damaged ≡ 0))
-  goes_still a b u operator was is r p = record {
+  -- it goes on, or its operator has gone
+  pub goes_still : (a b : Store S) (u v : M) (operator : OperatorStream) (was is : Inspection) (r : Result Bool Fault) (left : Option Waiting) (calls : List Call) → Calls m u calls v → IsSentOn operator left (seen_in calls) → (is.damaged ≡ 0 → IsClean left)
+      → From g a b (λ _. Reads g a b (λ _. ⊤) × (was.damaged ≡ 0 → (is.damaged ≡ 0) × IfErr r IsInspectionFault)) → From g a b (λ world. was.damaged ≡ 0 → Helps m g (IsGoneOn operator (operator_in left)) a b u v world × IsClean left)
+  goes_still a b u v operator was is r None calls made gone clean p = record {
     honest = p.honest;
     each = λ honest world h none.
         let went = p.each honest world h in
-        (helps_read m g (IsGoneOn operator (Some operator)) a b u u [] _ world h refl went.0 (refl, refl, refl), (went.1 none).0);
+        (helps_read m g (IsGoneOn operator None) a b u v calls _ world h made went.0 (refl, (Err refusal.Operator, tt, inl gone)), tt);
+  }
+  goes_still a b u v operator was is r (Some left) calls made sent clean p = record {
+    honest = p.honest;
+    each = λ honest world h none.
+        let went = p.each honest world h in
+        (helps_read m g (IsGoneOn operator (Some left.stream)) a b u v calls _ world h made went.0 (sent.0, refl, sent.1), clean (went.1 none).0);
   }
 
   -- it has ended, and so has the reply
-  pub goes_no_more : (a b : Store S) (u v : M) (operator : UnixStream) (was is : Inspection) (r : Result Bool Fault) (ended : Result ⊤ Fault) (calls : List Call) → (IfErr r IsInspectionFault → IfErr ended IsInspectionFault)
+  pub goes_no_more : (a b : Store S) (u v : M) (operator : OperatorStream) (was is : Inspection) (r : Result Bool Fault) (ended : Result ⊤ Fault) (calls : List Call) → (IfErr r IsInspectionFault → IfErr ended IsInspectionFault)
       → Calls m u calls v → IsReplied operator (status_of_end ended) (seen_in calls) → From g a b (λ _. Reads g a b (λ _. ⊤) × (was.damaged ≡ 0 → (is.damaged ≡ 0) × IfErr r IsInspectionFault))
       → From g a b (λ world. was.damaged ≡ 0 → Helps m g (IsGoneOn operator None) a b u v world × ⊤)
   goes_no_more a b u v operator was is r ended calls same made replied p = record {
@@ -137,20 +142,20 @@ module _ {M : Type 0} (m : machine.Ghosts M) {S : Type 0} (g : Ghosts S) where
   }
 
   -- a command that begins an inspection
-  pub inspection_helps : (policy : Policy) (busy : Bool) (operator : UnixStream) (purpose : Purpose) (command : OperatorCommand) (input : List ℕ) (ended : Result Outcome Fault) (a b : Store S) (u : M)
-      → ((outcome : Outcome) → IsInspection purpose busy outcome → IsObeyed busy operator command outcome []) → IfOk ended (IsInspection purpose busy) → Reads g a b (λ _. ⊤)
+  pub inspection_helps : (policy : Policy) (busy : Bool) (operator : OperatorStream) (purpose : Purpose) (command : OperatorCommand) (input : List ℕ) (ended : Result Outcome Fault) (a b : Store S) (u : M)
+      → ((outcome : Outcome) → IsInspection purpose busy outcome → IsObeyed busy operator command (Ok outcome) []) → IfOk ended (IsInspection purpose busy) → Reads g a b (λ _. ⊤)
       → From g a b (λ world. Helps m g (HasEndedSo policy busy operator command input ended) a b u u world)
-  inspection_helps policy busy operator purpose command input (Ok outcome) a b u obeys is reads = from_read m g _ a b u u [] _ refl reads (λ world. inl (outcome, refl, obeys outcome is, refl))
+  inspection_helps policy busy operator purpose command input (Ok outcome) a b u obeys is reads = from_read m g _ a b u u [] _ refl reads (λ world. inl (obeys outcome is, refl))
   inspection_helps policy busy operator purpose command input (Err fault) a b u obeys is reads = from_read m g _ a b u u [] _ refl reads (λ world. inr (Err fault, refl, inl (fault, refl, refl, tt)))
 
 -- what a check or a repair that was begun is to the server
-pub check_obeyed : (busy : Bool) (operator : UnixStream) (outcome : Outcome) → IsInspection Check busy outcome → IsObeyed busy operator command.Check outcome []
+pub check_obeyed : (busy : Bool) (operator : OperatorStream) (outcome : Outcome) → IsInspection Check busy outcome → IsObeyed busy operator command.Check (Ok outcome) []
 check_obeyed busy operator Unchanged is = absurd is
 check_obeyed busy operator Stopped is = absurd is
 check_obeyed busy operator (Reloaded policy) is = absurd is
 check_obeyed busy operator (Began inspection) is = (is, refl)
 
-pub repair_obeyed : (busy : Bool) (operator : UnixStream) (outcome : Outcome) → IsInspection Repair busy outcome → IsObeyed busy operator command.Repair outcome []
+pub repair_obeyed : (busy : Bool) (operator : OperatorStream) (outcome : Outcome) → IsInspection Repair busy outcome → IsObeyed busy operator command.Repair (Ok outcome) []
 repair_obeyed busy operator Unchanged is = absurd is
 repair_obeyed busy operator Stopped is = absurd is
 repair_obeyed busy operator (Reloaded policy) is = absurd is

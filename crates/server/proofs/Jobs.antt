@@ -18,12 +18,18 @@ use Rattle.operator.proofs.Working.{still_kept, steps_then, still_steps, then_ke
 use Rattle.machine.specs.declared.machine.Machine as machine
 use Rattle.server.specs.declared.outcomes.Outcome.{Outcome}
 use Rattle.server.specs.declared.outcomes.Outcome.TheVariants.{Unchanged}
-use Rattle.machine.specs.Observations.{Observation, called, sent, timed}
+use Rattle.machine.specs.Observations.{Observation, Talk, called, sent, talked, timed}
+use Rattle.control.specs.Replies.{status_code}
+use Rattle.control.specs.declared.status.Status.{Status}
+use Rattle.desk.specs.Asking.{setting_of}
+use Rattle.model.specs.Steps.{Run}
+use Rattle.service.specs.declared.ends.Served.{Served}
+use Rattle.sockets.specs.declared.client.Client as sockets
 use Rattle.faults.specs.declared.faults.Fault.{Fault}
-use Rattle.std.specs.declared.net.unix.UnixStream.{UnixStream}
-use Rattle.server.specs.Commands.{AreReadings, IsAnswered, IsBegun, IsMomentOf, IsRead, IsClean, IsEnded, IsGoneOn, IsRequestDone, is_stopped, made_of, operator_in, policy_after}
+use Rattle.sockets.specs.declared.operator_stream.OperatorStream.{OperatorStream}
+use Rattle.server.specs.Commands.{AreReadings, AreSent, IsAnswered, IsBegun, IsMomentOf, IsRead, IsClean, IsEnded, IsGoneOn, IsReplied, IsRequestDone, is_stopped, made_of, operator_in, policy_after}
 use Rattle.server.specs.declared.waiting.Waiting.{Waiting}
-use Rattle.server.specs.Jobs.{Reason, for_caller, goes_on, ends, Job, seen_before, seen_for, IsMomentAtMost, IsTurn, IsFor, AreJobs, AreStopped, HasFinished, first_turn, turn_in, policy_left, waiting_after, waiting_left, Call, idles, observes, seen_in, Calls, Converses, Tidies, Helps, Serves, ServesMore, ServesClean}
+use Rattle.server.specs.Jobs.{Reason, for_caller, goes_on, ends, Job, seen_before, seen_for, IsMomentAtMost, IsTalk, IsTurn, IsFor, AreJobs, AreStopped, HasFinished, first_turn, turn_in, policy_left, waiting_after, waiting_left, Call, idles, observes, seen_in, Calls, Converses, Tidies, Helps, Serves, ServesMore, ServesClean}
 
 -- ---- what is observed of a machine
 
@@ -62,11 +68,16 @@ module _ {M : Type 0} (m : machine.Ghosts M) where
   moment_untimed u v (Ok now) i = tt
   moment_untimed u v (Err e) i = (idles ∷ [], one_idle u v i, refl)
 
-  -- bytes that were sent to an operator, or not
-  pub sent_or_not : (u v : M) (r : Result ⊤ Fault) (operator : UnixStream) (bytes : List ℕ) → OnOk r (m.observed u v (sent operator bytes)) → OnErr r (m.idled u v)
-      → (calls : List Call) × Calls m u calls v × ((seen_in calls ≡ sent operator bytes ∷ []) ⊎ (seen_in calls ≡ []))
-  sent_or_not u v (Ok done) operator bytes a i = (observes (sent operator bytes) ∷ [], one_seen u v (sent operator bytes) a, inl refl)
-  sent_or_not u v (Err e) operator bytes a i = (idles ∷ [], one_idle u v i, inr refl)
+  -- pieces were sent to an operator, and then the end of his reply, or not
+  pub ended_or_not : (u v w : M) (r : Result ⊤ Fault) (operator : OperatorStream) (status : Status) (calls : List Call) → Calls m u calls v → AreSent operator (seen_in calls)
+      → OnOk r (m.observed v w (sent operator (status_code status ∷ []))) → OnErr r (m.idled v w) → (all : List Call) × Calls m u all w × IsReplied operator status (seen_in all)
+  ended_or_not u v w (Ok done) operator status calls made pieces a i =
+      let end = sent operator (status_code status ∷ []) in
+      let seen = seen_append calls (observes end ∷ []) ∙ ap (λ (l : List Observation). l ++ end ∷ []) pieces.2 in
+      (calls ++ observes end ∷ [], calls_append u v w calls (observes end ∷ []) made (one_seen v w end a), inr (inr (pieces.0, pieces.1, seen)))
+  ended_or_not u v w (Err e) operator status calls made pieces a i =
+      let seen = seen_append calls (idles ∷ []) ∙ append-nil (seen_in calls) ∙ pieces.2 in
+      (calls ++ idles ∷ [], calls_append u v w calls (idles ∷ []) made (one_idle v w i), inr (inl (pieces.0, pieces.1, seen)))
 
   module _ {S : Type 0} (g : Ghosts S) where
     -- ---- for one caller
@@ -129,7 +140,7 @@ module _ {M : Type 0} (m : machine.Ghosts M) where
     from_own P Q a b u v f p = from_weaker g a b _ _ (λ world h. record { calls = h.calls; made = h.made; done = h.done; own = f world (seen_in h.calls) (steps_of h.done.works) h.done.kept h.own }) p
 
     -- a request was received, its reply begun, it was done, and its reply perhaps ended
-    pub from_served : (policy : Policy) (busy : Bool) (operator : UnixStream) (body : List ℕ) (ended : Result Outcome Fault) (a b : Store S) (u v w x y : M) (before begin after : List Call)
+    pub from_served : (policy : Policy) (busy : Bool) (operator : OperatorStream) (body : List ℕ) (ended : Result Outcome Fault) (a b : Store S) (u v w x y : M) (before begin after : List Call)
         → Calls m u before v → IsRead operator body (seen_in before) → Calls m v begin w → IsBegun operator (seen_in begin) → Calls m x after y → IsEnded operator ended (seen_in after)
         → From g a b (λ world. Helps m g (IsRequestDone policy busy operator body ended) a b w x world) → From g a b (λ world. Helps m g (IsAnswered policy busy operator (made_of ended)) a b u y world)
     from_served policy busy operator body ended a b u v w x y before begin after first read started begun last replied p =
@@ -157,33 +168,41 @@ module _ {M : Type 0} (m : machine.Ghosts M) where
 
     -- ---- a turn
 
-    -- the store was tidied, and then a connection served at the machine's moment
-    pub turn_served : (policy : Policy) (now : ℕ) (a b c : Store S) (u v : M) (calls : List Call) → From g a b (Tidies g a b) → Calls m u calls v → seen_in calls ≡ timed now ∷ []
-        → From g b c (λ world. Converses g policy now b c world) → From g a c (λ world. Helps m g (IsTurn policy) a c u v world)
-    turn_served policy now a b c u v calls p made seen q = record {
+    -- the store was tidied, and then there was a talk with the client at the machine's moment
+    pub turn_served : (policy : Policy) (client : sockets.Client) (now : ℕ) (talk : Talk) (served : Served) (a b c : Store S) (u v : M) (calls : List Call) → From g a b (Tidies g a b) → Calls m u calls v
+        → seen_in calls ≡ timed now ∷ talked client talk served ∷ [] → From g b c (λ world. Converses g (setting_of policy now) talk served b c world) → From g a c (λ world. Helps m g (IsTurn policy client) a c u v world)
+    turn_served policy client now talk served a b c u v calls p made seen q = record {
       honest = λ k. p.honest (q.honest k);
       each = λ honest world h.
           let before = p.each (q.honest honest) world h in
           let turn = q.each honest before.0.kept before.0.leads.holds in
           let done = works_then g a b c world before.0 turn.done in
-          let steps = steps_then g a b c world before.0 turn.done ∙ ap (λ (l : List Event). l ++ steps_of turn.done.works) before.1 ∙ turn.steps in
-          record { calls = calls; made = made; done = done; own = inr (now, seen, turn.exchanges, turn.under, steps) };
+          let same : before.0.kept ≡ world = subst (λ (l : List Event). Run world l before.0.kept) before.1 before.0.run in
+          let steps = steps_then g a b c world before.0 turn.done ∙ ap (λ (l : List Event). l ++ steps_of turn.done.works) before.1 in
+          let is = subst (λ (w : World). IsTalk (setting_of policy now) talk served w (steps_of turn.done.works) turn.done.kept) same turn.is in
+          let kept = subst (λ (w : World). IsTalk (setting_of policy now) talk served world (steps_of turn.done.works) w) (sym (then_kept g a b c world before.0 turn.done)) is in
+          record {
+            calls = calls;
+            made = made;
+            done = done;
+            own = inr (now, talk, served, seen, subst (λ (l : List Event). IsTalk (setting_of policy now) talk served world l done.kept) (sym steps) kept);
+          };
     }
 
     -- the store was tidied, and no message served
-    pub turn_unserved : (policy : Policy) (a b : Store S) (u v : M) (calls : List Call) → From g a b (Tidies g a b) → Calls m u calls v → IsMomentAtMost (seen_in calls)
-        → From g a b (λ world. Helps m g (IsTurn policy) a b u v world)
-    turn_unserved policy a b u v calls p made few = from_weaker g a b _ _ (λ world t. record { calls = calls; made = made; done = t.0; own = inl (t.1, few) }) p
+    pub turn_unserved : (policy : Policy) (client : sockets.Client) (a b : Store S) (u v : M) (calls : List Call) → From g a b (Tidies g a b) → Calls m u calls v → IsMomentAtMost (seen_in calls)
+        → From g a b (λ world. Helps m g (IsTurn policy client) a b u v world)
+    turn_unserved policy client a b u v calls p made few = from_weaker g a b _ _ (λ world t. record { calls = calls; made = made; done = t.0; own = inl (t.1, few) }) p
 
     -- a turn leaves the server as it is
-    pub from_turn : (policy : Policy) (a b : Store S) (u v : M) → From g a b (λ world. Helps m g (IsTurn policy) a b u v world)
-        → From g a b (λ world. Helps m g (λ world seen steps kept. IsTurn policy world seen steps kept × (Unchanged ≡ Unchanged)) a b u v world)
-    from_turn policy a b u v p = from_own (IsTurn policy) _ a b u v (λ world l steps kept own. (own, refl)) p
+    pub from_turn : (policy : Policy) (client : sockets.Client) (a b : Store S) (u v : M) → From g a b (λ world. Helps m g (IsTurn policy client) a b u v world)
+        → From g a b (λ world. Helps m g (λ world seen steps kept. IsTurn policy client world seen steps kept × (Unchanged ≡ Unchanged)) a b u v world)
+    from_turn policy client a b u v p = from_own (IsTurn policy client) _ a b u v (λ world l steps kept own. (own, refl)) p
 
     -- ---- jobs
 
     -- jobs, and more jobs from the world to which they led, under the policy that they left
-    are_append : (policy : Policy) (waiting : Option UnixStream) (world mid kept : World) (jobs more : List Job) → AreJobs policy waiting world jobs mid
+    are_append : (policy : Policy) (waiting : Option OperatorStream) (world mid kept : World) (jobs more : List Job) → AreJobs policy waiting world jobs mid
         → AreJobs (policy_left policy jobs) (waiting_left waiting jobs) mid more kept → AreJobs policy waiting world (jobs ++ more) kept
     are_append policy waiting world mid kept [] more p q = subst (λ (w : World). AreJobs policy waiting w more kept) p q
     are_append policy waiting world mid kept (job ∷ jobs) more p q =
@@ -193,7 +212,7 @@ module _ {M : Type 0} (m : machine.Ghosts M) where
     left_append policy [] more = refl
     left_append policy (job ∷ jobs) more = left_append (policy_after policy job.outcome) jobs more
 
-    waits_append : (waiting : Option UnixStream) (jobs more : List Job) → waiting_left waiting (jobs ++ more) ≡ waiting_left (waiting_left waiting jobs) more
+    waits_append : (waiting : Option OperatorStream) (jobs more : List Job) → waiting_left waiting (jobs ++ more) ≡ waiting_left (waiting_left waiting jobs) more
     waits_append waiting [] more = refl
     waits_append waiting (job ∷ jobs) more = waits_append (waiting_after waiting job.reason job.outcome) jobs more
 
@@ -204,7 +223,7 @@ module _ {M : Type 0} (m : machine.Ghosts M) where
     stopped_append stopped (job ∷ next ∷ jobs) more p q = (p.0, stopped_append stopped (next ∷ jobs) more p.1 q)
 
     -- one job, after what was observed before it
-    job_served : (policy : Policy) (waiting : Option UnixStream) (reason : Reason) (outcome : Outcome) (a b : Store S) (u v w : M) (first : List Call) (before after : ℕ) → Calls m u first v → seen_in first ≡ seen_before reason
+    job_served : (policy : Policy) (waiting : Option OperatorStream) (reason : Reason) (outcome : Outcome) (a b : Store S) (u v w : M) (first : List Call) (before after : ℕ) → Calls m u first v → seen_in first ≡ seen_before reason
         → after ≤ before + turn_in reason → From g a b (λ world. Helps m g (IsFor policy waiting reason outcome) a b v w world)
         → From g a b (λ world. ServesMore m g policy waiting a b u w world before after (policy_after policy outcome) (waiting_after waiting reason outcome) (is_stopped outcome))
     job_served policy waiting reason outcome a b u v w first before after made seen few p =
@@ -229,14 +248,14 @@ module _ {M : Type 0} (m : machine.Ghosts M) where
         p
 
     -- a caller's job
-    pub serves_one : (policy : Policy) (waiting : Option UnixStream) (caller : Caller) (outcome : Outcome) (a b : Store S) (u v w : M) (before after : ℕ) → m.observed u v (called caller) → after ≤ before + first_turn caller
+    pub serves_one : (policy : Policy) (waiting : Option OperatorStream) (caller : Caller) (outcome : Outcome) (a b : Store S) (u v w : M) (before after : ℕ) → m.observed u v (called caller) → after ≤ before + first_turn caller
         → From g a b (λ world. Helps m g (IsFor policy waiting (for_caller caller) outcome) a b v w world)
         → From g a b (λ world. ServesMore m g policy waiting a b u w world before after (policy_after policy outcome) (waiting_after waiting (for_caller caller) outcome) (is_stopped outcome))
     serves_one policy waiting caller outcome a b u v w before after call few p =
         job_served policy waiting (for_caller caller) outcome a b u v w (observes (called caller) ∷ []) before after (one_seen u v (called caller) call) refl few p
 
     -- no job
-    pub serves_none : (policy : Policy) (waiting : Option UnixStream) (a : Store S) (u v : M) (calls : List Call) (count : ℕ) → Calls m u calls v → seen_in calls ≡ []
+    pub serves_none : (policy : Policy) (waiting : Option OperatorStream) (a : Store S) (u v : M) (calls : List Call) (count : ℕ) → Calls m u calls v → seen_in calls ≡ []
         → From g a a (λ world. ServesMore m g policy waiting a a u v world count count policy waiting false)
     serves_none policy waiting a u v calls count made none = record {
       honest = λ k. k;
@@ -260,7 +279,7 @@ module _ {M : Type 0} (m : machine.Ghosts M) where
     }
 
     -- jobs, and more jobs
-    serves_then : (policy : Policy) (waiting : Option UnixStream) (a b c : Store S) (u v w : M) (world : World) (jobs more : List Job) (p : Serves m g policy waiting a b u v world jobs)
+    serves_then : (policy : Policy) (waiting : Option OperatorStream) (a b c : Store S) (u v w : M) (world : World) (jobs more : List Job) (p : Serves m g policy waiting a b u v world jobs)
         → Serves m g (policy_left policy jobs) (waiting_left waiting jobs) b c v w p.done.kept more → Serves m g policy waiting a c u w world (jobs ++ more)
     serves_then policy waiting a b c u v w world jobs more p q = record {
       calls = p.calls ++ q.calls;
@@ -272,7 +291,7 @@ module _ {M : Type 0} (m : machine.Ghosts M) where
       steps = steps_then g a b c world p.done q.done ∙ rw (p.steps, q.steps) (sym (flat_map-append (λ (job : Job). job.steps) jobs more));
     }
 
-    more_then : (policy mid left : Policy) (one two three : Option UnixStream) (stopped : Bool) (a b c : Store S) (u v w : M) (world : World) (first begun after : ℕ) (p : ServesMore m g policy one a b u v world first begun mid two false)
+    more_then : (policy mid left : Policy) (one two three : Option OperatorStream) (stopped : Bool) (a b c : Store S) (u v w : M) (world : World) (first begun after : ℕ) (p : ServesMore m g policy one a b u v world first begun mid two false)
         → ServesMore m g mid two b c v w p.serves.done.kept begun after left three stopped → ServesMore m g policy one a c u w world first after left three stopped
     more_then policy mid left one two three stopped a b c u v w world first begun after p q =
         let sum = sum_by-append (λ (job : Job). turn_in job.reason) p.jobs q.jobs in
@@ -280,15 +299,15 @@ module _ {M : Type 0} (m : machine.Ghosts M) where
           jobs = p.jobs ++ q.jobs;
           serves = serves_then policy one a b c u v w world p.jobs q.jobs p.serves
               (subst (λ (by : Policy). Serves m g by (waiting_left one p.jobs) b c v w p.serves.done.kept q.jobs) p.is_left
-              (subst (λ (who : Option UnixStream). Serves m g mid who b c v w p.serves.done.kept q.jobs) p.is_waiting q.serves));
+              (subst (λ (who : Option OperatorStream). Serves m g mid who b c v w p.serves.done.kept q.jobs) p.is_waiting q.serves));
           few = let fewer = p.few in let fewest = q.few in omega (arith, fewer, fewest, sum);
           is_left = q.is_left ∙ ap (λ (by : Policy). policy_left by q.jobs) p.is_left ∙ sym (left_append policy p.jobs q.jobs);
-          is_waiting = q.is_waiting ∙ ap (λ (who : Option UnixStream). waiting_left who q.jobs) p.is_waiting ∙ sym (waits_append one p.jobs q.jobs);
+          is_waiting = q.is_waiting ∙ ap (λ (who : Option OperatorStream). waiting_left who q.jobs) p.is_waiting ∙ sym (waits_append one p.jobs q.jobs);
           are_stopped = stopped_append stopped p.jobs q.jobs p.are_stopped q.are_stopped;
         }
 
     -- the job of an operator who waits
-    gone_on : (policy : Policy) (waiting : Option UnixStream) (reason : Reason) (a b : Store S) (u v : M) (world : World) (count : ℕ) {IsOwn : World → List Observation → List Event → World → Type 0} (h : Helps m g IsOwn a b u v world)
+    gone_on : (policy : Policy) (waiting : Option OperatorStream) (reason : Reason) (a b : Store S) (u v : M) (world : World) (count : ℕ) {IsOwn : World → List Observation → List Event → World → Type 0} (h : Helps m g IsOwn a b u v world)
         → seen_before reason ≡ [] → turn_in reason ≡ 0 → IsFor policy waiting reason Unchanged world (seen_in h.calls) (steps_of h.done.works) h.done.kept
         → ServesMore m g policy waiting a b u v world count count policy (waiting_after waiting reason Unchanged) false
     gone_on policy waiting reason a b u v world count h none turn own =
@@ -371,13 +390,13 @@ module _ {M : Type 0} (m : machine.Ghosts M) where
       each = λ honest world h clean.
           let did = p.each honest world h clean in
           let own = did.0.own in
-          (subst (λ (who : UnixStream). ServesMore m g policy (Some was.stream) a b u v world count count policy (Some who) false) (sym own.0) (gone_on policy (Some was.stream) goes_on a b u v world count did.0 refl refl (refl, own.1, refl, own.2)), did.1);
+          (subst (λ (who : OperatorStream). ServesMore m g policy (Some was.stream) a b u v world count count policy (Some who) false) (sym own.0) (gone_on policy (Some was.stream) goes_on a b u v world count did.0 refl refl (own.2, own.1, refl)), did.1);
     }
 
     -- ---- the end of a server
 
     -- a server that an operator has stopped
-    pub from_stopped : (policy left : Policy) (waits : Option Waiting) (most count : ℕ) (operator : UnixStream) (a b : Store S) (u v : M) → From g a b (λ world. ServesClean m g policy None waits a b u v world 0 count left true)
+    pub from_stopped : (policy left : Policy) (waits : Option Waiting) (most count : ℕ) (operator : OperatorStream) (a b : Store S) (u v : M) → From g a b (λ world. ServesClean m g policy None waits a b u v world 0 count left true)
         → From g a b (λ world. (jobs : List Job) × Serves m g policy None a b u v world jobs × HasFinished most jobs (Ok (record { connections = count; stopped_by = Some operator })))
     from_stopped policy left waits most count operator a b u v p =
         from_weaker g a b _ _

@@ -1,6 +1,6 @@
 -- What is done for an operator: the task of the command that his request names.
-use Rattle.std.specs.Prelude.{◌≡◌, ◌⊎◌, ◌++◌, ℕ, Bool, true, false, List, [], ◌∷◌, map, length, option_map, Option, Some, None, Result, Ok, Err, IfErr, ⊤}
-use Rattle.std.specs.declared.net.unix.UnixStream.{UnixStream}
+use Rattle.std.specs.Prelude.{◌≡◌, ◌⊎◌, ◌++◌, ℕ, All, Bool, true, false, List, [], ◌∷◌, flat_map, map, length, option_map, Option, Some, None, Result, Ok, Err, IfErr, ⊤}
+use Rattle.sockets.specs.declared.operator_stream.OperatorStream.{OperatorStream}
 use Rattle.sqlite_trees.specs.declared.store.Store.{Ghosts}
 use Rattle.tables.specs.declared.Store.{Store}
 use Rattle.hex.specs.Hex.{encode_lower}
@@ -13,7 +13,7 @@ use Rattle.model.specs.Steps.{Event}
 use Rattle.tokens.specs.Issuing.{token_asked}
 use Rattle.tokens.specs.declared.requests.TokenRequest.{TokenRequest}
 use Rattle.control.specs.Requests.{Request, IsReadAs, prefix_bytes}
-use Rattle.control.specs.Replies.{status_code}
+use Rattle.control.specs.Replies.{IsPiece, Piece, piece_bytes, status_code}
 use Rattle.control.specs.Versions.{refusal_bytes, version}
 use Rattle.control.specs.declared.status.Status.{Status}
 use Rattle.control.specs.declared.status.Status.TheVariants.{Good}
@@ -41,6 +41,7 @@ use Rattle.machine.specs.Observations.{Observation, timed, drawn, received, sent
 use Rattle.server.specs.Given.{IsGiven}
 use Rattle.faults.specs.Statuses.{ended_of, status_of, status_of_end}
 use Rattle.faults.specs.declared.faults.Fault.{Fault}
+use Rattle.faults.specs.declared.faults.Fault.TheVariants.{HoldOver}
 use Rattle.faults.specs.declared.faults.Fault.TheVariants as refusal
 use Rattle.server.specs.declared.foreseeing.GivenMessage.{GivenMessage}
 use Rattle.server.specs.declared.outcomes.Outcome.{Outcome}
@@ -169,17 +170,41 @@ abbrev pub IsInspection : Purpose → (busy : Bool) → Outcome → Type 0
 IsInspection purpose busy (Began inspection) = Inspects purpose busy inspection
 IsInspection purpose busy _ = ⊥
 
--- a command for the server itself was obeyed: it waited until the operator closed his side, and that was within the time; it is
--- to stop; it has the policy of the file; it printed how it is; or it goes on with a check or a repair that was begun while it was
--- not busy with another one
-abbrev pub IsObeyed : (busy : Bool) → UnixStream → OperatorCommand → Outcome → List Observation → Type 0
-IsObeyed busy operator command.Check (Began inspection) seen = Inspects Check busy inspection × (seen ≡ [])
-IsObeyed busy operator command.Repair (Began inspection) seen = Inspects Repair busy inspection × (seen ≡ [])
-IsObeyed busy operator (command.Hold seconds) Unchanged seen = seen ≡ waited operator seconds true ∷ []
-IsObeyed busy operator command.Stop Stopped seen = seen ≡ []
-IsObeyed busy operator command.Reload (Reloaded policy) seen = seen ≡ loaded policy ∷ []
-IsObeyed busy operator command.Status Unchanged seen = seen ≡ []
+-- these bytes are pieces of a reply, and none of them is its end
+abbrev pub ArePieces : List ℕ → Type 0
+ArePieces bytes = (pieces : List Piece) × All IsPiece pieces × (bytes ≡ flat_map piece_bytes pieces)
+
+-- pieces of a reply were sent to the operator
+abbrev pub AreSent : OperatorStream → List Observation → Type 0
+AreSent operator seen = (bytes : List ℕ) × ArePieces bytes × (seen ≡ sent operator bytes ∷ [])
+
+-- pieces were sent to the operator, who was waited for then, at most this many seconds, and closed his side or not
+abbrev pub IsHeld : OperatorStream → (seconds : ℕ) → (closed : Bool) → List Observation → Type 0
+IsHeld operator seconds closed seen =
+    (bytes : List ℕ) × ArePieces bytes × (seen ≡ sent operator bytes ∷ waited operator seconds closed ∷ [])
+
+-- the policy file was read, and pieces were sent to the operator
+abbrev pub IsReloaded : OperatorStream → Policy → List Observation → Type 0
+IsReloaded operator policy seen =
+    (bytes : List ℕ) × ArePieces bytes × (seen ≡ loaded policy ∷ sent operator bytes ∷ [])
+
+-- a command for the server itself was obeyed, and ended so: it waited until the operator closed his side, if that was within the
+-- time; it is to stop; it has the policy of the file; it printed how it is; or it goes on with a check or a repair that was begun
+-- while it was not busy with another one
+abbrev pub IsObeyed : (busy : Bool) → OperatorStream → OperatorCommand → Result Outcome Fault → List Observation → Type 0
+IsObeyed busy operator command.Check (Ok (Began inspection)) seen = Inspects Check busy inspection × (seen ≡ [])
+IsObeyed busy operator command.Repair (Ok (Began inspection)) seen = Inspects Repair busy inspection × (seen ≡ [])
+IsObeyed busy operator (command.Hold seconds) (Ok Unchanged) seen = IsHeld operator seconds true seen
+IsObeyed busy operator (command.Hold seconds) (Err HoldOver) seen = IsHeld operator seconds false seen
+IsObeyed busy operator command.Stop (Ok Stopped) seen = seen ≡ []
+IsObeyed busy operator command.Reload (Ok (Reloaded policy)) seen = IsReloaded operator policy seen
+IsObeyed busy operator command.Status (Ok Unchanged) seen = seen ≡ []
 IsObeyed busy operator _ _ seen = ⊥
+
+-- a command for the server itself was obeyed; or it ended with a fault, and nothing was done
+abbrev pub Obeys : (busy : Bool) → OperatorStream → OperatorCommand → Result Outcome Fault → List Observation → Type 0
+Obeys busy operator command ended seen =
+    IsObeyed busy operator command ended seen ⊎ ((fault : Fault) × (ended ≡ Err fault) × AreReadings seen)
 
 -- how a command ended that has a task, which ended so
 abbrev pub outcome_of : Result ⊤ Fault → Result Outcome Fault
@@ -187,9 +212,9 @@ outcome_of (Ok done) = Ok Unchanged
 outcome_of (Err fault) = Err fault
 
 -- a command ended so: it was obeyed, and no step was taken; or as its task did
-abbrev pub HasEndedSo : Policy → (busy : Bool) → UnixStream → OperatorCommand → (input : List ℕ) → Result Outcome Fault → World → List Observation → List Event → (kept : World) → Type 0
+abbrev pub HasEndedSo : Policy → (busy : Bool) → OperatorStream → OperatorCommand → (input : List ℕ) → Result Outcome Fault → World → List Observation → List Event → (kept : World) → Type 0
 HasEndedSo policy busy operator command input ended world seen steps kept =
-    ((outcome : Outcome) × (ended ≡ Ok outcome) × IsObeyed busy operator command outcome seen × (steps ≡ []))
+    (IsObeyed busy operator command ended seen × (steps ≡ []))
     ⊎ ((done : Result ⊤ Fault) × (ended ≡ outcome_of done) × IsDone policy command input done world seen steps kept)
 
 -- the policy of a server after a command with this outcome
@@ -209,14 +234,14 @@ abbrev pub request_for : OperatorCommand → (input : List ℕ) → Request
 request_for command input = record { input = input; words = command_words command }
 
 -- a request ended so: as the command that it is for; or with a fault, and nothing was done
-abbrev pub IsRequestDone : Policy → (busy : Bool) → UnixStream → (body : List ℕ) → Result Outcome Fault → World → List Observation → List Event → (kept : World) → Type 0
+abbrev pub IsRequestDone : Policy → (busy : Bool) → OperatorStream → (body : List ℕ) → Result Outcome Fault → World → List Observation → List Event → (kept : World) → Type 0
 IsRequestDone policy busy operator body ended world seen steps kept =
     ((fault : Fault) × (ended ≡ Err fault) × (steps ≡ []) × (seen ≡ []))
     ⊎ ((command : OperatorCommand) × (input : List ℕ) × IsReadAs body (request_for command input)
     × HasEndedSo policy busy operator command input ended world seen steps kept)
 
 -- the bytes of a request were received from the operator: the version and their number, and then these
-abbrev pub IsRead : UnixStream → (body : List ℕ) → List Observation → Type 0
+abbrev pub IsRead : OperatorStream → (body : List ℕ) → List Observation → Type 0
 IsRead operator body seen = seen ≡ received operator (prefix_bytes (length body)) ∷ received operator body ∷ []
 
 -- nothing was observed but bytes that were received, and at most the refusal of another version that was sent
@@ -229,13 +254,14 @@ IsSilent (_ ∷ seen) = ⊥
 -- ---- replies
 
 -- the beginning of a reply was sent to the operator
-abbrev pub IsBegun : UnixStream → List Observation → Type 0
+abbrev pub IsBegun : OperatorStream → List Observation → Type 0
 IsBegun operator seen = seen ≡ sent operator (version ∷ []) ∷ []
 
--- the end of a reply with this status was sent to the operator; or none
-abbrev pub IsReplied : UnixStream → Status → List Observation → Type 0
-IsReplied operator status [] = ⊤
-IsReplied operator status seen = seen ≡ sent operator (status_code status ∷ []) ∷ []
+-- pieces of a reply were sent to the operator, and then its end with this status; or no end, or nothing
+abbrev pub IsReplied : OperatorStream → Status → List Observation → Type 0
+IsReplied operator status seen =
+    (seen ≡ []) ⊎ AreSent operator seen
+    ⊎ ((bytes : List ℕ) × ArePieces bytes × (seen ≡ sent operator bytes ∷ sent operator (status_code status ∷ []) ∷ []))
 
 -- an inspection was begun
 abbrev pub is_begun : Outcome → Bool
@@ -243,7 +269,7 @@ is_begun (Began inspection) = true
 is_begun _ = false
 
 -- the end of a reply to a request that ended so was sent to the operator, or none; none if an inspection was begun
-abbrev pub IsEnded : UnixStream → Result Outcome Fault → List Observation → Type 0
+abbrev pub IsEnded : OperatorStream → Result Outcome Fault → List Observation → Type 0
 IsEnded operator (Ok outcome) seen =
     (is_begun outcome ≡ true → seen ≡ []) × (is_begun outcome ≡ false → IsReplied operator Good seen)
 IsEnded operator (Err fault) seen = IsReplied operator (status_of fault) seen
@@ -253,9 +279,9 @@ abbrev pub made_of : Result Outcome Fault → Outcome
 made_of (Ok outcome) = outcome
 made_of (Err fault) = Unchanged
 
--- a request was received from the operator and done, and the reply ends with the status with which it ended; or an inspection was
--- begun, and the reply goes on
-pub record IsRequestServed (policy : Policy) (busy : Bool) (operator : UnixStream) (outcome : Outcome) (world : World) (seen : List Observation) (steps : List Event) (kept : World) : Type 0 where
+-- a request was received from the operator and done, and the reply has pieces and ends with the status with which it ended; or an
+-- inspection was begun, and the reply goes on
+pub record IsRequestServed (policy : Policy) (busy : Bool) (operator : OperatorStream) (outcome : Outcome) (world : World) (seen : List Observation) (steps : List Event) (kept : World) : Type 0 where
   pub body : List ℕ
   pub ended : Result Outcome Fault
   pub asked : List Observation
@@ -270,7 +296,7 @@ pub record IsRequestServed (policy : Policy) (busy : Bool) (operator : UnixStrea
   pub made : outcome ≡ made_of ended
 
 -- an operator's request was served; or nothing was done
-abbrev pub IsAnswered : Policy → (busy : Bool) → UnixStream → Outcome → World → List Observation → List Event → (kept : World) → Type 0
+abbrev pub IsAnswered : Policy → (busy : Bool) → OperatorStream → Outcome → World → List Observation → List Event → (kept : World) → Type 0
 IsAnswered policy busy operator outcome world seen steps kept =
     IsRequestServed policy busy operator outcome world seen steps kept
     ⊎ ((outcome ≡ Unchanged) × (steps ≡ []) × IsSilent seen)
@@ -287,12 +313,12 @@ IsInspectionFault refusal.Operator = ⊤
 IsInspectionFault _ = ⊥
 
 -- the operator's inspection has ended: its reply ends with the status with which it ended, and no damage is reported
-abbrev pub HasInspected : UnixStream → List Observation → Type 0
+abbrev pub HasInspected : OperatorStream → List Observation → Type 0
 HasInspected operator seen = (ended : Result ⊤ Fault) × IfErr ended IsInspectionFault × IsReplied operator (status_of_end ended) seen
 
--- an operator's inspection went on, and he is sent nothing that is observed; or it has ended, and nobody waits
-abbrev pub IsGoneOn : UnixStream → (waiting : Option UnixStream) → World → List Observation → List Event → (kept : World) → Type 0
-IsGoneOn operator (Some stream) world seen steps kept = (stream ≡ operator) × (steps ≡ []) × (seen ≡ [])
+-- an operator's inspection went on, and he is sent pieces of his reply; or it has ended, and nobody waits
+abbrev pub IsGoneOn : OperatorStream → (waiting : Option OperatorStream) → World → List Observation → List Event → (kept : World) → Type 0
+IsGoneOn operator (Some stream) world seen steps kept = (stream ≡ operator) × (steps ≡ []) × AreSent operator seen
 IsGoneOn operator None world seen steps kept = (steps ≡ []) × HasInspected operator seen
 
 -- no object was found damaged
@@ -300,6 +326,11 @@ abbrev pub IsClean : Option Waiting → Type 0
 IsClean None = ⊤
 IsClean (Some waiting) = waiting.inspection.damaged ≡ 0
 
+-- pieces were sent to the operator, who waits for more; or he has gone, and nobody waits
+abbrev pub IsSentOn : OperatorStream → Option Waiting → List Observation → Type 0
+IsSentOn operator (Some waiting) seen = (waiting.stream ≡ operator) × AreSent operator seen
+IsSentOn operator None seen = seen ≡ []
+
 -- the operator who waits, if there is one
-abbrev pub operator_in : Option Waiting → Option UnixStream
+abbrev pub operator_in : Option Waiting → Option OperatorStream
 operator_in waiting = option_map (λ w. w.stream) waiting

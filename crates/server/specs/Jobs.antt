@@ -1,19 +1,25 @@
 -- What a server does: a list of jobs, each for somebody who called it.
 use Rattle.std.specs.Prelude.{◌≡◌, ◌⊎◌, ◌++◌, ℕ, ◌≤◌, ◌+◌, Bool, true, false, flat_map, is_none, is_some, sum_by, List, [], ◌∷◌, map, Option, Some, None, MatchOption, Result, Ok, Err, if◌then◌else◌, ⊤}
-use Rattle.std.specs.declared.net.unix.UnixStream.{UnixStream}
+use Rattle.sockets.specs.declared.operator_stream.OperatorStream.{OperatorStream}
 use Rattle.sqlite_trees.specs.declared.store.Store.{Ghosts}
 use Rattle.policy.specs.declared.policies.Policy.{Policy}
 use Rattle.model.specs.World.{World}
-use Rattle.model.specs.Sessions.{AreUnder}
-use Rattle.model.specs.Steps.{Event, Exchange, Run, exchanged}
+use Rattle.std.specs.Io.KnownBytes.{Appends, Consumes, IsAtEnd}
+use Rattle.model.specs.Cases.{Setting}
+use Rattle.model.specs.Sessions.{IsSession, IsUnread, Session}
+use Rattle.model.specs.Steps.{Event, Run, exchanged}
+use Rattle.service.specs.Served.{end_seen}
+use Rattle.service.specs.declared.ends.End.TheVariants.{InputEnded}
+use Rattle.service.specs.declared.ends.Served.{Served}
 use Rattle.desk.specs.Asking.{setting_of}
 use Rattle.tables.specs.declared.Store.{Store}
+use Rattle.sockets.specs.declared.client.Client as sockets
 use Rattle.sockets.specs.declared.queue.Caller.{Caller}
 use Rattle.sockets.specs.declared.queue.Caller.TheVariants.{Client, Operator}
 use Rattle.operator.specs.Works.{Works, steps_of}
 use Rattle.machine.specs.declared.machine.Machine as machine
-use Rattle.machine.specs.Observations.{Observation, called, timed}
-use Rattle.server.specs.Commands.{HasInspected, IsAnswered, IsClean, is_stopped, operator_in, policy_after}
+use Rattle.machine.specs.Observations.{Observation, Talk, called, talked, timed}
+use Rattle.server.specs.Commands.{AreSent, HasInspected, IsAnswered, IsClean, is_stopped, operator_in, policy_after}
 use Rattle.faults.specs.declared.faults.Fault.{Fault}
 use Rattle.server.specs.declared.outcomes.Outcome.{Outcome}
 use Rattle.server.specs.declared.outcomes.Outcome.TheVariants.{Unchanged, Began}
@@ -50,34 +56,48 @@ IsMomentAtMost [] = ⊤
 IsMomentAtMost (timed now ∷ []) = ⊤
 IsMomentAtMost _ = ⊥
 
--- a turn of a client: the exchanges of a connection, under the policy and at the machine's moment; or no step, and at most the
--- moment was observed
-abbrev pub IsTurn : Policy → World → List Observation → List Event → (kept : World) → Type 0
-IsTurn policy world seen steps kept =
-    ((steps ≡ []) × IsMomentAtMost seen) ⊎ ((now : ℕ) × (seen ≡ timed now ∷ []) × (exchanges : List Exchange)
-    × AreUnder (setting_of policy now) exchanges × (steps ≡ map exchanged exchanges))
+-- a talk with a client that ended so is a session of the definitions under the setting: its exchanges answer the bytes that were
+-- read, in order, all of them if no more came; what they write is what the client was sent; and they are the steps that were
+-- taken. Or there was no memory to read with, and he was sent the store's refusal
+pub record IsTalk (setting : Setting) (talk : Talk) (served : Served) (world : World) (steps : List Event) (kept : World) : Type 0 where
+  pub session : Session
+  pub under : session.setting ≡ setting
+  pub answered : session.answered ≡ served.answered
+  pub read : Consumes talk.left talk.rest session.bytes
+  pub written : Appends talk.was talk.is session.written
+  pub is : IsSession session (end_seen served.end) world kept ⊎ IsUnread session (end_seen served.end) world kept
+  pub steps_are : steps ≡ map exchanged session.exchanges
+  pub ended : served.end ≡ InputEnded → IsAtEnd talk.rest
 
--- the steps are those that the caller asked for, with what was observed; none for an operator who waits, who is sent nothing but
--- the end of his reply
-abbrev pub IsFor : Policy → (waiting : Option UnixStream) → Reason → Outcome → World → List Observation → List Event → (kept : World) → Type 0
+-- a turn of a client: a talk with this client, under the policy and at the machine's moment; or no step, and at most the moment was
+-- observed
+abbrev pub IsTurn : Policy → sockets.Client → World → List Observation → List Event → (kept : World) → Type 0
+IsTurn policy client world seen steps kept =
+    ((steps ≡ []) × IsMomentAtMost seen)
+    ⊎ ((now : ℕ) × (talk : Talk) × (served : Served) × (seen ≡ timed now ∷ talked client talk served ∷ [])
+    × IsTalk (setting_of policy now) talk served world steps kept)
+
+-- the steps are those that the caller asked for, with what was observed; none for an operator who waits, who is sent more pieces
+-- of his reply, or its end
+abbrev pub IsFor : Policy → (waiting : Option OperatorStream) → Reason → Outcome → World → List Observation → List Event → (kept : World) → Type 0
 IsFor policy waiting (for_caller (Client client)) outcome world seen steps kept =
-    IsTurn policy world seen steps kept × (outcome ≡ Unchanged)
+    IsTurn policy client world seen steps kept × (outcome ≡ Unchanged)
 IsFor policy waiting (for_caller (Operator stream)) outcome world seen steps kept =
     IsAnswered policy (is_some waiting) stream outcome world seen steps kept
 IsFor policy waiting goes_on outcome world seen steps kept =
-    (is_some waiting ≡ true) × (steps ≡ []) × (outcome ≡ Unchanged) × (seen ≡ [])
+    MatchOption waiting ⊥ (λ operator. AreSent operator seen) × (steps ≡ []) × (outcome ≡ Unchanged)
 IsFor policy waiting ends outcome world seen steps kept =
     MatchOption waiting ⊥ (λ operator. HasInspected operator seen) × (steps ≡ []) × (outcome ≡ Unchanged)
 
 -- who waits for the rest of an inspection after a job
-abbrev pub waiting_after : Option UnixStream → Reason → Outcome → Option UnixStream
+abbrev pub waiting_after : Option OperatorStream → Reason → Outcome → Option OperatorStream
 waiting_after waiting (for_caller (Operator stream)) (Began inspection) = Some stream
 waiting_after waiting ends outcome = None
 waiting_after waiting _ _ = waiting
 
 -- each job is done for its caller or for the operator who waits, in the world that the jobs before it have left, and under the
 -- policy that was read last
-abbrev pub AreJobs : Policy → (waiting : Option UnixStream) → World → List Job → World → Type 0
+abbrev pub AreJobs : Policy → (waiting : Option OperatorStream) → World → List Job → World → Type 0
 AreJobs policy waiting world [] kept = kept ≡ world
 AreJobs policy waiting world (job ∷ jobs) kept =
     (after : World) × IsFor policy waiting job.reason job.outcome world job.seen job.steps after × Run world job.steps after
@@ -89,7 +109,7 @@ policy_left policy [] = policy
 policy_left policy (job ∷ jobs) = policy_left (policy_after policy job.outcome) jobs
 
 -- who waits after the jobs
-abbrev pub waiting_left : Option UnixStream → List Job → Option UnixStream
+abbrev pub waiting_left : Option OperatorStream → List Job → Option OperatorStream
 waiting_left waiting [] = waiting
 waiting_left waiting (job ∷ jobs) = waiting_left (waiting_after waiting job.reason job.outcome) jobs
 
@@ -100,7 +120,7 @@ AreStopped stopped (job ∷ []) = is_stopped job.outcome ≡ stopped
 AreStopped stopped (job ∷ jobs) = (is_stopped job.outcome ≡ false) × AreStopped stopped jobs
 
 -- whether a caller has stopped the server
-abbrev pub has_stopped : Result (Option UnixStream) Fault → Bool
+abbrev pub has_stopped : Result (Option OperatorStream) Fault → Bool
 has_stopped (Ok operator) = is_some operator
 has_stopped (Err fault) = false
 
@@ -129,12 +149,10 @@ HasFinished most jobs (Err fault) = AreStopped false jobs
 -- ---- calls of the store
 
 module _ {S : Type 0} (g : Ghosts S) where
-  -- the exchanges of a connection, under the policy and at the moment
-  pub record Converses (policy : Policy) (now : ℕ) (old new : Store S) (world : World) : Type 0 where
-    pub exchanges : List Exchange
-    pub under : AreUnder (setting_of policy now) exchanges
+  -- the talk led the store by the steps of its exchanges
+  pub record Converses (setting : Setting) (talk : Talk) (served : Served) (old new : Store S) (world : World) : Type 0 where
     pub done : Works g old new world
-    pub steps : steps_of done.works ≡ map exchanged exchanges
+    pub is : IsTalk setting talk served world (steps_of done.works) done.kept
 
   -- calls that take no step
   abbrev pub Tidies : (old new : Store S) → World → Type 0
@@ -179,7 +197,7 @@ module _ {M : Type 0} (m : machine.Ghosts M) where
 
     -- jobs, one after the other: what was observed of the machine is what was observed for each of them, in this order, and
     -- the steps by which the store was led are theirs
-    pub record Serves (policy : Policy) (waiting : Option UnixStream) (old new : Store S) (was is : M) (world : World) (jobs : List Job) : Type 0 where
+    pub record Serves (policy : Policy) (waiting : Option OperatorStream) (old new : Store S) (was is : M) (world : World) (jobs : List Job) : Type 0 where
       pub calls : List Call
       pub made : Calls was calls is
       pub done : Works g old new world
@@ -189,7 +207,7 @@ module _ {M : Type 0} (m : machine.Ghosts M) where
 
     -- jobs were done, and no more connections had a turn than before, and had their first one in these jobs; this is the policy
     -- that they left, who waits after them, and whether the last one stopped the server
-    pub record ServesMore (policy : Policy) (waiting : Option UnixStream) (old new : Store S) (was is : M) (world : World) (before after : ℕ) (left : Policy) (waits : Option UnixStream) (stopped : Bool) : Type 0 where
+    pub record ServesMore (policy : Policy) (waiting : Option OperatorStream) (old new : Store S) (was is : M) (world : World) (before after : ℕ) (left : Policy) (waits : Option OperatorStream) (stopped : Bool) : Type 0 where
       pub jobs : List Job
       pub serves : Serves policy waiting old new was is world jobs
       pub few : after ≤ before + connections jobs

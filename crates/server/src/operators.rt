@@ -3,14 +3,14 @@
 ghost use Rattle.std.specs.Prelude.{◌≡◌, [], ℕ, List, IfOk, OnErr, OnOk, ⊤};
 ghost use Rattle.command_line.specs.declared.args.OperatorCommand.TheVariants.{Authenticate, Foresee, Hold, Reload, Status as GetStatus};
 ghost use Rattle.refinement.specs.Left.{From, Reads};
-ghost use Rattle.server.specs.Commands.{AreReadings, HasEndedSo, IsAnswered, IsDone, IsMomentOf, IsObeyed, IsRead, IsEnded, IsInspection, IsRequestDone, IsSilent, RunsAs, made_of};
+ghost use Rattle.server.specs.Commands.{AreReadings, HasEndedSo, IsAnswered, IsDone, IsMomentOf, IsRead, IsEnded, IsInspection, IsRequestDone, IsSilent, Obeys, RunsAs, made_of};
 ghost use Rattle.server.specs.Jobs.{Call, Calls, Helps, seen_in};
 ghost use Rattle.metrics.specs.Stored.{IsStored};
 ghost use Rattle.policy.specs.Values.{repo_view};
 
 use crate::foreseeing::message_in;
 use crate::outcomes::Outcome;
-use crate::pieces::{OperatorPieces, Pieces};
+use crate::pieces::Pieces;
 use crate::reply::Reply;
 use crate::requests::{access_question, plain_task, push_of, token_request};
 use command_line::{ForeseeArgs, OperatorCommand, TokenArgs};
@@ -22,9 +22,9 @@ use names::{Moment, Sink};
 use operator::{Destination, Inspection, Purpose, Task, print, repo_at};
 use outbox::Unsent;
 use policy::{Policy, Repo};
+use sockets::OperatorStream;
 use std::alloc::Global;
 use std::io::Write;
-use std::os::unix::net::UnixStream;
 use std::time::{Clock, Instant};
 use tables::{Alter, Store, StoreFault};
 
@@ -37,11 +37,11 @@ pub(crate) struct OperatorContext<'a> {
     /// Whether an operator waits for the rest of an inspection.
     pub is_busy: bool,
     /// Where the operator is.
-    pub stream: &'a UnixStream,
+    pub stream: &'a OperatorStream,
 }
 
 /// Sends to a program of another version that it is one. That program may be gone. What it still sends is dropped.
-fn refuse_version<M: Machine>(machine: &mut M, stream: &UnixStream)
+fn refuse_version<M: Machine>(machine: &mut M, stream: &OperatorStream)
     ensures { (calls : List Call) × Calls M.Machine machine.old calls machine.new
         × IsSilent (seen_in calls) }
 {
@@ -57,7 +57,7 @@ fn refuse_version<M: Machine>(machine: &mut M, stream: &UnixStream)
 fn read_body<M: Machine>(
     alloc: Global,
     machine: &mut M,
-    stream: &UnixStream,
+    stream: &OperatorStream,
     start: Instant,
 ) -> Result<Vec<u8>, Fault>
     ensures ok { IfOk result (λ body. (calls : List Call)
@@ -218,21 +218,20 @@ impl OperatorContext<'_> {
     ///
     /// # Errors
     ///
-    /// `HoldOver` if the time was over before, and `Output`.
-    fn hold<M: Machine, K: Sink>(
+    /// `HoldOver` if the time was over before; `Output` and `Operator` if it could not be said that it began, and then it did
+    /// not.
+    fn hold<M: Machine>(
         &self,
         machine: &mut M,
         seconds: u64,
-        output: &mut K,
+        output: &mut Pieces,
     ) -> Result<Outcome, Fault>
-        ensures ok { IfOk result (λ outcome. (calls : List Call)
-            × Calls M.Machine machine.old calls machine.new
-            × IsObeyed self.now.is_busy self.now.stream.now (Hold seconds) outcome (seen_in calls)) }
-        ensures err { OnErr result ((calls : List Call)
-            × Calls M.Machine machine.old calls machine.new × AreReadings (seen_in calls)) }
-        ensures good { OnOk result (K.failed output.new ≡ K.failed output.old) }
+        ensures done { (calls : List Call) × Calls M.Machine machine.old calls machine.new
+            × Obeys self.now.is_busy self.now.stream.now (Hold seconds) result (seen_in calls) }
+        ensures good { OnOk result (output.new.failures ≡ output.old.failures) }
     {
         print(output, b"held\n")?;
+        output.send(machine, self.stream)?;
         if machine.wait_for(self.stream, seconds) {
             Ok(Outcome::Unchanged)
         } else {
@@ -244,20 +243,18 @@ impl OperatorContext<'_> {
     ///
     /// # Errors
     ///
-    /// `PolicyFile`, `PolicyDescribed` and `Memory`; `Output` if what was read could not be reported. The policy stays as
-    /// it was then.
-    fn reload<M: Machine, K: Sink>(&self, machine: &mut M, output: &mut K) -> Result<Outcome, Fault>
-        ensures ok { IfOk result (λ outcome. (calls : List Call)
-            × Calls M.Machine machine.old calls machine.new
-            × IsObeyed self.now.is_busy self.now.stream.now Reload outcome (seen_in calls)) }
-        ensures err { OnErr result ((calls : List Call)
-            × Calls M.Machine machine.old calls machine.new × AreReadings (seen_in calls)) }
-        ensures good { OnOk result (K.failed output.new ≡ K.failed output.old) }
+    /// `PolicyFile`, `PolicyDescribed` and `Memory`; `Output` and `Operator` if what was read could not be reported. The
+    /// policy stays as it was then.
+    fn reload<M: Machine>(&self, machine: &mut M, output: &mut Pieces) -> Result<Outcome, Fault>
+        ensures done { (calls : List Call) × Calls M.Machine machine.old calls machine.new
+            × Obeys self.now.is_busy self.now.stream.now Reload result (seen_in calls) }
+        ensures good { OnOk result (output.new.failures ≡ output.old.failures) }
     {
         let policy = machine.policy()?;
         let mut line = policy_line(self.alloc, &policy)?;
         line.push('\n')?;
         print(output, line.as_bytes())?;
+        output.send(machine, self.stream)?;
         Ok(Outcome::Reloaded(policy))
     }
 
@@ -315,19 +312,19 @@ impl OperatorContext<'_> {
     }
 
     /// Obeys a command for the server itself, or runs a command over the server's store.
-    fn obey<S: Alter, M: Machine, K: Sink>(
+    fn obey<S: Alter, M: Machine>(
         &self,
         store: &mut Store<S>,
         machine: &mut M,
         command: &OperatorCommand<'_>,
         input: &[u8],
-        output: &mut K,
+        output: &mut Pieces,
     ) -> Result<Outcome, Fault>
         ensures done { From S.Store store.old store.new (λ world.
             Helps M.Machine S.Store (HasEndedSo self.now.policy.now self.now.is_busy
             self.now.stream.now command.now input.now result)
             store.old store.new machine.old machine.new world) }
-        ensures good { OnOk result (K.failed output.new ≡ K.failed output.old) }
+        ensures good { OnOk result (output.new.failures ≡ output.old.failures) }
     {
         match command {
             OperatorCommand::Check => self.inspect(store, Purpose::Check),
@@ -344,18 +341,18 @@ impl OperatorContext<'_> {
     }
 
     /// Runs the command of a request.
-    fn answer<S: Alter, M: Machine, K: Sink>(
+    fn answer<S: Alter, M: Machine>(
         &self,
         store: &mut Store<S>,
         machine: &mut M,
         body: &[u8],
-        output: &mut K,
+        output: &mut Pieces,
     ) -> Result<Outcome, Fault>
         ensures done { From S.Store store.old store.new (λ world.
             Helps M.Machine S.Store (IsRequestDone self.now.policy.now self.now.is_busy
             self.now.stream.now body.now result)
             store.old store.new machine.old machine.new world) }
-        ensures good { OnOk result (K.failed output.new ≡ K.failed output.old) }
+        ensures good { OnOk result (output.new.failures ≡ output.old.failures) }
     {
         let alloc = self.alloc;
         let Some(Request { input, words }) = read_request(alloc, body)? else {
@@ -371,7 +368,7 @@ impl OperatorContext<'_> {
         &self,
         machine: &mut M,
         ended: Result<Outcome, Fault>,
-        pieces: OperatorPieces<'_>,
+        pieces: Pieces,
         errors: &mut E,
     ) -> Outcome
         ensures made { result ≡ made_of ended }
@@ -418,7 +415,7 @@ impl OperatorContext<'_> {
         let start = Instant::now(clock).map_err(|_| Fault::Operator)?;
         let body = read_body(self.alloc, machine, self.stream, start)?;
         machine.send(self.stream, &[VERSION])?;
-        let mut pieces = Pieces::to_operator(self.stream, Unsent::new(self.alloc));
+        let mut pieces = Pieces::new(self.alloc, Unsent::new(self.alloc));
         let ended = self.answer(store, machine, body.as_slice(), &mut pieces);
         Ok(self.end(machine, ended, pieces, errors))
     }

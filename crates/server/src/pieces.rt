@@ -1,38 +1,30 @@
 //! The pieces in which an operator gets what his command prints.
 
-ghost use Rattle.std.specs.Prelude.{◌≡◌, ◌<◌, ◌≤◌, length, None, IfErr, OnOk};
-ghost use Rattle.std.specs.Io.KnownBytes.{Appends};
+ghost use Rattle.std.specs.Prelude.{◌≡◌, ◌<◌, ◌≤◌, ◌++◌, [], length, None, OnErr, OnOk, List};
 ghost use Rattle.control.specs.Replies.{IsPieceSize, longest_piece, piece_bytes};
+ghost use Rattle.server.specs.Commands.{ArePieces, AreSent};
+ghost use Rattle.server.specs.Jobs.{Call, Calls, seen_in};
 
 use control::{LONGEST_PIECE, Stream, piece_head};
 use faults::Fault;
+use machine::Machine;
 use memchr::memrchr;
-use names::{Counted, DeviceFault, Sink};
-use operator::print;
-use outbox::{OperatorWriter, Unsent};
-use std::os::unix::net::UnixStream;
+use names::{DeviceFault, Sink};
+use outbox::Unsent;
+use sockets::OperatorStream;
+use std::alloc::{AllocError, Global};
 
-/// Sends what a command prints, each write as a piece. A longer write ends with a line, if it has one.
+/// What a command prints: the pieces of its reply, which are kept until they are sent. Each write is a piece; a longer write
+/// ends with a line, if it has one.
 #[derive(Drop)]
-pub(crate) struct Pieces<W> {
-    to: W,
+pub(crate) struct Pieces {
+    alloc: Global,
+    /// The pieces that were not sent.
+    bytes: Vec<u8>,
+    /// What the operator's socket has not taken of those that were.
+    unsent: Unsent,
     failures: u64,
-}
-
-/// The pieces of a reply to an operator, who holds nobody up: what his socket does not take is kept.
-pub(crate) type OperatorPieces<'a> = Pieces<Counted<OperatorWriter<'a>>>;
-
-impl<'a> Pieces<Counted<OperatorWriter<'a>>> {
-    /// Sends pieces to an operator, after what was not sent before.
-    pub(crate) fn to_operator(operator: &'a UnixStream, unsent: Unsent) -> OperatorPieces<'a> {
-        Pieces::new(Counted::new(OperatorWriter::new(operator, unsent)))
-    }
-
-    /// Returns what the operator's socket has not taken.
-    pub(crate) fn into_unsent(self) -> Unsent {
-        let Pieces { to, .. } = self;
-        to.into_inner().into_unsent()
-    }
+    pub ghost are_pieces: { ArePieces bytes.items },
 }
 
 /// How many bytes of a write are sent in one piece: all of them, or those of the lines that fit.
@@ -50,61 +42,87 @@ fn size_of_piece(text: &[u8]) -> usize
     }
 }
 
-impl<W: Sink> Pieces<W> {
-    /// Sends pieces to the sink.
-    pub(crate) fn new(to: W) -> Pieces<W>
-        ensures { result.to ≡ to }
-    {
-        Pieces { to, failures: 0 }
+impl Pieces {
+    /// No pieces yet, after what the operator's socket has not taken before.
+    pub(crate) fn new(alloc: Global, unsent: Unsent) -> Pieces {
+        Pieces {
+            alloc,
+            bytes: Vec::new(alloc),
+            unsent,
+            failures: 0,
+        }
     }
 
-    /// Sends a piece of a stream.
+    /// Adds a piece of a stream.
     ///
     /// # Errors
     ///
-    /// `Operator` if it was neither sent nor kept.
-    fn send(&mut self, stream: Stream, content: &[u8]) -> Result<(), Fault>
+    /// Memory ran out, and nothing is added.
+    fn push(&mut self, stream: Stream, content: &[u8]) -> Result<(), AllocError>
         requires { IsPieceSize (length content.now) }
-        ensures sent { OnOk result (Appends (W.taken self.old.to) (W.taken self.new.to)
-            (piece_bytes (record { stream = stream; content = content.now }))) }
+        ensures ok { OnOk result (self.new.bytes.items ≡ self.old.bytes.items
+            ++ piece_bytes (record { stream = stream; content = content.now })) }
         ensures failures { self.new.failures ≡ self.old.failures }
-        ensures err { IfErr result (λ fault. fault ≡ Fault.Operator) }
     {
-        let head = piece_head(stream, content.len());
-        if print(&mut self.to, &head).is_err() || print(&mut self.to, content).is_err() {
-            return Err(Fault::Operator);
+        let mut piece = Vec::new(self.alloc);
+        piece.extend_from_slice(&piece_head(stream, content.len()))?;
+        piece.extend_from_slice(content)?;
+        self.bytes.extend_from_slice(piece.as_slice())
+    }
+
+    /// Adds the text that a command wrote to its error stream, or the first 65,536 bytes of it.
+    ///
+    /// # Errors
+    ///
+    /// Memory ran out, and nothing is added.
+    pub(crate) fn push_errors(&mut self, text: &[u8]) -> Result<(), AllocError> {
+        if text.is_empty() {
+            return Ok(());
         }
+        self.push(Stream::Errors, &text[..text.len().min(LONGEST_PIECE)])
+    }
+
+    /// Adds how far the command is, in a text of at most 65,536 bytes.
+    ///
+    /// # Errors
+    ///
+    /// Memory ran out, and nothing is added.
+    pub(crate) fn push_progress(&mut self, text: &[u8]) -> Result<(), AllocError> {
+        if text.is_empty() {
+            return Ok(());
+        }
+        self.push(Stream::Progress, &text[..text.len().min(LONGEST_PIECE)])
+    }
+
+    /// Sends the pieces to the operator, who holds nobody up: what his socket does not take is kept.
+    ///
+    /// # Errors
+    ///
+    /// `Operator` if he has gone, or if there is no memory.
+    pub(crate) fn send<M: Machine>(
+        &mut self,
+        machine: &mut M,
+        operator: &OperatorStream,
+    ) -> Result<(), Fault>
+        ensures ok { OnOk result ((calls : List Call) × Calls M.Machine machine.old calls machine.new
+            × AreSent operator.now (seen_in calls)) }
+        ensures err { OnErr result ((calls : List Call) × Calls M.Machine machine.old calls machine.new
+            × (seen_in calls ≡ [])) }
+        ensures failures { self.new.failures ≡ self.old.failures }
+    {
+        machine.send_pieces(operator, &mut self.unsent, self.bytes.as_slice())?;
+        self.bytes.clear();
         Ok(())
     }
 
-    /// Sends the text that a command wrote to its error stream, or the first 65,536 bytes of it.
-    ///
-    /// # Errors
-    ///
-    /// `Operator` if it was neither sent nor kept.
-    pub(crate) fn send_errors(&mut self, text: &[u8]) -> Result<(), Fault> {
-        if text.is_empty() {
-            return Ok(());
-        }
-        self.send(Stream::Errors, &text[..text.len().min(LONGEST_PIECE)])
-    }
-
-    /// Sends how far the command is, in a text of at most 65,536 bytes.
-    ///
-    /// # Errors
-    ///
-    /// `Operator` if it was neither sent nor kept.
-    pub(crate) fn send_progress(&mut self, text: &[u8]) -> Result<(), Fault>
-        ensures { IfErr result (λ fault. fault ≡ Fault.Operator) }
-    {
-        if text.is_empty() {
-            return Ok(());
-        }
-        self.send(Stream::Progress, &text[..text.len().min(LONGEST_PIECE)])
+    /// Returns what the operator's socket has not taken.
+    pub(crate) fn into_unsent(self) -> Unsent {
+        let Pieces { unsent, .. } = self;
+        unsent
     }
 }
 
-impl<W: Sink> Sink for Pieces<W> {
+impl Sink for Pieces {
     // What the pieces say is not what the sink takes.
     ghost taken = { λ _. None };
 
@@ -112,7 +130,7 @@ impl<W: Sink> Sink for Pieces<W> {
 
     fn write(&mut self, text: &[u8]) -> Result<usize, DeviceFault> {
         let size = size_of_piece(text);
-        if size > 0 && self.send(Stream::Output, &text[..size]).is_err() {
+        if size > 0 && self.push(Stream::Output, &text[..size]).is_err() {
             self.failures = self.failures.saturating_add(1);
             return Err(DeviceFault);
         }

@@ -5,39 +5,40 @@ ghost use Rattle.server.specs.Commands.{IsReplied};
 ghost use Rattle.server.specs.Jobs.{Call, Calls, seen_in};
 ghost use Rattle.faults.specs.Statuses.{status_of_end};
 
-use crate::pieces::OperatorPieces;
+use crate::pieces::Pieces;
 use control::Status;
 use faults::{Fault, print_fault, refuse};
 use machine::Machine;
+use sockets::OperatorStream;
 use std::alloc::Global;
 use std::io::Write;
-use std::os::unix::net::UnixStream;
 
 /// A reply to an operator, which was begun.
 #[derive(Clone, Copy)]
 pub(crate) struct Reply<'a> {
     pub alloc: Global,
     /// Where the operator is.
-    pub stream: &'a UnixStream,
+    pub stream: &'a OperatorStream,
 }
 
 impl Reply<'_> {
-    /// Sends what a command wrote to its error stream, and then the end of the reply, both after what was not sent yet.
+    /// Sends the pieces, what a command wrote to its error stream, and then the end of the reply.
     ///
     /// # Errors
     ///
-    /// `Operator` if the operator has gone, or if the system has no room for what he has not taken.
+    /// `Operator` if the operator has gone, or if the system has no room for what he has not taken; and `Memory`.
     fn send_end<M: Machine>(
         &self,
         machine: &mut M,
         status: Status,
         text: &[u8],
-        mut pieces: OperatorPieces<'_>,
+        mut pieces: Pieces,
     ) -> Result<(), Fault>
         ensures { (calls : List Call) × Calls M.Machine machine.old calls machine.new
             × IsReplied self.now.stream.now status (seen_in calls) }
     {
-        pieces.send_errors(text)?;
+        pieces.push_errors(text)?;
+        pieces.send(machine, self.stream)?;
         machine.end_reply(self.stream, pieces.into_unsent(), &[status.code()])
     }
 
@@ -46,7 +47,7 @@ impl Reply<'_> {
         &self,
         machine: &mut M,
         ended: Result<(), Fault>,
-        pieces: OperatorPieces<'_>,
+        pieces: Pieces,
         errors: &mut E,
     )
         ensures { (calls : List Call) × Calls M.Machine machine.old calls machine.new

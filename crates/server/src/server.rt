@@ -4,26 +4,23 @@ ghost use Rattle.std.specs.Prelude.{◌≡◌, ◌≤◌, ◌+◌, [], List, Non
 ghost use Rattle.std.specs.Bool.{OnTrue};
 ghost use Rattle.refinement.specs.Left.{From};
 ghost use Rattle.server.specs.Commands.{IsAnswered};
-ghost use Rattle.server.specs.Jobs.{Call, Calls, Converses, HasFinished, Helps, IsTurn, Job, Serves, ServesClean, Tidies, seen_in, first_turn, has_stopped};
+ghost use Rattle.server.specs.Jobs.{Call, Calls, HasFinished, Helps, IsTurn, Job, Serves, ServesClean, Tidies, seen_in, first_turn, has_stopped};
 ghost use Rattle.faults.specs.Statuses.{is_reported};
 ghost use Rattle.machine.specs.Observations.{called};
 
 use crate::operators::OperatorContext;
 use crate::outcomes::Outcome;
-use crate::traffic::Metered;
+use crate::serving::Serving;
 use crate::waiting::Waiting;
 use faults::{Fault, is_good, print_fault};
-use machine::Machine;
-use metrics::{Counts, Turn};
-use names::{Counted, Moment};
+use machine::{Machine, Talked};
+use metrics::Counts;
 use outbox::Unsent;
 use policy::Policy;
 use service::{End, Routes};
-use sockets::{Caller, Client, Course, Ended, Front, PatientReader, PatientWriter};
+use sockets::{Caller, Client, Ended, OperatorStream};
 use std::alloc::Global;
-use std::cell::Cell;
 use std::io::{self, Write};
-use std::os::unix::net::UnixStream;
 use std::time::{Clock, Duration, Instant};
 use tables::{Storage, Store};
 
@@ -45,7 +42,7 @@ pub struct Finish {
     pub connections: u64,
     /// The operator who stopped the server; `None` if it has served as many connections as it was to serve. He waits until
     /// this is dropped.
-    pub stopped_by: Option<UnixStream>,
+    pub stopped_by: Option<OperatorStream>,
 }
 
 /// What a server notes of its turns.
@@ -73,17 +70,15 @@ struct State<'a, E> {
 
 impl<E: Write> State<'_, E> {
     /// The number of a connection, which it gets for its first turn.
-    fn number_of(&mut self, client: &mut Client) -> u64
-        ensures begun { self.new.begun ≤ self.old.begun + first_turn (Caller.Client client.old) }
+    fn number_of(&mut self, client: &Client) -> u64
+        ensures begun { self.new.begun ≤ self.old.begun + first_turn (Caller.Client client.now) }
         ensures most { self.new.most ≡ self.old.most }
         ensures policy { self.new.policy ≡ self.old.policy }
-        ensures number { client.new.number ≡ Some result }
     {
         if let Some(number) = client.number {
             return number;
         }
         self.begun = self.begun.saturating_add(1);
-        client.number = Some(self.begun);
         self.begun
     }
 
@@ -187,43 +182,6 @@ impl<C: Clock> Server<'_, C> {
         }
     }
 
-    /// Serves the message of a turn at a moment.
-    fn converse<S: Storage>(
-        &self,
-        store: &mut Store<S>,
-        policy: &Policy,
-        now: Moment,
-        client: &Client,
-        front: &mut Front,
-    ) -> Turn
-        ensures { From S.Store store.old store.new (λ world.
-            Converses S.Store policy.now now store.old store.new world) }
-    {
-        let course = Cell::new(Course::new());
-        let (received, sent) = (Cell::new(0), Cell::new(0));
-        let stream = client.stream();
-        let reader = PatientReader {
-            clock: self.clock,
-            stream,
-            course: &course,
-            front,
-        };
-        let writer = PatientWriter {
-            clock: self.clock,
-            stream,
-            course: &course,
-        };
-        let mut source = Counted::new(Metered::new(reader, &received));
-        let mut sink = Counted::new(Metered::new(writer, &sent));
-        let (alloc, routes) = (self.alloc, self.routes);
-        let served = service::serve(alloc, store, policy, routes, now, &mut source, &mut sink);
-        Turn {
-            served,
-            received: received.get(),
-            sent: sent.get(),
-        }
-    }
-
     /// Removes what failed uploads left in the store, if there may be any. Returns whether there still may be: the store
     /// refused.
     fn sweep_if<S: Storage>(&self, store: &mut Store<S>, unswept: bool) -> bool
@@ -245,24 +203,30 @@ impl<C: Clock> Server<'_, C> {
         machine: &mut M,
         policy: &Policy,
         mut client: Client,
+        number: u64,
         tally: &mut Tally,
     ) -> Result<Option<End>, Fault>
         ensures { From S.Store store.old store.new (λ world.
-            Helps M.Machine S.Store (IsTurn policy.now)
+            Helps M.Machine S.Store (IsTurn policy.now client)
             store.old store.new machine.old machine.new world) }
     {
         tally.unswept = self.sweep_if(store, tally.unswept);
         let now = machine.moment()?;
         let start = self.instant();
-        let Ok(mut front) = client.begin(self.alloc) else {
+        let serving = Serving {
+            alloc: self.alloc,
+            routes: self.routes,
+            policy,
+            now,
+        };
+        let Some(Talked { turn, front }) = machine.converse(&mut client, store, &serving) else {
             machine.close(client);
             return Ok(Some(End::ReadFailed));
         };
-        let turn = self.converse(store, policy, now, &client, &mut front);
         let end = turn.served.end;
         tally.unswept = tally.unswept || end == End::StoreRefused;
         tally.counts.count_turn(turn, self.since(start));
-        machine.end_turn(client, &front, end)
+        machine.end_turn(client, number, &front, end)
     }
 
     /// Serves a turn of a client, and reports if its connection failed. After the first turn of as many connections as
@@ -275,20 +239,21 @@ impl<C: Clock> Server<'_, C> {
         &self,
         store: &mut Store<S>,
         machine: &mut M,
-        mut client: Client,
+        client: Client,
         state: &mut State<'_, E>,
     ) -> Result<(), Fault>
         ensures world { From S.Store store.old store.new (λ world.
-            Helps M.Machine S.Store (IsTurn state.old.policy)
+            Helps M.Machine S.Store (IsTurn state.old.policy client)
             store.old store.new machine.old machine.new world) }
         ensures begun { state.new.begun ≤ state.old.begun + first_turn (Caller.Client client) }
         ensures most { state.new.most ≡ state.old.most }
         ensures policy { state.new.policy ≡ state.old.policy }
     {
-        let number = state.number_of(&mut client);
+        let number = state.number_of(&client);
         shut_if(machine, state.is_full());
         let policy = &state.policy;
-        let end = self.serve_turn(store, machine, policy, client, &mut state.tally)?;
+        let tally = &mut state.tally;
+        let end = self.serve_turn(store, machine, policy, client, number, tally)?;
         state.note(number, end);
         Ok(())
     }
@@ -298,7 +263,7 @@ impl<C: Clock> Server<'_, C> {
         &self,
         store: &mut Store<S>,
         machine: &mut M,
-        stream: &UnixStream,
+        stream: &OperatorStream,
         state: &mut State<'_, E>,
         is_busy: bool,
     ) -> Outcome
@@ -340,7 +305,7 @@ impl<C: Clock> Server<'_, C> {
         machine: &mut M,
         state: &mut State<'_, E>,
         waiting: &mut Option<Waiting>,
-    ) -> Result<Option<UnixStream>, Fault>
+    ) -> Result<Option<OperatorStream>, Fault>
         ensures world { From S.Store store.old store.new (λ world.
             ServesClean M.Machine S.Store state.old.policy waiting.old waiting.new
             store.old store.new machine.old machine.new world

@@ -1,37 +1,36 @@
 //! Operators who wait for the end of a check or a repair, while others are served.
 
-ghost use Rattle.std.specs.Prelude.{◌≡◌, ⊤, IfErr};
+ghost use Rattle.std.specs.Prelude.{◌≡◌, ⊤, IfErr, List};
 ghost use Rattle.refinement.specs.Left.{From, Reads};
-ghost use Rattle.server.specs.Commands.{IsClean, IsGoneOn, IsInspectionFault, operator_in};
-ghost use Rattle.server.specs.Jobs.{Helps};
+ghost use Rattle.server.specs.Commands.{IsClean, IsGoneOn, IsInspectionFault, IsSentOn, operator_in};
+ghost use Rattle.server.specs.Jobs.{Call, Calls, Helps, seen_in};
 
 use crate::pieces::Pieces;
 use crate::reply::Reply;
-use faults::Fault;
+use faults::{Fault, print_fault};
 use machine::Machine;
-use names::Sink;
 use operator::{Advance, Inspection, print};
 use outbox::Unsent;
+use sockets::OperatorStream;
 use std::alloc::Global;
 use std::io::Write;
-use std::os::unix::net::UnixStream;
 use tables::{Alter, Store};
 
 /// An operator who waits for the rest of an inspection.
 #[derive(Drop)]
 pub(crate) struct Waiting {
-    pub stream: UnixStream,
+    pub stream: OperatorStream,
     pub inspection: Inspection,
     /// What his socket has not taken yet of the reply.
     pub unsent: Unsent,
 }
 
-/// Goes on with an inspection, and sends what it prints, and how far it is. Returns whether it is done.
-fn advance<S: Alter, W: Sink>(
+/// Goes on with an inspection, and adds what it prints to the pieces, and how far it is. Returns whether it is done.
+fn advance<S: Alter>(
     alloc: Global,
     store: &mut Store<S>,
     inspection: &mut Inspection,
-    pieces: &mut Pieces<W>,
+    pieces: &mut Pieces,
 ) -> Result<bool, Fault>
     ensures { From S.Store store.old store.new (λ _. Reads S.Store store.old store.new (λ _. ⊤)
         × (inspection.old.damaged ≡ 0
@@ -46,12 +45,37 @@ fn advance<S: Alter, W: Sink>(
         }
     }
     let text = inspection.progress(alloc)?;
-    pieces.send_progress(text.as_bytes())?;
+    pieces.push_progress(text.as_bytes())?;
     Ok(false)
 }
 
+/// Sends the operator the pieces of his reply, and reports if that failed. Returns him if he waits for the rest.
+fn send_on<M: Machine, E: Write>(
+    machine: &mut M,
+    stream: OperatorStream,
+    inspection: Inspection,
+    mut pieces: Pieces,
+    errors: &mut E,
+) -> Option<Waiting>
+    ensures sent { (calls : List Call) × Calls M.Machine machine.old calls machine.new
+        × IsSentOn stream result (seen_in calls) }
+    ensures clean { inspection.damaged ≡ 0 → IsClean result }
+{
+    if let Err(fault) = pieces.send(machine, &stream) {
+        let _ = print_fault(&fault, errors);
+        return None;
+    }
+    let unsent = pieces.into_unsent();
+    Some(Waiting {
+        stream,
+        inspection,
+        unsent,
+    })
+}
+
 impl Waiting {
-    /// Goes on with the inspection: about 1 MiB, or 64 objects. If it has ended, so does the reply, and nobody waits.
+    /// Goes on with the inspection: about 1 MiB, or 64 objects. If it has ended, so does the reply, and nobody waits; and
+    /// nobody waits if the operator has gone.
     pub(crate) fn go_on<S: Alter, M: Machine, E: Write>(
         self,
         alloc: Global,
@@ -68,17 +92,10 @@ impl Waiting {
             mut inspection,
             unsent,
         } = self;
-        let mut pieces = Pieces::to_operator(&stream, unsent);
+        let mut pieces = Pieces::new(alloc, unsent);
         let advanced = advance(alloc, store, &mut inspection, &mut pieces);
         let ended = match advanced {
-            Ok(false) => {
-                let unsent = pieces.into_unsent();
-                return Some(Waiting {
-                    stream,
-                    inspection,
-                    unsent,
-                });
-            }
+            Ok(false) => return send_on(machine, stream, inspection, pieces, errors),
             Ok(true) => Ok(()),
             Err(fault) => Err(fault),
         };

@@ -196,7 +196,7 @@ impl Client {
     }
 
     /// The connection's socket.
-    pub fn stream(&self) -> &TcpStream {
+    pub(crate) fn stream(&self) -> &TcpStream {
         &self.stream
     }
 

@@ -132,13 +132,13 @@ impl Course {
 #[derive(Drop)]
 pub struct PatientReader<'a, C: Clock> {
     /// The clock of the limits.
-    pub clock: &'a C,
+    pub(crate) clock: &'a C,
     /// The client's connection.
-    pub stream: &'a TcpStream,
+    pub(crate) stream: &'a TcpStream,
     /// What the connection is occupied with.
-    pub course: &'a Cell<Course>,
+    pub(crate) course: &'a Cell<Course>,
     /// What arrived before.
-    pub front: &'a mut Front,
+    pub(crate) front: &'a mut Front,
 }
 
 impl<C: Clock> PatientReader<'_, C> {
@@ -198,11 +198,11 @@ impl<C: Clock> Read for PatientReader<'_, C> {
 #[derive(Drop)]
 pub struct PatientWriter<'a, C: Clock> {
     /// The clock of the limits.
-    pub clock: &'a C,
+    pub(crate) clock: &'a C,
     /// The client's connection.
-    pub stream: &'a TcpStream,
+    pub(crate) stream: &'a TcpStream,
     /// What the connection is occupied with.
-    pub course: &'a Cell<Course>,
+    pub(crate) course: &'a Cell<Course>,
 }
 
 impl<C: Clock> PatientWriter<'_, C> {

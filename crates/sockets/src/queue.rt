@@ -4,11 +4,14 @@ ghost use Rattle.std.specs.Prelude.{◌≡◌, IfOk, OnErr, IfSome};
 ghost use Rattle.sockets.specs.Turns.{kind_of, other_than, turn_after};
 
 use crate::client::{Client, Framing, Front};
+use crate::operator_stream::OperatorStream;
+use crate::patience::{Course, PatientReader, PatientWriter};
 use crate::room::{Ended, LONGEST_LEAVING, Limits, ROUND, Room};
 use mio::event::Events;
 use mio::unix::SourceFd;
 use mio::{Interest, Poll, Token};
 use outbox::{Outbox, Unsent};
+use std::cell::Cell;
 use std::io::{self, ErrorKind};
 use std::net::{TcpListener, TcpStream};
 use std::os::fd::AsRawFd;
@@ -36,7 +39,7 @@ pub enum Caller {
     /// A client, whose next message has arrived.
     Client(Client),
     /// An operator, who sends a command.
-    Operator(UnixStream),
+    Operator(OperatorStream),
 }
 
 /// A kind of caller.
@@ -194,7 +197,7 @@ impl<'a> Queue<'a> {
             return Ok(None);
         };
         match control.accept() {
-            Ok((stream, _)) => Ok(Some(Caller::Operator(stream))),
+            Ok((stream, _)) => Ok(Some(Caller::Operator(OperatorStream::new(stream)))),
             Err(error) if error.kind() == ErrorKind::WouldBlock => {
                 self.operators_wait = false;
                 Ok(None)
@@ -399,32 +402,86 @@ impl<'a> Queue<'a> {
     /// failed. The reply has no end then.
     pub fn end_reply(
         &mut self,
-        operator: &UnixStream,
+        operator: &OperatorStream,
         mut unsent: Unsent,
         end: &[u8],
         clock: &impl Clock,
     ) -> io::Result<()> {
         unsent.push(end)?;
-        unsent.send(operator)?;
+        unsent.send(operator.stream())?;
         if unsent.as_slice().is_empty() {
             return Ok(());
         }
-        self.outbox
-            .push(&self.poll, operator, unsent, Instant::now(clock)?)
+        let now = Instant::now(clock)?;
+        self.outbox.push(&self.poll, operator.stream(), unsent, now)
     }
 
-    /// Takes a client back after a turn whose message was handed out.
+    /// Sends pieces of a reply to an operator, after what his socket has not taken yet of it. What it does not take at once
+    /// is kept.
+    ///
+    /// # Errors
+    ///
+    /// Fails if the operator has closed the connection, and if there is no memory.
+    pub fn send_pieces(
+        &self,
+        operator: &OperatorStream,
+        unsent: &mut Unsent,
+        pieces: &[u8],
+    ) -> io::Result<()> {
+        unsent.push(pieces)?;
+        unsent.send(operator.stream())?;
+        Ok(())
+    }
+
+    /// The stream of an operator who called.
+    pub fn stream_of<'o>(&self, operator: &'o OperatorStream) -> &'o UnixStream {
+        operator.stream()
+    }
+
+    /// Reads the message of a client's turn.
+    pub fn reader<'c, C: Clock>(
+        &self,
+        client: &'c Client,
+        clock: &'c C,
+        course: &'c Cell<Course>,
+        front: &'c mut Front,
+    ) -> PatientReader<'c, C> {
+        PatientReader {
+            clock,
+            stream: client.stream(),
+            course,
+            front,
+        }
+    }
+
+    /// Writes the reply of a client's turn.
+    pub fn writer<'c, C: Clock>(
+        &self,
+        client: &'c Client,
+        clock: &'c C,
+        course: &'c Cell<Course>,
+    ) -> PatientWriter<'c, C> {
+        PatientWriter {
+            clock,
+            stream: client.stream(),
+            course,
+        }
+    }
+
+    /// Takes a client back after a turn whose message was handed out. This is the number of its connection from now on.
     ///
     /// # Errors
     ///
     /// Fails if the clock did.
     pub fn put_back(
         &mut self,
-        client: Client,
+        mut client: Client,
+        number: u64,
         front: &Front,
         clock: &impl Clock,
         framing: &impl Framing,
     ) -> io::Result<()> {
+        client.number = Some(number);
         self.room
             .put_back(client, front, Instant::now(clock)?, framing);
         Ok(())

@@ -1,0 +1,42 @@
+//! What is done in the turn of a client.
+
+ghost use Rattle.desk.specs.Asking.{setting_of};
+ghost use Rattle.server.specs.Jobs.{Converses};
+
+use machine::Conversation;
+use names::{Moment, Sink, Source};
+use policy::Policy;
+use service::{Routes, Served};
+use std::alloc::Global;
+use tables::{Storage, Store};
+
+/// Serves the message of a client, by a policy and at a moment.
+#[derive(Clone, Copy)]
+pub(crate) struct Serving<'a> {
+    pub alloc: Global,
+    pub routes: &'a Routes,
+    pub policy: &'a Policy,
+    pub now: Moment,
+}
+
+impl Conversation for Serving<'_> {
+    ghost leads = { λ serving g talk served old new world.
+        Converses g (setting_of serving.policy.now serving.now) talk served old new world };
+
+    fn hold<S: Storage, R: Source, K: Sink>(
+        &self,
+        store: &mut Store<S>,
+        source: &mut R,
+        sink: &mut K,
+    ) -> Served {
+        service::serve(
+            self.alloc,
+            store,
+            self.policy,
+            self.routes,
+            self.now,
+            source,
+            sink,
+        )
+    }
+}
