@@ -4,3 +4,4 @@ pub mod Leading
 mod Jobs
 mod Swept
 mod Inspected
+mod Growing

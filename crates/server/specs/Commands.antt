@@ -172,7 +172,7 @@ IsInspection purpose busy _ = ⊥
 
 -- these bytes are pieces of a reply, and none of them is its end
 abbrev pub ArePieces : List ℕ → Type 0
-ArePieces bytes = (pieces : List Piece) × All IsPiece pieces × (bytes ≡ flat_map piece_bytes pieces)
+ArePieces bytes = ∥ ((pieces : List Piece) × All IsPiece pieces × (bytes ≡ flat_map piece_bytes pieces)) ∥₁
 
 -- pieces of a reply were sent to the operator
 abbrev pub AreSent : OperatorStream → List Observation → Type 0

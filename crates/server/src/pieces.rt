@@ -67,7 +67,8 @@ impl Pieces {
         let mut piece = Vec::new(self.alloc);
         piece.extend_from_slice(&piece_head(stream, content.len()))?;
         piece.extend_from_slice(content)?;
-        self.bytes.extend_from_slice(piece.as_slice())
+        self.bytes.extend_from_slice(piece.as_slice())?;
+        Ok(())
     }
 
     /// Adds the text that a command wrote to its error stream, or the first 65,536 bytes of it.

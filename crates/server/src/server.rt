@@ -224,7 +224,8 @@ impl<C: Clock> Server<'_, C> {
             return Ok(Some(End::ReadFailed));
         };
         let end = turn.served.end;
-        tally.unswept = tally.unswept || end == End::StoreRefused;
+        // An upload that was cut off, or that the store refused, is still staged.
+        tally.unswept = tally.unswept || end == End::StoreRefused || !front.is_over();
         tally.counts.count_turn(turn, self.since(start));
         machine.end_turn(client, number, &front, end)
     }
