@@ -80,7 +80,7 @@ fn is_retired<S: Alter>(
 fn retired<S: Alter>(alloc: Global, store: &mut Store<S>, words: &[&str]) -> Result<String, Fault> {
     let repo = repo(alloc, word(words, 0)?)?;
     let mut text = String::new(alloc);
-    for name in uploads::retired_names(alloc, store, &repo)?.iter() {
+    for name in uploads::retired(alloc, store, &repo)?.iter() {
         text.push_str(name.text())?;
         text.push('\n')?;
     }

@@ -1,5 +1,5 @@
 -- An upload, from the bytes that arrive to the answer.
-use Rattle.desk.proofs.Prelude.{◌≡◌, ◌∙◌, ◌+◌, ◌≤◌, ℕ, Bool, true, false, List, [], ◌++◌, length, replicate, Option, Some, None, is_some, Result, Ok, Err, bytes_eq, refl, sym, ap, subst, arith, take, append-nil, append_assoc, length-append, length-take, IsTrue, nil_from_length, length-replicate, Ghosts, X2, World, Object, name_of, object_named, is_retired, with_object, Answer, stores, by_rule, store_refusal, content_verdict, Ending, changed, unchanged, failed, answer_ending, Store, StoreFault, Holds, From, Keeps, Ends, leads_none, keeps_still, keeps_then, keeps_ends, ends_then, ends_reported, Receipt, Differs, ReceiveFault, HasRead, object_from, Takes, HasAll, Fills, Carries, Settles, Receives, ReceivesStaged}
+use Rattle.desk.proofs.Prelude.{◌≡◌, ◌∙◌, ◌+◌, ◌≤◌, ℕ, Bool, true, false, List, [], ◌++◌, length, replicate, Option, Some, None, is_some, Result, Ok, Err, bytes_eq, refl, sym, ap, subst, arith, take, append-nil, append_assoc, length-append, length-take, IsTrue, nil_from_length, length-replicate, Ghosts, X2, World, Object, name_of, object_named, with_object, Answer, stores, by_rule, store_refusal, content_verdict, Ending, changed, unchanged, failed, answer_ending, Store, StoreFault, Holds, From, Keeps, Ends, leads_none, keeps_still, keeps_then, keeps_ends, ends_then, ends_reported, Receipt, Differs, ReceiveFault, HasRead, object_from, Takes, HasAll, Fills, Carries, Settles, Receives, ReceivesStaged}
 use Rattle.std.proofs.lemmas.Bool.{true≢false}
 use Rattle.std.proofs.lemmas.Slice.Eq.{bytes_eq-Decides}
 use Rattle.names.specs.declared.bodies.Body.{Ghosts as BodyGhosts}
@@ -332,14 +332,14 @@ module _ {S : Type 0} (g : Ghosts S) where
         )
     then_cleared a b c (Err (fault.Body cut)) done keeps = keeps_then g a b c world done (keeps world done.holds)
 
-  -- an upload whose name is not retired was begun, its content was received, and what it left was removed
+  -- an upload was begun, its content was received, and what it left was removed or not
   pub received : (a b c d : Store S) (id : UploadId) (repo name : List ℕ) (size : ℕ) (bytes : List ℕ) (left : ℕ) (r : Result Receipt ReceiveFault) → IsTrue (is_repo repo) → length bytes + left ≡ size
-      → From g a b (λ world. is_retired repo name world ≡ false → Keeps g a b world × Stages g b (upload_number id) repo name size []) → From g b c (ReceivesStaged g b c id size bytes left r) → From g c d (Keeps g c d)
-      → From g a d (λ world. is_retired repo name world ≡ false → Receives g a d world repo name bytes left r)
+      → From g a b (λ world. Keeps g a b world × Stages g b (upload_number id) repo name size []) → From g b c (ReceivesStaged g b c id size bytes left r) → From g c d (Keeps g c d)
+      → From g a d (λ world. Receives g a d world repo name bytes left r)
   received a b c d id repo name size bytes left r is whole begun came cleared = record {
     honest = λ clean. begun.honest (came.honest (cleared.honest clean));
-    each = λ clean world h unretired.
-        let it = begun.each (came.honest (cleared.honest clean)) world h unretired in
+    each = λ clean world h.
+        let it = begun.each (came.honest (cleared.honest clean)) world h in
         let done = came.each (cleared.honest clean) world it.0.holds repo name is (sym whole) it.1 in
         then_cleared repo name bytes left world a c d r (received_then repo name bytes left world a b c r it.0 done) (cleared.each clean);
   }

@@ -1,5 +1,5 @@
 -- What is read of a view is what the view shows.
-use Rattle.desk.proofs.Prelude.{◌<◌, ◌≤◌, arith, nat_tests, ◌≡◌, ◌∙◌, ◌==◌, ◌&&◌, ℕ, Bool, true, false, nat_lt, List, [], ◌∷◌, cond, map, find, Option, Some, None, option_map, is_some, Bor, Result, Ok, Err, IsErrAnd, bytes_eq, refl, sym, ap, ap₂, subst, found_passes, ◌>>=◌, ok_or, L2, RepoState, is_gone, lock_at, size_of, Lock, Answer, Denial, Plan, receives, stores, by_lock, by_rules, permit, lock_question, new_lock, release_verdict, sees, unlock_verdict, UnlockForm, repo_text, ref_text, path_text, lock_asked, lock_seen, LockRow, NewLock, Object, name_of, Rule, A5, R1, Repo, check, is_upload, length, plan_for, repo_named, admission_result, Reply, IsReply, IsReplyOf, NotGranted, ShowsPlan, ShowsVerdict, IsUserOf, IsWantedBy, case_policy, case_repo, case_user, case_with, denial_view, found_verdict, free_verdict, question_on}
+use Rattle.desk.proofs.Prelude.{◌<◌, ◌≤◌, arith, nat_tests, ◌≡◌, ◌∙◌, ◌==◌, ◌&&◌, ℕ, Bool, true, false, nat_lt, List, [], ◌∷◌, cond, map, find, Option, Some, None, option_map, is_some, Bor, Result, Ok, Err, IsErrAnd, bytes_eq, refl, sym, ap, ap₂, subst, found_passes, ◌>>=◌, ok_or, L2, RepoState, is_gone, lock_at, size_of, Lock, Answer, Denial, Plan, receives, stores, by_lock, by_rules, permit, lock_question, new_lock, release_verdict, sees, unlock_verdict, UnlockForm, repo_text, ref_text, path_text, lock_asked, lock_seen, LockRow, NewLock, Object, name_of, Rule, A4, A5, R1, Repo, check, is_upload, length, plan_for, repo_named, admission_result, Reply, IsReply, IsReplyOf, NotGranted, ShowsPlan, ShowsVerdict, IsUserOf, IsWantedBy, case_policy, case_repo, case_user, case_with, denial_view, found_verdict, free_verdict, question_on}
 use Rattle.names.specs.declared.rules.Rule.TheVariants.{X2}
 use Rattle.std.proofs.lemmas.Bool.{true≢false}
 use Rattle.std.proofs.lemmas.Slice.Eq.{bytes_eq-Decides}
@@ -14,12 +14,15 @@ use Rattle.model.specs.RepoState as state
 use Rattle.model.specs.Views as model
 use Rattle.model.specs.Forms.{Request}
 use Rattle.model.specs.Verdict.{is_covered}
-use Rattle.model.specs.Views.{CallerRequest, caller_in, case_seen, foresee, no_caller, plan_in, plan_reply}
+use Rattle.model.specs.Replies as shown
+use Rattle.model.specs.Views.{CallerRequest, NoCaller, caller_in, case_seen, no_caller, plan_in, plan_reply}
 use Rattle.forms.specs.declared.lock.LockRequest.{LockRequest}
 use Rattle.desk.specs.Askers.{asker_policy, asker_repo, asker_user}
-use Rattle.desk.specs.Foreseeing.{IsCallerIn, ShowsReply, is_on, is_seen}
+use Rattle.desk.specs.Asking.{request_read}
+use Rattle.desk.specs.Foreseeing.{IsCallerIn, ShowsReply, bearers_of, caller_request, foreseen, foreseen_by, is_on, is_seen, refused_by, rule_in}
 use Rattle.desk.specs.Objects.{Permits}
 use Rattle.desk.specs.Views.{own_seen, size_seen, state_seen, view_seen}
+use Rattle.desk.specs.declared.admission.RepoRequest.{RepoRequest}
 use Rattle.desk.specs.declared.cases.Case.{Case}
 use Rattle.desk.specs.declared.cases.Denial as code
 use Rattle.desk.specs.declared.cases.Denial.TheVariants as denied
@@ -28,6 +31,7 @@ use Rattle.desk.specs.declared.rights.Asker.{Asker}
 use Rattle.desk.specs.declared.views.ObjectSize.{ObjectSize}
 use Rattle.desk.specs.declared.views.OwnToken.{OwnToken}
 use Rattle.desk.specs.declared.views.View.{View}
+use Rattle.desk.proofs.Admitting.{refused_form}
 use Rattle.desk.proofs.Releasing.{asker_sees, seen_alike}
 
 -- equivalent tests find the same item
@@ -207,6 +211,56 @@ plan_by v now caller a asked text is same = rw (is, same, (bytes_eq-Decides v.re
         at true = refl
         at false = refl
 
--- the foreseen reply of a caller
-pub foreseen_by : (v : model.View) (now : ℕ) (caller : Caller) (a : CallerRequest) → caller_in v now a.bearers ≡ Ok caller → foresee v now a ≡ Ok (plan_reply v.repo a.body (plan_in v now caller a))
-foreseen_by v now caller a is = ap (λ r. r >>= λ who. Ok (plan_reply v.repo a.body (plan_in v now who a))) is
+-- the plan, by what is admitted
+abbrev pub plan_admitted : model.View → ℕ → Caller → List ℕ → Result (Repo × Request) Rule → Result Plan Denial
+plan_admitted v now caller body admitted = by_rules admitted >>= λ (p : Repo × Request). plan_for (case_seen v now caller p.0) (length body) p.1
+
+-- a request that a J rule refuses is refused by that rule, or by R1 before it
+malformed : (v : model.View) (covers : Bool) (text : List ℕ) (asked : Result Request Rule) (rule : Rule) → asked ≡ Err rule → bytes_eq v.repo text ≡ true
+    → admission_result v.policy v.repo covers text asked ≡ Err (rule_in (repo_named text v.policy) rule)
+malformed v covers text asked rule is own = at (repo_named text v.policy) refl
+  where
+    at : (o : Option Repo) → repo_named text v.policy ≡ o → admission_result v.policy v.repo covers text asked ≡ Err (rule_in o rule)
+    at None none = rw (own, none) refl
+    at (Some r) there = refused_form v.policy v.repo covers text asked r rule own there is
+
+-- a request in another repository
+elsewhere : (v : model.View) (covers : Bool) (text : List ℕ) (asked : Result Request Rule) → bytes_eq v.repo text ≡ false → admission_result v.policy v.repo covers text asked ≡ Err A4
+elsewhere v covers text asked other = rw other refl
+
+-- what is admitted is in the repository of the view
+pub admits_own : (v : model.View) (covers : Bool) (text : List ℕ) (asked : Result Request Rule) (p : Repo × Request) → admission_result v.policy v.repo covers text asked ≡ Ok p → text ≡ v.repo
+admits_own v covers text asked p is = at (bytes_eq v.repo text) refl
+  where
+    at : (b : Bool) → bytes_eq v.repo text ≡ b → text ≡ v.repo
+    at true own = sym ((bytes_eq-Decides v.repo text).0 own)
+    at false other = absurd (let e : Err A4 ≡ Ok p = sym (elsewhere v covers text asked other) ∙ is in cc)
+
+module _ (v : model.View) (now : ℕ) (a : RepoRequest) (body : List ℕ) where
+  -- there is no caller
+  pub nobody_foreseen : caller_in v now (bearers_of a) ≡ Err no_caller → foreseen v now a body ≡ Err no_caller
+  nobody_foreseen none = at (bytes_eq v.repo a.repo.now) (request_read a)
+    where
+      at : (own : Bool) (asked : Result Request Rule) → foreseen_by v now a body own asked ≡ Err no_caller
+      at false asked = rw none refl
+      at true (Err rule) = rw none refl
+      at true (Ok request) = rw none refl
+
+  -- the reply to a caller, by what is admitted
+  pub reply_foreseen : (caller : Caller) → caller_in v now (bearers_of a) ≡ Ok caller
+      → foreseen v now a body ≡ Ok (plan_reply v.repo body (plan_admitted v now caller body (admission_result v.policy v.repo (is_upload caller.operation) a.repo.now (request_read a))))
+  reply_foreseen caller is = at (bytes_eq v.repo a.repo.now) refl (request_read a) refl
+    where
+      abbrev reply_by : Result (Repo × Request) Rule → Result shown.Reply NoCaller
+      reply_by admitted = Ok (plan_reply v.repo body (plan_admitted v now caller body admitted))
+
+      refused : (rule : Rule) (admitted : Result (Repo × Request) Rule) → admitted ≡ Err rule → refused_by v now a rule ≡ reply_by admitted
+      refused rule admitted no = rw (is, no) refl
+
+      at : (own : Bool) → bytes_eq v.repo a.repo.now ≡ own → (asked : Result Request Rule) → request_read a ≡ asked
+          → foreseen_by v now a body own asked ≡ reply_by (admission_result v.policy v.repo (is_upload caller.operation) a.repo.now (request_read a))
+      at false other asked read = refused A4 _ (elsewhere v (is_upload caller.operation) a.repo.now (request_read a) other)
+      at true own (Err rule) read = refused _ _ (malformed v (is_upload caller.operation) a.repo.now (request_read a) rule read own)
+      at true own (Ok request) read =
+          ap (λ r. r >>= λ who. Ok (plan_reply v.repo body (plan_in v now who (caller_request a body request)))) is
+          ∙ ap (λ plan. Ok (plan_reply v.repo body plan)) (plan_by v now caller (caller_request a body request) (request_read a) a.repo.now read (sym ((bytes_eq-Decides v.repo a.repo.now).0 own)))

@@ -45,12 +45,3 @@ module _ (c : Case) (ref : List ℕ) where
   pub put_denied : (left : ℕ) (asked : PutForm) (denial : Denial) → ref_or_default asked.ref c.repo ≡ ref → may ≡ Err denial → put_verdict c left asked ≡ Err denial
   put_denied left asked denial named denied = rw (named, denied) refl
 
--- the name of an upload that is granted is not retired
-pub put_kept : (c : Case) (left : ℕ) (asked : PutForm) (plan : Plan) → put_verdict c left asked ≡ Ok plan → is_gone asked.name c.state ≡ false
-put_kept c left asked plan is = at (may_push c.setting.policy c.caller.user c.repo.name (ref_or_default asked.ref c.repo)) (is_gone asked.name c.state) is
-  where
-    at : (may : Result ⊤ Denial) (gone : Bool)
-        → (may >>= λ pushes. by_rules (check (not gone) X4) >>= λ there. by_rules (check (has_place left asked.name c.state) X3) >>= λ fits. Ok (receives asked.name)) ≡ Ok plan → gone ≡ false
-    at (Err denial) gone e = absurd (true≢false (ap is_err e))
-    at (Ok x) true e = absurd (true≢false (ap is_err e))
-    at (Ok x) false e = refl

@@ -1,5 +1,5 @@
 -- Requests to upload an object: denied before its content is read, or answered by all of it.
-use Rattle.desk.proofs.Prelude.{◌≡◌, ◌∙◌, ℕ, Bool, false, true, cond, List, ◌++◌, length, Result, Ok, Err, is_ok, is_err, refl, sym, ap, subst, append-nil, arith, IfOk, nil_from_length, Ghosts, X2, World, is_retired, gone_is, PutForm, Answer, Denial, Plan, by_rule, receives, put_verdict, content_verdict, store_refusal, Store, From, Reads, reads_lead, BodyFault, Receipt, ReceiveFault, Differs, Reply, HasRead, IsLeftBy, IsLeftAfter, IsReplyOf, IsUserOf, case_repo, case_seen, AnswersBy, AnswersIf, AnswersRequest, IsAnsweredAs, verdict_by, given_in, is_refused, MatchBool, OnOk, ShowsIf, RepliesReceived, Receives, object_from, answer_of}
+use Rattle.desk.proofs.Prelude.{◌≡◌, ◌∙◌, ℕ, Bool, false, true, cond, List, ◌++◌, length, Result, Ok, Err, is_ok, is_err, refl, sym, ap, subst, append-nil, arith, IfOk, nil_from_length, Ghosts, X2, World, PutForm, Answer, Denial, Plan, by_rule, receives, put_verdict, content_verdict, store_refusal, Store, From, Reads, reads_lead, BodyFault, Receipt, ReceiveFault, Differs, Reply, HasRead, IsLeftBy, IsLeftAfter, IsReplyOf, IsUserOf, case_repo, case_seen, AnswersBy, AnswersIf, AnswersRequest, IsAnsweredAs, verdict_by, given_in, is_refused, MatchBool, OnOk, ShowsIf, RepliesReceived, Receives, object_from, answer_of}
 use Rattle.std.specs.Prelude.{IfErr}
 use Rattle.std.proofs.lemmas.Bool.{true≢false}
 use Rattle.names.specs.declared.bodies.Body.{Ghosts as BodyGhosts}
@@ -11,7 +11,6 @@ use Rattle.desk.specs.declared.receiving.ReceiveFault.TheVariants as fault
 use Rattle.desk.specs.declared.receiving.Receipt.TheVariants.{Stored}
 use Rattle.desk.proofs.Arriving.{kept_refused}
 use Rattle.desk.proofs.Early.{answered_then}
-use Rattle.desk.proofs.Pushing.{put_kept}
 use Rattle.desk.proofs.Told.{refused_is, told, told_refusal}
 
 -- no content is left, so the bytes that were read are all
@@ -111,7 +110,7 @@ module _ {S B : Type 0} {g : Ghosts S} {b : BodyGhosts B} {old mid new : Store S
     (received : Result Receipt ReceiveFault) where
   -- the content was received
   pub received_put : size ≡ b.size before → Reads g old mid (λ world. (who : Caller) → IsUserOf case who → put_verdict (case_seen world case who) size asked ≡ Ok (receives asked.name))
-      → HasRead b before after bytes → repo ≡ (case_repo case).name → From g mid new (λ world. is_retired repo asked.name world ≡ false → Receives g mid new world repo asked.name bytes (b.size after) received)
+      → HasRead b before after bytes → repo ≡ (case_repo case).name → From g mid new (λ world. Receives g mid new world repo asked.name bytes (b.size after) received)
       → OnOk received (IsReadOut b before after) → IfErr received (IsLeftAfter b before after) → RepliesReceived received r → IfOk r (λ reply. reply.body_read ≡ true)
       → AnswersRequest g b true (case_repo case).name (IsUserOf case) (λ world who n. put_verdict (case_seen world case who) n asked) old new before after r
   received_put sized may read named came out faulty replies all_read = record {
@@ -122,9 +121,8 @@ module _ {S B : Type 0} {g : Ghosts S} {b : BodyGhosts B} {old mid new : Store S
       each = λ k world h who user n upto.
           let lead = reads_lead g old mid _ world may h in
           let is = ap (λ m. put_verdict (case_seen world case who) m asked) (upto refl ∙ sym sized) ∙ may.each (came.honest k) world h who user in
-          let unretired = ap (λ (n : List ℕ). is_retired n asked.name world) named ∙ sym (gone_is world (case_repo case) asked.name h.laws) ∙ put_kept (case_seen world case who) n asked (receives asked.name) is in
           answered_then g true world (case_repo case).name (put_verdict (case_seen world case who) n asked) old mid new lead may.same bytes (b.size after) r
-          (put_by g mid new world (case_repo case).name asked.name bytes (b.size after) is received r (read_left b before after received out) all_read (subst (λ (name : List ℕ). Receives g mid new world name asked.name bytes (b.size after) received) named (came.each k world lead.holds unretired)) replies);
+          (put_by g mid new world (case_repo case).name asked.name bytes (b.size after) is received r (read_left b before after received out) all_read (subst (λ (name : List ℕ). Receives g mid new world name asked.name bytes (b.size after) received) named (came.each k world lead.holds)) replies);
     };
     settled = λ off. absurd (true≢false off);
     leaves = unread r all_read;

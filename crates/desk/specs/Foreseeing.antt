@@ -1,7 +1,12 @@
 -- Replies that are foreseen from what a user sees.
-use Rattle.std.specs.Prelude.{◌≡◌, ◌==◌, ◌&&◌, ℕ, Bool, List, Result, Ok, Err, bytes_eq, option_map, ⊤}
+use Rattle.std.specs.Prelude.{◌≡◌, ◌==◌, ◌&&◌, ℕ, Bool, true, false, List, Option, Some, None, Result, Ok, Err, bytes_eq, option_map, ⊤}
 use Rattle.names.specs.Names.{path_text, ref_text}
+use Rattle.names.specs.declared.rules.Rule.{Rule}
+use Rattle.names.specs.declared.rules.Rule.TheVariants.{A4, R1}
+use Rattle.model.specs.Answers.{by_rule}
 use Rattle.model.specs.Callers.{sees}
+use Rattle.model.specs.Policy.{Repo, repo_named}
+use Rattle.model.specs.Reading.{◌>>=◌}
 use Rattle.tables.specs.declared.rows.LockRow.{LockRow}
 use Rattle.locks.specs.Finding.{lock_seen}
 use Rattle.model.specs.Forms.{Request}
@@ -27,10 +32,13 @@ ShowsReply (Ok reply) is = IsReply reply is
 ShowsReply (Err (not_granted.Store fault)) is = ⊤
 ShowsReply (Err (not_granted.Denied denial)) is = is ≡ reply_of (Err (denial_view denial))
 
+-- the values of Authorization
+abbrev pub bearers_of : RepoRequest → List (List ℕ)
+bearers_of a = single_value (option_map (λ v. v.now) a.authorization)
+
 -- the request with its whole body, and the values of Authorization
 abbrev pub caller_request : RepoRequest → List ℕ → Request → CallerRequest
-caller_request a body request =
-    record { bearers = single_value (option_map (λ v. v.now) a.authorization); request = request; body = body }
+caller_request a body request = record { bearers = bearers_of a; request = request; body = body }
 
 -- the reply is the foreseen one; there is no caller; or memory ran out, and there is one
 abbrev pub IsForeseenAs : Result Reply ForeseeFault → Result model.Reply NoCaller → Type 0
@@ -38,11 +46,28 @@ IsForeseenAs (Ok reply) seen = (is : model.Reply) × (seen ≡ Ok is) × IsReply
 IsForeseenAs (Err fault.NoCaller) seen = seen ≡ Err no_caller
 IsForeseenAs (Err fault.Memory) seen = (is : model.Reply) × (seen ≡ Ok is)
 
--- what is foreseen of a request in the repository of the view, if no J rule refuses it
+-- the reply to the caller of the view by this rule, or that there is no caller
+abbrev pub refused_by : View → ℕ → RepoRequest → Rule → Result model.Reply NoCaller
+refused_by view now a rule = caller_in view now (bearers_of a) >>= λ caller. Ok (reply_of (Err (by_rule rule)))
+
+-- the first rule that refuses a request that this J rule refuses, by the policy's repository
+abbrev pub rule_in : Option Repo → Rule → Rule
+rule_in None rule = R1
+rule_in (Some repo) rule = rule
+
+-- what is foreseen of a request, by whether it is in the repository of the view, and by what it asks
+abbrev pub foreseen_by : View → ℕ → RepoRequest → List ℕ → Bool → Result Request Rule → Result model.Reply NoCaller
+foreseen_by view now a body false asked = refused_by view now a A4
+foreseen_by view now a body true (Err rule) = refused_by view now a (rule_in (repo_named a.repo.now view.policy) rule)
+foreseen_by view now a body true (Ok request) = foresee view now (caller_request a body request)
+
+-- what is foreseen of any request
+abbrev pub foreseen : View → ℕ → RepoRequest → List ℕ → Result model.Reply NoCaller
+foreseen view now a body = foreseen_by view now a body (bytes_eq view.repo a.repo.now) (request_read a)
+
+-- the result is what is foreseen of the request
 abbrev pub IsForeseen : View → ℕ → RepoRequest → List ℕ → Result Reply ForeseeFault → Type 0
-IsForeseen view now a body r =
-    (request : Request) → request_read a ≡ Ok request → a.repo.now ≡ view.repo
-    → IsForeseenAs r (foresee view now (caller_request a body request))
+IsForeseen view now a body r = IsForeseenAs r (foreseen view now a body)
 
 -- the caller is the one of the view that presents this text and has this token
 abbrev pub IsCallerIn : View → ℕ → List (List ℕ) → List ℕ → OwnToken → Type 0

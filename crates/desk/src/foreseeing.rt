@@ -213,7 +213,8 @@ fn reply_to(alloc: Global, done: Result<Reply, NotGranted>) -> Result<Reply, All
 }
 
 /// Returns the reply that the user of the view would get to the request with this body, unless the store refuses: in any
-/// world in which the user has this view, at this moment. The body of an upload is hashed. Nothing is read but the view.
+/// world in which the user has this view, at this moment. That to a request in another repository is A4, and that to one
+/// which a J rule refuses is R1 or that rule. The body of an upload is hashed. Nothing is read but the view.
 ///
 /// # Errors
 ///

@@ -29,6 +29,7 @@ pub use admission::RepoRequest;
 pub use answering::answer;
 pub use batching::batch_objects;
 pub use foreseeing::{ForeseeFault, foresee};
+pub use names::{Body, BodyFault};
 pub use replies::{Reply, ReplyBody};
 pub use viewing::view;
 pub use views::{ObjectSize, OwnToken, View};

@@ -1,8 +1,7 @@
 //! Receives the bytes of an upload (Git LFS API, Basic Transfers, "Uploads").
 
-ghost use Rattle.std.specs.Prelude.{◌≡◌, ◌<◌, ◌≤◌, ℕ, false, List, length, take, Err, OnOk, IfErr};
+ghost use Rattle.std.specs.Prelude.{◌≡◌, ◌<◌, ◌≤◌, ℕ, List, length, take, Err, OnOk, IfErr};
 ghost use Rattle.names.specs.Names.{repo_text};
-ghost use Rattle.model.specs.World.{is_retired};
 ghost use Rattle.refinement.specs.Left.{From, Keeps};
 ghost use Rattle.desk.specs.declared.receiving.ReceiveFault.TheVariants as fault;
 ghost use Rattle.tables.specs.declared.fault.StoreFault.TheVariants as store;
@@ -171,9 +170,9 @@ fn receive_staged<S: Alter, B: Body>(
     Ok(settle(store, upload, &arrival)?)
 }
 
-/// Removes what arrived of an upload that became no object, if the store allows it. After a refusal of the store that is
-/// whatever is staged: on a full disk, uploads that failed before may be staged too. What is not removed here is removed
-/// by the next upload of its repository.
+/// Removes what arrived of an upload that has other bytes, if the store allows it. After a refusal of the store it removes
+/// whatever is staged: on a full disk, uploads that failed before may be staged too. An upload that is cut off stays
+/// staged. What is not removed here is removed by the next upload of its repository.
 fn clear<S: Alter>(
     alloc: Global,
     store: &mut Store<S>,
@@ -185,8 +184,8 @@ fn clear<S: Alter>(
         Keeps S.Store store.old store.new world) }
 {
     match received {
-        Ok(Receipt::Stored) => {}
-        Ok(Receipt::Differs) | Err(ReceiveFault::Body(_)) => {
+        Ok(Receipt::Stored) | Err(ReceiveFault::Body(_)) => {}
+        Ok(Receipt::Differs) => {
             let _ = uploads::abandon(store, upload, size);
         }
         Err(ReceiveFault::Store(_)) => {
@@ -196,13 +195,13 @@ fn clear<S: Alter>(
 }
 
 /// Reads the content to its end, and stores it as the object of this name if its bytes have the name. If they do not, or
-/// if it fails, the bytes that arrived are removed, as far as the store allows it. The caller has asked whether the name
-/// is retired.
+/// if the store refuses, the bytes that arrived are removed, as far as the store allows it. If the content is cut off, the
+/// upload stays staged, with the chunks that arrived.
 ///
 /// # Errors
 ///
-/// - [`ReceiveFault::Store`]: the store refused, or memory ran out; `Refused` also for a content above the largest size
-///   of an object. Some of the content may be unread.
+/// - [`ReceiveFault::Store`]: the store refused, or memory ran out; `Refused` also for a name that the repository has
+///   retired, or a content above the largest size of an object. Some of the content may be unread.
 /// - [`ReceiveFault::Body`]: the content was not read to its end.
 ///
 /// Both leave the contents of the store unchanged.
@@ -214,8 +213,8 @@ pub(crate) fn receive<S: Alter, B: Body>(
     content: &mut B,
 ) -> Result<Receipt, ReceiveFault>
     ensures bytes { (bytes : List ℕ) × HasRead B.Body content.old content.new bytes
-        × From S.Store store.old store.new (λ world. is_retired (repo_text repo.now) name.now world ≡ false
-        → Receives S.Store store.old store.new world (repo_text repo.now) name.now bytes (B.size content.new) result) }
+        × From S.Store store.old store.new (λ world. Receives S.Store store.old store.new world
+        (repo_text repo.now) name.now bytes (B.size content.new) result) }
     ensures whole { OnOk result (IsReadOut B.Body content.old content.new) }
     ensures fault { IfErr result (IsLeftAfter B.Body content.old content.new) }
 {

@@ -120,7 +120,7 @@ fn seen_retired<S: Alter>(
         (asker_repo asker.now) then retired_of (asker_repo asker.now) world else []))) }
 {
     if sees_objects(asker) {
-        uploads::retired_names(alloc, store, asker.repo)
+        uploads::retired(alloc, store, asker.repo)
     } else {
         Ok(Vec::new(alloc))
     }

@@ -12,4 +12,4 @@ mod removing;
 pub use creating::{LockFault, create};
 pub use finding::{all, at, get, made, window};
 pub use removing::remove;
-pub use tables::LockRow as Lock;
+pub use tables::{LockRow as Lock, NewLock};

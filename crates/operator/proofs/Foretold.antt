@@ -23,11 +23,11 @@ seen_so : (world : World) (f : Foresight) (seen : View) (r : Result Reply Forese
 seen_so world f seen r same is = subst (λ (v : View). IsForeseen v f.now f.request f.body.now r) same is
 
 pub foretold : (world : World) (f : Foresight) (seen : View) (reply : Reply) → seen ≡ own_view world f → IsForeseen seen f.now f.request f.body.now (Ok reply) → Foretells world f (Ok reply)
-foretold world f seen reply same is request read repo = seen_so world f seen (Ok reply) same is request read repo
+foretold world f seen reply same is = seen_so world f seen (Ok reply) same is
 
 pub not_foretold : (world : World) (f : Foresight) (seen : View) (why : ForeseeFault) → seen ≡ own_view world f → IsForeseen seen f.now f.request f.body.now (Err why) → Foretells world f (Err (of_foresight why))
-not_foretold world f seen fault.NoCaller same is request read repo = seen_so world f seen (Err fault.NoCaller) same is request read repo
-not_foretold world f seen fault.Memory same is request read repo = tt
+not_foretold world f seen fault.NoCaller same is = seen_so world f seen (Err fault.NoCaller) same is
+not_foretold world f seen fault.Memory same is = tt
 
 -- why no reply is foreseen is why the task fails
 pub foresight_cause : (world : World) (f : Foresight) (e : TaskFault) → IsReplyFault e → Foretells world f (Err e) → IsForesightFault world f e

@@ -2,12 +2,10 @@
 use Rattle.std.specs.Prelude.{◌≡◌, Result, Ok, Err, ⊤}
 use Rattle.names.specs.Names.{repo_text, user_text}
 use Rattle.policy.specs.Values.{policy_view}
-use Rattle.model.specs.Forms.{Request}
 use Rattle.model.specs.Replies as model
-use Rattle.model.specs.Views.{NoCaller, no_caller, foresee, view_of}
+use Rattle.model.specs.Views.{NoCaller, no_caller, view_of}
 use Rattle.model.specs.World.{World}
-use Rattle.desk.specs.Asking.{request_read}
-use Rattle.desk.specs.Foreseeing.{caller_request}
+use Rattle.desk.specs.Foreseeing.{foreseen}
 use Rattle.desk.specs.Replies.{IsReply}
 use Rattle.desk.specs.declared.replies.Reply.{Reply}
 use Rattle.operator.specs.Failing.{IsPlain}
@@ -21,11 +19,10 @@ IsToldAs (Ok reply) seen = (is : model.Reply) × (seen ≡ Ok is) × IsReply rep
 IsToldAs (Err fault.NoCaller) seen = seen ≡ Err no_caller
 IsToldAs (Err _) seen = ⊤
 
--- what is foreseen in this world of a request in the task's repository, if no J rule refuses it
+-- what is foreseen of the task's request, from what its user sees of its repository in this world
 abbrev pub Foretells : World → Foresight → Result Reply TaskFault → Type 0
 Foretells world f r =
-    (request : Request) → request_read f.request ≡ Ok request → f.request.repo.now ≡ repo_text f.repo.now
-    → IsToldAs r (foresee (view_of world (policy_view f.policy.now) (user_text f.user.now) (repo_text f.repo.now)) f.now (caller_request f.request f.body.now request))
+    IsToldAs r (foreseen (view_of world (policy_view f.policy.now) (user_text f.user.now) (repo_text f.repo.now)) f.now f.request f.body.now)
 
 -- a reply is not foreseen: there is no caller, or for a plain reason
 abbrev pub IsReplyFault : TaskFault → Type 0

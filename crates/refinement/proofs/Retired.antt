@@ -1,5 +1,5 @@
 -- An object that is removed for good: what the tables represent then.
-use Rattle.refinement.proofs.Prelude.{◌≡◌, ◌∙◌, ℕ, ◌+◌, ◌≤◌, ℤ, pos, Bool, true, false, not, ◌&&◌, List, [], ◌∷◌, map, filter, find, cond, length, Option, Some, None, option_map, is_some, bytes_eq, IsTrue, refl, sym, ap, subst, AllPairs, IsPermutation, arith, ints, AllByRecursion, int_eq, true≢false, AllPairs-filter, IsPermutation-filter, filter-map, length-map, length_permutation, bytes_eq-Decides, is_eq-slice_cmp, next_key, all_weaker, all_kept, all_of, World, IsWorld, Object, object_named, total, Repo, Tables, same_bytes, is_upload, is_complete, is_staged, is_staged_in, is_object, used_in, used_of, set_used, bytes_of, object_in, chunks_of, HasSize, DiffersInName, DiffersInRepo, RepresentObjects, Represents, in_found, found_passes, none_where, both_true}
+use Rattle.refinement.proofs.Prelude.{◌≡◌, ◌∙◌, ℕ, ◌+◌, ◌≤◌, ℤ, pos, Bool, true, false, not, ◌&&◌, List, [], ◌∷◌, map, filter, find, cond, length, Option, Some, None, option_map, is_some, bytes_eq, IsTrue, refl, sym, ap, subst, AllPairs, IsPermutation, arith, ints, AllByRecursion, int_eq, true≢false, AllPairs-filter, IsPermutation-filter, filter-map, length-map, length_permutation, bytes_eq-Decides, is_eq-slice_cmp, next_key, all_weaker, all_kept, all_of, World, IsWorld, Object, object_named, total, Tables, same_bytes, is_upload, is_complete, is_staged, is_staged_in, is_object, used_in, used_of, set_used, bytes_of, object_in, DiffersInName, DiffersInRepo, RepresentObjects, Represents, in_found, found_passes, none_where, both_true}
 use Rattle.std.specs.Prelude.{◌-ℤ◌}
 use Rattle.std.specs.Ordering.{is_gt, nat_cmp, ordering_then}
 use Rattle.std.specs.Cmp.{IsTotalOrder}

@@ -1,5 +1,5 @@
 -- A store that `start` accepted is in a world, and a stop leaves that world.
-use Rattle.refinement.proofs.Prelude.{◌≡◌, ◌∙◌, ◌⊎◌, inl, inr, IsTrue, [], ◌∷◌, Result, Ok, Err, OnOk, refl, sym, ap, subst, ∥∥₁_map, Ghosts, Trees, over_files, World, IsWorld, nothing, Bound, Tables, tables_of, fresh_on, IsHonest, IsSafe, HasTables, shown, committed, HasNoTable, HasOurs, Rests, Leaves, Store, Represents, IsAmong, IsBoundedBy}
+use Rattle.refinement.proofs.Prelude.{◌≡◌, ◌⊎◌, inl, inr, IsTrue, [], ◌∷◌, Result, Ok, Err, OnOk, refl, sym, ap, subst, ∥∥₁_map, Ghosts, Trees, over_files, World, IsWorld, nothing, Bound, Tables, tables_of, fresh_on, IsHonest, IsOpen, IsSafe, HasTables, shown, committed, HasNoTable, HasOurs, Rests, Leaves, Store, Represents, IsAmong, IsBoundedBy}
 use Rattle.sqlite_disk.specs.declared.Disk as disk
 use Rattle.sqlite_catalog.specs.Listing.{IsSound}
 use Rattle.sqlite_wal.specs.Recovery.{Image}
@@ -9,7 +9,7 @@ use Rattle.sqlite.specs.Effect.{Database}
 use Rattle.sqlite.specs.Schema.{Schema}
 use Rattle.sqlite.proofs.Theorems.{opens_again}
 use Rattle.model.proofs.Keeping.{makes_world}
-use Rattle.tables.specs.Runs.{IsKept}
+use Rattle.tables.specs.Runs.{IsKept, current_meta}
 use Rattle.tables.specs.Rows.{tables_under}
 use Rattle.std.specs.Prelude.{IfOk}
 use Rattle.tables.specs.declared.rows.Migrated.{Migrated}
@@ -20,26 +20,20 @@ use Rattle.tables.specs.Rows.{meta}
 use Rattle.tables.specs.Layout.{version_one, current}
 use Rattle.tables.specs.Schemas.{HasAll}
 use Rattle.tables.proofs.Opened.{kept_is_sound, kept_some, all_of, shown_once, not_none}
-use Rattle.refinement.specs.Opening.{HoldsAmong, IsAt, IsAtOne}
+use Rattle.refinement.specs.Opening.{Accepts, HoldsAmong, IsAt, IsAtOne, MigratesBy}
 use Rattle.refinement.proofs.Changes.{fresh_represented}
 
 module _ {S : Type 0} (g : Ghosts S) (old new : Store S) where
   -- the contract of `create_or_check` on a store that it accepted
-  pub record Accepts : Type 0 where
-    pub ready : HasTables g new
-    pub ok : IsHonest g new → (HasNoTable g old × (shown g new ≡ fresh_on g old)) ⊎ Rests g old new
-    pub safe : IsHonest g new → IsSafe g new
-    pub only : IsHonest g new → (t : Tables) → Leaves g new t → (HasNoTable g old × (t ≡ fresh_on g old)) ⊎ (HasOurs g old × (t ≡ shown g old))
-
-  pub accepts : {T E : Type 0} (r : Result T E) → OnOk r (HasTables g new) → (IsHonest g new → OnOk r ((HasNoTable g old × (shown g new ≡ fresh_on g old)) ⊎ Rests g old new)) → (IsHonest g new → OnOk r (IsSafe g new))
-      → (IsHonest g new → OnOk r ((t : Tables) → Leaves g new t → (HasNoTable g old × (t ≡ fresh_on g old)) ⊎ (HasOurs g old × (t ≡ shown g old)))) → OnOk r Accepts
-  accepts (Ok x) ready ok safe only = record { ready = ready; ok = ok; safe = safe; only = only }
-  accepts (Err e) ready ok safe only = tt
+  pub accepts : {T E : Type 0} (r : Result T E) → OnOk r (HasTables g new) → (IsHonest g new → OnOk r (IsOpen g new → (shown g new).meta ≡ current_meta ∷ [])) → (IsHonest g new → OnOk r ((HasNoTable g old × (shown g new ≡ fresh_on g old)) ⊎ Rests g old new)) → (IsHonest g new → OnOk r (IsSafe g new))
+      → (IsHonest g new → OnOk r ((t : Tables) → Leaves g new t → (HasNoTable g old × (t ≡ fresh_on g old)) ⊎ (HasOurs g old × (t ≡ shown g old)))) → OnOk r (Accepts g old new)
+  accepts (Ok x) ready version ok safe only = record { ready = ready; version = version; ok = ok; safe = safe; only = only }
+  accepts (Err e) ready version ok safe only = tt
 
   both_none : HasNoTable g old → HasOurs g old → ⊥
   both_none none ours = kept_some _ none ours.kept
 
-  pub is_new : Accepts → HasNoTable g old → IsAt g new nothing
+  pub is_new : Accepts g old new → HasNoTable g old → IsAt g new nothing
   is_new a none = record {
     holds = record {
       ready = a.ready;
@@ -58,7 +52,7 @@ module _ {S : Type 0} (g : Ghosts S) (old new : Store S) where
     };
   }
 
-  pub is_found : Accepts → (world : World) → IsWorld world → (IsHonest g new → HasOurs g old × Represents (shown g old) world) → IsAt g new world
+  pub is_found : Accepts g old new → (world : World) → IsWorld world → (IsHonest g new → HasOurs g old × Represents (shown g old) world) → IsAt g new world
   is_found a world laws was = record {
     holds = record {
       ready = a.ready;
@@ -77,7 +71,7 @@ module _ {S : Type 0} (g : Ghosts S) (old new : Store S) where
     };
   }
 
-  pub is_one : Accepts → HasOurs g old → (bound : Bound) → IsAmong (shown g old) bound → IsAtOne g new bound
+  pub is_one : Accepts g old new → HasOurs g old → (bound : Bound) → IsAmong (shown g old) bound → IsAtOne g new bound
   is_one a ours [] among = among
   is_one a ours (world ∷ bound) (inl here) = inl (is_found a world here.0 (λ _. (ours, here.1)))
   is_one a ours (world ∷ bound) (inr rest) = inr (is_one a ours bound rest)
@@ -88,21 +82,15 @@ module _ {S : Type 0} (g : Ghosts S) (old new : Store S) where
 
 -- a migration that succeeded
 module _ {S : Type 0} (g : Ghosts S) (old new : Store S) where
-  pub record MigratesBy (m : Migrated) : Type 0 where
-    pub ready : HasTables g new
-    pub ok : IsHonest g new → MigratesTo g old new m
-    pub safe : IsHonest g new → IsSafe g new
-    pub only : IsHonest g new → (t : Tables) → Leaves g new t → IsMigrated g old m t
-
-  pub migrates : {E : Type 0} (r : Result Migrated E) → OnOk r (HasTables g new) → (IsHonest g new → IfOk r (MigratesTo g old new)) → (IsHonest g new → OnOk r (IsSafe g new)) → (IsHonest g new → IfOk r (λ m. (t : Tables) → Leaves g new t → IsMigrated g old m t)) → IfOk r MigratesBy
-  migrates (Ok m) ready ok safe only = record { ready = ready; ok = ok; safe = safe; only = only }
-  migrates (Err e) ready ok safe only = tt
+  pub migrates : {E : Type 0} (r : Result Migrated E) → OnOk r (HasTables g new) → (IsHonest g new → OnOk r (IsOpen g new → (shown g new).meta ≡ current_meta ∷ [])) → (IsHonest g new → IfOk r (MigratesTo g old new)) → (IsHonest g new → OnOk r (IsSafe g new)) → (IsHonest g new → IfOk r (λ m. (t : Tables) → Leaves g new t → IsMigrated g old m t)) → IfOk r (MigratesBy g old new)
+  migrates (Ok m) ready version ok safe only = record { ready = ready; version = version; ok = ok; safe = safe; only = only }
+  migrates (Err e) ready version ok safe only = tt
 
   -- without a migration it is as after `create_or_check`
-  pub as_accepted : MigratesBy result.Already → Accepts g old new
-  as_accepted m = record { ready = m.ready; ok = m.ok; safe = m.safe; only = m.only }
+  pub as_accepted : MigratesBy g old new result.Already → Accepts g old new
+  as_accepted m = record { ready = m.ready; version = m.version; ok = m.ok; safe = m.safe; only = m.only }
 
-  pub is_migrated : MigratesBy result.From1 → IsHonest g new → (world : World) → IsWorld world → (HasOld g old → RepresentedFirst (shown g old) world) → IsAt g new world
+  pub is_migrated : MigratesBy g old new result.From1 → IsHonest g new → (world : World) → IsWorld world → (HasOld g old → RepresentedFirst (shown g old) world) → IsAt g new world
   is_migrated m honest world laws was =
       let it = m.ok honest in
       record {
@@ -114,7 +102,7 @@ module _ {S : Type 0} (g : Ghosts S) (old new : Store S) where
   none_is_old : HasNoTable g old → HasOld g old → ⊥
   none_is_old none was = not_none version_one _ _ none (was.old.schema.all.parts.made meta refl) refl
 
-  pub none_is_new : HasNoTable g old → (m : Migrated) → MigratesBy m → IsAt g new nothing
+  pub none_is_new : HasNoTable g old → (m : Migrated) → MigratesBy g old new m → IsAt g new nothing
   none_is_new none result.From1 m = record {
     holds = record { ready = m.ready; laws = makes_world [] nothing refl; shows = λ k o. absurd (none_is_old none (m.ok k).0) };
     left = record { safe = m.safe; among = λ k t left. absurd (none_is_old none (m.ok k).0) };

@@ -1,5 +1,5 @@
 -- The world of a database when it is opened.
-use Rattle.std.specs.Prelude.{◌⊎◌, [], ◌∷◌}
+use Rattle.std.specs.Prelude.{◌≡◌, ◌⊎◌, [], ◌∷◌}
 use Rattle.sqlite_trees.specs.declared.store.Store.{Ghosts}
 use Rattle.sqlite_trees.specs.Tree.{Trees}
 use Rattle.sqlite_catalog.specs.Listing.{IsSound}
@@ -10,8 +10,11 @@ use Rattle.model.specs.Bounds.{Bound}
 use Rattle.sqlite.specs.Schema.{Schema}
 use Rattle.tables.specs.Layout.{current}
 use Rattle.tables.specs.Schemas.{HasAll}
-use Rattle.tables.specs.Rows.{tables_under}
+use Rattle.tables.specs.Rows.{Tables, tables_under}
+use Rattle.tables.specs.Runs.{current_meta}
+use Rattle.tables.specs.Shown.{IsHonest, IsOpen, IsSafe, IsMigrated, HasNoTable, HasOurs, HasTables, Leaves, MigratesTo, Rests, fresh_on, shown}
 use Rattle.tables.specs.declared.Store.{Store}
+use Rattle.tables.specs.declared.rows.Migrated.{Migrated}
 use Rattle.refinement.specs.Representation.{Holds}
 use Rattle.refinement.specs.Left.{IsAmong, IsBoundedBy}
 
@@ -24,6 +27,24 @@ abbrev pub HoldsAmong : Image → Bound → Type 0
 HoldsAmong image bound = ∥ ((db : Trees) × HoldsDatabase image db × AreAmong db bound) ∥₁
 
 module _ {S : Type 0} (g : Ghosts S) where
+  -- a database was accepted: it has the tables of the current version with their number, new ones if it had none of ours,
+  -- and else those that it had; a stop leaves only these
+  pub record Accepts (old new : Store S) : Type 0 where
+    pub ready : HasTables g new
+    pub version : IsHonest g new → IsOpen g new → (shown g new).meta ≡ current_meta ∷ []
+    pub ok : IsHonest g new → (HasNoTable g old × (shown g new ≡ fresh_on g old)) ⊎ Rests g old new
+    pub safe : IsHonest g new → IsSafe g new
+    pub only : IsHonest g new → (t : Tables) → Leaves g new t
+        → (HasNoTable g old × (t ≡ fresh_on g old)) ⊎ (HasOurs g old × (t ≡ shown g old))
+
+  -- the same of a migration with this result: if it migrated, the database was of version 1
+  pub record MigratesBy (old new : Store S) (m : Migrated) : Type 0 where
+    pub ready : HasTables g new
+    pub version : IsHonest g new → IsOpen g new → (shown g new).meta ≡ current_meta ∷ []
+    pub ok : IsHonest g new → MigratesTo g old new m
+    pub safe : IsHonest g new → IsSafe g new
+    pub only : IsHonest g new → (t : Tables) → Leaves g new t → IsMigrated g old m t
+
   -- the store holds the world, and a stop now leaves only that world
   pub record IsAt (s : Store S) (world : World) : Type 0 where
     pub holds : Holds g s world

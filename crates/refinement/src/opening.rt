@@ -1,20 +1,22 @@
 //! Opens a store: in the world of a new server, or in the one that its database holds.
 
-ghost use Rattle.std.specs.Prelude.{◌≡◌, [], Ok, IfOk, OnErr, OnOk};
+ghost use Rattle.std.specs.Prelude.{◌≡◌, [], Ok, Err, IfOk, OnErr, OnOk};
 ghost use Rattle.sqlite_trees.specs.Objects.{catalog_tree};
 ghost use Rattle.sqlite_trees.specs.View.{IsClean};
 ghost use Rattle.sqlite_wal.specs.Files.{image_at};
 ghost use Rattle.sqlite_wal.specs.Recovery.{Image};
 ghost use Rattle.sqlite_store.specs.FileStore.{state, view};
-ghost use Rattle.sqlite.specs.Files.{over_files, IsNothing};
+ghost use Rattle.sqlite.specs.Files.{over_files, file_state, IsNothing};
+ghost use Rattle.sqlite.specs.Start.{FindsIn};
 ghost use Rattle.model.specs.World.{World, IsWorld, nothing};
 ghost use Rattle.model.specs.Bounds.{Bound, IsWithin, SameWorld};
 ghost use Rattle.tables.specs.Rows.{Tables};
-ghost use Rattle.tables.specs.Shown.{connection, committed, IsHonest, HasNoTable, HasOurs, HasOld, Rests, AddsFresh, AddsMigrated, shown};
+ghost use Rattle.tables.specs.Shown.{connection, committed, IsHonest, HasNoTable, HasOurs, HasOld, IsForeign, IsUnknown, Rests, AddsFresh, AddsMigrated, shown};
 ghost use Rattle.refinement.specs.Representation.{Represents, RepresentedFirst};
+ghost use Rattle.tables.specs.declared.fault.OpenFault.TheVariants.{UnknownSchema};
 ghost use Rattle.tables.specs.declared.rows.Migrated.TheVariants as Migrated;
 ghost use Rattle.refinement.specs.Left.{IsBoundedBy, IsLeft};
-ghost use Rattle.refinement.specs.Opening.{AreAmong, HoldsAmong, IsAt, IsAtOne};
+ghost use Rattle.refinement.specs.Opening.{Accepts, AreAmong, HoldsAmong, IsAt, IsAtOne, MigratesBy};
 
 use sqlite::{FileFrom, FileStore, Start};
 use sqlite_disk::Disk;
@@ -22,8 +24,9 @@ use std::alloc::Global;
 use std::rt::HostRuntime;
 use tables::{Alter, Migrated, OpenFault, Storage, Store};
 
-/// Creates the tables of a database that has none, and accepts one that has them. The store then holds
-/// the world of a new server, or the one that the tables represent, and a stop leaves only that world.
+/// Creates the tables of a database that has none of ours, and accepts one that has them with their number; any other
+/// one, of version 1 too, is refused. The store then holds the world of a new server, or the one that the tables
+/// represent, and a stop leaves only that world.
 ///
 /// # Errors
 ///
@@ -31,6 +34,9 @@ use tables::{Alter, Migrated, OpenFault, Storage, Store};
 /// still leave those of a new server.
 pub fn start<S: Storage>(alloc: Global, store: &mut Store<S>) -> Result<(), OpenFault>
     ensures honest { IsHonest S.Store store.new → IsHonest S.Store store.old }
+    ensures accepts { OnOk result (Accepts S.Store store.old store.new) }
+    ensures unknown { IsHonest S.Store store.new → result ≡ Err UnknownSchema
+        → IsForeign S.Store store.old }
     ensures fresh { HasNoTable S.Store store.old → OnOk result (IsAt S.Store store.new nothing) }
     ensures empty { IsHonest S.Store store.new → committed S.Store store.old catalog_tree ≡ []
         → OnOk result (IsAt S.Store store.new nothing) }
@@ -56,6 +62,9 @@ pub fn start<S: Storage>(alloc: Global, store: &mut Store<S>) -> Result<(), Open
 /// of a new server.
 pub fn migrate<S: Storage>(alloc: Global, store: &mut Store<S>) -> Result<Migrated, OpenFault>
     ensures honest { IsHonest S.Store store.new → IsHonest S.Store store.old }
+    ensures migrates { IfOk result (MigratesBy S.Store store.old store.new) }
+    ensures unknown { IsHonest S.Store store.new → result ≡ Err UnknownSchema
+        → IsUnknown S.Store store.old }
     ensures migrated { IsHonest S.Store store.new → result ≡ Ok Migrated.From1 → (world : World) → IsWorld world
         → (HasOld S.Store store.old → RepresentedFirst (shown S.Store store.old) world)
         → IsAt S.Store store.new world }
@@ -81,6 +90,9 @@ pub fn open_from<S: Start>(
     path: &str,
     first: S,
 ) -> Result<Store<FileStore<FileFrom<S>>>, OpenFault>
+    ensures accepts { IfOk result (λ store. IsHonest over_files store
+        → (opened : _) × FindsIn (image_at S.Start) (file_state (connection opened))
+        × Accepts over_files opened store) }
     ensures blank { IsNothing (image_at S.Start)
         → IfOk result (λ store. IsHonest over_files store → IsAt over_files store nothing) }
     ensures empty { (image_at S.Start).db ≡ []

@@ -20,3 +20,4 @@ pub use issuing::{TokenFault, issue, offer};
 pub use names::Operation as Op;
 pub use pruning::prune;
 pub use requests::TokenRequest;
+pub use tables::TokenRow as Token;

@@ -1,11 +1,13 @@
 -- An upload that is begun is staged.
-use Rattle.uploads.proofs.Prelude.{◌≡◌, ◌≤◌, false, ℕ, List, Option, Result, Ok, Err, Ghosts, largest_object, World, IsHonest, Store, StoreFault, UploadId, UploadRow, From, Keeps, Holds, leads_still, keeps_still, keeps_then}
+use Rattle.uploads.proofs.Prelude.{◌≡◌, ◌∙◌, ◌≤◌, Bool, false, sym, ℕ, List, Option, Result, Ok, Err, Ghosts, largest_object, World, IsHonest, Store, StoreFault, UploadId, UploadRow, From, Keeps, Holds, leads_still, keeps_still, keeps_then}
 use Rattle.names.specs.Names.{repo_text}
 use Rattle.model.specs.World.{is_retired}
 use Rattle.names.specs.declared.texts.RepoName.{RepoName}
 use Rattle.tables.specs.Shown as tables
 use Rattle.tables.specs.declared.new_rows.NewUpload.{NewUpload}
 use Rattle.tables.specs.Seeking.{Finds}
+use Rattle.refinement.specs.Left.{Reads}
+use Rattle.refinement.proofs.Leading.{reads_lead}
 use Rattle.refinement.proofs.Staged.{keeps_begun, stages_begun}
 use Rattle.uploads.specs.Beginning.{Begins}
 
@@ -34,14 +36,30 @@ module _ {S : Type 0} (g : Ghosts S) where
     each = λ k world h. let it = p.each (q.honest k) world h in keeps_then g a b c world it (q.each k world it.holds);
   }
 
-  -- an upload was begun after a call that kept the world
-  pub begun_then : (a b c : Store S) (repo : RepoName) (oid : List ℕ) (size : ℕ) (r : Result UploadId StoreFault) → From g a b (Keeps g a b) → From g b c (λ world. is_retired (repo_text repo) oid world ≡ false → Begins g world repo oid size b c r)
-      → From g a c (λ world. is_retired (repo_text repo) oid world ≡ false → Begins g world repo oid size a c r)
-  begun_then a b c repo oid size r p q = record {
-    honest = λ k. p.honest (q.honest k);
-    each = λ k world h unretired. let it = p.each (q.honest k) world h in more r world it (q.each k world it.holds unretired);
-  }
-    where
-      more : (r : Result UploadId StoreFault) (world : World) → Keeps g a b world → Begins g world repo oid size b c r → Begins g world repo oid size a c r
-      more (Ok id) world keeps begun = (keeps_then g a b c world keeps begun.0, begun.1)
-      more (Err fault) world keeps begun = keeps_then g a b c world keeps begun
+  -- a call that only read
+  pub read_keeps : {P : World → Type 0} (a b : Store S) → Reads g a b P → From g a b (Keeps g a b)
+  read_keeps a b r = record { honest = r.same.was_honest; each = λ k world h. keeps_still g a b world (reads_lead g a b _ world r h) }
+
+  module _ (a b c : Store S) (repo : RepoName) (oid : List ℕ) (size : ℕ) where
+    begins_after : (r : Result UploadId StoreFault) (world : World) → Keeps g a b world → Begins g world repo oid size b c r → Begins g world repo oid size a c r
+    begins_after (Ok id) world keeps begun = (keeps_then g a b c world keeps begun.0, begun.1)
+    begins_after (Err fault) world keeps begun = keeps_then g a b c world keeps begun
+
+    -- an upload was begun after a call that kept the world
+    pub begun_then : (r : Result UploadId StoreFault) → From g a b (Keeps g a b) → From g b c (λ world. is_retired (repo_text repo) oid world ≡ false → Begins g world repo oid size b c r)
+        → From g a c (λ world. is_retired (repo_text repo) oid world ≡ false → Begins g world repo oid size a c r)
+    begun_then r p q = record {
+      honest = λ k. p.honest (q.honest k);
+      each = λ k world h unretired. let it = p.each (q.honest k) world h in begins_after r world it (q.each k world it.holds unretired);
+    }
+
+    -- an upload was begun after a call that said that the name is not retired
+    pub begun_unretired : (retired : Bool) (r : Result UploadId StoreFault) → retired ≡ false → Reads g a b (λ world. retired ≡ is_retired (repo_text repo) oid world)
+        → From g b c (λ world. is_retired (repo_text repo) oid world ≡ false → Begins g world repo oid size b c r) → From g a c (λ world. Begins g world repo oid size a c r)
+    begun_unretired retired r off p q = record {
+      honest = λ k. p.same.was_honest (q.honest k);
+      each = λ k world h.
+          let before = q.honest k in
+          let lead = reads_lead g a b _ world p h in
+          begins_after r world (keeps_still g a b world lead) (q.each k world lead.holds (sym (p.each before world h) ∙ off));
+    }

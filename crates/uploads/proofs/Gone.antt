@@ -1,29 +1,31 @@
 -- An object that is removed for good.
-use Rattle.uploads.proofs.Prelude.{◌≡◌, ◌∙◌, ℕ, Bool, true, false, cond, List, Option, Some, None, Result, Ok, Err, OnOk, find, is_some, inl, inr, refl, sym, ap, subst, Ghosts, World, IsWorld, object_named, Tables, Upload, IsHonest, IsOpen, HasTables, Moves, Makes, Fails, shown, Store, StoreFault, From, Keeps, Holds, Represents, upload_number, without_staged, leads_none, leads_still, keeps_still, keeps_then, holds_made, from_weaker}
+use Rattle.uploads.proofs.Prelude.{◌≡◌, ◌∙◌, ℕ, Bool, true, false, cond, List, Option, Some, None, Result, Ok, Err, find, filter, not, is_some, inl, refl, sym, ap, subst, Ghosts, World, IsWorld, object_named, Tables, Upload, IsHonest, IsOpen, HasTables, Makes, Fails, shown, Store, StoreFault, From, Keeps, Holds, Represents, upload_number, without_staged, leads_none, leads_still, keeps_still, keeps_then, holds_made, from_weaker, all-filter}
 use Rattle.names.specs.Texts.{is_hex_64, is_repo}
 use Rattle.std.specs.Prelude.{IsTrue, IfOk}
 use Rattle.model.specs.World.{is_retired, without_object}
-use Rattle.model.specs.Bounds.{failed, ending_of, intended_world, bound_after}
+use Rattle.model.specs.Bounds.{failed, ending_of, intended_world}
 use Rattle.model.specs.Steps.{Event, IsStep, retires}
 use Rattle.model.specs.Operator.{Removal, removed_now, removed_before, no_object, removal_of, after_removal, by_success, by_fault}
 use Rattle.model.proofs.Keeping.{keeps_without_object}
-use Rattle.tables.specs.Shown as tables
+use Rattle.model.proofs.Lists.{none_where}
+use Rattle.tables.specs.Retiring as removing
 use Rattle.tables.specs.Retiring.{after_retire}
+use Rattle.tables.proofs.Moved.{moves_then}
 use Rattle.tables.specs.Seeking.{Finds}
-use Rattle.tables.specs.Statements.{is_object, is_staged_in}
-use Rattle.tables.specs.Staging.{IsUploadOf, UploadFields, upload_fields, read_upload}
+use Rattle.tables.specs.Statements.{is_object, is_staged_in, is_upload, with_retired, without_chunks, without_row}
+use Rattle.tables.specs.Staging.{IsUploadOf, UploadFields, upload_fields, read_upload, with_used, without_upload}
 use Rattle.tables.specs.declared.rows.UploadRow.{UploadRow}
-use Rattle.refinement.specs.Left.{Reads, Takes}
+use Rattle.refinement.specs.Left.{KeepsTables, Reads, Takes}
 use Rattle.refinement.specs.Staging.{StagesNoneIn}
+use Rattle.refinement.proofs.Found.{none_passes}
 use Rattle.refinement.proofs.Kept.{object_known}
 use Rattle.refinement.proofs.Leading.{ends_failed_or, ends_still, keeps_ends, reads_lead, takes_still, takes_made, takes_then}
 use Rattle.refinement.proofs.Retired.{would_retire, staged_in_gone}
 use Rattle.refinement.proofs.Staged.{keeps_removed}
 use Rattle.uploads.specs.Removing.{Shortens}
-use Rattle.uploads.specs.Retiring.{removal_seen, IsSeen, Retires}
+use Rattle.uploads.specs.Retiring.{IsSeen, LeavesStaged, Retires}
 use Rattle.uploads.specs.declared.retiring.Retired.{Retired}
 use Rattle.uploads.specs.declared.retiring.Retired.TheVariants.{Now, Already, Unknown}
-use Rattle.uploads.proofs.Begun.{finds_keeps, kept_then}
 
 -- ---- what the definitions say of the object
 
@@ -46,6 +48,21 @@ is_unknown world repo name gone none = rw (gone, none) refl
 -- the object is there
 pub is_there : (world : World) (repo name : List ℕ) → is_retired repo name world ≡ false → is_some (object_named repo name world) ≡ true → removal_of world repo name ≡ removed_now
 is_there world repo name gone there = rw (gone, there) refl
+
+-- ---- what is staged
+
+-- nothing is found in a part of a list where nothing is found
+none_in_part : {A : Type 0} (p q : A → Bool) (xs : List A) → find p xs ≡ None → find p (filter q xs) ≡ None
+none_in_part p q xs none = none_where p (filter q xs) (all-filter (λ x. p x ≡ false) q xs (none_passes p xs none))
+
+-- if nothing of the repository is staged, nothing is after an object is removed
+none_after : (t : Tables) (repo name : List ℕ) → find (is_staged_in repo) t.uploads ≡ None → find (is_staged_in repo) (after_retire repo name t).uploads ≡ None
+unfolding removing.after_retire removing.without_object with_retired with_used without_upload without_row without_chunks
+none_after t repo name none = at (find (is_object repo name) t.uploads)
+  where
+    at : (o : Option Upload) → find (is_staged_in repo) (removing.without_found_object repo name o t).uploads ≡ None
+    at None = none
+    at (Some u) = none_in_part (is_staged_in repo) (λ v. not (is_upload u.id v)) t.uploads none
 
 module _ {S : Type 0} (g : Ghosts S) (repo name : List ℕ) (in_repo : IsTrue (is_repo repo)) (in_name : IsTrue (is_hex_64 name)) where
   -- ---- steps
@@ -70,8 +87,8 @@ module _ {S : Type 0} (g : Ghosts S) (repo name : List ℕ) (in_repo : IsTrue (i
 
   told : (a b : Store S) (world : World) (seen : Retired) → IsSeen world repo name (Some seen) → Holds g a world → Reads g a b (λ w. IsSeen w repo name (Some seen)) → Retires g world repo name a b (Ok seen)
   told a b world Now is h r = absurd is
-  told a b world Already is h r = takes_still g a b world (retires repo name (Some removed_before)) refl (told_step world removed_before is) (reads_lead g a b _ world r h)
-  told a b world Unknown is h r = takes_still g a b world (retires repo name (Some no_object)) refl (told_step world no_object is) (reads_lead g a b _ world r h)
+  told a b world Already is h r = (takes_still g a b world (retires repo name (Some removed_before)) refl (told_step world removed_before is) (reads_lead g a b _ world r h), r.same)
+  told a b world Unknown is h r = (takes_still g a b world (retires repo name (Some no_object)) refl (told_step world no_object is) (reads_lead g a b _ world r h), r.same)
 
   pub told_from : (a b : Store S) (seen : Retired) → Reads g a b (λ w. IsSeen w repo name (Some seen)) → From g a b (λ world. Retires g world repo name a b (Ok seen))
   told_from a b seen r = record { honest = r.same.was_honest; each = λ k world h. told a b world seen (r.each k world h) h r }
@@ -79,8 +96,13 @@ module _ {S : Type 0} (g : Ghosts S) (repo name : List ℕ) (in_repo : IsTrue (i
   pub unread_from : {P : World → Type 0} (a b : Store S) (fault : StoreFault) → Reads g a b P → From g a b (λ world. Retires g world repo name a b (Err fault))
   unread_from a b fault r = refused_from a b fault record { honest = r.same.was_honest; each = λ k world h. keeps_still g a b world (reads_lead g a b _ world r h) }
 
+  staged_then : (a b c : Store S) (given : Retired) → KeepsTables g a b → LeavesStaged g repo b c given → LeavesStaged g repo a c given
+  staged_then a b c Now same left = left
+  staged_then a b c Already same left = moves_then g a b c same left
+  staged_then a b c Unknown same left = moves_then g a b c same left
+
   after_reading : (a b c : Store S) (world : World) (r : Result Retired StoreFault) → Holds g a world → (p : Reads g a b (λ w. IsSeen w repo name None)) → Retires g world repo name b c r → Retires g world repo name a c r
-  after_reading a b c world (Ok given) h p it = takes_then g a b c world _ _ (reads_lead g a b _ world p h) it
+  after_reading a b c world (Ok given) h p it = (takes_then g a b c world _ _ (reads_lead g a b _ world p h) it.0, staged_then a b c given p.same it.1)
   after_reading a b c world (Err fault) h p it = takes_then g a b c world _ _ (reads_lead g a b _ world p h) it
 
   pub then_removed : (a b c : Store S) (r : Result Retired StoreFault) → Reads g a b (λ w. IsSeen w repo name None) → From g b c (λ world. removal_of world repo name ≡ removed_now → Retires g world repo name b c r)
@@ -98,11 +120,17 @@ module _ {S : Type 0} (g : Ghosts S) (repo name : List ℕ) (in_repo : IsTrue (i
       → IsWorld (without_object repo name world) × Represents (after_retire repo name (shown g a)) (without_object repo name world)
   would a world none now laws k o s = let it = is_now world repo name now in would_retire (shown g a) world repo name s laws in_repo in_name it.0 (none k o) it.1
 
+  none_left : (a b : Store S) → Makes g (after_retire repo name) a b → HasTables g a → StagesNoneIn g a repo → StagesNoneIn g b repo
+  none_left a b m ready none k o =
+      ap (λ (t : Tables). find (is_staged_in repo) t.uploads) (m.moves.shows k ready o) ∙ none_after (shown g a) repo name (none (m.moves.was_honest k) (m.moves.was_open k o))
+
   pub removed : (a b : Store S) (world : World) (m : Makes g (after_retire repo name) a b) → StagesNoneIn g a repo → removal_of world repo name ≡ removed_now → Holds g a world → Retires g world repo name a b (Ok Now)
   removed a b world m none now h =
-      let laws = keeps_without_object repo name world in_repo in_name (is_now world repo name now).0 h.laws in
-      takes_made g a b world (without_object repo name world) (retires repo name (Some removed_now)) (after_retire repo name) h.ready m (told_step world removed_now now)
-      (holds_made g a b (without_object repo name world) (after_retire repo name) h.ready m laws (λ k o. (would a world none now h.laws k o (h.shows k o)).1))
+      let laws = keeps_without_object repo name world in_repo in_name (is_now world repo name now).0 h.laws in (
+        takes_made g a b world (without_object repo name world) (retires repo name (Some removed_now)) (after_retire repo name) h.ready m (told_step world removed_now now)
+            (holds_made g a b (without_object repo name world) (after_retire repo name) h.ready m laws (λ k o. (would a world none now h.laws k o (h.shows k o)).1)),
+        none_left a b m h.ready none,
+      )
 
   pub removal_failed : (a b : Store S) (world : World) (fault : StoreFault) → Fails g (after_retire repo name) a b → StagesNoneIn g a repo → removal_of world repo name ≡ removed_now → Holds g a world → Retires g world repo name a b (Err fault)
   removal_failed a b world fault miss none now h = record {
@@ -128,7 +156,7 @@ module _ {S : Type 0} (g : Ghosts S) (repo name : List ℕ) (in_repo : IsTrue (i
   pub removed_from : (a b c : Store S) → Clears a b → Makes g (after_retire repo name) b c → From g a c (λ world. removal_of world repo name ≡ removed_now → Retires g world repo name a c (Ok Now))
   removed_from a b c p m = record {
     honest = λ k. p.honest (m.moves.was_honest k);
-    each = λ k world h now. let it = p.each (m.moves.was_honest k) world h in then_kept a b c world _ _ it.0 (removed b c world m it.1 now it.0.holds);
+    each = λ k world h now. let it = p.each (m.moves.was_honest k) world h in let done = removed b c world m it.1 now it.0.holds in (then_kept a b c world _ _ it.0 done.0, done.1);
   }
 
   pub failed_from : (a b c : Store S) (fault : StoreFault) → Clears a b → Fails g (after_retire repo name) b c → From g a c (λ world. removal_of world repo name ≡ removed_now → Retires g world repo name a c (Err fault))

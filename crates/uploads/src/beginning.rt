@@ -1,11 +1,9 @@
 //! Begins uploads.
 
-ghost use Rattle.std.specs.Prelude.{◌≡◌, false};
-ghost use Rattle.names.specs.Names.{repo_text};
-ghost use Rattle.model.specs.World.{is_retired};
 ghost use Rattle.refinement.specs.Left.{From, Keeps};
 ghost use Rattle.uploads.specs.Beginning.{Begins};
 
+use crate::finding::is_retired;
 use crate::removing::shorten;
 use names::{Oid, RepoName, Size};
 use std::alloc::Global;
@@ -30,12 +28,12 @@ fn shorten_staged<S: Alter>(
 }
 
 /// Begins an upload of an object of this name and this size, and returns its id. It is staged, with no bytes yet, and
-/// takes the place of any upload that the repository had staged. The name must not be retired.
+/// takes the place of any upload that the repository had staged.
 ///
 /// # Errors
 ///
-/// `Refused` or `Memory`. The objects of the store are unchanged in any case; after a stop, the upload that was staged
-/// before may be gone.
+/// `Refused`, also for a name that the repository has retired, of which nothing is ever staged, or `Memory`. The objects
+/// of the store are unchanged in any case; after a stop, the upload that was staged before may be gone.
 pub fn begin<S: Alter>(
     alloc: Global,
     store: &mut Store<S>,
@@ -43,9 +41,12 @@ pub fn begin<S: Alter>(
     oid: &Oid,
     size: Size,
 ) -> Result<UploadId, StoreFault>
-    ensures { From S.Store store.old store.new (λ world. is_retired (repo_text repo.now) oid.now world ≡ false
-        → Begins S.Store world repo.now oid.now size store.old store.new result) }
+    ensures { From S.Store store.old store.new (λ world.
+        Begins S.Store world repo.now oid.now size store.old store.new result) }
 {
+    if is_retired(store, repo, oid)? {
+        return Err(StoreFault::Refused);
+    }
     shorten_staged(alloc, store, repo)?;
     store.begin_upload(alloc, &NewUpload { repo, oid, size })
 }

@@ -1,8 +1,9 @@
-//! Finds objects.
+//! Finds objects, and the names that may not be stored again.
 
 ghost use Rattle.std.specs.Prelude.{◌≡◌, IfOk, option_map};
 ghost use Rattle.names.specs.Names.{repo_text};
-ghost use Rattle.model.specs.World.{total};
+ghost use Rattle.model.specs.World.{is_retired, total};
+ghost use Rattle.model.specs.RepoState.{retired_of};
 ghost use Rattle.refinement.specs.Left.{Reads};
 ghost use Rattle.uploads.specs.Finding.{Finds};
 ghost use Rattle.uploads.specs.Listing.{Lists};
@@ -56,4 +57,36 @@ pub fn all<S: Alter>(
         (option_map (λ r. repo_text r.now) repo.entry) found.items)) }
 {
     store.objects(alloc, repo)
+}
+
+/// Returns whether the repository has retired this name: it removed the object of the name for good.
+///
+/// # Errors
+///
+/// `Refused` or `Memory`. The contents of the store are unchanged in any case.
+pub fn is_retired<S: Alter>(
+    store: &mut Store<S>,
+    repo: &RepoName,
+    oid: &Oid,
+) -> Result<bool, StoreFault>
+    ensures { Reads S.Store store.old store.new (λ world.
+        IfOk result (λ retired. retired ≡ is_retired (repo_text repo.now) oid.now world)) }
+{
+    store.is_retired(repo, oid)
+}
+
+/// Returns the names that the repository has retired, in rising order.
+///
+/// # Errors
+///
+/// `Refused` or `Memory`. The contents of the store are unchanged in any case.
+pub fn retired<S: Alter>(
+    alloc: Global,
+    store: &mut Store<S>,
+    repo: &RepoName,
+) -> Result<Vec<Oid>, StoreFault>
+    ensures { Reads S.Store store.old store.new (λ world.
+        IfOk result (λ names. names.items ≡ retired_of (repo_text repo.now) world)) }
+{
+    store.retired(alloc, repo)
 }

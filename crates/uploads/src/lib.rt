@@ -15,8 +15,8 @@ mod retiring;
 
 pub use beginning::begin;
 pub use completing::{Kept, UploadFault, complete};
-pub use finding::{all, find, used};
+pub use finding::{all, find, is_retired, retired, used};
 pub use laws::bound_law;
 pub use removing::{abandon, sweep};
-pub use retiring::{Retired, is_retired, retire, retired_names};
-pub use tables::UploadRow as Stored;
+pub use retiring::{Retired, retire};
+pub use tables::{ObjectRow as Object, UploadRow as Stored};

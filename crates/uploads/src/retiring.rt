@@ -1,15 +1,13 @@
-//! Removes objects for good, and finds the names that may not be stored again.
+//! Removes objects for good.
 
 ghost use Rattle.std.specs.Prelude.{◌≡◌, IfOk, OnOk};
 ghost use Rattle.names.specs.Names.{repo_text};
-ghost use Rattle.model.specs.World.{is_retired};
-ghost use Rattle.model.specs.RepoState.{retired_of};
 ghost use Rattle.model.specs.Operator.{removed_now, removal_of};
 ghost use Rattle.refinement.specs.Left.{From, Keeps, Reads};
 ghost use Rattle.refinement.specs.Staging.{StagesNoneIn};
 ghost use Rattle.uploads.specs.Retiring.{IsSeen, Retires};
 
-use crate::finding::find;
+use crate::finding::{find, is_retired};
 use crate::removing::shorten;
 use names::{Oid, RepoName};
 use std::alloc::Global;
@@ -24,38 +22,6 @@ pub enum Retired {
     Already,
     /// The repository has no object of this name, and never removed one.
     Unknown,
-}
-
-/// Returns whether the repository has retired this name: it removed the object of the name for good.
-///
-/// # Errors
-///
-/// `Refused` or `Memory`. The contents of the store are unchanged in any case.
-pub fn is_retired<S: Alter>(
-    store: &mut Store<S>,
-    repo: &RepoName,
-    oid: &Oid,
-) -> Result<bool, StoreFault>
-    ensures { Reads S.Store store.old store.new (λ world.
-        IfOk result (λ retired. retired ≡ is_retired (repo_text repo.now) oid.now world)) }
-{
-    store.is_retired(repo, oid)
-}
-
-/// Returns the names that the repository has retired, in rising order.
-///
-/// # Errors
-///
-/// `Refused` or `Memory`. The contents of the store are unchanged in any case.
-pub fn retired_names<S: Alter>(
-    alloc: Global,
-    store: &mut Store<S>,
-    repo: &RepoName,
-) -> Result<Vec<Oid>, StoreFault>
-    ensures { Reads S.Store store.old store.new (λ world.
-        IfOk result (λ names. names.items ≡ retired_of (repo_text repo.now) world)) }
-{
-    store.retired(alloc, repo)
 }
 
 /// Removes the upload that the repository has staged, if it has one.

@@ -33,4 +33,5 @@ pub use head::Head;
 pub use inflow::{Inflow, WholeFault};
 pub use reply::{Content, ReplyHead};
 pub use rules::HeadRule;
+pub use names::WriteFault;
 pub use write::write_reply;

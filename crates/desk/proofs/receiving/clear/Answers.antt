@@ -10,3 +10,6 @@ returns-in-Ok-Differs g c = from_weaker g.S.Store c.args.store.now c.abandon.new
 
 pub returns-in-Err-Store : goal.returns-in-Err-Store
 returns-in-Err-Store g c = from_weaker g.S.Store c.args.store.now c.sweep.new.store _ _ (λ world it. swept_keeps g.S.Store c.args.store.now c.sweep.new.store world c.sweep.result it) c.sweep.ensures
+
+pub returns-in-Err-Body : goal.returns-in-Err-Body
+returns-in-Err-Body g c = kept_none g.S.Store c.args.store.now

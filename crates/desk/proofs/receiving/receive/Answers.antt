@@ -11,7 +11,7 @@ returns-in_default-clause-bytes g c =
       read_none g.B.Body content content (g.met.B.Body.moves_none content) refl,
       record {
         honest = λ k. k;
-        each = λ k world h unretired. received_none g.S.Store old old world (repo_text c.args.repo.now) c.args.name.now [] (g.B.Body.size content) (fault.Store Refused) (keeps_still g.S.Store old old world (leads_none g.S.Store old world h));
+        each = λ k world h. received_none g.S.Store old old world (repo_text c.args.repo.now) c.args.name.now [] (g.B.Body.size content) (fault.Store Refused) (keeps_still g.S.Store old old world (leads_none g.S.Store old world h));
       },
     )
 
@@ -25,7 +25,7 @@ returns-in_err-upload-clause-bytes g c =
       read_none g.B.Body content content (g.met.B.Body.moves_none content) refl,
       record {
         honest = begun.honest;
-        each = λ k world h unretired. received_none g.S.Store c.args.store.now c.begin.new.store world (repo_text c.args.repo.now) c.args.name.now [] (g.B.Body.size content) p.0 (begun.each k world h unretired);
+        each = λ k world h. received_none g.S.Store c.args.store.now c.begin.new.store world (repo_text c.args.repo.now) c.args.name.now [] (g.B.Body.size content) p.0 (begun.each k world h);
       },
     )
 

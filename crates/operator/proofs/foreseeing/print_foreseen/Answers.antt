@@ -13,5 +13,5 @@ returns-in_err-reply-clause-reads g c =
 pub returns-clause-reads : goal.returns-clause-reads
 returns-clause-reads g c =
     reads_last g.S.Store c.args.store.now c.reply_to.new.store c.write.result (λ e. e ≡ Output) (λ world. HasForetold world c.args.asked.now) _ c.write.ensures.err
-    (λ world e is. foresight_cause world c.args.asked.now e (subst IsReplyFault (sym is) tt) (rw is (λ request read repo. tt)))
+    (λ world e is. foresight_cause world c.args.asked.now e (subst IsReplyFault (sym is) tt) (rw is tt))
     (reads_weaker g.S.Store c.args.store.now c.reply_to.new.store _ _ (λ world laws seen. (c.in_ok-reply.reply, seen)) c.in_ok-reply.ensures.reads)

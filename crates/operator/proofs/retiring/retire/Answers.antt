@@ -13,4 +13,5 @@ returns-in_err-removal-clause-world g c =
 
 pub returns-clause-world : goal.returns-clause-world
 returns-clause-world g c =
-    from_removal g.S.Store c.args.store.now c.retire.new.store _ _ (removal_seen c.in_ok-removal.removal) c.report.result c.report.ensures.gone c.report.ensures.err c.in_ok-removal.ensures
+    from_removal g.S.Store c.args.store.now c.retire.new.store _ _ (removal_seen c.in_ok-removal.removal) c.report.result c.report.ensures.gone c.report.ensures.err
+    (from_weaker g.S.Store c.args.store.now c.retire.new.store _ _ (λ world it. it.0) c.in_ok-removal.ensures)

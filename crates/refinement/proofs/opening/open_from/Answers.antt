@@ -2,6 +2,9 @@ use Rattle.refinement.proofs.Prelude.{inl, sym, ap, length, subst, ∥∥₁_map
 use Rattle.refinement.specs.Opening.{AreAmong}
 use Rattle.refinement.proofs.opening.open_from.Goals as goal
 
+pub returns-clause-accepts : goal.returns-clause-accepts
+returns-clause-accepts g c honest = (c.in_ok-store.store, c.in_ok-store.ensures.found (c.in_ok-start.ensures.honest honest), c.in_ok-start.ensures.accepts)
+
 pub returns-clause-blank : goal.returns-clause-blank
 returns-clause-blank g c none honest = c.in_ok-start.ensures.fresh (c.in_ok-store.ensures.empty (c.in_ok-start.ensures.honest honest) none)
 

@@ -1,4 +1,4 @@
-use Rattle.uploads.proofs.Prelude.{Result, Option, Some, Ok, Err, ap, subst, ◌∙◌, err_from_is_err_and, StoreFault, UploadRow, repo_text, from_weaker}
+use Rattle.uploads.proofs.Prelude.{Result, Option, Ok, Err, ap, subst, ◌∙◌, err_from_is_err_and, StoreFault, UploadRow, repo_text, from_weaker}
 use Rattle.tables.specs.Seeking.{Finds}
 use Rattle.uploads.proofs.Begun.{finds_keeps, kept_then}
 use Rattle.uploads.proofs.Gone.{none_staged, cleared}

@@ -1,6 +1,6 @@
 use Rattle.uploads.proofs.Prelude.{sym, ◌∙◌, IfOk-weaker, repo_text, shown}
 use Rattle.refinement.proofs.Retired.{retired_known}
-use Rattle.uploads.proofs.retiring.is_retired.Goals as goal
+use Rattle.uploads.proofs.finding.is_retired.Goals as goal
 
 pub returns : goal.returns
 returns g c = record {

@@ -1,6 +1,6 @@
 use Rattle.uploads.proofs.Prelude.{◌∙◌, IfOk-weaker, repo_text, shown}
 use Rattle.refinement.proofs.Retired.{names_retired}
-use Rattle.uploads.proofs.retiring.retired_names.Goals as goal
+use Rattle.uploads.proofs.finding.retired.Goals as goal
 
 pub returns : goal.returns
 returns g c = record {
