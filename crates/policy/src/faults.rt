@@ -4,8 +4,8 @@ ghost use Rattle.std.specs.Prelude.{◌≡◌, Some};
 
 use crate::keys::Key;
 use std::alloc::{AllocError, AllocFailed};
-use std::error::Error;
 use std::fmt;
+use thiserror::Error;
 
 /// What is wrong.
 #[derive(Clone, Copy, Debug, PartialEq, Eq)]
@@ -51,7 +51,7 @@ pub struct Fault {
 }
 
 /// Why a policy was not read.
-#[derive(Clone, Copy, Debug, PartialEq, Eq)]
+#[derive(Clone, Copy, Debug, PartialEq, Eq, Error)]
 pub enum PolicyFault {
     /// The text is not a policy.
     Refused(Fault),
@@ -107,8 +107,6 @@ impl fmt::Display for PolicyFault {
         }
     }
 }
-
-impl Error for PolicyFault {}
 
 impl From<Fault> for PolicyFault {
     ghost use Rattle.policy.specs.declared.faults.PolicyFault.TheVariants.{Refused};

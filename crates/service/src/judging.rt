@@ -13,6 +13,7 @@ ghost use Rattle.service.specs.Judging.{IsJudged};
 use model::Form;
 use names::ALLOW_LIMIT;
 use routes::{Resource, Route, Routes, query_of};
+use thiserror::Error;
 use wire::{Head, HeadRule};
 
 /// What an accepted head asks for.
@@ -29,7 +30,8 @@ pub struct Target<'t> {
 }
 
 /// A refused head.
-#[derive(Clone, Copy, Debug, PartialEq, Eq)]
+#[derive(Clone, Copy, Debug, PartialEq, Eq, Error)]
+#[error("{rule}")]
 pub struct Denied {
     /// The first rule that refuses it: H2 to H8.
     pub rule: HeadRule,

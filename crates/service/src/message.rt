@@ -13,6 +13,7 @@ use model::Form;
 use names::Rule;
 use routes::Routes;
 use std::alloc::{AllocError, Global};
+use thiserror::Error;
 use wire::Head;
 
 /// What an accepted head asks. Its texts are copies: the buffer that the head is in is borrowed while the body is read.
@@ -35,11 +36,13 @@ pub struct Asked {
 }
 
 /// Why a head is not answered by the desk.
-#[derive(Clone, Copy, Debug)]
+#[derive(Clone, Copy, Debug, Error)]
 pub enum HeadFault {
     /// A rule refuses it.
+    #[error("{0}")]
     Denied(Denied),
     /// There is no memory for its texts.
+    #[error("no memory")]
     Memory,
 }
 
