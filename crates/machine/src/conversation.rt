@@ -7,13 +7,10 @@ ghost use Rattle.refinement.specs.Left.{From};
 ghost use Rattle.service.specs.declared.ends.Served.{Served};
 ghost use Rattle.machine.specs.Observations.{Talk};
 
-use crate::traffic::Metered;
 use metrics::Turn;
-use names::{Counted, Sink, Source};
+use names::{Sink, Source};
 use service::Served;
-use sockets::{Client, Course, Front, Queue};
-use std::cell::Cell;
-use std::time::Clock;
+use sockets::Front;
 use tables::{Storage, Store};
 
 /// What is done in the turn of a client.
@@ -44,30 +41,4 @@ pub struct Talked {
     pub turn: Turn,
     /// What had arrived, and was not read.
     pub front: Front,
-}
-
-/// Holds a conversation over the connection of a client. What had arrived is read first.
-pub(crate) fn converse<C: Clock, S: Storage, T: Conversation>(
-    queue: &Queue<'_>,
-    clock: &C,
-    client: &Client,
-    front: &mut Front,
-    store: &mut Store<S>,
-    conversation: &T,
-) -> Turn
-    ensures { (talk : Talk) × From S.Store store.old store.new (λ world.
-        T.leads conversation.now S.Store talk result.served store.old store.new world) }
-{
-    let course = Cell::new(Course::new());
-    let (received, sent) = (Cell::new(0), Cell::new(0));
-    let reader = queue.reader(client, clock, &course, front);
-    let writer = queue.writer(client, clock, &course);
-    let mut source = Counted::new(Metered::new(reader, &received));
-    let mut sink = Counted::new(Metered::new(writer, &sent));
-    let served = conversation.hold(store, &mut source, &mut sink);
-    Turn {
-        served,
-        received: received.get(),
-        sent: sent.get(),
-    }
 }

@@ -4,20 +4,22 @@ ghost use Rattle.std.specs.Prelude.{◌≡◌, ⊤, IfNone, IfOk, IfSome, OnErr,
 ghost use Rattle.refinement.specs.Left.{From};
 ghost use Rattle.machine.specs.Observations.{Observation, Talk, called, drawn, loaded, received, sent, talked, timed, waited};
 
-use crate::conversation::{Conversation, Talked, converse};
+use crate::conversation::{Conversation, Talked};
 use crate::framing::Messages;
 use crate::moments::moment;
 use crate::policies::read_described;
 use crate::random::read_random;
+use crate::traffic::Metered;
 use causes::Refusals;
 use command_line::RANDOM;
 use faults::Fault;
-use metrics::Gauges;
-use names::Moment;
+use metrics::{Gauges, Turn};
+use names::{Counted, Moment};
 use outbox::Unsent;
 use policy::Policy;
 use service::End;
-use sockets::{Caller, Client, Ended, Front, OperatorStream, Queue};
+use sockets::{Caller, Client, Course, Ended, Front, OperatorStream, Queue};
+use std::cell::Cell;
 use std::fs;
 use std::io::{self, ErrorKind, Read, Write};
 use std::os::unix::net::UnixStream;
@@ -117,7 +119,7 @@ pub trait Machine {
     ///
     /// # Errors
     ///
-    /// `Operator` if he has gone, or if there is no memory.
+    /// `Operator` if he has gone, and `Memory`.
     fn send_pieces(
         &mut self,
         operator: &OperatorStream,
@@ -325,6 +327,30 @@ impl<C: Clock> Sockets<'_, C> {
     fn report_refusals(&mut self) {
         self.refusals.report(self.rt, self.clock, self.db);
     }
+
+    /// Holds a conversation over the connection of a client. What had arrived is read first.
+    fn talk<S: Storage, T: Conversation>(
+        &self,
+        client: &Client,
+        front: &mut Front,
+        store: &mut Store<S>,
+        conversation: &T,
+    ) -> Turn
+        ensures { (talk : Talk) × From S.Store store.old store.new (λ world.
+            T.leads conversation.now S.Store talk result.served store.old store.new world) }
+    {
+        let course = Cell::new(Course::new());
+        let (received, sent) = (Cell::new(0), Cell::new(0));
+        let (reader, writer) = self.queue.stream_pair(client, self.clock, &course, front);
+        let mut source = Counted::new(Metered::new(reader, &received));
+        let mut sink = Counted::new(Metered::new(writer, &sent));
+        let served = conversation.hold(store, &mut source, &mut sink);
+        Turn {
+            served,
+            received: received.get(),
+            sent: sent.get(),
+        }
+    }
 }
 
 impl<C: Clock> Machine for Sockets<'_, C> {
@@ -380,9 +406,9 @@ impl<C: Clock> Machine for Sockets<'_, C> {
         unsent: &mut Unsent,
         pieces: &[u8],
     ) -> Result<(), Fault> {
-        self.queue
-            .send_pieces(operator, unsent, pieces)
-            .map_err(|_| Fault::Operator)
+        unsent.push(pieces)?;
+        let sent = unsent.send(self.queue.stream_of(operator));
+        sent.map(|_| ()).map_err(|_| Fault::Operator)
     }
 
     fn end_reply(
@@ -440,31 +466,25 @@ impl<C: Clock> Machine for Sockets<'_, C> {
         conversation: &T,
     ) -> Option<Talked> {
         let mut front = client.begin(self.rt.alloc()).ok()?;
-        let turn = converse(
-            &self.queue,
-            self.clock,
-            client,
-            &mut front,
-            store,
-            conversation,
-        );
+        let turn = self.talk(client, &mut front, store, conversation);
         Some(Talked { turn, front })
     }
 
     fn end_turn(
         &mut self,
-        client: Client,
+        mut client: Client,
         number: u64,
         front: &Front,
         end: End,
     ) -> Result<Option<End>, Fault> {
+        client.number = Some(number);
         if matches!(end, End::StoreRefused | End::StoreFailed) {
             self.refusals.count(self.rt, self.db);
         }
         let ended = match end {
             End::InputEnded if front.is_over() => self
                 .queue
-                .put_back(client, number, front, self.clock, &Messages)
+                .put_back(client, front, self.clock, &Messages)
                 .map(|()| None),
             End::Closed | End::StoreRefused => self
                 .queue

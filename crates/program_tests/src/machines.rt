@@ -84,9 +84,9 @@ impl Machine for Script<'_> {
         unsent: &mut Unsent,
         pieces: &[u8],
     ) -> Result<(), Fault> {
-        self.queue
-            .send_pieces(operator, unsent, pieces)
-            .map_err(|_| Fault::Operator)
+        unsent.push(pieces)?;
+        let sent = unsent.send(self.queue.stream_of(operator));
+        sent.map(|_| ()).map_err(|_| Fault::Operator)
     }
 
     fn end_reply(

@@ -2,7 +2,7 @@
 
 use crate::harness::{Tester, unwrap};
 use outbox::Unsent;
-use sockets::{Caller, Client, Course, Extent, Framing, Limits, Queue, listen};
+use sockets::{Caller, Client, Course, Extent, Framing, Limits, OperatorStream, Queue, listen};
 use std::cell::Cell;
 use std::fs;
 use std::io::{self, Read, Write};
@@ -68,12 +68,13 @@ fn serve(
     queue: &mut Queue<'_>,
     mut client: Client,
 ) -> io::Result<(u8, u64)> {
+    client.number = Some(1);
     let mut front = client.begin(host.alloc())?;
     let course = Cell::new(Course::new());
-    let mut reader = queue.reader(&client, host, &course, &mut front);
+    let (mut reader, _) = queue.stream_pair(&client, host, &course, &mut front);
     let mut message = Vec::new(host.alloc());
     let size = reader.read_to_end(&mut message)?;
-    queue.put_back(client, 1, &front, clock, &Letters)?;
+    queue.put_back(client, &front, clock, &Letters)?;
     Ok((message.first().copied().unwrap_or(b'?'), size as u64))
 }
 
@@ -86,8 +87,9 @@ fn answer(
 ) -> io::Result<(u8, u64)> {
     match caller {
         Some(Caller::Client(client)) => serve(host, host, queue, client),
-        Some(Caller::Operator(mut stream)) => {
+        Some(Caller::Operator(operator)) => {
             let mut letter = [0];
+            let mut stream = queue.stream_of(&operator);
             stream.read_exact(&mut letter)?;
             Ok((letter[0], 1))
         }
@@ -352,9 +354,11 @@ fn reply_late(
     let (operator, reader) = unwrap(rt, UnixStream::pair(host));
     let mut unsent = Unsent::new(rt.alloc());
     for piece in reply.chunks(10_000) {
-        unwrap(rt, queue.send_pieces(&operator, &mut unsent, piece));
+        unwrap(rt, unsent.push(piece));
+        unwrap(rt, unsent.send(&operator));
     }
     assert!(rt; !unsent.as_slice().is_empty());
+    let operator = OperatorStream::new(operator);
     unwrap(rt, queue.end_reply(&operator, unsent, b"end", host));
     reader
 }

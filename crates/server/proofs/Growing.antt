@@ -8,10 +8,6 @@ use Rattle.std.proofs.lemmas.List.Elements.{All-append, All-from_recursion}
 use Rattle.control.specs.Replies.{IsPiece, Piece, piece_bytes}
 use Rattle.server.specs.Commands.{ArePieces}
 
--- no pieces
-pub no_pieces : ArePieces []
-no_pieces = ∣ ([], All-from_recursion IsPiece [] tt, refl) ∣₁
-
 -- pieces, and one more
 pub one_more : (bytes : List ℕ) (piece : Piece) → IsPiece piece → ArePieces bytes → ArePieces (bytes ++ piece_bytes piece)
 one_more bytes piece is before =

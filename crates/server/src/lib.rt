@@ -11,7 +11,7 @@ mod pieces;
 mod reply;
 mod requests;
 mod server;
-mod serving;
+mod turns;
 mod waiting;
 
 pub use foreseeing::{GivenMessage, message_in};

@@ -10,7 +10,7 @@ ghost use Rattle.machine.specs.Observations.{called};
 
 use crate::operators::OperatorContext;
 use crate::outcomes::Outcome;
-use crate::serving::Serving;
+use crate::turns::TurnContext;
 use crate::waiting::Waiting;
 use faults::{Fault, is_good, print_fault};
 use machine::{Machine, Talked};
@@ -213,13 +213,13 @@ impl<C: Clock> Server<'_, C> {
         tally.unswept = self.sweep_if(store, tally.unswept);
         let now = machine.moment()?;
         let start = self.instant();
-        let serving = Serving {
+        let context = TurnContext {
             alloc: self.alloc,
             routes: self.routes,
             policy,
             now,
         };
-        let Some(Talked { turn, front }) = machine.converse(&mut client, store, &serving) else {
+        let Some(Talked { turn, front }) = machine.converse(&mut client, store, &context) else {
             machine.close(client);
             return Ok(Some(End::ReadFailed));
         };

@@ -416,72 +416,46 @@ impl<'a> Queue<'a> {
         self.outbox.push(&self.poll, operator.stream(), unsent, now)
     }
 
-    /// Sends pieces of a reply to an operator, after what his socket has not taken yet of it. What it does not take at once
-    /// is kept.
-    ///
-    /// # Errors
-    ///
-    /// Fails if the operator has closed the connection, and if there is no memory.
-    pub fn send_pieces(
-        &self,
-        operator: &OperatorStream,
-        unsent: &mut Unsent,
-        pieces: &[u8],
-    ) -> io::Result<()> {
-        unsent.push(pieces)?;
-        unsent.send(operator.stream())?;
-        Ok(())
-    }
-
     /// The stream of an operator who called.
     pub fn stream_of<'o>(&self, operator: &'o OperatorStream) -> &'o UnixStream {
         operator.stream()
     }
 
-    /// Reads the message of a client's turn.
-    pub fn reader<'c, C: Clock>(
+    /// Reads the message of a client's turn, what had arrived first, and writes the reply.
+    pub fn stream_pair<'c, C: Clock>(
         &self,
         client: &'c Client,
         clock: &'c C,
         course: &'c Cell<Course>,
         front: &'c mut Front,
-    ) -> PatientReader<'c, C> {
-        PatientReader {
+    ) -> (PatientReader<'c, C>, PatientWriter<'c, C>) {
+        let stream = client.stream();
+        let reader = PatientReader {
             clock,
-            stream: client.stream(),
+            stream,
             course,
             front,
-        }
-    }
-
-    /// Writes the reply of a client's turn.
-    pub fn writer<'c, C: Clock>(
-        &self,
-        client: &'c Client,
-        clock: &'c C,
-        course: &'c Cell<Course>,
-    ) -> PatientWriter<'c, C> {
-        PatientWriter {
+        };
+        let writer = PatientWriter {
             clock,
-            stream: client.stream(),
+            stream,
             course,
-        }
+        };
+        (reader, writer)
     }
 
-    /// Takes a client back after a turn whose message was handed out. This is the number of its connection from now on.
+    /// Takes a client back after a turn whose message was handed out.
     ///
     /// # Errors
     ///
     /// Fails if the clock did.
     pub fn put_back(
         &mut self,
-        mut client: Client,
-        number: u64,
+        client: Client,
         front: &Front,
         clock: &impl Clock,
         framing: &impl Framing,
     ) -> io::Result<()> {
-        client.number = Some(number);
         self.room
             .put_back(client, front, Instant::now(clock)?, framing);
         Ok(())

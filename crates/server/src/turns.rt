@@ -12,16 +12,16 @@ use tables::{Storage, Store};
 
 /// Serves the message of a client, by a policy and at a moment.
 #[derive(Clone, Copy)]
-pub(crate) struct Serving<'a> {
+pub(crate) struct TurnContext<'a> {
     pub alloc: Global,
     pub routes: &'a Routes,
     pub policy: &'a Policy,
     pub now: Moment,
 }
 
-impl Conversation for Serving<'_> {
-    ghost leads = { λ serving g talk served old new world.
-        Converses g (setting_of serving.policy.now serving.now) talk served old new world };
+impl Conversation for TurnContext<'_> {
+    ghost leads = { λ context g talk served old new world.
+        Converses g (setting_of context.policy.now context.now) talk served old new world };
 
     fn hold<S: Storage, R: Source, K: Sink>(
         &self,
