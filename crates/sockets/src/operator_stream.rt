@@ -6,17 +6,12 @@ use std::os::unix::net::UnixStream;
 /// that he called.
 #[derive(Debug, Drop)]
 pub struct OperatorStream {
-    stream: UnixStream,
+    pub(crate) stream: UnixStream,
 }
 
 impl OperatorStream {
     /// The operator at the other end of the stream.
     pub fn new(stream: UnixStream) -> OperatorStream {
         OperatorStream { stream }
-    }
-
-    /// The stream.
-    pub(crate) fn stream(&self) -> &UnixStream {
-        &self.stream
     }
 }

@@ -408,17 +408,17 @@ impl<'a> Queue<'a> {
         clock: &impl Clock,
     ) -> io::Result<()> {
         unsent.push(end)?;
-        unsent.send(operator.stream())?;
+        unsent.send(&operator.stream)?;
         if unsent.as_slice().is_empty() {
             return Ok(());
         }
         let now = Instant::now(clock)?;
-        self.outbox.push(&self.poll, operator.stream(), unsent, now)
+        self.outbox.push(&self.poll, &operator.stream, unsent, now)
     }
 
     /// The stream of an operator who called.
     pub fn stream_of<'o>(&self, operator: &'o OperatorStream) -> &'o UnixStream {
-        operator.stream()
+        &operator.stream
     }
 
     /// Reads the message of a client's turn, what had arrived first, and writes the reply.
