@@ -101,6 +101,8 @@ SUITES = [
           4, ("strace",), quick=("--rounds", "5", "--tokens", "20", *only(
               "same-words", "only-the-user", "stale", "no-server", "terminal", "idle-client", "under-load", "damaged",
               "hold-over", "stop", "reload", "status", "killed"))),
+    Suite("asked", "tests.server.asked", "A command with `--via` ends as the reply says, and never well without one.",
+          0, quick=()),
     Suite("objects", "tests.server.objects", "Objects of 0 bytes to 256 MiB are stored whole, and cut ones are not.",
           2, ("sqlite3",), quick=only("stopped", "repositories", "refused")),
     Suite("transfers", "tests.server.transfers", "Git LFS pushes, clones and fetches 200 files of 1 byte to 50 MB.",

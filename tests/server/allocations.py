@@ -8,6 +8,7 @@ import collections
 import concurrent.futures
 import os
 import re
+import shutil
 import subprocess
 import sys
 import tempfile
@@ -24,6 +25,8 @@ OUTCOMES = {
     "refused": (1, r"[^\n]*: it was refused, and nothing is lost\n1 cases, 1 differ\n"),
 }
 SECONDS = 60
+# At least this many allocations of a work are refused, if it has as many.
+LEAST = 10
 
 
 def library(room):
@@ -67,12 +70,14 @@ class Runs:
 
 
 def judge(runs, every):
-    """Refuses each allocation of the work, or one in `every`. Returns whether each had an outcome, and a text."""
+    """Refuses each allocation of the work, or one in `every`, but ten at least. Returns whether each had an outcome, and a
+    text."""
     outcome, count = runs.run(0)
     if outcome != "done" or not count:
         return False, f"without a refusal: {outcome}, {count} allocations"
+    step = max(min(every, count // LEAST), 1)
     with concurrent.futures.ThreadPoolExecutor(os.cpu_count()) as threads:
-        found = collections.Counter(it for it, _ in threads.map(runs.run, range(1, count + 1, every)))
+        found = collections.Counter(it for it, _ in threads.map(runs.run, range(1, count + 1, step)))
     others = [it for it in found if it not in OUTCOMES]
     text = ", ".join(f"{found[it]} {it}" for it in OUTCOMES)
     return found["refused"] > 0 and not others, "\n".join([f"{count} allocations: {text}", *others[:3]])
@@ -83,10 +88,12 @@ def main():
     parser = arguments(__doc__)
     parser.add_argument("--cases", default=str(TOP / "crates/cases/out/cases"), type=os.path.abspath,
                         help="the program of the crate cases [default: crates/cases/out/cases]")
-    parser.add_argument("--every", default=1, type=int, metavar="N", help="one allocation in N")
+    parser.add_argument("--every", default=1, type=int, metavar="N", help="one allocation in N, and at least ten of each work")
     options = parser.parse_args()
     if not os.access(options.cases, os.X_OK):
         stop("the program of crates/cases is not built: `cd crates/cases && rt run` builds it")
+    if not shutil.which("cc"):
+        stop("there is no C compiler: the command cc")
     checks = Checks()
     with tempfile.TemporaryDirectory() as room:
         refusing = library(room)
