@@ -18,7 +18,7 @@ use Rattle.operator.proofs.Working.{still_kept, steps_then, still_steps, then_ke
 use Rattle.machine.specs.declared.machine.Machine as machine
 use Rattle.server.specs.declared.outcomes.Outcome.{Outcome}
 use Rattle.server.specs.declared.outcomes.Outcome.TheVariants.{Unchanged}
-use Rattle.machine.specs.Observations.{Observation, Talk, called, sent, talked, timed}
+use Rattle.machine.specs.Observations.{Observation, Talk, called, sent, talked, timed, waited}
 use Rattle.control.specs.Replies.{status_code}
 use Rattle.control.specs.declared.status.Status.{Status}
 use Rattle.desk.specs.Asking.{setting_of}
@@ -27,7 +27,7 @@ use Rattle.service.specs.declared.ends.Served.{Served}
 use Rattle.sockets.specs.declared.client.Client as sockets
 use Rattle.faults.specs.declared.faults.Fault.{Fault}
 use Rattle.sockets.specs.declared.operator_stream.OperatorStream.{OperatorStream}
-use Rattle.server.specs.Commands.{AreReadings, AreSent, IsAnswered, IsBegun, IsMomentOf, IsRead, IsClean, IsEnded, IsGoneOn, IsReplied, IsRequestDone, is_stopped, made_of, operator_in, policy_after}
+use Rattle.server.specs.Commands.{AreReadings, AreSent, IsAnswered, IsBegun, IsMomentOf, IsRead, IsClean, IsEnded, IsGoneOn, IsHeld, IsReplied, IsRequestDone, is_stopped, made_of, operator_in, policy_after}
 use Rattle.server.specs.declared.waiting.Waiting.{Waiting}
 use Rattle.server.specs.Jobs.{Reason, for_caller, goes_on, ends, Job, seen_before, seen_for, IsMomentAtMost, IsTalk, IsTurn, IsFor, AreJobs, AreStopped, HasFinished, first_turn, turn_in, policy_left, waiting_after, waiting_left, Call, idles, observes, seen_in, Calls, Converses, Tidies, Helps, Serves, ServesMore, ServesClean}
 
@@ -67,6 +67,14 @@ module _ {M : Type 0} (m : machine.Ghosts M) where
   pub moment_untimed : (u v : M) (r : Result ℕ Fault) → OnErr r (m.idled u v) → OnErr r ((calls : List Call) × Calls m u calls v × (seen_in calls ≡ []))
   moment_untimed u v (Ok now) i = tt
   moment_untimed u v (Err e) i = (idles ∷ [], one_idle u v i, refl)
+
+  -- pieces were sent to an operator, and he was waited for
+  pub held_for : (u v w : M) (operator : OperatorStream) (seconds : ℕ) (closed : Bool) (calls : List Call) → Calls m u calls v → AreSent operator (seen_in calls) → m.observed v w (waited operator seconds closed)
+      → (all : List Call) × Calls m u all w × IsHeld operator seconds closed (seen_in all)
+  held_for u v w operator seconds closed calls made pieces waits =
+      let wait = waited operator seconds closed in
+      let seen = seen_append calls (observes wait ∷ []) ∙ ap (λ (l : List Observation). l ++ wait ∷ []) pieces.2 in
+      (calls ++ observes wait ∷ [], calls_append u v w calls (observes wait ∷ []) made (one_seen v w wait waits), (pieces.0, pieces.1, seen))
 
   -- pieces were sent to an operator, and then the end of his reply, or not
   pub ended_or_not : (u v w : M) (r : Result ⊤ Fault) (operator : OperatorStream) (status : Status) (calls : List Call) → Calls m u calls v → AreSent operator (seen_in calls)

@@ -33,10 +33,10 @@ returns-in_err-text g c =
     let p = err_from_is_err_and c.from_residual-in_err-text.result c.from_residual-in_err-text.ensures.1 in
     rw p.1 (advanced g.S.Store c.args.store.now c.advance.new.store c.args.inspection.now c.advance.new.self (Err p.0) c.advance.ensures.world (λ none. subst IsInspectionFault (sym p.2) tt))
 
-pub returns-in_err-send_progress : goal.returns-in_err-send_progress
-returns-in_err-send_progress g c =
-    let p = err_from_is_err_and c.from_residual-in_err-send_progress.result c.from_residual-in_err-send_progress.ensures.1 in
-    rw p.1 (advanced g.S.Store c.args.store.now c.advance.new.store c.args.inspection.now c.advance.new.self (Err p.0) c.advance.ensures.world (λ none. subst IsInspectionFault (sym (p.2 ∙ c.in_err-send_progress.ensures)) tt))
+pub returns-in_err-push_progress : goal.returns-in_err-push_progress
+returns-in_err-push_progress g c =
+    let p = err_from_is_err_and c.from_residual-in_err-push_progress.result c.from_residual-in_err-push_progress.ensures.1 in
+    rw p.1 (advanced g.S.Store c.args.store.now c.advance.new.store c.args.inspection.now c.advance.new.self (Err p.0) c.advance.ensures.world (λ none. subst IsInspectionFault (sym p.2) tt))
 
 pub returns : goal.returns
 returns g c = advanced g.S.Store c.args.store.now c.advance.new.store c.args.inspection.now c.advance.new.self (Ok false) c.advance.ensures.world (λ none. tt)

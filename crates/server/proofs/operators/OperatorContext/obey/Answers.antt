@@ -1,4 +1,4 @@
-use Rattle.std.proofs.Common.{◌∙◌, Err, [], ap, refl}
+use Rattle.std.proofs.Common.{◌∙◌, Err, [], ap, inl, refl}
 use Rattle.command_line.specs.declared.args.OperatorCommand.TheVariants.{Check, Hold, Reload, Repair, Stop}
 use Rattle.std.proofs.lemmas.Result.{err_from_is_err_and}
 use Rattle.operator.specs.declared.inspecting.Purpose.TheVariants as purpose
@@ -21,17 +21,17 @@ returns-in-Repair-clause-done g c =
 pub returns-in-Hold-clause-done : goal.returns-in-Hold-clause-done
 returns-in-Hold-clause-done g c =
     rw c.in-Hold.is
-    (order_helps g.M.Machine g.S.Store c.args.self.now.policy.now c.args.self.now.is_busy c.args.self.now.stream.now (Hold c.in-Hold.seconds) c.args.input.now c.hold.result c.args.store.now c.args.machine.now c.hold.new.machine c.hold.ensures.ok c.hold.ensures.err)
+    (order_helps g.M.Machine g.S.Store c.args.self.now.policy.now c.args.self.now.is_busy c.args.self.now.stream.now (Hold c.in-Hold.seconds) c.args.input.now c.hold.result c.args.store.now c.args.machine.now c.hold.new.machine c.hold.ensures.done)
 
 pub returns-in-Stop-clause-done : goal.returns-in-Stop-clause-done
 returns-in-Stop-clause-done g c =
     rw c.in-Stop.is
-    (order_helps g.M.Machine g.S.Store c.args.self.now.policy.now c.args.self.now.is_busy c.args.self.now.stream.now Stop c.args.input.now _ c.args.store.now c.args.machine.now c.args.machine.now ([], refl, refl) tt)
+    (order_helps g.M.Machine g.S.Store c.args.self.now.policy.now c.args.self.now.is_busy c.args.self.now.stream.now Stop c.args.input.now _ c.args.store.now c.args.machine.now c.args.machine.now ([], refl, inl refl))
 
 pub returns-in-Reload-clause-done : goal.returns-in-Reload-clause-done
 returns-in-Reload-clause-done g c =
     rw c.in-Reload.is
-    (order_helps g.M.Machine g.S.Store c.args.self.now.policy.now c.args.self.now.is_busy c.args.self.now.stream.now Reload c.args.input.now c.reload.result c.args.store.now c.args.machine.now c.reload.new.machine c.reload.ensures.ok c.reload.ensures.err)
+    (order_helps g.M.Machine g.S.Store c.args.self.now.policy.now c.args.self.now.is_busy c.args.self.now.stream.now Reload c.args.input.now c.reload.result c.args.store.now c.args.machine.now c.reload.new.machine c.reload.ensures.done)
 
 pub returns-in-Status-clause-done : goal.returns-in-Status-clause-done
 returns-in-Status-clause-done g c = rw c.in-Status.is (c.print_status.ensures.done c.args.input.now)

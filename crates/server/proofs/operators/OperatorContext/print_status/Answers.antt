@@ -1,6 +1,5 @@
 use Rattle.std.proofs.Common.{Err, [], ◌∷◌, inl, inr, refl}
 use Rattle.std.proofs.lemmas.Result.{err_from_is_err_and}
-use Rattle.server.specs.declared.outcomes.Outcome.TheVariants.{Unchanged}
 use Rattle.server.specs.Jobs.{idles}
 use Rattle.server.proofs.Jobs.{from_read, one_idle}
 use Rattle.server.proofs.operators.OperatorContext.print_status.Goals as goal
@@ -29,4 +28,4 @@ returns-in_err-print-clause-done g c =
 pub returns-clause-done : goal.returns-clause-done
 returns-clause-done g c =
     λ input. from_read g.M.Machine g.S.Store _ c.args.store.now c.stored.new.store c.args.machine.now c.gauges-gauges.new.self (idles ∷ []) _ (one_idle g.M.Machine c.args.machine.now c.gauges-gauges.new.self c.gauges-gauges.ensures) c.stored.ensures
-    (λ world. inl (Unchanged, refl, refl, refl))
+    (λ world. inl (refl, refl))

@@ -6,7 +6,8 @@ use Rattle.server.proofs.waiting.Waiting.go_on.Goals as goal
 
 pub returns-in-Ok-false : goal.returns-in-Ok-false
 returns-in-Ok-false g c =
-    goes_still g.M.Machine g.S.Store c.args.store.now c.advance-advanced.new.store c.args.machine.now c.args.self.stream c.args.self.inspection c.advance-advanced.new.inspection c.advance-advanced.result c.advance-advanced.ensures
+    goes_still g.M.Machine g.S.Store c.args.store.now c.advance-advanced.new.store c.args.machine.now c.send_on.new.machine c.args.self.stream c.args.self.inspection c.advance-advanced.new.inspection c.advance-advanced.result c.send_on.result
+    c.send_on.ensures.sent.0 c.send_on.ensures.sent.1 c.send_on.ensures.sent.2 c.send_on.ensures.clean c.advance-advanced.ensures
 
 pub returns : goal.returns
 returns g c =
