@@ -2,7 +2,9 @@
 
 ghost use Rattle.std.specs.Prelude.{◌≡◌, length, min, nat_eq, IfOk};
 ghost use Rattle.std.specs.Io.Cursor.{cursor_inner, cursor_position};
+ghost use Rattle.std.specs.Duration.{as_nanos};
 ghost use Rattle.sockets.specs.Turns.{is_ready, turn_size};
+ghost use Rattle.sockets.specs.Waiting.{may_arrive};
 
 use crate::patience::{Course, is_pause};
 use std::alloc::{AllocError, Global};
@@ -187,11 +189,14 @@ impl Client {
 
     /// Whether the next message may still arrive: the client may idle for less than `idle`, and pause within a message as
     /// within a turn.
-    pub(crate) fn may_wait(&self, now: Instant, idle: Duration) -> bool {
+    pub(crate) fn may_wait(&self, now: Instant, idle: Duration) -> bool
+        ensures { result ≡ may_arrive self.now.course.since self.now.course.moved self.now.since
+            now (as_nanos idle) }
+    {
         if self.course.has_begun() {
             self.course.may_wait(self.since, now)
         } else {
-            now.duration_since(self.since) < idle
+            now.duration_since(self.since).as_nanos() < idle.as_nanos()
         }
     }
 

@@ -1,9 +1,9 @@
 //! How long the reads and writes of a connection wait for a client.
 
-ghost use Rattle.std.specs.Prelude.{◌≡◌};
+ghost use Rattle.std.specs.Prelude.{◌≡◌, is_some};
 ghost use Rattle.std.specs.Duration.{as_nanos};
 ghost use Rattle.std.specs.Io.{ReadsAtMost};
-ghost use Rattle.sockets.specs.Waiting.{allowance};
+ghost use Rattle.sockets.specs.Waiting.{allowance, elapsed, may_wait};
 
 use crate::client::Front;
 use std::cell::Cell;
@@ -88,7 +88,9 @@ impl Course {
     }
 
     /// Whether a byte was read or written.
-    pub(crate) fn has_begun(&self) -> bool {
+    pub(crate) fn has_begun(&self) -> bool
+        ensures { result ≡ is_some self.now.since }
+    {
         self.since.is_some()
     }
 
@@ -109,7 +111,9 @@ impl Course {
     }
 
     /// How long it had taken at this moment.
-    fn elapsed(&self, now: Instant) -> Duration {
+    fn elapsed(&self, now: Instant) -> Duration
+        ensures { as_nanos result ≡ elapsed self.now.since now }
+    {
         now.duration_since(self.since.unwrap_or(now))
     }
 
@@ -122,8 +126,11 @@ impl Course {
     }
 
     /// Whether a read or a write that began at `start` may still wait.
-    pub(crate) fn may_wait(&self, start: Instant, now: Instant) -> bool {
-        now.duration_since(start) < allowance(self.elapsed(start), self.moved)
+    pub(crate) fn may_wait(&self, start: Instant, now: Instant) -> bool
+        ensures { result ≡ may_wait self.now.since self.now.moved start now }
+    {
+        let most = allowance(self.elapsed(start), self.moved);
+        now.duration_since(start).as_nanos() < most.as_nanos()
     }
 }
 
