@@ -1,6 +1,6 @@
 -- What a server observes of the machine that it runs on.
 use Rattle.std.specs.Prelude.{ℕ, Bool, List, Option}
-use Rattle.sockets.specs.declared.operator_stream.OperatorStream.{OperatorStream}
+use Rattle.outbox.specs.declared.operator_stream.OperatorStream.{OperatorStream}
 use Rattle.policy.specs.declared.policies.Policy.{Policy}
 use Rattle.service.specs.declared.ends.Served.{Served}
 use Rattle.sockets.specs.declared.client.Client.{Client}

@@ -4,8 +4,10 @@
 //! [`Unsent`] is what is left of one reply, and [`Outbox`] sends those whose commands have ended. Nobody waits for them.
 #![tactic(auto)]
 
+mod operator_stream;
 mod outbox;
 mod unsent;
 
+pub use operator_stream::OperatorStream;
 pub use outbox::Outbox;
 pub use unsent::Unsent;

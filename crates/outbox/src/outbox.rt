@@ -1,5 +1,6 @@
 //! Replies that are sent as their operators read.
 
+use crate::operator_stream::OperatorStream;
 use crate::unsent::Unsent;
 use mio::unix::SourceFd;
 use mio::{Interest, Poll, Token};
@@ -66,6 +67,11 @@ impl Outbox {
         }
     }
 
+    /// The stream of an operator who called.
+    pub fn stream_of<'o>(&self, operator: &'o OperatorStream) -> &'o UnixStream {
+        &operator.stream
+    }
+
     /// Whether there are none.
     pub fn is_empty(&self) -> bool {
         self.replies.is_empty()
@@ -115,12 +121,12 @@ impl Outbox {
     pub fn push(
         &mut self,
         poll: &Poll,
-        operator: &UnixStream,
+        operator: &OperatorStream,
         unsent: Unsent,
         now: Instant,
     ) -> io::Result<()> {
         self.make_room();
-        let operator = operator.try_clone()?;
+        let operator = operator.stream.try_clone()?;
         let handle = operator.as_raw_fd();
         poll.registry()
             .register(&mut SourceFd(&handle), self.token, Interest::WRITABLE)?;

@@ -1,8 +1,8 @@
 //! The order in which the callers of a server are answered: operators and clients in turn, clients as their messages arrive.
 
 use crate::harness::{Tester, unwrap};
-use outbox::Unsent;
-use sockets::{Caller, Client, Course, Extent, Framing, Limits, OperatorStream, Queue, listen};
+use outbox::{OperatorStream, Unsent};
+use sockets::{Caller, Client, Course, Extent, Framing, Limits, Queue, listen};
 use std::cell::Cell;
 use std::fs;
 use std::io::{self, Read, Write};

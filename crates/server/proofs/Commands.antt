@@ -1,7 +1,7 @@
 -- What was done for an operator, by the calls that his command makes.
 use Rattle.std.proofs.Common.{◌≡◌, inl, inr, ℕ, List, Result, Ok, Err, refl}
 use Rattle.std.specs.Prelude.{Bool, ⊤}
-use Rattle.sockets.specs.declared.operator_stream.OperatorStream.{OperatorStream}
+use Rattle.outbox.specs.declared.operator_stream.OperatorStream.{OperatorStream}
 use Rattle.sqlite_trees.specs.declared.store.Store.{Ghosts}
 use Rattle.policy.specs.declared.policies.Policy.{Policy}
 use Rattle.tables.specs.declared.Store.{Store}

@@ -1,7 +1,7 @@
 -- An inspection that a server begins, and goes on with.
 use Rattle.std.specs.Prelude.{Bool, false, is_some, Option, Some, None, ⊤}
 use Rattle.std.proofs.Common.{◌≡◌, ◌≤◌, ◌+◌, ◌∙◌, inl, inr, ℕ, List, [], Result, Ok, Err, IfOk, IfErr, refl, rules, sym, subst}
-use Rattle.sockets.specs.declared.operator_stream.OperatorStream.{OperatorStream}
+use Rattle.outbox.specs.declared.operator_stream.OperatorStream.{OperatorStream}
 use Rattle.sqlite_trees.specs.declared.store.Store.{Ghosts}
 use Rattle.faults.specs.Statuses.{of_task, status_of_end}
 use Rattle.faults.specs.declared.faults.Fault.{Fault}

@@ -26,7 +26,7 @@ use Rattle.model.specs.Steps.{Run}
 use Rattle.service.specs.declared.ends.Served.{Served}
 use Rattle.sockets.specs.declared.client.Client as sockets
 use Rattle.faults.specs.declared.faults.Fault.{Fault}
-use Rattle.sockets.specs.declared.operator_stream.OperatorStream.{OperatorStream}
+use Rattle.outbox.specs.declared.operator_stream.OperatorStream.{OperatorStream}
 use Rattle.server.specs.Commands.{AreReadings, AreSent, IsAnswered, IsBegun, IsMomentOf, IsRead, IsClean, IsEnded, IsGoneOn, IsHeld, IsReplied, IsRequestDone, is_stopped, made_of, operator_in, policy_after}
 use Rattle.server.specs.declared.waiting.Waiting.{Waiting}
 use Rattle.server.specs.Jobs.{Reason, for_caller, goes_on, ends, Job, seen_before, seen_for, IsMomentAtMost, IsTalk, IsTurn, IsFor, AreJobs, AreStopped, HasFinished, first_turn, turn_in, policy_left, waiting_after, waiting_left, Call, idles, observes, seen_in, Calls, Converses, Tidies, Helps, Serves, ServesMore, ServesClean}

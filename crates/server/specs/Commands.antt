@@ -1,6 +1,6 @@
 -- What is done for an operator: the task of the command that his request names.
 use Rattle.std.specs.Prelude.{◌≡◌, ◌⊎◌, ◌++◌, ℕ, All, Bool, true, false, List, [], ◌∷◌, flat_map, map, length, option_map, Option, Some, None, Result, Ok, Err, IfErr, ⊤}
-use Rattle.sockets.specs.declared.operator_stream.OperatorStream.{OperatorStream}
+use Rattle.outbox.specs.declared.operator_stream.OperatorStream.{OperatorStream}
 use Rattle.sqlite_trees.specs.declared.store.Store.{Ghosts}
 use Rattle.tables.specs.declared.Store.{Store}
 use Rattle.hex.specs.Hex.{encode_lower}

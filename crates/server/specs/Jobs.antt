@@ -1,6 +1,6 @@
 -- What a server does: a list of jobs, each for somebody who called it.
 use Rattle.std.specs.Prelude.{◌≡◌, ◌⊎◌, ◌++◌, ℕ, ◌≤◌, ◌+◌, Bool, true, false, flat_map, is_none, is_some, sum_by, List, [], ◌∷◌, map, Option, Some, None, MatchOption, Result, Ok, Err, if◌then◌else◌, ⊤}
-use Rattle.sockets.specs.declared.operator_stream.OperatorStream.{OperatorStream}
+use Rattle.outbox.specs.declared.operator_stream.OperatorStream.{OperatorStream}
 use Rattle.sqlite_trees.specs.declared.store.Store.{Ghosts}
 use Rattle.policy.specs.declared.policies.Policy.{Policy}
 use Rattle.model.specs.World.{World}

@@ -10,8 +10,7 @@ use faults::Fault;
 use machine::Machine;
 use memchr::memrchr;
 use names::{DeviceFault, Sink};
-use outbox::Unsent;
-use sockets::OperatorStream;
+use outbox::{OperatorStream, Unsent};
 use std::alloc::{AllocError, Global};
 
 /// What a command prints: the pieces of its reply, which are kept until they are sent. Each write is a piece; a longer write

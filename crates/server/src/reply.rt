@@ -9,7 +9,7 @@ use crate::pieces::Pieces;
 use control::Status;
 use faults::{Fault, print_fault, refuse};
 use machine::Machine;
-use sockets::OperatorStream;
+use outbox::OperatorStream;
 use std::alloc::Global;
 use std::io::Write;
 

@@ -7,7 +7,6 @@
 mod client;
 mod control_socket;
 mod listening;
-mod operator_stream;
 mod patience;
 mod queue;
 mod room;
@@ -15,7 +14,6 @@ mod room;
 pub use client::{Client, Extent, Framing, Front};
 pub use control_socket::ControlSocket;
 pub use listening::listen;
-pub use operator_stream::OperatorStream;
 pub use patience::{Course, PatientReader, PatientWriter};
 pub use queue::{Caller, Queue};
 pub use room::{Ended, Limits};

@@ -4,13 +4,12 @@ ghost use Rattle.std.specs.Prelude.{◌≡◌, IfOk, OnErr, IfSome};
 ghost use Rattle.sockets.specs.Turns.{kind_of, other_than, turn_after};
 
 use crate::client::{Client, Framing, Front};
-use crate::operator_stream::OperatorStream;
 use crate::patience::{Course, PatientReader, PatientWriter};
 use crate::room::{Ended, LONGEST_LEAVING, Limits, ROUND, Room};
 use mio::event::Events;
 use mio::unix::SourceFd;
 use mio::{Interest, Poll, Token};
-use outbox::{Outbox, Unsent};
+use outbox::{OperatorStream, Outbox, Unsent};
 use std::cell::Cell;
 use std::io::{self, ErrorKind};
 use std::net::{TcpListener, TcpStream};
@@ -408,17 +407,17 @@ impl<'a> Queue<'a> {
         clock: &impl Clock,
     ) -> io::Result<()> {
         unsent.push(end)?;
-        unsent.send(&operator.stream)?;
+        unsent.send(self.stream_of(operator))?;
         if unsent.as_slice().is_empty() {
             return Ok(());
         }
         let now = Instant::now(clock)?;
-        self.outbox.push(&self.poll, &operator.stream, unsent, now)
+        self.outbox.push(&self.poll, operator, unsent, now)
     }
 
     /// The stream of an operator who called.
     pub fn stream_of<'o>(&self, operator: &'o OperatorStream) -> &'o UnixStream {
-        &operator.stream
+        self.outbox.stream_of(operator)
     }
 
     /// Reads the message of a client's turn, what had arrived first, and writes the reply.

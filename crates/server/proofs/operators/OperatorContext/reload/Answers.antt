@@ -30,13 +30,17 @@ returns-in_err-send-clause-done g c =
     let p = err_from_is_err_and c.from_residual-in_err-send.result c.from_residual-in_err-send.ensures.1 in
     let none = c.in_err-send.ensures.err in
     let read = one_seen g.M.Machine c.args.machine.now c.policy.new.self (loaded c.in_ok-policy.policy) c.in_ok-policy.ensures.ok in
-    rw p.1
-    (observes (loaded c.in_ok-policy.policy) ∷ none.0, calls_append g.M.Machine c.args.machine.now c.policy.new.self c.send.new.machine (observes (loaded c.in_ok-policy.policy) ∷ []) none.0 read none.1,
-    inr (p.0, refl, rw none.2 tt))
+    rw p.1 (
+      observes (loaded c.in_ok-policy.policy) ∷ none.0,
+      calls_append g.M.Machine c.args.machine.now c.policy.new.self c.send.new.machine (observes (loaded c.in_ok-policy.policy) ∷ []) none.0 read none.1,
+      inr (p.0, refl, rw none.2 tt),
+    )
 
 pub returns-clause-done : goal.returns-clause-done
 returns-clause-done g c =
     let sent = c.in_ok-send.ensures.ok in
-    let read = one_seen g.M.Machine c.args.machine.now c.policy.new.self (loaded c.in_ok-policy.policy) c.in_ok-policy.ensures.ok in
-    (observes (loaded c.in_ok-policy.policy) ∷ sent.0, calls_append g.M.Machine c.args.machine.now c.policy.new.self c.send.new.machine (observes (loaded c.in_ok-policy.policy) ∷ []) sent.0 read sent.1,
-    inl (sent.2.0, sent.2.1, ap (λ (l : List Observation). loaded c.in_ok-policy.policy ∷ l) sent.2.2))
+    let read = one_seen g.M.Machine c.args.machine.now c.policy.new.self (loaded c.in_ok-policy.policy) c.in_ok-policy.ensures.ok in (
+      observes (loaded c.in_ok-policy.policy) ∷ sent.0,
+      calls_append g.M.Machine c.args.machine.now c.policy.new.self c.send.new.machine (observes (loaded c.in_ok-policy.policy) ∷ []) sent.0 read sent.1,
+      inl (sent.2.0, sent.2.1, ap (λ (l : List Observation). loaded c.in_ok-policy.policy ∷ l) sent.2.2),
+    )

@@ -2,8 +2,8 @@
 
 use std::os::unix::net::UnixStream;
 
-/// An operator who has connected to the control socket. He is read from and written to through the [`Queue`](crate::Queue)
-/// that he called.
+/// An operator who has connected to the control socket. Only who has the [`Outbox`](crate::Outbox) of the
+/// server that he called can read from him or write to him.
 #[derive(Debug, Drop)]
 pub struct OperatorStream {
     pub(crate) stream: UnixStream,
