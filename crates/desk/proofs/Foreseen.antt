@@ -246,19 +246,19 @@ module _ (v : model.View) (now : ℕ) (a : RepoRequest) (body : List ℕ) where
       at true (Err rule) = rw none refl
       at true (Ok request) = rw none refl
 
+  abbrev reply_by : Caller → Result (Repo × Request) Rule → Result shown.Reply NoCaller
+  reply_by caller admitted = Ok (plan_reply v.repo body (plan_admitted v now caller body admitted))
+
   -- the reply to a caller, by what is admitted
   pub reply_foreseen : (caller : Caller) → caller_in v now (bearers_of a) ≡ Ok caller
       → foreseen v now a body ≡ Ok (plan_reply v.repo body (plan_admitted v now caller body (admission_result v.policy v.repo (is_upload caller.operation) a.repo.now (request_read a))))
   reply_foreseen caller is = at (bytes_eq v.repo a.repo.now) refl (request_read a) refl
     where
-      abbrev reply_by : Result (Repo × Request) Rule → Result shown.Reply NoCaller
-      reply_by admitted = Ok (plan_reply v.repo body (plan_admitted v now caller body admitted))
-
-      refused : (rule : Rule) (admitted : Result (Repo × Request) Rule) → admitted ≡ Err rule → refused_by v now a rule ≡ reply_by admitted
-      refused rule admitted no = rw (is, no) refl
+      refused : (rule : Rule) (admitted : Result (Repo × Request) Rule) → admitted ≡ Err rule → refused_by v now a rule ≡ reply_by caller admitted
+      refused rule admitted same = rw (is, same) refl
 
       at : (own : Bool) → bytes_eq v.repo a.repo.now ≡ own → (asked : Result Request Rule) → request_read a ≡ asked
-          → foreseen_by v now a body own asked ≡ reply_by (admission_result v.policy v.repo (is_upload caller.operation) a.repo.now (request_read a))
+          → foreseen_by v now a body own asked ≡ reply_by caller (admission_result v.policy v.repo (is_upload caller.operation) a.repo.now (request_read a))
       at false other asked read = refused A4 _ (elsewhere v (is_upload caller.operation) a.repo.now (request_read a) other)
       at true own (Err rule) read = refused _ _ (malformed v (is_upload caller.operation) a.repo.now (request_read a) rule read own)
       at true own (Ok request) read =

@@ -1,4 +1,4 @@
-use Rattle.desk.proofs.Prelude.{◌≡◌, ◌∙◌, is_upload, Rule, Result, Ok, Err, refl, sym, ap, subst, repo_named, repo_view, request_asked, request_read, denial_view, IsReplyOf, admission_result}
+use Rattle.desk.proofs.Prelude.{◌≡◌, ◌∙◌, is_upload, Rule, Result, Ok, Err, err_from_is_err_and, refl, sym, ap, subst, repo_named, repo_view, request_asked, request_read, denial_view, IsReplyOf, admission_result}
 use Rattle.model.specs.Callers.{Caller}
 use Rattle.model.specs.Views.{plan_reply}
 use Rattle.desk.specs.Foreseeing.{ShowsReply}
@@ -31,7 +31,8 @@ pub returns-in_err-reply_to-in-Ok : goal.returns-in_err-reply_to-in-Ok
 returns-in_err-reply_to-in-Ok c =
     let v = view_seen c.args.view.now in
     let who : Caller = record { token = c.in-Some.text.now; user = v.user; repo = v.repo; operation = c.in-Some.token.operation; expires = c.in-Some.token.expires } in
-    rw c.from_residual.ensures (_, reply_foreseen v c.args.now c.args.asked.now c.args.body.now who c.in-Some.ensures)
+    let p = err_from_is_err_and c.from_residual.result c.from_residual.ensures.1 in
+    rw (p.1, p.2) (_, reply_foreseen v c.args.now c.args.asked.now c.args.body.now who c.in-Some.ensures)
 
 pub returns-in_ok-denial_reply-in-Err : goal.returns-in_ok-denial_reply-in-Err
 returns-in_ok-denial_reply-in-Err c =
@@ -44,3 +45,10 @@ returns-in_ok-denial_reply-in-Err c =
       reply_foreseen v c.args.now asked body who c.in-Some.ensures,
       subst (λ p. IsReply c.in_ok-denial_reply-in-Err.field-0 (plan_reply v.repo body p)) (sym plan) c.in_ok-denial_reply-in-Err.ensures,
     )
+
+pub returns-in_err-denial_reply-in-Err : goal.returns-in_err-denial_reply-in-Err
+returns-in_err-denial_reply-in-Err c =
+    let v = view_seen c.args.view.now in
+    let who : Caller = record { token = c.in-Some.text.now; user = v.user; repo = v.repo; operation = c.in-Some.token.operation; expires = c.in-Some.token.expires } in
+    let p = err_from_is_err_and c.from_residual-in_err-denial_reply-in-Err.result c.from_residual-in_err-denial_reply-in-Err.ensures.1 in
+    rw (p.1, p.2) (_, reply_foreseen v c.args.now c.args.asked.now c.args.body.now who c.in-Some.ensures)

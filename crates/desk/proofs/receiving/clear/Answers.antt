@@ -2,8 +2,8 @@ use Rattle.desk.proofs.Prelude.{from_weaker}
 use Rattle.desk.proofs.Arriving.{kept_none, swept_keeps}
 use Rattle.desk.proofs.receiving.clear.Goals as goal
 
-pub returns-in-Ok-Stored : goal.returns-in-Ok-Stored
-returns-in-Ok-Stored g c = kept_none g.S.Store c.args.store.now
+pub returns : goal.returns
+returns g c = kept_none g.S.Store c.args.store.now
 
 pub returns-in-Ok-Differs : goal.returns-in-Ok-Differs
 returns-in-Ok-Differs g c = from_weaker g.S.Store c.args.store.now c.abandon.new.store _ _ (λ world it. it.0) c.abandon.ensures
@@ -11,5 +11,5 @@ returns-in-Ok-Differs g c = from_weaker g.S.Store c.args.store.now c.abandon.new
 pub returns-in-Err-Store : goal.returns-in-Err-Store
 returns-in-Err-Store g c = from_weaker g.S.Store c.args.store.now c.sweep.new.store _ _ (λ world it. swept_keeps g.S.Store c.args.store.now c.sweep.new.store world c.sweep.result it) c.sweep.ensures
 
-pub returns-in-Err-Body : goal.returns-in-Err-Body
-returns-in-Err-Body g c = kept_none g.S.Store c.args.store.now
+pub returns-2 : goal.returns-2
+returns-2 g c = kept_none g.S.Store c.args.store.now
