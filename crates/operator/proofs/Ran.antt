@@ -20,11 +20,11 @@ module _ {S : Type 0} (g : Ghosts S) where
   ran_checked IsOwn a b (Ok u) p = record { honest = p.honest; each = λ honest world h. reads_lead g a b _ world (p.each honest world h).0 h }
   ran_checked IsOwn a b (Err e) p = record { honest = p.honest; each = λ honest world h. let it = p.each honest world h in (fails_still g IsOwn ⊥ a b world (reads_lead g a b _ world it.0 h), it.1) }
 
-  -- a call that only reads, and finds nothing that matters
-  pub ran_still : (IsOwn : Event → Type 0) (a b : Store S) (r : Result ⊤ TaskFault) → IfErr r IsPlain → Reads g a b (λ world. ⊤)
+  -- a call that only reads, whatever it finds
+  pub ran_still : (IsOwn : Event → Type 0) (a b : Store S) (P : World → Type 0) (r : Result ⊤ TaskFault) → IfErr r IsPlain → Reads g a b P
       → From g a b (λ world. MatchResult r (λ _. Leads g a b world (λ bound. bound)) (λ e. Fails g IsOwn ⊥ a b world × IsPlain e))
-  ran_still IsOwn a b (Ok u) why p = record { honest = p.same.was_honest; each = λ honest world h. reads_lead g a b _ world p h }
-  ran_still IsOwn a b (Err e) why p = record { honest = p.same.was_honest; each = λ honest world h. (fails_still g IsOwn ⊥ a b world (reads_lead g a b _ world p h), why) }
+  ran_still IsOwn a b P (Ok u) why p = record { honest = p.same.was_honest; each = λ honest world h. reads_lead g a b _ world p h }
+  ran_still IsOwn a b P (Err e) why p = record { honest = p.same.was_honest; each = λ honest world h. (fails_still g IsOwn ⊥ a b world (reads_lead g a b _ world p h), why) }
 
   -- a repair of a world changes nothing
   pub ran_repaired : (IsOwn : Event → Type 0) (a b : Store S) (r : Result ⊤ TaskFault) → From g a b (λ _. Reads g a b (λ _. ⊤) × IfErr r IsPlain)

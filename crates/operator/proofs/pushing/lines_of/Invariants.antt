@@ -1,0 +1,7 @@
+use Rattle.std.proofs.Common.{◌≡◌, flat_map, map}
+use Rattle.operator.specs.Texts.{text_of}
+use Rattle.operator.proofs.Pushed.{pair_line}
+use Rattle.operator.proofs.pushing.lines_of.Given as goal
+
+abbrev pub invariant-loop-path : goal.invariant-loop-path
+invariant-loop-path l = text_of l.lines ≡ flat_map (pair_line l.fn.destination) (map (λ p. (p.0.now, p.1.now)) l.yielded)
