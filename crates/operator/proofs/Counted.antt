@@ -1,12 +1,10 @@
 -- What a repository uses, by the rows that the calls return.
-use Rattle.operator.proofs.Prelude.{◌≡◌, ◌∙◌, ℕ, List, [], ◌∷◌, ◌++◌, Result, Ok, Err, IfOk, refl, sym, ap, subst, true, false, length, World, Reads, reads_then, ⊤}
+use Rattle.operator.proofs.Prelude.{◌≡◌, ◌∙◌, ℕ, List, [], ◌∷◌, ◌++◌, Result, Ok, Err, IfOk, refl, sym, ap, subst, true, false, length, World, Reads, reads_then, ⊤, Ghosts, repo_text, Store, UploadRow}
 use Rattle.std.proofs.Common.{Bool, IsErrAnd, pos, suc, ◌+◌, ◌<◌, map, filter, take, cond, get_or, Some, option_map, bytes_eq}
 use Rattle.std.specs.List.{AllZip}
 use Rattle.std.proofs.lemmas.List.{length-map, take_more}
 use Rattle.std.proofs.lemmas.List.Sorted.{length_permutation}
 use Rattle.std.proofs.lemmas.Slice.Zip.{AllZip-long}
-use Rattle.sqlite_trees.specs.declared.store.Store.{Ghosts}
-use Rattle.names.specs.Names.{repo_text}
 use Rattle.policy.specs.Values.{repo_view}
 use Rattle.policy.specs.declared.repos.Repo.{Repo}
 use Rattle.model.specs.World.{Object}
@@ -14,8 +12,6 @@ use Rattle.model.specs.Orders.{insert_by, sort_by, text_before}
 use Rattle.model.specs.RepoState.{ObjectSize, object_size, objects_of}
 use Rattle.tables.specs.Rows.{Tables}
 use Rattle.tables.specs.Shown.{HasTables}
-use Rattle.tables.specs.declared.Store.{Store}
-use Rattle.tables.specs.declared.rows.UploadRow.{UploadRow}
 use Rattle.refinement.proofs.Holding.{holds_still}
 use Rattle.refinement.specs.Left.{KeepsTables}
 use Rattle.uploads.specs.Listing.{IsRowOf, Lists}

@@ -1,33 +1,25 @@
 -- Objects of a world are whole, so an inspection finds none of them damaged.
-use Rattle.operator.proofs.Prelude.{⊤, ◌≡◌, ℕ, ◌∷◌, List, [], Result, Ok, Err, IfOk, IfErr, ap, refl, sym, ◌∙◌, subst, false, true, rules, World, IsWorld, From, Reads, reads_none, reads_then, reads_lead, from_weaker}
-use Rattle.std.specs.Prelude.{Bool, not, Option, Some, None, IfSome, OnOk, filter, find, length, bytes_eq, vec_len, ◌&&◌}
+use Rattle.operator.proofs.Prelude.{⊤, ◌≡◌, ℕ, ◌∷◌, List, [], Result, Ok, Err, IfOk, IfErr, ap, refl, sym, ◌∙◌, subst, false, true, rules, World, IsWorld, From, Reads, reads_none, reads_then, reads_lead, from_weaker, Appends, OnOk, line, Ghosts, repo_text, Store, UploadRow, IsPlain, TaskFault}
+use Rattle.std.specs.Prelude.{Bool, not, Option, Some, None, IfSome, filter, find, length, bytes_eq, vec_len, ◌&&◌}
 use Rattle.std.proofs.Common.{true≢false}
-use Rattle.std.specs.Io.KnownBytes.{Appends}
 use Rattle.std.proofs.lemmas.Bool.{cond_both}
 use Rattle.std.proofs.lemmas.List.Sorted.{length_permutation}
 use Rattle.std.proofs.lemmas.Slice.Zip.{AllZip-long}
 use Rattle.std.proofs.lemmas.List.Elements.{recursion_from_All}
 use Rattle.std.proofs.lemmas.Slice.Eq.{bytes_eq-Decides}
-use Rattle.sqlite_trees.specs.declared.store.Store.{Ghosts}
 use Rattle.model.proofs.Checks.{find_ok}
 use Rattle.model.specs.World.{Object, IsObject, name_of, object_named}
-use Rattle.names.specs.Names.{repo_text}
 use Rattle.tables.specs.Shown.{AddsNothing, HasTables, IsHonest, Moves}
 use Rattle.tables.specs.Staging.{upload_number}
-use Rattle.tables.specs.declared.Store.{Store}
 use Rattle.tables.specs.declared.fault.StoreFault.{StoreFault}
 use Rattle.tables.specs.declared.rows.ObjectRow.{ObjectRow}
-use Rattle.tables.specs.declared.rows.UploadRow.{UploadRow}
 use Rattle.refinement.specs.Staging.{Stores}
 use Rattle.chunks.specs.Pouring.{OfBytes}
 use Rattle.uploads.specs.Finding.{Finds}
 use Rattle.uploads.specs.Listing.{IsRowOf, Lists, is_listed}
 use Rattle.operator.specs.Damage.{has_bytes, IsWhole}
-use Rattle.operator.specs.Failing.{IsPlain}
 use Rattle.operator.specs.Inspections.{Spares, inspected_line}
-use Rattle.operator.specs.Listed.{line}
 use Rattle.operator.specs.Printed.{IfWritten}
-use Rattle.operator.specs.declared.faults.TaskFault.{TaskFault}
 use Rattle.operator.specs.declared.inspecting.Inspection.{Inspection}
 use Rattle.operator.specs.declared.inspecting.Purpose.{Purpose}
 

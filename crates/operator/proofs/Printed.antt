@@ -1,6 +1,5 @@
 -- What a task prints, by what its calls return.
-use Rattle.operator.proofs.Prelude.{⊤, ◌≡◌, ◌∙◌, ℕ, List, [], ◌∷◌, ◌++◌, Some, Result, Ok, Err, IfErr, MatchResult, refl, sym, ap, subst, false, arith, length, World, IsWorld, From, Reads}
-use Rattle.std.specs.Prelude.{OnOk}
+use Rattle.operator.proofs.Prelude.{⊤, ◌≡◌, ◌∙◌, ℕ, List, [], ◌∷◌, ◌++◌, Some, Result, Ok, Err, IfErr, MatchResult, refl, sym, ap, subst, false, arith, length, World, IsWorld, From, Reads, OnOk, line, on_ok_weaker, Ghosts, Store, UploadRow, IsPlain, TaskFault}
 use Rattle.std.proofs.Common.{AllPairs, IsErrAnd, Ordering, ◌+◌, ◌<◌, suc, append-nil, ap₂, bytes_eq, filter, flat_map, get_or, map, take, true}
 use Rattle.std.specs.List.{AllByRecursion, AllZip}
 use Rattle.std.specs.Ordering.{is_gt, nat_cmp, ordering_then}
@@ -10,10 +9,8 @@ use Rattle.std.proofs.lemmas.Grind.{flat_map-append}
 use Rattle.std.proofs.lemmas.List.{take_more}
 use Rattle.std.proofs.lemmas.List.Elements.{All-from_recursion, recursion_from_All}
 use Rattle.std.proofs.lemmas.List.Sorted.{All-permutation, IsPermutation-map, IsPermutation-sym}
-use Rattle.std.proofs.lemmas.Result.{on_ok_weaker}
 use Rattle.std.proofs.lemmas.Slice.Eq.{bytes_eq-Decides}
 use Rattle.sqlite_trees.specs.Tree.{IsAscending}
-use Rattle.sqlite_trees.specs.declared.store.Store.{Ghosts}
 use Rattle.model.proofs.Lists.{each_passes}
 use Rattle.model.specs.Operator.{Reports, by_success, by_fault, prune_outcome}
 use Rattle.model.specs.RepoState.{object_size, objects_of}
@@ -22,14 +19,9 @@ use Rattle.model.specs.World.{Object, expired_count}
 use Rattle.refinement.proofs.Orders.{objects_in_order, size_cmp, size_total}
 use Rattle.refinement.proofs.Sorting.{NotAfter}
 use Rattle.std.proofs.lemmas.Option.{none-some, same_Some}
-use Rattle.tables.specs.declared.Store.{Store}
-use Rattle.tables.specs.declared.rows.UploadRow.{UploadRow}
 use Rattle.uploads.specs.Listing.{IsNotAfter, IsRowOf, Lists}
-use Rattle.operator.specs.Failing.{IsPlain}
 use Rattle.operator.specs.Lines.{object_line}
-use Rattle.operator.specs.Listed.{line}
 use Rattle.operator.specs.Printed.{IfWritten, object_lines}
-use Rattle.operator.specs.declared.faults.TaskFault.{TaskFault}
 use Rattle.operator.specs.declared.faults.TaskFault.TheVariants as fault
 
 -- ---- results

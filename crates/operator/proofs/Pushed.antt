@@ -1,22 +1,17 @@
 -- Whether a push may be made, by the verdicts on its paths.
-use Rattle.operator.proofs.Prelude.{◌≡◌, ◌∙◌, ◌++◌, ℕ, List, [], ◌∷◌, ap, refl, sym, shown, World}
-use Rattle.std.specs.Prelude.{flat_map, map, zip}
+use Rattle.operator.proofs.Prelude.{◌≡◌, ◌∙◌, ◌++◌, ℕ, List, [], ◌∷◌, ap, refl, sym, shown, World, line, policy_view, IsPlain, TaskFault, flat_map, map, zip}
 use Rattle.std.specs.List.{list_all}
 use Rattle.std.proofs.lemmas.List.Folds.{list_all-map}
 use Rattle.names.specs.Names.{path_text}
 use Rattle.names.specs.declared.texts.LockPath.{LockPath}
-use Rattle.policy.specs.Values.{policy_view}
 use Rattle.model.specs.PushChecks as model
 use Rattle.model.specs.PushChecks.{path_verdict, push_verdicts}
 use Rattle.pushcheck.specs.Verdicts.{push_by, verdict_view}
 use Rattle.pushcheck.specs.declared.verdicts.PushVerdict.{PushVerdict}
-use Rattle.operator.specs.Failing.{IsPlain}
 use Rattle.operator.specs.Lines.{verdict_line}
-use Rattle.operator.specs.Listed.{line}
 use Rattle.operator.specs.Printed.{verdict_lines}
 use Rattle.operator.specs.Tasks.{IsPushFault, is_free, may_push}
 use Rattle.operator.specs.declared.escapes.Destination.{Destination}
-use Rattle.operator.specs.declared.faults.TaskFault.{TaskFault}
 use Rattle.operator.specs.declared.faults.TaskFault.TheVariants.{Store, Token, NoCaller, NoObject, Memory, Output, Reported}
 use Rattle.operator.specs.declared.pushing.Push.{Push}
 

@@ -1,10 +1,7 @@
 -- Tasks that take no step, by the calls that they make.
-use Rattle.operator.proofs.Prelude.{⊤, ℕ, Result, Ok, Err, IfErr, MatchResult, World, Event, From, Reads, Keeps, Leads, reads_lead, from_weaker, Sweeps}
-use Rattle.sqlite_trees.specs.declared.store.Store.{Ghosts}
-use Rattle.tables.specs.declared.Store.{Store}
+use Rattle.operator.proofs.Prelude.{⊤, ℕ, Result, Ok, Err, IfErr, MatchResult, World, Event, From, Reads, Keeps, Leads, reads_lead, from_weaker, Sweeps, Ghosts, Store, TaskFault}
 use Rattle.refinement.specs.Left.{KeepsTables}
 use Rattle.operator.specs.Failing.{Fails, IsPlain}
-use Rattle.operator.specs.declared.faults.TaskFault.{TaskFault}
 use Rattle.operator.proofs.Failing.{fails_keeps, fails_still}
 
 module _ {S : Type 0} (g : Ghosts S) where

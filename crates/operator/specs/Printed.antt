@@ -118,8 +118,8 @@ Prints g old new world destination (Retire repo oid) text =
     text ≡ line (retired_line (removal_of world (repo_text repo.now) oid.now) oid.now)
 
 -- known bytes grew by what the task prints
-abbrev pub HasPrinted : {S : Type 0} (g : Ghosts S) → Store S → Store S → World → Destination → Task → Option (List ℕ) → Option (List ℕ) → Type 0
-HasPrinted g old new world destination task was is = (text : List ℕ) × Prints g old new world destination task text × Appends was is text
+abbrev pub AppendsOutput : {S : Type 0} (g : Ghosts S) → Store S → Store S → World → Destination → Task → Option (List ℕ) → Option (List ℕ) → Type 0
+AppendsOutput g old new world destination task was is = (text : List ℕ) × Prints g old new world destination task text × Appends was is text
 
 -- this holds if the task did all that it is to do, or reports what is wrong
 abbrev pub IfWritten : Result ⊤ TaskFault → Type 0 → Type 0

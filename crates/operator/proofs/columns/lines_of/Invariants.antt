@@ -1,7 +1,5 @@
-use Rattle.std.proofs.Common.{◌≡◌, ◌∷◌, flat_map, map, take, string_bytes}
+use Rattle.operator.proofs.Prelude.{line, text_of, ◌≡◌, ◌∷◌, flat_map, map, take, string_bytes}
 use Rattle.operator.specs.Columns.{aligned}
-use Rattle.operator.specs.Listed.{line}
-use Rattle.operator.specs.Texts.{text_of}
 use Rattle.operator.proofs.columns.lines_of.Given as goal
 
 abbrev pub invariant-loop-row : goal.invariant-loop-row

@@ -1,8 +1,6 @@
-use Rattle.operator.proofs.Prelude.{◌≡◌, sym, subst, err_from_is_err_and, reads_weaker}
-use Rattle.std.proofs.lemmas.Result.{on_ok_weaker}
+use Rattle.operator.proofs.Prelude.{◌≡◌, sym, subst, err_from_is_err_and, reads_weaker, on_ok_weaker, text_of}
 use Rattle.operator.specs.Foresights.{HasForetold, IsReplyFault}
 use Rattle.operator.specs.declared.faults.TaskFault.TheVariants.{Output}
-use Rattle.operator.specs.Texts.{text_of}
 use Rattle.operator.proofs.Failing.{reads_last}
 use Rattle.operator.proofs.Printed.{none_on}
 use Rattle.operator.proofs.Foretold.{foresight_cause}

@@ -1,6 +1,4 @@
-use Rattle.operator.proofs.Prelude.{Err, ⊤, ◌∙◌, ap, err_from_is_err_and, from_weaker, refl, reads_lead, reads_then, subst, sym}
-use Rattle.std.specs.Prelude.{vec_len}
-use Rattle.operator.specs.Failing.{IsPlain}
+use Rattle.operator.proofs.Prelude.{Err, ⊤, ◌∙◌, ap, err_from_is_err_and, from_weaker, refl, reads_lead, reads_then, subst, sym, IsPlain, vec_len}
 use Rattle.operator.proofs.Damaged.{inspected_on, inspected_so, line_printed, rows_length}
 use Rattle.operator.proofs.Failing.{is_output}
 use Rattle.operator.proofs.Printed.{none_on, printed_none}

@@ -1,11 +1,7 @@
-use Rattle.operator.proofs.Prelude.{◌∙◌, ℕ, List, ap, refl, subst, string_bytes, err_from_is_err_and, reads_lead, takes_then}
-use Rattle.std.specs.Io.KnownBytes.{Appends}
+use Rattle.operator.proofs.Prelude.{◌∙◌, ℕ, List, ap, refl, subst, string_bytes, err_from_is_err_and, reads_lead, takes_then, Appends, line, repo_text, policy_view}
 use Rattle.serde_json.specs.Written.{compact_text}
-use Rattle.names.specs.Names.{repo_text}
-use Rattle.policy.specs.Values.{policy_view}
 use Rattle.model.specs.Replies.{action_data}
 use Rattle.operator.specs.Lines.{token_action}
-use Rattle.operator.specs.Listed.{line}
 use Rattle.operator.proofs.Failing.{fails_before}
 use Rattle.operator.proofs.Granting.{token_cause, token_memory, token_output, from_offered}
 use Rattle.operator.proofs.Printed.{none_on, printed_none}

@@ -1,5 +1,4 @@
-use Rattle.operator.proofs.Prelude.{◌∙◌, ◌++◌, ◌∷◌, [], ap, append_assoc, sym, shown}
-use Rattle.std.proofs.Common.{flat_map}
+use Rattle.operator.proofs.Prelude.{◌∙◌, ◌++◌, ◌∷◌, [], ap, append_assoc, sym, shown, line, text_of, flat_map}
 use Rattle.std.proofs.lemmas.List.{take_all}
 use Rattle.std.proofs.lemmas.List.Folds.{flat_map-map}
 use Rattle.model.specs.Moments.{moment_text}
@@ -7,8 +6,6 @@ use Rattle.model.specs.World.{Lock}
 use Rattle.tables.specs.declared.rows.LockRow.{LockRow}
 use Rattle.locks.specs.Finding.{lock_seen}
 use Rattle.operator.specs.Lines.{lock_line}
-use Rattle.operator.specs.Listed.{line}
-use Rattle.operator.specs.Texts.{text_of}
 use Rattle.operator.proofs.Printed.{line_more}
 use Rattle.operator.proofs.listing_locks.lines_of.Goals as goal
 

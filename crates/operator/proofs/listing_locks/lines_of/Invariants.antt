@@ -1,10 +1,8 @@
-use Rattle.std.proofs.Common.{◌≡◌, [], flat_map, take}
+use Rattle.operator.proofs.Prelude.{line, text_of, ◌≡◌, [], flat_map, take}
 use Rattle.model.specs.Moments.{moment_text}
 use Rattle.locks.specs.Finding.{lock_seen}
 use Rattle.operator.specs.Escapes.{shown}
 use Rattle.operator.specs.Lines.{lock_line}
-use Rattle.operator.specs.Listed.{line}
-use Rattle.operator.specs.Texts.{text_of}
 use Rattle.operator.proofs.listing_locks.lines_of.Given as goal
 
 abbrev pub invariant-loop-row : goal.invariant-loop-row

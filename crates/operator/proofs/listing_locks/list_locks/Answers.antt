@@ -1,7 +1,4 @@
-use Rattle.operator.proofs.Prelude.{◌∙◌, ap, subst, reads_weaker}
-use Rattle.std.specs.Prelude.{OnOk, map}
-use Rattle.std.specs.Io.KnownBytes.{Appends}
-use Rattle.names.specs.Names.{repo_text}
+use Rattle.operator.proofs.Prelude.{◌∙◌, ap, subst, reads_weaker, Appends, OnOk, repo_text, map}
 use Rattle.locks.specs.Finding.{lock_seen}
 use Rattle.operator.specs.Printed.{lock_lines}
 use Rattle.operator.proofs.Printed.{none_on}

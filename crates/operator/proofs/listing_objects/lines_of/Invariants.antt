@@ -1,5 +1,4 @@
-use Rattle.std.proofs.Common.{◌≡◌, flat_map, take}
-use Rattle.operator.specs.Texts.{text_of}
+use Rattle.operator.proofs.Prelude.{text_of, ◌≡◌, flat_map, take}
 use Rattle.operator.proofs.Printed.{row_line}
 use Rattle.operator.proofs.listing_objects.lines_of.Given as goal
 

@@ -1,8 +1,4 @@
-use Rattle.operator.proofs.Prelude.{◌∙◌, ap, subst, reads_weaker}
-use Rattle.std.specs.Prelude.{OnOk}
-use Rattle.std.specs.Io.KnownBytes.{Appends}
-use Rattle.std.proofs.Common.{flat_map}
-use Rattle.names.specs.Names.{repo_text}
+use Rattle.operator.proofs.Prelude.{◌∙◌, ap, subst, reads_weaker, Appends, OnOk, repo_text, flat_map}
 use Rattle.operator.proofs.Printed.{none_on, objects_printed, row_line}
 use Rattle.operator.proofs.listing_objects.list_objects.Goals as goal
 

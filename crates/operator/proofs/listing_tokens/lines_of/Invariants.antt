@@ -1,6 +1,5 @@
-use Rattle.std.proofs.Common.{◌≡◌, take}
+use Rattle.operator.proofs.Prelude.{text_of, ◌≡◌, take}
 use Rattle.operator.specs.Printed.{token_lines}
-use Rattle.operator.specs.Texts.{text_of}
 use Rattle.operator.proofs.listing_tokens.lines_of.Given as goal
 
 abbrev pub invariant-loop-row : goal.invariant-loop-row

@@ -1,7 +1,5 @@
-use Rattle.operator.proofs.Prelude.{◌∙◌, ap, reads_weaker}
-use Rattle.std.proofs.lemmas.Result.{on_ok_weaker}
+use Rattle.operator.proofs.Prelude.{◌∙◌, ap, reads_weaker, on_ok_weaker, text_of}
 use Rattle.operator.specs.Printed.{token_lines}
-use Rattle.operator.specs.Texts.{text_of}
 use Rattle.operator.proofs.Printed.{none_on}
 use Rattle.operator.proofs.listing_tokens.list_tokens.Goals as goal
 

@@ -1,10 +1,7 @@
-use Rattle.operator.proofs.Prelude.{◌∙◌, List, ap, subst, string_bytes, reads_weaker}
-use Rattle.std.proofs.Common.{ap₂, map}
+use Rattle.operator.proofs.Prelude.{◌∙◌, List, ap, subst, string_bytes, reads_weaker, on_ok_weaker, text_of, ap₂, map}
 use Rattle.std.specs.List.{AllZip}
-use Rattle.std.proofs.lemmas.Result.{on_ok_weaker}
 use Rattle.model.specs.Policy as model
 use Rattle.operator.specs.Columns.{table_lines}
-use Rattle.operator.specs.Texts.{text_of}
 use Rattle.operator.specs.Usage.{IsLine}
 use Rattle.operator.proofs.Counted.{lines_viewed}
 use Rattle.operator.proofs.Printed.{none_on}

@@ -1,10 +1,6 @@
-use Rattle.operator.proofs.Prelude.{◌≡◌, ◌∙◌, append_assoc, refl, subst}
-use Rattle.std.specs.Prelude.{OnOk}
-use Rattle.std.specs.Io.KnownBytes.{Appends}
+use Rattle.operator.proofs.Prelude.{◌≡◌, ◌∙◌, append_assoc, refl, subst, Appends, OnOk, count_line, line}
 use Rattle.std.proofs.lemmas.Fmt.{contents_after_writes}
 use Rattle.arrayvec.specs.declared.array_string.ArrayString.{ArrayString}
-use Rattle.operator.specs.Lines.{count_line}
-use Rattle.operator.specs.Listed.{line}
 use Rattle.operator.proofs.output.print_count.Goals as goal
 
 pub returns-in-Ok-clause-text : goal.returns-in-Ok-clause-text

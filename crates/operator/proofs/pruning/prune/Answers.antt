@@ -1,8 +1,4 @@
-use Rattle.operator.proofs.Prelude.{refl, subst, ℕ, Ok, ◌≡◌, err_from_is_err_and, from_weaker, Prunes}
-use Rattle.std.specs.Prelude.{OnOk, codes}
-use Rattle.std.specs.Io.KnownBytes.{Appends}
-use Rattle.operator.specs.Lines.{count_line}
-use Rattle.operator.specs.Listed.{line}
+use Rattle.operator.proofs.Prelude.{refl, subst, ℕ, Ok, ◌≡◌, err_from_is_err_and, from_weaker, Prunes, Appends, OnOk, count_line, line, codes}
 use Rattle.operator.specs.declared.faults.TaskFault.TheVariants.{Output}
 use Rattle.operator.proofs.Failing.{fails_before, fails_after, is_store, is_output, output_follows, from_last}
 use Rattle.operator.proofs.Printed.{none_on, pruned_count}

@@ -1,7 +1,4 @@
-use Rattle.operator.proofs.Prelude.{◌∙◌, subst, sym, err_from_is_err_and, reads_weaker}
-use Rattle.std.specs.Prelude.{flat_map, zip}
-use Rattle.std.specs.Io.KnownBytes.{Appends}
-use Rattle.std.proofs.Common.{ap₂}
+use Rattle.operator.proofs.Prelude.{◌∙◌, subst, sym, err_from_is_err_and, reads_weaker, Appends, flat_map, zip, ap₂}
 use Rattle.operator.proofs.Pushed.{plain_push, may_push_is, pair_line, verdicts_printed}
 use Rattle.operator.proofs.Failing.{is_memory, is_output, is_store}
 use Rattle.operator.proofs.Printed.{plain_written}

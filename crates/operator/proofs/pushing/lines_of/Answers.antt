@@ -1,5 +1,4 @@
-use Rattle.operator.proofs.Prelude.{rules, ◌∙◌, ap}
-use Rattle.std.proofs.Common.{flat_map}
+use Rattle.operator.proofs.Prelude.{rules, ◌∙◌, ap, flat_map}
 use Rattle.std.proofs.iter.Yields.{fronts}
 use Rattle.std.proofs.lemmas.Iterator.{YieldsList-from_slice, YieldsList-from_zip, items_from_drains, zips}
 use Rattle.operator.proofs.Pushed.{pair_line}

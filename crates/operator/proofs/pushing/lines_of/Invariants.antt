@@ -1,5 +1,4 @@
-use Rattle.std.proofs.Common.{◌≡◌, flat_map, map}
-use Rattle.operator.specs.Texts.{text_of}
+use Rattle.operator.proofs.Prelude.{text_of, ◌≡◌, flat_map, map}
 use Rattle.operator.proofs.Pushed.{pair_line}
 use Rattle.operator.proofs.pushing.lines_of.Given as goal
 

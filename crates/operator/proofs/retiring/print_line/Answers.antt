@@ -1,9 +1,6 @@
-use Rattle.operator.proofs.Prelude.{◌≡◌, ◌∙◌, ◌++◌, append_assoc, refl, subst}
-use Rattle.std.specs.Prelude.{OnOk, codes}
-use Rattle.std.specs.Io.KnownBytes.{Appends}
+use Rattle.operator.proofs.Prelude.{◌≡◌, ◌∙◌, ◌++◌, append_assoc, refl, subst, Appends, OnOk, line, codes}
 use Rattle.std.proofs.lemmas.Fmt.{contents_after_writes}
 use Rattle.arrayvec.specs.declared.array_string.ArrayString.{ArrayString}
-use Rattle.operator.specs.Listed.{line}
 use Rattle.operator.proofs.retiring.print_line.Goals as goal
 
 pub returns-in-Ok-clause-text : goal.returns-in-Ok-clause-text

@@ -1,10 +1,6 @@
-use Rattle.operator.proofs.Prelude.{refl, subst, sym, err_from_is_err_and, from_weaker}
-use Rattle.std.specs.Prelude.{OnOk}
-use Rattle.std.specs.Io.KnownBytes.{Appends}
-use Rattle.names.specs.Names.{repo_text}
+use Rattle.operator.proofs.Prelude.{refl, subst, sym, err_from_is_err_and, from_weaker, Appends, OnOk, line, repo_text}
 use Rattle.model.specs.Operator.{Removal}
 use Rattle.operator.specs.Lines.{retired_line}
-use Rattle.operator.specs.Listed.{line}
 use Rattle.uploads.specs.Retiring.{removal_seen}
 use Rattle.operator.proofs.Failing.{fails_before}
 use Rattle.operator.proofs.Printed.{none_on}

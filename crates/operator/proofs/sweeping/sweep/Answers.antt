@@ -1,5 +1,4 @@
-use Rattle.operator.proofs.Prelude.{ℕ, Ok, ◌≡◌, refl, err_from_is_err_and, from_weaker, Sweeps}
-use Rattle.std.proofs.lemmas.Result.{on_ok_weaker}
+use Rattle.operator.proofs.Prelude.{ℕ, Ok, ◌≡◌, refl, err_from_is_err_and, from_weaker, Sweeps, on_ok_weaker}
 use Rattle.operator.specs.declared.faults.TaskFault.TheVariants.{Output}
 use Rattle.operator.proofs.Failing.{is_store, is_output, from_last}
 use Rattle.operator.proofs.Printed.{none_on}
