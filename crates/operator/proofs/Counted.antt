@@ -1,24 +1,21 @@
 -- What a repository uses, by the rows that the calls return.
-use Rattle.operator.proofs.Prelude.{◌≡◌, ◌∙◌, ℕ, List, [], ◌∷◌, ◌++◌, Result, Ok, Err, IfOk, refl, sym, ap, subst, true, false, length, World, Reads, reads_then, ⊤}
+use Rattle.operator.proofs.Prelude.{◌≡◌, ◌∙◌, ℕ, List, [], ◌∷◌, ◌++◌, Result, Ok, Err, IfOk, refl, sym, ap, subst, true, false, length, World, Reads, reads_then, ⊤, Ghosts, repo_text, Store, UploadRow}
 use Rattle.std.proofs.Common.{Bool, IsErrAnd, pos, suc, ◌+◌, ◌<◌, map, filter, take, cond, get_or, Some, option_map, bytes_eq}
 use Rattle.std.specs.List.{AllZip}
 use Rattle.std.proofs.lemmas.List.{length-map, take_more}
 use Rattle.std.proofs.lemmas.List.Sorted.{length_permutation}
 use Rattle.std.proofs.lemmas.Slice.Zip.{AllZip-long}
-use Rattle.sqlite_trees.specs.declared.store.Store.{Ghosts}
-use Rattle.names.specs.Names.{repo_text}
+use Rattle.policy.specs.Values.{repo_view}
 use Rattle.policy.specs.declared.repos.Repo.{Repo}
 use Rattle.model.specs.World.{Object}
 use Rattle.model.specs.Orders.{insert_by, sort_by, text_before}
 use Rattle.model.specs.RepoState.{ObjectSize, object_size, objects_of}
 use Rattle.tables.specs.Rows.{Tables}
 use Rattle.tables.specs.Shown.{HasTables}
-use Rattle.tables.specs.declared.Store.{Store}
-use Rattle.tables.specs.declared.rows.UploadRow.{UploadRow}
 use Rattle.refinement.proofs.Holding.{holds_still}
 use Rattle.refinement.specs.Left.{KeepsTables}
 use Rattle.uploads.specs.Listing.{IsRowOf, Lists}
-use Rattle.operator.specs.Usage.{IsLineOf, Uses, staged_size, usage_cells}
+use Rattle.operator.specs.Usage.{IsLine, IsLineOf, Uses, staged_size, usage_cells}
 use Rattle.operator.specs.declared.counting.Usage.{Usage}
 
 -- nothing is claimed of an error
@@ -90,3 +87,10 @@ module _ {S : Type 0} (g : Ghosts S) where
             let here : IsLineOf g world c now repo line = (usage, q.each honest world (holds_still g a b world p.same h), texts) in
             subst (λ (rs : List Repo). AllZip (IsLineOf g world c now) rs (lines ++ line ∷ [])) (sym more) (zip_more (IsLineOf g world c now) (take i repos) lines repo line before here);
       }
+
+  -- the lines of repositories as the definitions have them
+  pub lines_viewed : (s : Store S) (world : World) (now : ℕ) (repos : List Repo) (lines : List (List (List ℕ))) → AllZip (IsLineOf g world s now) repos lines → AllZip (IsLine g world s now) (map repo_view repos) lines
+  lines_viewed s world now [] [] all = tt
+  lines_viewed s world now [] (l ∷ ls) all = absurd all
+  lines_viewed s world now (r ∷ rs) [] all = absurd all
+  lines_viewed s world now (r ∷ rs) (l ∷ ls) all = (all.0, lines_viewed s world now rs ls all.1)

@@ -1,27 +1,27 @@
 -- Objects of a world are whole, so an inspection finds none of them damaged.
-use Rattle.operator.proofs.Prelude.{⊤, ◌≡◌, ℕ, ◌∷◌, List, [], Result, Ok, Err, IfOk, IfErr, refl, sym, ◌∙◌, subst, false, true, rules, World, IsWorld, From, Reads, reads_none, reads_then, reads_lead, from_weaker}
-use Rattle.std.specs.Prelude.{Bool, not, Option, Some, IfSome, find, length, bytes_eq, ◌&&◌}
+use Rattle.operator.proofs.Prelude.{⊤, ◌≡◌, ℕ, ◌∷◌, List, [], Result, Ok, Err, IfOk, IfErr, ap, refl, sym, ◌∙◌, subst, false, true, rules, World, IsWorld, From, Reads, reads_none, reads_then, reads_lead, from_weaker, Appends, OnOk, line, Ghosts, repo_text, Store, UploadRow, IsPlain, TaskFault}
+use Rattle.std.specs.Prelude.{Bool, not, Option, Some, None, IfSome, filter, find, length, bytes_eq, vec_len, ◌&&◌}
+use Rattle.std.proofs.Common.{true≢false}
 use Rattle.std.proofs.lemmas.Bool.{cond_both}
+use Rattle.std.proofs.lemmas.List.Sorted.{length_permutation}
+use Rattle.std.proofs.lemmas.Slice.Zip.{AllZip-long}
 use Rattle.std.proofs.lemmas.List.Elements.{recursion_from_All}
 use Rattle.std.proofs.lemmas.Slice.Eq.{bytes_eq-Decides}
-use Rattle.sqlite_trees.specs.declared.store.Store.{Ghosts}
 use Rattle.model.proofs.Checks.{find_ok}
 use Rattle.model.specs.World.{Object, IsObject, name_of, object_named}
-use Rattle.names.specs.Names.{repo_text}
 use Rattle.tables.specs.Shown.{AddsNothing, HasTables, IsHonest, Moves}
 use Rattle.tables.specs.Staging.{upload_number}
-use Rattle.tables.specs.declared.Store.{Store}
 use Rattle.tables.specs.declared.fault.StoreFault.{StoreFault}
 use Rattle.tables.specs.declared.rows.ObjectRow.{ObjectRow}
-use Rattle.tables.specs.declared.rows.UploadRow.{UploadRow}
 use Rattle.refinement.specs.Staging.{Stores}
 use Rattle.chunks.specs.Pouring.{OfBytes}
 use Rattle.uploads.specs.Finding.{Finds}
+use Rattle.uploads.specs.Listing.{IsRowOf, Lists, is_listed}
 use Rattle.operator.specs.Damage.{has_bytes, IsWhole}
-use Rattle.operator.specs.Failing.{IsPlain}
-use Rattle.operator.specs.Inspections.{Spares}
-use Rattle.operator.specs.declared.faults.TaskFault.{TaskFault}
+use Rattle.operator.specs.Inspections.{Spares, inspected_line}
+use Rattle.operator.specs.Printed.{IfWritten}
 use Rattle.operator.specs.declared.inspecting.Inspection.{Inspection}
+use Rattle.operator.specs.declared.inspecting.Purpose.{Purpose}
 
 bytes_are : (row : UploadRow) (bytes : List ℕ) → row.size ≡ length bytes → row.oid ≡ name_of bytes → has_bytes row bytes ≡ true
 bytes_are row bytes size name = rw (size, name) (search rules)
@@ -90,16 +90,19 @@ module _ {S : Type 0} (g : Ghosts S) where
         record { reads = reads_then g a b c _ _ (λ _. ⊤) (λ world laws x y. tt) before.reads q; none = same ∙ before.none };
   }
 
-  -- what is done to a damaged object is not done in a world
-  pub spares_damaged : (a b c d : Store S) (was mid is : Inspection) → From g a b (λ _. Spares g a b was mid) → Reads g b c (λ _. true ≡ false) → (IsHonest g d → IsHonest g c) → From g a d (λ _. Spares g a d was is)
-  spares_damaged a b c d was mid is p q honest = record {
+  -- no object of a world is found damaged
+  pub never_damaged : (a b c d : Store S) (was mid : Inspection) (P : World → Type 0) → From g a b (λ _. Spares g a b was mid) → Reads g b c (λ _. true ≡ false) → (IsHonest g d → IsHonest g c) → From g a d P
+  never_damaged a b c d was mid P p q honest = record {
     honest = λ k. p.honest (q.same.was_honest (honest k));
     each = λ k world h.
         let here = q.same.was_honest (honest k) in
         let before = p.each here world h in
-        let no : true ≡ false = q.each (honest k) world (reads_lead g a b _ world before.reads h).holds in
-        cc;
+        absurd (true≢false (q.each (honest k) world (reads_lead g a b _ world before.reads h).holds));
   }
+
+  -- what is done to a damaged object is not done in a world
+  pub spares_damaged : (a b c d : Store S) (was mid is : Inspection) → From g a b (λ _. Spares g a b was mid) → Reads g b c (λ _. true ≡ false) → (IsHonest g d → IsHonest g c) → From g a d (λ _. Spares g a d was is)
+  spares_damaged a b c d was mid is p q honest = never_damaged a b c d was mid (λ _. Spares g a d was is) p q honest
 
   -- an inspection that went on, with nothing found damaged before
   pub inspected_on : (a b c : Store S) (mid is : Inspection) → From g a b (λ _. Reads g a b (λ _. ⊤) × (mid.damaged ≡ 0)) → From g b c (λ _. Spares g b c mid is) → From g a c (λ _. Reads g a c (λ _. ⊤) × (is.damaged ≡ 0))
@@ -115,3 +118,31 @@ module _ {S : Type 0} (g : Ghosts S) where
   pub inspected_so : {A : Type 0} (a b : Store S) (is : Inspection) (r : Result A TaskFault) → From g a b (λ _. Reads g a b (λ _. ⊤) × (is.damaged ≡ 0)) → (is.damaged ≡ 0 → IfErr r IsPlain)
       → From g a b (λ _. Reads g a b (λ _. ⊤) × IfErr r IsPlain)
   inspected_so a b is r p why = from_weaker g a b _ _ (λ world d. (d.0, why d.1)) p
+
+-- ---- what an inspection writes
+
+-- nothing was written, and all objects of the world are listed
+abbrev pub IsSilent : (was is : Option (List ℕ)) → Inspection → World → Type 0
+IsSilent was is inspection world = (is ≡ was) × (vec_len inspection.rows ≡ length world.objects)
+
+all_listed : (objects : List Object) → filter (is_listed None) objects ≡ objects
+all_listed [] = refl
+all_listed (o ∷ objects) = ap (λ (l : List Object). o ∷ l) (all_listed objects)
+
+-- there are as many rows as objects
+pub rows_length : {S : Type 0} (g : Ghosts S) (world : World) (s : Store S) (rows : List UploadRow) → Lists g world s None rows → length rows ≡ length world.objects
+rows_length g world s rows l =
+    sym (AllZip-long (IsRowOf g s) rows l.objects l.each) ∙ sym (length_permutation l.objects (filter (is_listed None) world.objects) l.same) ∙ ap length (all_listed world.objects)
+
+on_written : (P : Type 0) (r : Result ⊤ TaskFault) → IfWritten r P → OnOk r P
+on_written P (Ok u) p = p
+on_written P (Err e) p = tt
+
+-- the last line is all that was written
+pub line_printed : (was mid is : Option (List ℕ)) (p q : Purpose) (all count damaged : ℕ) (r : Result ⊤ TaskFault) → mid ≡ was → p ≡ q → all ≡ count → damaged ≡ 0
+    → IfWritten r (Appends mid is (line (inspected_line p all damaged))) → OnOk r (Appends was is (line (inspected_line q count 0)))
+line_printed was mid is p q all count damaged r m e a d written =
+    subst (λ (n : ℕ). OnOk r (Appends was is (line (inspected_line q count n)))) d
+    (subst (λ (n : ℕ). OnOk r (Appends was is (line (inspected_line q n damaged)))) a
+    (subst (λ (x : Purpose). OnOk r (Appends was is (line (inspected_line x all damaged)))) e
+    (subst (λ (x : Option (List ℕ)). OnOk r (Appends x is (line (inspected_line p all damaged)))) m (on_written _ r written))))

@@ -1,12 +1,9 @@
 -- What a task that fails leaves, by the call that failed.
-use Rattle.operator.proofs.Prelude.{IfErr, ⊤, ◌≡◌, inl, inr, Result, Ok, Err, MatchResult, From, Reads, from_weaker, reads_weaker, refl, sym, subst, World, Event, Leads, Keeps, Takes, keeps_still}
-use Rattle.sqlite_trees.specs.declared.store.Store.{Ghosts}
-use Rattle.tables.specs.declared.Store.{Store}
+use Rattle.operator.proofs.Prelude.{IfErr, ⊤, ◌≡◌, inl, inr, Result, Ok, Err, MatchResult, From, Reads, from_weaker, reads_weaker, refl, sym, subst, World, Event, Leads, Keeps, Takes, keeps_still, Ghosts, Store, TaskFault}
 use Rattle.tables.specs.declared.fault.StoreFault.{StoreFault}
 use Rattle.tables.specs.declared.fault.StoreFault.TheVariants as tables
 use Rattle.operator.specs.Failing.{Fails, IsPlain, IsOutput}
 use Rattle.operator.specs.Faults.{of_store}
-use Rattle.operator.specs.declared.faults.TaskFault.{TaskFault}
 use Rattle.operator.specs.declared.faults.TaskFault.TheVariants.{Memory, Output}
 
 -- ---- plain faults

@@ -1,7 +1,6 @@
 -- What a view foretells is what the world of the view foretells.
-use Rattle.operator.proofs.Prelude.{◌≡◌, Result, Ok, Err, World, subst}
+use Rattle.operator.proofs.Prelude.{◌≡◌, Result, Ok, Err, World, subst, policy_view, TaskFault}
 use Rattle.names.specs.Names.{repo_text, user_text}
-use Rattle.policy.specs.Values.{policy_view}
 use Rattle.model.specs.Views.{View, view_of}
 use Rattle.desk.specs.Foreseeing.{IsForeseen}
 use Rattle.desk.specs.declared.foreseeing.ForeseeFault.{ForeseeFault}
@@ -10,7 +9,6 @@ use Rattle.desk.specs.declared.replies.Reply.{Reply}
 use Rattle.operator.specs.Faults.{of_foresight}
 use Rattle.operator.specs.Foresights.{Foretells, IsReplyFault}
 use Rattle.operator.specs.Tasks.{IsForesightFault}
-use Rattle.operator.specs.declared.faults.TaskFault.{TaskFault}
 use Rattle.operator.specs.declared.faults.TaskFault.TheVariants as task
 use Rattle.operator.specs.declared.foreseeing.Foresight.{Foresight}
 

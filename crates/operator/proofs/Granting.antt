@@ -1,8 +1,6 @@
 -- Why a token is not issued.
-use Rattle.operator.proofs.Prelude.{◌≡◌, sym, subst, World, From, Reads, reads_lead}
-use Rattle.sqlite_trees.specs.declared.store.Store.{Ghosts}
+use Rattle.operator.proofs.Prelude.{◌≡◌, sym, subst, World, From, Reads, reads_lead, Ghosts, Store, TaskFault}
 use Rattle.model.specs.Operator.{token_verdict}
-use Rattle.tables.specs.declared.Store.{Store}
 use Rattle.tables.specs.declared.fault.StoreFault.TheVariants as tables
 use Rattle.tokens.specs.Issuing.{denial_of, token_asked}
 use Rattle.tokens.specs.declared.issuing.TokenFault.{TokenFault}
@@ -10,7 +8,6 @@ use Rattle.tokens.specs.declared.issuing.TokenFault.TheVariants as token
 use Rattle.tokens.specs.declared.requests.TokenRequest.{TokenRequest}
 use Rattle.operator.specs.Failing.{Fails, IsIssueOf, IsTokenFault}
 use Rattle.operator.specs.Faults.{of_token}
-use Rattle.operator.specs.declared.faults.TaskFault.{TaskFault}
 use Rattle.operator.specs.declared.faults.TaskFault.TheVariants.{Memory, Output}
 use Rattle.operator.proofs.Failing.{fails_still}
 

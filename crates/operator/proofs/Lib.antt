@@ -14,3 +14,5 @@ mod Listed
 mod Aligned
 mod Valid
 mod Counted
+mod Printed
+mod Widths

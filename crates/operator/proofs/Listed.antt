@@ -1,9 +1,9 @@
 -- The lines of a text, and the parts between its line ends.
-use Rattle.operator.proofs.Prelude.{◌≡◌, ◌∙◌, sym, ap, ◌⊎◌, inl, inr, arith, ℕ, Some, List, [], ◌∷◌, ◌++◌, append_assoc, length}
+use Rattle.operator.proofs.Prelude.{◌≡◌, ◌∙◌, sym, ap, ◌⊎◌, inl, inr, arith, ℕ, Some, List, [], ◌∷◌, ◌++◌, append_assoc, length, line}
 use Rattle.std.proofs.Common.{◌≢◌, ◌<◌, ◌==◌, Bor, Option, None, MatchOption, append-nil, flat_map, unwrap_or}
 use Rattle.std.specs.List.{join_with_byte, slice_split}
 use Rattle.std.proofs.lemmas.List.Splits.{join_with_byte-slice_split, length-slice_split}
-use Rattle.operator.specs.Listed.{AreLinesOf, line}
+use Rattle.operator.specs.Listed.{AreLinesOf}
 
 -- parts as lines are the parts with LF between them, and one LF more
 lines_of_parts : (parts : List (List ℕ)) → 0 < length parts → flat_map line parts ≡ join_with_byte 10 parts ++ 10 ∷ []

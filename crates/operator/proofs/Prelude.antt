@@ -4,13 +4,24 @@ pub use Rattle.model.proofs.Progress.{run_append}
 pub use Rattle.model.specs.Bounds.{Bound, Ending, IsWithin, SameWorld, bound_after, bound_of_run, changed, ending_of, failed, intended_world, left_by, next_world, unchanged, world_by}
 pub use Rattle.model.specs.Steps.{Event, IsStep, Run, by_verdict, exchanged, issues, judgement, prunes}
 pub use Rattle.model.specs.World.{IsWorld, World, nothing}
+pub use Rattle.names.specs.Names.{repo_text}
 pub use Rattle.operator.specs.Escapes.{escape, escaped, is_control, shown}
+pub use Rattle.operator.specs.Failing.{IsPlain}
+pub use Rattle.operator.specs.Lines.{count_line}
+pub use Rattle.operator.specs.Listed.{line}
+pub use Rattle.operator.specs.Texts.{text_of}
 pub use Rattle.operator.specs.Works.{Work, Works, bound_of_works, keeps, steps_of, takes}
+pub use Rattle.operator.specs.declared.faults.TaskFault.{TaskFault}
+pub use Rattle.policy.specs.Values.{policy_view}
 pub use Rattle.refinement.proofs.Leading.{from_weaker, keeps_still, leads_none, reads_lead, reads_none, takes_then}
 pub use Rattle.refinement.proofs.ReadOnly.{reads_then, reads_weaker}
 pub use Rattle.refinement.specs.Left.{From, IsAmong, IsBoundedBy, Keeps, Leads, Reads, Takes}
-pub use Rattle.std.proofs.Common.{Err, List, IfErr, IfOk, MatchResult, Ok, Result, Some, [], ap, append_assoc, arith, false, inl, inr, length, refl, rules, string_bytes, subst, sym, true, ℕ, ◌++◌, ◌∙◌, ◌∷◌, ◌≡◌, ◌≤◌, ◌⊎◌}
-pub use Rattle.std.proofs.lemmas.Result.{IfOk-weaker, err_from_is_err_and}
-pub use Rattle.std.specs.Prelude.{⊤}
+pub use Rattle.sqlite_trees.specs.declared.store.Store.{Ghosts}
+pub use Rattle.std.proofs.Common.{Err, List, IfErr, IfOk, MatchResult, Ok, Result, Some, [], ap, append_assoc, arith, false, inl, inr, length, refl, rules, string_bytes, subst, sym, true, ℕ, ◌++◌, ◌∙◌, ◌∷◌, ◌≡◌, ◌≤◌, ◌⊎◌, flat_map, map, take, ap₂, ◌+◌, ◌<◌, get_or}
+pub use Rattle.std.proofs.lemmas.Result.{IfOk-weaker, err_from_is_err_and, on_ok_weaker}
+pub use Rattle.std.specs.Io.KnownBytes.{Appends}
+pub use Rattle.std.specs.Prelude.{OnOk, codes, vec_len, zip, ⊤}
+pub use Rattle.tables.specs.declared.Store.{Store}
+pub use Rattle.tables.specs.declared.rows.UploadRow.{UploadRow}
 pub use Rattle.tokens.specs.Pruning.{Prunes}
 pub use Rattle.uploads.specs.Removing.{Sweeps}

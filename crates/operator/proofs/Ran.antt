@@ -1,10 +1,7 @@
 -- Tasks that take no step, by the calls that they make.
-use Rattle.operator.proofs.Prelude.{⊤, ℕ, Result, Ok, Err, IfErr, MatchResult, World, Event, From, Reads, Keeps, Leads, reads_lead, from_weaker, Sweeps}
-use Rattle.sqlite_trees.specs.declared.store.Store.{Ghosts}
-use Rattle.tables.specs.declared.Store.{Store}
+use Rattle.operator.proofs.Prelude.{⊤, ℕ, Result, Ok, Err, IfErr, MatchResult, World, Event, From, Reads, Keeps, Leads, reads_lead, from_weaker, Sweeps, Ghosts, Store, TaskFault}
 use Rattle.refinement.specs.Left.{KeepsTables}
 use Rattle.operator.specs.Failing.{Fails, IsPlain}
-use Rattle.operator.specs.declared.faults.TaskFault.{TaskFault}
 use Rattle.operator.proofs.Failing.{fails_keeps, fails_still}
 
 module _ {S : Type 0} (g : Ghosts S) where
@@ -20,11 +17,11 @@ module _ {S : Type 0} (g : Ghosts S) where
   ran_checked IsOwn a b (Ok u) p = record { honest = p.honest; each = λ honest world h. reads_lead g a b _ world (p.each honest world h).0 h }
   ran_checked IsOwn a b (Err e) p = record { honest = p.honest; each = λ honest world h. let it = p.each honest world h in (fails_still g IsOwn ⊥ a b world (reads_lead g a b _ world it.0 h), it.1) }
 
-  -- a call that only reads, and finds nothing that matters
-  pub ran_still : (IsOwn : Event → Type 0) (a b : Store S) (r : Result ⊤ TaskFault) → IfErr r IsPlain → Reads g a b (λ world. ⊤)
+  -- a call that only reads, whatever it finds
+  pub ran_still : (IsOwn : Event → Type 0) (a b : Store S) (P : World → Type 0) (r : Result ⊤ TaskFault) → IfErr r IsPlain → Reads g a b P
       → From g a b (λ world. MatchResult r (λ _. Leads g a b world (λ bound. bound)) (λ e. Fails g IsOwn ⊥ a b world × IsPlain e))
-  ran_still IsOwn a b (Ok u) why p = record { honest = p.same.was_honest; each = λ honest world h. reads_lead g a b _ world p h }
-  ran_still IsOwn a b (Err e) why p = record { honest = p.same.was_honest; each = λ honest world h. (fails_still g IsOwn ⊥ a b world (reads_lead g a b _ world p h), why) }
+  ran_still IsOwn a b P (Ok u) why p = record { honest = p.same.was_honest; each = λ honest world h. reads_lead g a b _ world p h }
+  ran_still IsOwn a b P (Err e) why p = record { honest = p.same.was_honest; each = λ honest world h. (fails_still g IsOwn ⊥ a b world (reads_lead g a b _ world p h), why) }
 
   -- a repair of a world changes nothing
   pub ran_repaired : (IsOwn : Event → Type 0) (a b : Store S) (r : Result ⊤ TaskFault) → From g a b (λ _. Reads g a b (λ _. ⊤) × IfErr r IsPlain)

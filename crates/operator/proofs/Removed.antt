@@ -1,17 +1,13 @@
 -- An object that a command removes for good, and what the command reports of it.
-use Rattle.std.specs.Prelude.{OnOk}
-use Rattle.operator.proofs.Prelude.{⊤, ◌≡◌, List, Some, Result, Ok, Err, IfErr, MatchResult, refl, sym, subst, ℕ, World, IsStep, From, Takes, from_weaker}
+use Rattle.operator.proofs.Prelude.{⊤, ◌≡◌, List, Some, Result, Ok, Err, IfErr, MatchResult, refl, sym, subst, ℕ, World, IsStep, From, Takes, from_weaker, OnOk, Ghosts, Store, TaskFault}
 use Rattle.std.proofs.lemmas.Option.{none-some, same_Some}
-use Rattle.sqlite_trees.specs.declared.store.Store.{Ghosts}
 use Rattle.model.specs.Operator.{Removal, removed_now, removed_before, no_object, removal_of, after_removal, retire_outcome, Reports, by_success, by_fault}
 use Rattle.model.specs.Steps.{retires}
-use Rattle.tables.specs.declared.Store.{Store}
 use Rattle.tables.specs.declared.fault.StoreFault.{StoreFault}
 use Rattle.tables.specs.declared.fault.StoreFault.TheVariants as tables
 use Rattle.operator.specs.Failing.{Fails, IsOutput}
 use Rattle.operator.specs.Faults.{of_store}
 use Rattle.operator.specs.Removals.{IsGone, IsRemovalFault, IsRemovalOf, IsRemoved, IsReportFault}
-use Rattle.operator.specs.declared.faults.TaskFault.{TaskFault}
 use Rattle.operator.proofs.Failing.{fails_after, fails_before, output_follows}
 
 -- what a removal reports is what became of the object

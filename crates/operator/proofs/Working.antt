@@ -1,8 +1,5 @@
 -- Calls that lead a store by the steps of a run, one after another; for proofs in other crates too.
-use Rattle.operator.proofs.Prelude.{⊤, ◌≡◌, inl, inr, List, [], ◌∷◌, ◌++◌, Result, Ok, Err, refl, sym, ap, subst, World, Event, Run, Bound, bound_after, reports_are_true, run_append, IsBoundedBy, Leads, Keeps, Takes, From, from_weaker, Work, takes, keeps, steps_of, bound_of_works, Works}
-use Rattle.sqlite_trees.specs.declared.store.Store.{Ghosts}
-use Rattle.tables.specs.declared.Store.{Store}
-use Rattle.operator.specs.declared.faults.TaskFault.{TaskFault}
+use Rattle.operator.proofs.Prelude.{⊤, ◌≡◌, inl, inr, List, [], ◌∷◌, ◌++◌, Result, Ok, Err, refl, sym, ap, subst, World, Event, Run, Bound, bound_after, reports_are_true, run_append, IsBoundedBy, Leads, Keeps, Takes, From, from_weaker, Work, takes, keeps, steps_of, bound_of_works, Works, Ghosts, Store, TaskFault}
 use Rattle.operator.specs.declared.tasks.Task.{Task}
 use Rattle.operator.specs.declared.tasks.Task.TheVariants.{Issue, Prune, May, CheckPush, Foresee, ListLocks, ListObjects, ListTokens, Usage, CheckObjects, Repair, Sweep, Retire}
 use Rattle.operator.specs.Failing.{Attempts}

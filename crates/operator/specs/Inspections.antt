@@ -1,9 +1,14 @@
 -- What an inspection of objects leaves, and how it shows how far it is.
-use Rattle.std.specs.Prelude.{◌≡◌, ◌++◌, ℕ, List, codes, decimal, ⊤}
+use Rattle.std.specs.Prelude.{◌≡◌, ◌≤◌, ◌++◌, ℕ, List, vec_len, codes, decimal, ⊤}
 use Rattle.sqlite_trees.specs.declared.store.Store.{Ghosts}
 use Rattle.tables.specs.declared.Store.{Store}
 use Rattle.refinement.specs.Left.{Reads}
+use Rattle.operator.specs.Lines.{count_line}
+use Rattle.operator.specs.declared.inspecting.Advance.{Advance}
+use Rattle.operator.specs.declared.inspecting.Advance.TheVariants.{Damaged, Done}
 use Rattle.operator.specs.declared.inspecting.Inspection.{Inspection}
+use Rattle.operator.specs.declared.inspecting.Purpose.{Purpose}
+use Rattle.operator.specs.declared.inspecting.Purpose.TheVariants.{Check, Repair}
 
 -- how far an inspection is, for people
 abbrev pub progress_text : (count all : ℕ) → List ℕ
@@ -13,3 +18,18 @@ progress_text count all = codes "checked " ++ decimal count ++ codes " of " ++ d
 pub record Spares {S : Type 0} (g : Ghosts S) (old new : Store S) (was is : Inspection) : Type 0 where
   pub reads : Reads g old new (λ _. ⊤)
   pub none : is.damaged ≡ was.damaged
+
+-- the last line of an inspection: how many objects there were when it began, or how many were removed
+abbrev pub inspected_line : Purpose → (all damaged : ℕ) → List ℕ
+inspected_line Check all damaged = count_line (codes "checked") all (codes "objects")
+inspected_line Repair all damaged = count_line (codes "removed") damaged (codes "objects")
+
+-- no object is reported as damaged
+abbrev pub IsQuiet : Advance → Type 0
+IsQuiet (Damaged line) = ⊥
+IsQuiet _ = ⊤
+
+-- an inspection is done only if it has gone over all objects that were stored when it began
+abbrev pub IsDoneAtEnd : Inspection → Advance → Type 0
+IsDoneAtEnd is Done = vec_len is.rows ≤ is.next
+IsDoneAtEnd is _ = ⊤

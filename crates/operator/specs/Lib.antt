@@ -15,3 +15,4 @@ pub mod Tokens
 pub mod Columns
 pub mod Usage
 pub mod Inspections
+pub mod Printed

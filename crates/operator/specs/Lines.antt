@@ -1,5 +1,5 @@
 -- What the commands print.
-use Rattle.std.specs.Prelude.{ℕ, ◌++◌, List, take, Option, Some, None, codes, decimal}
+use Rattle.std.specs.Prelude.{ℕ, ◌++◌, List, [], take, Option, Some, None, codes, decimal}
 use Rattle.hex.specs.Hex.{encode_lower}
 use Rattle.names.specs.Rules.{row_of}
 use Rattle.names.specs.declared.operations.Operation.{Operation}
@@ -8,6 +8,7 @@ use Rattle.names.specs.declared.rules.Rule.{Rule}
 use Rattle.model.specs.Policy as model
 use Rattle.model.specs.Answers.{Action}
 use Rattle.model.specs.Batch.{lfs_href}
+use Rattle.model.specs.Operator.{Removal, removed_now, removed_before, no_object}
 use Rattle.model.specs.World.{Lock}
 use Rattle.model.specs.PushChecks.{PushVerdict, free, denied_by, locked_by}
 
@@ -57,3 +58,17 @@ reply_line status None = decimal status ++ codes " ok"
 -- the line of the object that a reply sends
 abbrev pub content_line : List ℕ → ℕ → List ℕ
 content_line name size = codes "content " ++ name ++ codes " " ++ decimal size
+
+-- the line with a number: a verb, the number, and what is counted
+abbrev pub count_line : (verb : List ℕ) (count : ℕ) (noun : List ℕ) → List ℕ
+count_line verb count noun = verb ++ codes " " ++ decimal count ++ codes " " ++ noun
+
+-- the words for an object that was removed for good, now or before
+abbrev pub retired_words : Removal → List ℕ
+retired_words removed_now = codes "retired"
+retired_words removed_before = codes "already retired"
+retired_words no_object = []
+
+-- the line of an object that was removed for good
+abbrev pub retired_line : Removal → (name : List ℕ) → List ℕ
+retired_line given name = retired_words given ++ codes " " ++ name

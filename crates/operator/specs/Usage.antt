@@ -1,14 +1,17 @@
 -- What a repository uses.
 use Rattle.std.specs.Prelude.{◌≡◌, ℕ, ℤ, pos, ◌*◌, ◌/◌, ◌==◌, ◌++◌, List, [], ◌∷◌, length, find, Option, Some, None, option_map, if◌then◌else◌, codes, decimal}
+use Rattle.std.specs.List.{AllZip}
 use Rattle.sqlite_trees.specs.declared.store.Store.{Ghosts}
-use Rattle.names.specs.Names.{repo_text}
+use Rattle.policy.specs.Values.{repo_view}
 use Rattle.policy.specs.declared.repos.Repo.{Repo}
+use Rattle.model.specs.Policy as model
 use Rattle.model.specs.World.{World, total}
 use Rattle.model.specs.RepoState.{locks_of, objects_of}
 use Rattle.tables.specs.Rows.{Tables}
 use Rattle.tables.specs.Shown.{IsHonest, IsOpen, shown}
 use Rattle.tables.specs.Statements.{is_staged_in}
 use Rattle.tables.specs.declared.Store.{Store}
+use Rattle.operator.specs.Columns.{table_lines}
 use Rattle.operator.specs.Tokens.{valid_in}
 use Rattle.operator.specs.declared.counting.Usage.{Usage}
 
@@ -55,7 +58,21 @@ usage_cells repo quota u =
     ∷ decimal u.locks ∷ decimal u.tokens ∷ []
 
 -- the texts are those in the line of the repository, by what it uses
+abbrev pub IsLine : {S : Type 0} (g : Ghosts S) → World → Store S → (now : ℕ) → model.Repo → List (List ℕ) → Type 0
+IsLine g world s now repo texts =
+    (usage : Usage) × Uses g world s repo.name now usage × (texts ≡ usage_cells repo.name repo.quota usage)
+
+-- the same of a repository of a policy
 abbrev pub IsLineOf : {S : Type 0} (g : Ghosts S) → World → Store S → (now : ℕ) → Repo → List (List ℕ) → Type 0
-IsLineOf g world s now repo texts =
-    (usage : Usage) × Uses g world s (repo_text repo.name) now usage
-    × (texts ≡ usage_cells (repo_text repo.name) repo.quota usage)
+IsLineOf g world s now repo texts = IsLine g world s now (repo_view repo) texts
+
+-- the headings of the columns
+abbrev pub usage_headings : List (List ℕ)
+usage_headings =
+    codes "repository" ∷ codes "objects" ∷ codes "bytes" ∷ codes "quota" ∷ codes "share" ∷ codes "staged" ∷ codes "locks"
+    ∷ codes "tokens" ∷ []
+
+-- the table of what each of the repositories uses, in their order
+abbrev pub ListsUsage : {S : Type 0} (g : Ghosts S) → World → Store S → (now : ℕ) → List model.Repo → List ℕ → Type 0
+ListsUsage g world s now repos text =
+    (rows : List (List (List ℕ))) × AllZip (IsLine g world s now) repos rows × (text ≡ table_lines usage_headings rows)

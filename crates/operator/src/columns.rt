@@ -1,7 +1,8 @@
 //! Tables with aligned columns.
 
 ghost use Rattle.std.specs.Prelude.{◌≡◌, ◌++◌, map, replicate, string_bytes, IfOk, OnOk};
-ghost use Rattle.operator.specs.Columns.{aligned, at_right};
+ghost use Rattle.operator.specs.Columns.{aligned, at_right, table_lines, widened, widths_of};
+ghost use Rattle.operator.specs.Texts.{text_of};
 
 use crate::output::Lines;
 use std::alloc::{AllocError, Global};
@@ -13,14 +14,18 @@ pub(crate) const COLUMNS: usize = 8;
 pub(crate) type Cells = [String; COLUMNS];
 
 /// Makes each column as wide as its text.
-fn widen(widths: &mut [usize; COLUMNS], row: &Cells) {
-    for (width, cell) in widths.iter_mut().zip(row) {
-        *width = (*width).max(cell.len());
+fn widen(widths: &mut [usize; COLUMNS], row: &Cells)
+    ensures { widths.new ≡ widened widths.old (map string_bytes row.now) }
+{
+    for column in 0..COLUMNS {
+        widths[column] = widths[column].max(row[column].len());
     }
 }
 
 /// The widths of the columns: of each the length of its longest text.
-fn widths_of(rows: &[Cells]) -> [usize; COLUMNS] {
+fn widths_of(rows: &[Cells]) -> [usize; COLUMNS]
+    ensures { result ≡ widths_of (map (map string_bytes) rows.now) }
+{
     let mut widths = [0; COLUMNS];
     for row in rows {
         widen(&mut widths, row);
@@ -66,11 +71,10 @@ fn aligned(alloc: Global, widths: &[usize; COLUMNS], row: &Cells) -> Result<Stri
 }
 
 /// A line of headings and a line for each row, with aligned columns.
-pub(crate) fn lines_of(
-    alloc: Global,
-    headings: &Cells,
-    rows: &[Cells],
-) -> Result<Lines, AllocError> {
+pub(crate) fn lines_of(alloc: Global, headings: &Cells, rows: &[Cells]) -> Result<Lines, AllocError>
+    ensures { IfOk result (λ lines. text_of lines
+        ≡ table_lines (map string_bytes headings.now) (map (map string_bytes) rows.now)) }
+{
     let mut widths = widths_of(rows);
     widen(&mut widths, headings);
     let mut lines = Lines::new(alloc);

@@ -1,9 +1,12 @@
 //! Foresees the reply to a request of a user.
 
-ghost use Rattle.std.specs.Prelude.{◌≡◌, IfErr, OnOk, MatchResult};
+ghost use Rattle.std.specs.Prelude.{◌≡◌, ℕ, List, IfErr, IfOk, OnOk, MatchResult};
+ghost use Rattle.std.specs.Io.KnownBytes.{Appends};
 ghost use Rattle.refinement.specs.Left.{Reads};
 ghost use Rattle.operator.specs.Foresights.{Foretells, HasForetold, IsReplyFault};
+ghost use Rattle.operator.specs.Printed.{PrintsForeseen, reply_lines};
 ghost use Rattle.operator.specs.Tasks.{IsForesightFault};
+ghost use Rattle.operator.specs.Texts.{text_of};
 
 use crate::escapes::{Destination, shown};
 use crate::faults::TaskFault;
@@ -48,7 +51,9 @@ fn reply_to<S: Alter>(
 }
 
 /// The lines of the reply.
-fn lines_of(alloc: Global, reply: &Reply, destination: Destination) -> Result<Lines, AllocError> {
+fn lines_of(alloc: Global, reply: &Reply, destination: Destination) -> Result<Lines, AllocError>
+    ensures { IfOk result (λ lines. text_of lines ≡ reply_lines destination reply.now) }
+{
     let mut lines = Lines::new(alloc);
     lines.push(reply_line(alloc, reply)?.as_bytes())?;
     match &reply.body {
@@ -80,6 +85,9 @@ pub(crate) fn print_foreseen<S: Alter, K: Sink>(
 ) -> Result<(), TaskFault>
     ensures reads { Reads S.Store store.old store.new (λ world. MatchResult result
         (λ _. HasForetold world asked.entry.now) (IsForesightFault world asked.entry.now)) }
+    ensures printed { Reads S.Store store.old store.new (λ world. OnOk result ((text : List ℕ)
+        × PrintsForeseen destination world asked.entry.now text
+        × Appends (K.taken output.old) (K.taken output.new) text)) }
     ensures good { OnOk result (K.failed output.new ≡ K.failed output.old) }
 {
     let reply = reply_to(alloc, store, asked)?;

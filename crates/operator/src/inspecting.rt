@@ -1,11 +1,15 @@
 //! Hashes every stored object again, some of them at a time.
 
-ghost use Rattle.std.specs.Prelude.{◌≡◌, ⊤, false, true, string_bytes, vec_len, IfErr, IfOk, IfSome, OnOk};
+ghost use Rattle.std.specs.Prelude.{◌≡◌, ⊤, false, length, true, string_bytes, vec_len, IfErr, IfOk, IfSome, OnOk};
+ghost use Rattle.std.specs.Io.KnownBytes.{Appends};
 ghost use Rattle.tables.specs.Shown.{IsHonest};
 ghost use Rattle.refinement.specs.Left.{From, Reads};
 ghost use Rattle.operator.specs.Damage.{IsWhole};
 ghost use Rattle.operator.specs.Failing.{IsPlain};
-ghost use Rattle.operator.specs.Inspections.{Spares, progress_text};
+ghost use Rattle.operator.specs.Inspections.{IsDoneAtEnd, IsQuiet, Spares, inspected_line, progress_text};
+ghost use Rattle.operator.specs.Listed.{line};
+ghost use Rattle.operator.specs.Printed.{IfWritten};
+ghost use Rattle.uploads.specs.Listing.{Lists};
 
 use crate::checking::{Progress, is_damaged};
 use crate::faults::TaskFault;
@@ -233,6 +237,8 @@ impl Inspection {
         ensures reads { Reads S.Store store.old store.new (λ _. ⊤) }
         ensures purpose { IfOk result (λ inspection. inspection.purpose ≡ purpose) }
         ensures none { IfOk result (λ inspection. inspection.damaged ≡ 0) }
+        ensures all { Reads S.Store store.old store.new (λ world. IfOk result
+            (λ inspection. Lists S.Store world store.new None inspection.rows.items)) }
         ensures err { IfErr result IsPlain }
     {
         let rows = uploads::all(alloc, store, None)?;
@@ -263,6 +269,9 @@ impl Inspection {
             Spares S.Store store.old store.new self.old self.new) }
         ensures reads { self.old.purpose ≡ Purpose.Check → Reads S.Store store.old store.new (λ _. ⊤) }
         ensures purpose { self.new.purpose ≡ self.old.purpose }
+        ensures rows { self.new.rows ≡ self.old.rows }
+        ensures quiet { From S.Store store.old store.new (λ _. IfOk result IsQuiet) }
+        ensures done { IfOk result (IsDoneAtEnd self.new) }
         ensures err { IfErr result IsPlain }
     {
         let mut spent = 0u64;
@@ -309,6 +318,8 @@ impl Inspection {
     ///
     /// `Output` if it could not be written, and `Reported` if a check found an object damaged.
     pub fn finish<K: Sink>(&self, output: &mut K) -> Result<(), TaskFault>
+        ensures text { IfWritten result (Appends (K.taken output.old) (K.taken output.new)
+            (line (inspected_line self.now.purpose (vec_len self.now.rows) self.now.damaged))) }
         ensures good { OnOk result (K.failed output.new ≡ K.failed output.old) }
         ensures err { self.now.damaged ≡ 0 → IfErr result IsPlain }
     {
@@ -341,6 +352,9 @@ pub(crate) fn inspect_all<S: Alter, K: Sink>(
     ensures world { From S.Store store.old store.new (λ _.
         Reads S.Store store.old store.new (λ _. ⊤) × IfErr result IsPlain) }
     ensures reads { purpose ≡ Purpose.Check → Reads S.Store store.old store.new (λ _. ⊤) }
+    ensures printed { From S.Store store.old store.new (λ world. OnOk result
+        (Appends (K.taken output.old) (K.taken output.new)
+        (line (inspected_line purpose (length world.objects) 0)))) }
     ensures good { OnOk result (K.failed output.new ≡ K.failed output.old) }
 {
     let mut inspection = Inspection::begin(alloc, store, purpose, false)?;

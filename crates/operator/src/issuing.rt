@@ -1,6 +1,7 @@
 //! Issues a token for a user, as a Git LFS client asks for one over SSH.
 
 ghost use Rattle.std.specs.Prelude.{◌≡◌, ℕ, List, IfOk, IfSome, OnOk, MatchResult, string_bytes};
+ghost use Rattle.std.specs.Io.KnownBytes.{Appends};
 ghost use Rattle.serde_json.specs.Written.{compact_text};
 ghost use Rattle.names.specs.Names.{repo_text};
 ghost use Rattle.model.specs.Replies.{action_data};
@@ -8,6 +9,7 @@ ghost use Rattle.policy.specs.Values.{policy_view};
 ghost use Rattle.operator.specs.Failing.{Fails, IsIssueOf, IsTokenFault};
 ghost use Rattle.operator.specs.Lines.{token_action};
 ghost use Rattle.operator.specs.Paths.{HasRepo, IsRepoAt};
+ghost use Rattle.operator.specs.Printed.{PrintsToken};
 ghost use Rattle.refinement.specs.Left.{From};
 ghost use Rattle.tokens.specs.Issuing.{Issues};
 
@@ -79,6 +81,9 @@ pub(crate) fn grant<S: Alter, K: Sink>(
         (λ _. (text : List ℕ) × Issues S.Store world store.old store.new asked.entry.now text)
         (λ fault. Fails S.Store (IsIssueOf asked.entry.now) ⊥ store.old store.new world
         × IsTokenFault world asked.entry.now fault)) }
+    ensures printed { From S.Store store.old store.new (λ world. OnOk result ((text : List ℕ)
+        × PrintsToken world policy.now asked.entry.now text
+        × Appends (K.taken output.old) (K.taken output.new) text)) }
     ensures good { OnOk result (K.failed output.new ≡ K.failed output.old) }
 {
     let token = offer(alloc, store, asked)?;

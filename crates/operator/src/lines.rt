@@ -2,7 +2,7 @@
 
 ghost use Rattle.std.specs.Prelude.{◌≡◌, ℕ, List, IfOk, string_bytes};
 ghost use Rattle.names.specs.Names.{path_text, repo_text, user_text};
-ghost use Rattle.names.specs.Moments.{IsMomentText};
+ghost use Rattle.model.specs.Moments.{moment_text};
 ghost use Rattle.pushcheck.specs.Verdicts.{verdict_view};
 ghost use Rattle.locks.specs.Finding.{lock_seen};
 ghost use Rattle.operator.specs.Lines.{content_line, damage_line, lock_line, object_line, operation_word, removal_line, reply_line, valid_token_line, verdict_line};
@@ -49,8 +49,8 @@ pub(crate) fn shown_verdict(
 
 /// The line of a lock.
 fn lock_line(alloc: Global, row: &Lock) -> Result<String, AllocError>
-    ensures { IfOk result (λ text. (moment : List ℕ) × IsMomentText row.now.moment moment
-        × ((repo : List ℕ) → string_bytes text ≡ lock_line (lock_seen repo row.now) moment)) }
+    ensures { IfOk result (λ text. (repo : List ℕ)
+        → string_bytes text ≡ lock_line (lock_seen repo row.now) (moment_text row.now.moment)) }
 {
     let moment = moment_text(alloc, row.moment)?;
     let (id, name, owner) = (row.id.get(), row.ref_name.as_str(), row.owner.as_str());
@@ -64,9 +64,8 @@ pub(crate) fn shown_lock(
     row: &Lock,
     destination: Destination,
 ) -> Result<Vec<u8>, AllocError>
-    ensures { IfOk result (λ bytes. (moment : List ℕ) × IsMomentText row.now.moment moment
-        × ((repo : List ℕ)
-        → bytes.items ≡ shown destination (lock_line (lock_seen repo row.now) moment))) }
+    ensures { IfOk result (λ bytes. (repo : List ℕ) → bytes.items
+        ≡ shown destination (lock_line (lock_seen repo row.now) (moment_text row.now.moment))) }
 {
     let line = lock_line(alloc, row)?;
     shown(alloc, line.as_bytes(), destination)
@@ -92,9 +91,8 @@ fn operation_word(operation: Operation) -> &'static str
 
 /// The line of a valid token. It has only the first 8 digits of the digest.
 fn valid_token_line(alloc: Global, row: &TokenRow) -> Result<String, AllocError>
-    ensures { IfOk result (λ text. (moment : List ℕ) × IsMomentText row.now.expires moment
-        × (string_bytes text
-        ≡ valid_token_line (user_text row.now.user) row.now.operation moment row.now.digest)) }
+    ensures { IfOk result (λ text. string_bytes text ≡ valid_token_line
+        (user_text row.now.user) row.now.operation (moment_text row.now.expires) row.now.digest) }
 {
     let (user, operation) = (row.user.as_str(), operation_word(row.operation));
     let moment = moment_text(alloc, row.expires)?;
@@ -108,9 +106,8 @@ pub(crate) fn shown_token(
     row: &TokenRow,
     destination: Destination,
 ) -> Result<Vec<u8>, AllocError>
-    ensures { IfOk result (λ bytes. (moment : List ℕ) × IsMomentText row.now.expires moment
-        × (bytes.items ≡ shown destination
-        (valid_token_line (user_text row.now.user) row.now.operation moment row.now.digest))) }
+    ensures { IfOk result (λ bytes. bytes.items ≡ shown destination (valid_token_line
+        (user_text row.now.user) row.now.operation (moment_text row.now.expires) row.now.digest)) }
 {
     let line = valid_token_line(alloc, row)?;
     shown(alloc, line.as_bytes(), destination)

@@ -1,8 +1,15 @@
 //! Lists the objects of a repository.
 
-ghost use Rattle.std.specs.Prelude.{◌≡◌, ⊤, IfErr, OnOk};
+ghost use Rattle.std.specs.Prelude.{◌≡◌, flat_map, IfErr, IfOk, OnOk};
+ghost use Rattle.std.specs.Io.KnownBytes.{Appends};
+ghost use Rattle.names.specs.Names.{repo_text};
+ghost use Rattle.model.specs.RepoState.{objects_of};
 ghost use Rattle.refinement.specs.Left.{Reads};
 ghost use Rattle.operator.specs.Failing.{IsPlain};
+ghost use Rattle.operator.specs.Lines.{object_line};
+ghost use Rattle.operator.specs.Listed.{line};
+ghost use Rattle.operator.specs.Printed.{object_lines};
+ghost use Rattle.operator.specs.Texts.{text_of};
 
 use crate::faults::TaskFault;
 use crate::lines::object_line;
@@ -13,7 +20,10 @@ use tables::{Alter, Store};
 use uploads::Stored;
 
 /// A line for each object.
-fn lines_of(alloc: Global, rows: &[Stored]) -> Result<Lines, AllocError> {
+fn lines_of(alloc: Global, rows: &[Stored]) -> Result<Lines, AllocError>
+    ensures { IfOk result (λ lines. text_of lines
+        ≡ flat_map (λ row. line (object_line row.oid row.size)) rows.now) }
+{
     let mut lines = Lines::new(alloc);
     for row in rows {
         lines.push(object_line(alloc, row)?.as_bytes())?;
@@ -32,7 +42,9 @@ pub(crate) fn list_objects<S: Alter, K: Sink>(
     repo: &RepoName,
     output: &mut K,
 ) -> Result<(), TaskFault>
-    ensures reads { Reads S.Store store.old store.new (λ _. ⊤) }
+    ensures reads { Reads S.Store store.old store.new (λ world. OnOk result
+        (Appends (K.taken output.old) (K.taken output.new)
+        (object_lines (objects_of (repo_text repo.now) world)))) }
     ensures good { OnOk result (K.failed output.new ≡ K.failed output.old) }
     ensures err { IfErr result IsPlain }
 {

@@ -1,9 +1,12 @@
 //! Lists the valid tokens of a repository.
 
-ghost use Rattle.std.specs.Prelude.{◌≡◌, ⊤, filter, nat_lt, IfErr, IfOk, IsPermutation, IsSorted, OnOk};
+ghost use Rattle.std.specs.Prelude.{◌≡◌, ℕ, List, filter, nat_lt, IfErr, IfOk, IsPermutation, IsSorted, OnOk};
+ghost use Rattle.std.specs.Io.KnownBytes.{Appends};
 ghost use Rattle.names.specs.Names.{repo_text};
 ghost use Rattle.refinement.specs.Left.{Reads};
 ghost use Rattle.operator.specs.Failing.{IsPlain};
+ghost use Rattle.operator.specs.Printed.{ListsTokens, token_lines};
+ghost use Rattle.operator.specs.Texts.{text_of};
 ghost use Rattle.operator.specs.Tokens.{AreValid, token_cmp};
 
 use crate::escapes::Destination;
@@ -83,11 +86,9 @@ fn listed_tokens<S: Alter>(
 }
 
 /// A line for each token.
-fn lines_of(
-    alloc: Global,
-    rows: &[TokenRow],
-    destination: Destination,
-) -> Result<Lines, AllocError> {
+fn lines_of(alloc: Global, rows: &[TokenRow], destination: Destination) -> Result<Lines, AllocError>
+    ensures { IfOk result (λ lines. text_of lines ≡ token_lines destination rows.now) }
+{
     let mut lines = Lines::new(alloc);
     for row in rows {
         lines.push(shown_token(alloc, row, destination)?.as_slice())?;
@@ -109,7 +110,9 @@ pub(crate) fn list_tokens<S: Alter, K: Sink>(
     destination: Destination,
     output: &mut K,
 ) -> Result<(), TaskFault>
-    ensures reads { Reads S.Store store.old store.new (λ _. ⊤) }
+    ensures reads { Reads S.Store store.old store.new (λ world. OnOk result ((text : List ℕ)
+        × ListsTokens destination (repo_text repo.now) now world text
+        × Appends (K.taken output.old) (K.taken output.new) text)) }
     ensures good { OnOk result (K.failed output.new ≡ K.failed output.old) }
     ensures err { IfErr result IsPlain }
 {

@@ -1,11 +1,12 @@
 //! Lists what each repository of a policy uses.
 
-ghost use Rattle.std.specs.Prelude.{◌≡◌, ⊤, map, IfErr, IfOk, OnOk, string_bytes};
+ghost use Rattle.std.specs.Prelude.{◌≡◌, ℕ, List, map, IfErr, IfOk, OnOk, string_bytes};
+ghost use Rattle.std.specs.Io.KnownBytes.{Appends};
 ghost use Rattle.std.specs.List.{AllZip};
-ghost use Rattle.policy.specs.Values.{repo_view};
+ghost use Rattle.policy.specs.Values.{policy_view, repo_view};
 ghost use Rattle.refinement.specs.Left.{Reads};
 ghost use Rattle.operator.specs.Failing.{IsPlain};
-ghost use Rattle.operator.specs.Usage.{IsLineOf, share, share_text, size_text, usage_cells};
+ghost use Rattle.operator.specs.Usage.{IsLineOf, ListsUsage, share, share_text, size_text, usage_cells, usage_headings};
 
 use crate::columns::{Cells, lines_of};
 use crate::counting::{Usage, usage_of};
@@ -62,7 +63,9 @@ fn cells_of(alloc: Global, repo: &Repo, usage: &Usage) -> Result<Cells, AllocErr
 }
 
 /// The line of headings.
-fn headings(alloc: Global) -> Result<Cells, AllocError> {
+fn headings(alloc: Global) -> Result<Cells, AllocError>
+    ensures { IfOk result (λ cells. map string_bytes cells ≡ usage_headings) }
+{
     Ok([
         "repository".to_owned(alloc)?,
         "objects".to_owned(alloc)?,
@@ -109,7 +112,10 @@ pub(crate) fn list_usage<S: Alter, K: Sink>(
     now: Moment,
     output: &mut K,
 ) -> Result<(), TaskFault>
-    ensures reads { Reads S.Store store.old store.new (λ _. ⊤) }
+    ensures reads { Reads S.Store store.old store.new (λ world. OnOk result
+        ((text : List ℕ)
+        × ListsUsage S.Store world store.new now (policy_view policy.now).repos text
+        × Appends (K.taken output.old) (K.taken output.new) text)) }
     ensures good { OnOk result (K.failed output.new ≡ K.failed output.old) }
     ensures err { IfErr result IsPlain }
 {

@@ -2,6 +2,8 @@
 
 ghost use Rattle.std.specs.Prelude.{◌≡◌, ◌++◌, [], ◌∷◌, IfErr, OnOk};
 ghost use Rattle.std.specs.Io.KnownBytes.{Appends};
+ghost use Rattle.operator.specs.Lines.{count_line};
+ghost use Rattle.operator.specs.Listed.{line};
 ghost use Rattle.operator.specs.Texts.{text_of};
 ghost use Rattle.operator.specs.declared.faults.TaskFault.TheVariants.{Output};
 
@@ -39,6 +41,8 @@ pub(crate) fn print_count<K: Sink>(
     count: u64,
     noun: &str,
 ) -> Result<(), TaskFault>
+    ensures text { OnOk result (Appends (K.taken output.old) (K.taken output.new)
+        (line (count_line verb.now count noun.now))) }
     ensures good { OnOk result (K.failed output.new ≡ K.failed output.old) }
     ensures err { IfErr result (λ fault. fault ≡ Output) }
 {

@@ -1,7 +1,9 @@
 //! Says whether Git may begin for a user.
 
-ghost use Rattle.std.specs.Prelude.{◌≡◌, ◌++◌, ◌∷◌, [], codes, true, OnOk, MatchResult};
+ghost use Rattle.std.specs.Prelude.{◌≡◌, codes, true, if◌then◌else◌, OnOk, MatchResult};
 ghost use Rattle.std.specs.Io.KnownBytes.{Appends};
+ghost use Rattle.operator.specs.Listed.{line};
+ghost use Rattle.operator.specs.Printed.{IfWritten};
 ghost use Rattle.operator.specs.Tasks.{IsAccessFault, may_begin};
 
 use crate::faults::TaskFault;
@@ -41,8 +43,8 @@ pub(crate) fn print_access<K: Sink>(
     output: &mut K,
 ) -> Result<(), TaskFault>
     ensures may { MatchResult result (λ _. may_begin asked.now ≡ true) (IsAccessFault asked.now) }
-    ensures text { OnOk result
-        (Appends (K.taken output.old) (K.taken output.new) (codes "yes" ++ 10 ∷ [])) }
+    ensures text { IfWritten result (Appends (K.taken output.old) (K.taken output.new)
+        (line (if may_begin asked.now then codes "yes" else codes "no"))) }
     ensures good { OnOk result (K.failed output.new ≡ K.failed output.old) }
 {
     if asked.may_begin() {

@@ -1,10 +1,14 @@
 //! Removes the tokens that have expired.
 
-ghost use Rattle.std.specs.Prelude.{◌≡◌, ℕ, Option, OnOk, Ok, MatchResult};
+ghost use Rattle.std.specs.Prelude.{◌≡◌, ℕ, Option, codes, OnOk, Ok, MatchResult};
+ghost use Rattle.std.specs.Io.KnownBytes.{Appends};
 ghost use Rattle.model.specs.Steps.{prunes};
+ghost use Rattle.model.specs.World.{expired_count};
 ghost use Rattle.refinement.specs.Left.{From};
 ghost use Rattle.tokens.specs.Pruning.{Prunes};
 ghost use Rattle.operator.specs.Failing.{Fails, IsOutput, IsPlain};
+ghost use Rattle.operator.specs.Lines.{count_line};
+ghost use Rattle.operator.specs.Listed.{line};
 
 use crate::faults::TaskFault;
 use crate::output::print_count;
@@ -26,6 +30,9 @@ pub(crate) fn prune<S: Alter, K: Sink>(
         (λ _. (n : ℕ) × Prunes S.Store world now store.old store.new (Ok n))
         (λ fault. Fails S.Store (λ event. (given : Option ℕ) × (event ≡ prunes now given))
         (IsOutput fault) store.old store.new world × IsPlain fault)) }
+    ensures printed { From S.Store store.old store.new (λ world. OnOk result
+        (Appends (K.taken output.old) (K.taken output.new)
+        (line (count_line (codes "pruned") (expired_count now world) (codes "tokens"))))) }
     ensures good { OnOk result (K.failed output.new ≡ K.failed output.old) }
 {
     let count = tokens::prune(store, now)?;

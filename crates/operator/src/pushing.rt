@@ -1,10 +1,17 @@
 //! Checks the paths of a push.
 
-ghost use Rattle.std.specs.Prelude.{◌≡◌, true, OnOk, MatchResult};
+ghost use Rattle.std.specs.Prelude.{◌≡◌, true, flat_map, zip, IfOk, OnOk, MatchResult};
+ghost use Rattle.std.specs.Io.KnownBytes.{Appends};
 ghost use Rattle.std.specs.List.{list_all};
+ghost use Rattle.names.specs.Names.{path_text};
 ghost use Rattle.refinement.specs.Left.{Reads};
 ghost use Rattle.pushcheck.specs.Verdicts.{verdict_view};
+ghost use Rattle.operator.specs.Escapes.{shown};
+ghost use Rattle.operator.specs.Lines.{verdict_line};
+ghost use Rattle.operator.specs.Listed.{line};
+ghost use Rattle.operator.specs.Printed.{IfWritten, verdict_lines};
 ghost use Rattle.operator.specs.Tasks.{IsPushFault, is_free, may_push};
+ghost use Rattle.operator.specs.Texts.{text_of};
 
 use crate::escapes::Destination;
 use crate::faults::TaskFault;
@@ -54,7 +61,11 @@ fn lines_of(
     paths: &[LockPath],
     verdicts: &[PushVerdict],
     destination: Destination,
-) -> Result<Lines, AllocError> {
+) -> Result<Lines, AllocError>
+    ensures { IfOk result (λ lines. text_of lines ≡ flat_map
+        (λ p. line (shown destination (verdict_line (path_text p.0) (verdict_view p.1))))
+        (zip paths.now verdicts.now)) }
+{
     let mut lines = Lines::new(alloc);
     for (path, verdict) in paths.iter().zip(verdicts) {
         lines.push(shown_verdict(alloc, path, verdict, destination)?.as_slice())?;
@@ -76,6 +87,8 @@ pub(crate) fn check_push<S: Alter, K: Sink>(
 ) -> Result<(), TaskFault>
     ensures reads { Reads S.Store store.old store.new (λ world. MatchResult result
         (λ _. may_push world push.now ≡ true) (IsPushFault world push.now)) }
+    ensures printed { Reads S.Store store.old store.new (λ world. IfWritten result
+        (Appends (K.taken output.old) (K.taken output.new) (verdict_lines destination world push.now))) }
     ensures good { OnOk result (K.failed output.new ≡ K.failed output.old) }
 {
     let (policy, user, repo, ref_name) = (push.policy, push.user, push.repo, push.ref_name);

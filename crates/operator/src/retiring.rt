@@ -1,12 +1,15 @@
 //! Removes an object for good.
 
-ghost use Rattle.std.specs.Prelude.{◌≡◌, IfErr, MatchResult, OnOk};
+ghost use Rattle.std.specs.Prelude.{◌≡◌, ◌++◌, codes, IfErr, MatchResult, OnOk};
+ghost use Rattle.std.specs.Io.KnownBytes.{Appends};
 ghost use Rattle.names.specs.Names.{repo_text};
 ghost use Rattle.model.specs.Operator.{removal_of};
 ghost use Rattle.refinement.specs.Left.{From};
 ghost use Rattle.uploads.specs.Retiring.{removal_seen};
 ghost use Rattle.operator.specs.declared.faults.TaskFault.TheVariants.{Output};
 ghost use Rattle.operator.specs.Failing.{Fails, IsOutput};
+ghost use Rattle.operator.specs.Lines.{retired_line};
+ghost use Rattle.operator.specs.Listed.{line};
 ghost use Rattle.operator.specs.Removals.{IsGone, IsRemovalFault, IsRemovalOf, IsRemoved, IsReportFault};
 
 use crate::faults::TaskFault;
@@ -20,6 +23,8 @@ use uploads::Retired;
 
 /// Prints what became of the object. This needs no memory, so it can be done after the removal.
 fn print_line<K: Sink>(output: &mut K, became: &str, oid: &Oid) -> Result<(), TaskFault>
+    ensures text { OnOk result (Appends (K.taken output.old) (K.taken output.new)
+        (line (became.now ++ codes " " ++ oid.now))) }
     ensures good { OnOk result (K.failed output.new ≡ K.failed output.old) }
     ensures err { IfErr result (λ fault. fault ≡ Output) }
 {
@@ -37,6 +42,8 @@ fn print_line<K: Sink>(output: &mut K, became: &str, oid: &Oid) -> Result<(), Ta
 /// `NoObject` if there was none, and `Output` if the line could not be written.
 fn report<K: Sink>(output: &mut K, oid: &Oid, removal: Retired) -> Result<(), TaskFault>
     ensures gone { OnOk result (IsGone (removal_seen removal)) }
+    ensures text { OnOk result (Appends (K.taken output.old) (K.taken output.new)
+        (line (retired_line (removal_seen removal) oid.now))) }
     ensures err { IfErr result (IsReportFault (removal_seen removal)) }
     ensures good { OnOk result (K.failed output.new ≡ K.failed output.old) }
 {
@@ -66,6 +73,9 @@ pub(crate) fn retire<S: Alter, K: Sink>(
         (λ fault. Fails S.Store (IsRemovalOf (repo_text repo.now) oid.now) (IsOutput fault)
         store.old store.new world
         × IsRemovalFault (removal_of world (repo_text repo.now) oid.now) fault)) }
+    ensures printed { From S.Store store.old store.new (λ world. OnOk result
+        (Appends (K.taken output.old) (K.taken output.new)
+        (line (retired_line (removal_of world (repo_text repo.now) oid.now) oid.now)))) }
     ensures good { OnOk result (K.failed output.new ≡ K.failed output.old) }
 {
     let removal = uploads::retire(alloc, store, repo, *oid)?;

@@ -1,9 +1,11 @@
 //! Removes the uploads that were not completed.
 
-ghost use Rattle.std.specs.Prelude.{◌≡◌, ℕ, OnOk, Ok, MatchResult};
+ghost use Rattle.std.specs.Prelude.{◌≡◌, ℕ, List, OnOk, Ok, MatchResult};
+ghost use Rattle.std.specs.Io.KnownBytes.{Appends};
 ghost use Rattle.refinement.specs.Left.{From, Keeps};
 ghost use Rattle.uploads.specs.Removing.{Sweeps};
 ghost use Rattle.operator.specs.Failing.{IsPlain};
+ghost use Rattle.operator.specs.Printed.{PrintsSwept};
 
 use crate::faults::TaskFault;
 use crate::output::print_count;
@@ -25,6 +27,9 @@ pub(crate) fn sweep<S: Alter, K: Sink>(
     ensures world { From S.Store store.old store.new (λ world. MatchResult result
         (λ _. (n : ℕ) × Sweeps S.Store world store.old store.new (Ok n))
         (λ fault. Keeps S.Store store.old store.new world × IsPlain fault)) }
+    ensures printed { From S.Store store.old store.new (λ _. OnOk result ((text : List ℕ)
+        × PrintsSwept S.Store store.old text
+        × Appends (K.taken output.old) (K.taken output.new) text)) }
     ensures good { OnOk result (K.failed output.new ≡ K.failed output.old) }
 {
     let count = uploads::sweep(alloc, store)?;

@@ -2,6 +2,7 @@
 
 ghost use Rattle.std.specs.Prelude.{◌≡◌, OnOk};
 ghost use Rattle.refinement.specs.Left.{From, KeepsTables};
+ghost use Rattle.operator.specs.Printed.{AppendsOutput, IfWritten};
 ghost use Rattle.operator.specs.Tasks.{IsQuestion, Ran};
 
 use crate::escapes::Destination;
@@ -80,6 +81,9 @@ impl Task<'_> {
     ) -> Result<(), TaskFault>
         ensures world { From S.Store store.old store.new (λ world.
             Ran S.Store store.old store.new world self.now result) }
+        ensures printed { From S.Store store.old store.new (λ world. IfWritten result
+            (AppendsOutput S.Store store.old store.new world destination self.now
+            (K.taken output.old) (K.taken output.new))) }
         ensures tables { IsQuestion self.now → KeepsTables S.Store store.old store.new }
         ensures good { OnOk result (K.failed output.new ≡ K.failed output.old) }
     {

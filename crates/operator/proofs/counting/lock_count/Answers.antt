@@ -1,6 +1,5 @@
-use Rattle.operator.proofs.Prelude.{rules, ◌≡◌, ◌∙◌, ap, sym, length, reads_weaker}
+use Rattle.operator.proofs.Prelude.{rules, ◌≡◌, ◌∙◌, ap, sym, length, reads_weaker, repo_text}
 use Rattle.std.proofs.lemmas.List.{length-map}
-use Rattle.names.specs.Names.{repo_text}
 use Rattle.locks.specs.Finding.{lock_seen}
 use Rattle.operator.proofs.counting.lock_count.Goals as goal
 

@@ -1,5 +1,4 @@
-use Rattle.operator.proofs.Prelude.{rules, ◌≡◌, ◌∙◌, length, reads_weaker}
-use Rattle.names.specs.Names.{repo_text}
+use Rattle.operator.proofs.Prelude.{rules, ◌≡◌, ◌∙◌, length, reads_weaker, repo_text}
 use Rattle.operator.proofs.Counted.{objects_length}
 use Rattle.operator.proofs.counting.object_count.Goals as goal
 

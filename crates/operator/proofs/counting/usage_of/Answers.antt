@@ -1,5 +1,4 @@
-use Rattle.operator.proofs.Prelude.{World, ◌≡◌, length, reads_then}
-use Rattle.names.specs.Names.{repo_text}
+use Rattle.operator.proofs.Prelude.{World, ◌≡◌, length, reads_then, repo_text}
 use Rattle.model.specs.World.{total}
 use Rattle.model.specs.RepoState.{locks_of, objects_of}
 use Rattle.operator.specs.Tokens.{valid_in}

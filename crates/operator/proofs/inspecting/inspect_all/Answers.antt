@@ -1,7 +1,7 @@
-use Rattle.operator.proofs.Prelude.{Err, ⊤, ◌∙◌, err_from_is_err_and, refl, reads_then, subst, sym}
-use Rattle.operator.specs.Failing.{IsPlain}
-use Rattle.operator.proofs.Damaged.{inspected_on, inspected_so}
+use Rattle.operator.proofs.Prelude.{Err, ⊤, ◌∙◌, ap, err_from_is_err_and, from_weaker, refl, reads_lead, reads_then, subst, sym, IsPlain, vec_len}
+use Rattle.operator.proofs.Damaged.{inspected_on, inspected_so, line_printed, rows_length}
 use Rattle.operator.proofs.Failing.{is_output}
+use Rattle.operator.proofs.Printed.{none_on, printed_none}
 use Rattle.operator.specs.declared.faults.TaskFault.TheVariants as refusal
 use Rattle.tables.specs.declared.fault.StoreFault.TheVariants as store
 use Rattle.operator.proofs.inspecting.inspect_all.Goals.{in-More, in-Damaged+in_ok-print-in-Damaged}
@@ -12,6 +12,10 @@ steps-init g c = record {
   world = record { honest = c.begin.ensures.reads.same.was_honest; each = λ honest world h. (c.begin.ensures.reads, c.in_ok-inspection.ensures.none) };
   reads = λ is. c.begin.ensures.reads;
   purpose = c.in_ok-inspection.ensures.purpose;
+  silent = record {
+    honest = c.begin.ensures.reads.same.was_honest;
+    each = λ honest world h. (refl, c.in_ok-inspection.inspection.rows.ok.0 ∙ rows_length g.S.Store world c.begin.new.store c.in_ok-inspection.inspection.rows.items (c.in_ok-inspection.ensures.all.each honest world h));
+  };
   good = refl;
 }
 
@@ -55,6 +59,19 @@ steps-preserved g c = record {
   world = inspected_on g.S.Store c.args.store.now c.steps.store c.advance.new.store c.steps.inspection c.advance.new.self c.steps.invariant.world c.advance.ensures.world;
   reads = λ is. reads_then g.S.Store c.args.store.now c.steps.store c.advance.new.store _ _ _ (λ world laws x y. tt) (c.steps.invariant.reads is) (c.advance.ensures.reads (c.steps.invariant.purpose ∙ is));
   purpose = c.advance.ensures.purpose ∙ c.steps.invariant.purpose;
+  silent = record {
+    honest = λ k. c.steps.invariant.silent.honest (c.advance.ensures.quiet.honest k);
+    each = λ honest world h.
+        let then = c.advance.ensures.quiet.honest honest in
+        let before = c.steps.invariant.silent.each then world h in
+        let held = (reads_lead g.S.Store c.args.store.now c.steps.store _ world (c.steps.invariant.world.each then world h).0 h).holds in
+        let quiet = c.in_ok-advance.ensures.quiet.each honest world held in
+        let rows = ap vec_len c.advance.ensures.rows ∙ before.1 in
+        elim c.match-branch-4.branch [
+          | in-More w ↦ (rw w.output-is before.0, rows)
+          | in-Damaged+in_ok-print-in-Damaged w ↦ absurd (rw w.in-Damaged.is at quiet)
+        ];
+  };
   good =
       elim c.match-branch-4.branch [
         | in-More w ↦ rw w.output-is c.steps.invariant.good
@@ -64,3 +81,38 @@ steps-preserved g c = record {
 
 pub returns-clause-world : goal.returns-clause-world
 returns-clause-world g c = inspected_so g.S.Store {A = ⊤} c.args.store.now c.steps.store c.steps.inspection (Err (refusal.Store store.Refused)) c.steps.invariant.world (λ none. tt)
+
+-- ---- what is written
+
+pub returns-in_err-inspection-clause-printed : goal.returns-in_err-inspection-clause-printed
+returns-in_err-inspection-clause-printed g c = printed_none g.S.Store _ c.args.store.now c.begin.new.store _ (λ world. none_on _ _ c.from_residual.result c.from_residual.ensures.1) c.begin.ensures.reads
+
+pub returns-in_err-progress-clause-printed : goal.returns-in_err-progress-clause-printed
+returns-in_err-progress-clause-printed g c =
+    from_weaker g.S.Store c.args.store.now c.steps.store _ _ (λ world d. none_on _ _ c.from_residual-in_err-progress.result c.from_residual-in_err-progress.ensures.1) c.steps.invariant.world
+
+pub returns-in_err-advance-clause-printed : goal.returns-in_err-advance-clause-printed
+returns-in_err-advance-clause-printed g c = record {
+  honest = λ k. c.steps.invariant.silent.honest (c.advance.ensures.quiet.honest k);
+  each = λ honest world h. none_on _ _ c.from_residual-in_err-advance.result c.from_residual-in_err-advance.ensures.1;
+}
+
+pub returns-in_err-print-in-Damaged-clause-printed : goal.returns-in_err-print-in-Damaged-clause-printed
+returns-in_err-print-in-Damaged-clause-printed g c = record {
+  honest = λ k. c.steps.invariant.silent.honest (c.advance.ensures.quiet.honest k);
+  each = λ honest world h. none_on _ _ c.from_residual-in_err-print-in-Damaged.result c.from_residual-in_err-print-in-Damaged.ensures.1;
+}
+
+pub returns-in-Done-clause-printed : goal.returns-in-Done-clause-printed
+returns-in-Done-clause-printed g c = record {
+  honest = λ k. c.steps.invariant.silent.honest (c.advance.ensures.quiet.honest k);
+  each = λ honest world h.
+      let then = c.advance.ensures.quiet.honest honest in
+      let silent = c.steps.invariant.silent.each then world h in
+      let none = (inspected_on g.S.Store c.args.store.now c.steps.store c.advance.new.store c.steps.inspection c.advance.new.self c.steps.invariant.world c.advance.ensures.world).each honest world h in
+      line_printed (g.K.Sink.taken c.args.output.now) (g.K.Sink.taken c.steps.output) (g.K.Sink.taken c.finish.new.output) _ _ _ _ _ c.finish.result silent.0 (c.advance.ensures.purpose ∙ c.steps.invariant.purpose)
+      (ap vec_len c.advance.ensures.rows ∙ silent.1) none.1 c.finish.ensures.text;
+}
+
+pub returns-clause-printed : goal.returns-clause-printed
+returns-clause-printed g c = from_weaker g.S.Store c.args.store.now c.steps.store _ _ (λ world d. tt) c.steps.invariant.world

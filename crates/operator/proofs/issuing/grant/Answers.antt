@@ -1,6 +1,10 @@
-use Rattle.operator.proofs.Prelude.{◌∙◌, refl, string_bytes, err_from_is_err_and, reads_lead, takes_then}
+use Rattle.operator.proofs.Prelude.{◌∙◌, ℕ, List, ap, refl, subst, string_bytes, err_from_is_err_and, reads_lead, takes_then, Appends, line, repo_text, policy_view}
+use Rattle.serde_json.specs.Written.{compact_text}
+use Rattle.model.specs.Replies.{action_data}
+use Rattle.operator.specs.Lines.{token_action}
 use Rattle.operator.proofs.Failing.{fails_before}
 use Rattle.operator.proofs.Granting.{token_cause, token_memory, token_output, from_offered}
+use Rattle.operator.proofs.Printed.{none_on, printed_none}
 use Rattle.operator.proofs.issuing.grant.Goals as goal
 
 pub returns-in_err-token-clause-world : goal.returns-in_err-token-clause-world
@@ -53,4 +57,42 @@ returns-clause-world g c = record {
           takes = takes_then g.S.Store old mid c.issue.new.store world _ _ lead issued.takes;
         },
       );
+}
+
+-- ---- what is written
+
+pub returns-in_err-token-clause-printed : goal.returns-in_err-token-clause-printed
+returns-in_err-token-clause-printed g c = printed_none g.S.Store _ c.args.store.now c.offer.new.store _ (λ world. none_on _ _ c.from_residual.result c.from_residual.ensures.1) c.offer.ensures
+
+pub returns-in_err-line-clause-printed : goal.returns-in_err-line-clause-printed
+returns-in_err-line-clause-printed g c =
+    printed_none g.S.Store _ c.args.store.now c.offer.new.store _ (λ world. none_on _ _ c.from_residual-in_err-line.result c.from_residual-in_err-line.ensures.1) c.offer.ensures
+
+pub returns-in_err-push-clause-printed : goal.returns-in_err-push-clause-printed
+returns-in_err-push-clause-printed g c =
+    printed_none g.S.Store _ c.args.store.now c.offer.new.store _ (λ world. none_on _ _ c.from_residual-in_err-push.result c.from_residual-in_err-push.ensures.1) c.offer.ensures
+
+pub returns-in_err-print-clause-printed : goal.returns-in_err-print-clause-printed
+returns-in_err-print-clause-printed g c =
+    printed_none g.S.Store _ c.args.store.now c.offer.new.store _ (λ world. none_on _ _ c.from_residual-in_err-print.result c.from_residual-in_err-print.ensures.1) c.offer.ensures
+
+pub returns-in_err-issue-clause-printed : goal.returns-in_err-issue-clause-printed
+returns-in_err-issue-clause-printed g c = record {
+  honest = λ k. c.in_ok-token.ensures.same.was_honest (c.in_err-issue.ensures.honest k);
+  each = λ honest world h. none_on _ _ c.from_residual-in_err-issue.result c.from_residual-in_err-issue.ensures.1;
+}
+
+pub returns-clause-printed : goal.returns-clause-printed
+unfolding lib.Utf8.encode
+returns-clause-printed g c = record {
+  honest = λ k. c.in_ok-token.ensures.same.was_honest (c.in_ok-issue.ensures.honest k);
+  each = λ honest world h. (
+    line (string_bytes c.in_ok-line.line),
+    (
+      string_bytes c.in_ok-token.token,
+      c.in_ok-token.ensures.each (c.in_ok-issue.ensures.honest honest) world h,
+      ap line (c.in_ok-line.ensures ∙ ap (λ (token : List ℕ). compact_text (action_data (token_action (policy_view c.args.policy.now) (repo_text c.args.asked.now.repo.now) token))) c.as_str.ensures.value),
+    ),
+    subst (Appends (g.K.Sink.taken c.args.output.now) (g.K.Sink.taken c.print.new.output)) (c.as_bytes.ensures.value ∙ c.in_ok-push.ensures.bytes) c.in_ok-print.ensures.text,
+  );
 }

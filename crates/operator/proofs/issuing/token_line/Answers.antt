@@ -1,9 +1,7 @@
-use Rattle.operator.proofs.Prelude.{◌≡◌, ◌∙◌, ap, refl, append_assoc, IfOk-weaker}
+use Rattle.operator.proofs.Prelude.{◌≡◌, ◌∙◌, ap, refl, append_assoc, IfOk-weaker, repo_text, policy_view}
 use Rattle.serde_json.specs.Written.{compact_text}
-use Rattle.names.specs.Names.{repo_text}
 use Rattle.model.specs.Answers.{Action}
 use Rattle.model.specs.Replies.{action_data}
-use Rattle.policy.specs.Values.{policy_view}
 use Rattle.operator.specs.Lines.{token_action}
 use Rattle.operator.proofs.issuing.token_line.Goals as goal
 

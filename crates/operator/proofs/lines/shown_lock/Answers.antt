@@ -3,10 +3,4 @@ use Rattle.operator.proofs.lines.shown_lock.Goals as goal
 
 pub returns : goal.returns
 returns c =
-    IfOk-weaker c.shown.result _ _
-    (λ bytes is. (
-      c.in_ok-line.ensures.0,
-      c.in_ok-line.ensures.1,
-      λ repo. is ∙ ap (shown c.args.destination) (c.as_bytes.ensures.value ∙ c.in_ok-line.ensures.2 repo),
-    ))
-    c.shown.ensures
+    IfOk-weaker c.shown.result _ _ (λ bytes is repo. is ∙ ap (shown c.args.destination) (c.as_bytes.ensures.value ∙ c.in_ok-line.ensures repo)) c.shown.ensures

@@ -1,5 +1,4 @@
-use Rattle.operator.proofs.Prelude.{reads_weaker}
-use Rattle.names.specs.Names.{repo_text}
+use Rattle.operator.proofs.Prelude.{reads_weaker, repo_text}
 use Rattle.operator.proofs.Valid.{valid_moved}
 use Rattle.operator.proofs.listing_tokens.listed_tokens.Goals as goal
 

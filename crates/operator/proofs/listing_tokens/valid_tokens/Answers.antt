@@ -1,5 +1,4 @@
-use Rattle.operator.proofs.Prelude.{sym, subst, reads_weaker}
-use Rattle.names.specs.Names.{repo_text}
+use Rattle.operator.proofs.Prelude.{sym, subst, reads_weaker, repo_text}
 use Rattle.operator.specs.Tokens.{AreValid}
 use Rattle.operator.proofs.Valid.{valid_found}
 use Rattle.operator.proofs.listing_tokens.valid_tokens.Goals as goal

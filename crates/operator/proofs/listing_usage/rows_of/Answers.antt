@@ -1,5 +1,4 @@
-use Rattle.operator.proofs.Prelude.{rules, ◌≡◌, ◌∙◌, ℕ, List, [], ◌∷◌, ◌++◌, ap, sym, subst, string_bytes, reads_then}
-use Rattle.std.proofs.Common.{◌+◌, map, take}
+use Rattle.operator.proofs.Prelude.{rules, ◌≡◌, ◌∙◌, ℕ, List, [], ◌∷◌, ◌++◌, ap, sym, subst, string_bytes, reads_then, ◌+◌, map, take}
 use Rattle.std.specs.List.{AllZip}
 use Rattle.std.proofs.lemmas.List.{map-append, take_all}
 use Rattle.policy.specs.declared.repos.Repo.{Repo}

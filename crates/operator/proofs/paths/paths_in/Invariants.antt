@@ -1,5 +1,4 @@
-use Rattle.operator.proofs.Prelude.{◌≡◌}
-use Rattle.std.proofs.Common.{map}
+use Rattle.operator.proofs.Prelude.{◌≡◌, map}
 use Rattle.names.specs.Names.{path_text}
 use Rattle.operator.proofs.paths.paths_in.Given as goal
 

@@ -1,6 +1,7 @@
-use Rattle.operator.proofs.Prelude.{refl, ℕ, Ok, ◌≡◌, err_from_is_err_and, from_weaker, Prunes}
+use Rattle.operator.proofs.Prelude.{refl, subst, ℕ, Ok, ◌≡◌, err_from_is_err_and, from_weaker, Prunes, Appends, OnOk, count_line, line, codes}
 use Rattle.operator.specs.declared.faults.TaskFault.TheVariants.{Output}
 use Rattle.operator.proofs.Failing.{fails_before, fails_after, is_store, is_output, output_follows, from_last}
+use Rattle.operator.proofs.Printed.{none_on, pruned_count}
 use Rattle.operator.proofs.pruning.prune.Goals as goal
 
 pub returns-in_err-count-clause-world : goal.returns-in_err-count-clause-world
@@ -16,3 +17,16 @@ returns-clause-world g c =
     (λ world. (n : ℕ) × Prunes g.S.Store world c.args.now c.args.store.now c.prune.new.store (Ok n)) _ c.print_count.ensures.err
     (λ world e is d. (fails_after g.S.Store _ _ c.args.store.now c.prune.new.store world _ _ (_, refl) d.1 (output_follows e is), is_output e is))
     (from_weaker g.S.Store c.args.store.now c.prune.new.store _ _ (λ world d. (c.in_ok-count.count, d)) c.in_ok-count.ensures)
+
+-- ---- what is written
+
+pub returns-in_err-count-clause-printed : goal.returns-in_err-count-clause-printed
+returns-in_err-count-clause-printed g c =
+    from_weaker g.S.Store c.args.store.now c.prune.new.store _ _ (λ world d. none_on _ _ c.from_residual.result c.from_residual.ensures.1) c.in_err-count.ensures
+
+pub returns-clause-printed : goal.returns-clause-printed
+returns-clause-printed g c =
+    from_weaker g.S.Store c.args.store.now c.prune.new.store _ _
+    (λ world d.
+    subst (λ (n : ℕ). OnOk c.print_count.result (Appends (g.K.Sink.taken c.args.output.now) (g.K.Sink.taken c.print_count.new.output) (line (count_line (codes "pruned") n (codes "tokens")))))
+    (pruned_count world _ c.args.now c.in_ok-count.count d.step) c.print_count.ensures.text) c.in_ok-count.ensures

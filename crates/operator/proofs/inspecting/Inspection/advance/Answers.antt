@@ -1,5 +1,6 @@
 use Rattle.operator.proofs.Prelude.{⊤, ◌∙◌, refl, reads_then, reads_weaker}
-use Rattle.operator.proofs.Damaged.{spares_damaged, spares_read}
+use Rattle.operator.proofs.Counted.{none_ok}
+use Rattle.operator.proofs.Damaged.{never_damaged, spares_damaged, spares_read}
 use Rattle.operator.proofs.inspecting.Inspection.advance.Goals as goal
 
 pub returns-in_err-verdict_on-clause-world : goal.returns-in_err-verdict_on-clause-world
@@ -43,4 +44,26 @@ objects-preserved g c = record {
   world = spares_read g.S.Store c.args.store.now c.objects.store c.verdict_on.new.store _ c.args.self.now c.objects.self _ c.objects.invariant.world c.verdict_on.ensures refl;
   reads = λ is. reads_then g.S.Store c.args.store.now c.objects.store c.verdict_on.new.store _ _ _ (λ world laws x y. tt) (c.objects.invariant.reads is) c.verdict_on.ensures;
   purpose = c.objects.invariant.purpose;
+  rows = c.objects.invariant.rows;
 }
+
+-- ---- whether an object is reported as damaged
+
+pub returns-in_err-verdict_on-clause-quiet : goal.returns-in_err-verdict_on-clause-quiet
+returns-in_err-verdict_on-clause-quiet g c = record {
+  honest = λ k. c.objects.invariant.world.honest (c.verdict_on.ensures.same.was_honest k);
+  each = λ honest world h. none_ok _ _ c.from_residual.result c.from_residual.ensures.1;
+}
+
+pub returns-in_err-line-in-Some-true-clause-quiet : goal.returns-in_err-line-in-Some-true-clause-quiet
+returns-in_err-line-in-Some-true-clause-quiet g c =
+    never_damaged g.S.Store c.args.store.now c.objects.store c.verdict_on.new.store c.treat.new.store c.args.self.now c.objects.self _ c.objects.invariant.world
+    (reads_weaker g.S.Store c.objects.store c.verdict_on.new.store _ _ (λ world laws no. rw (c.in-Some-true.is, c.in-Some-true.field-0-test) at no) c.in_ok-verdict_on.ensures) c.treat.ensures.honest
+
+pub returns-in-Some-true-clause-quiet : goal.returns-in-Some-true-clause-quiet
+returns-in-Some-true-clause-quiet g c =
+    never_damaged g.S.Store c.args.store.now c.objects.store c.verdict_on.new.store c.treat.new.store c.args.self.now c.objects.self _ c.objects.invariant.world
+    (reads_weaker g.S.Store c.objects.store c.verdict_on.new.store _ _ (λ world laws no. rw (c.in-Some-true.is, c.in-Some-true.field-0-test) at no) c.in_ok-verdict_on.ensures) c.treat.ensures.honest
+
+pub returns-in-None-clause-quiet : goal.returns-in-None-clause-quiet
+returns-in-None-clause-quiet g c = record { honest = λ k. c.objects.invariant.world.honest (c.verdict_on.ensures.same.was_honest k); each = λ honest world h. tt }
