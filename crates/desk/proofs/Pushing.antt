@@ -44,4 +44,3 @@ module _ (c : Case) (ref : List ℕ) where
 
   pub put_denied : (left : ℕ) (asked : PutForm) (denial : Denial) → ref_or_default asked.ref c.repo ≡ ref → may ≡ Err denial → put_verdict c left asked ≡ Err denial
   put_denied left asked denial named denied = rw (named, denied) refl
-
