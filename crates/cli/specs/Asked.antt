@@ -1,9 +1,10 @@
 -- What is asked of a server, what its reply says, and how the program that asked ends.
-use Rattle.std.specs.Prelude.{◌≡◌, ◌⊎◌, ◌++◌, ℕ, List, [], ◌∷◌, flat_map, Option, Some, None, Result, Ok, Err, ⊤}
+use Rattle.std.specs.Prelude.{◌≡◌, ◌≢◌, ◌⊎◌, ◌++◌, ℕ, List, [], ◌∷◌, flat_map, Option, Some, None, Result, Ok, Err, ⊤}
 use Rattle.std.specs.Io.KnownBytes.{Appends, Consumes}
 use Rattle.std.specs.List.{AllByRecursion}
 use Rattle.control.specs.Requests.{request_bytes}
 use Rattle.control.specs.Replies.{IsPiece, Piece, output_in, piece_bytes, status_code}
+use Rattle.control.specs.Versions.{version}
 use Rattle.control.specs.declared.reply.Stream.{Stream}
 use Rattle.control.specs.declared.status.Status.{Status}
 use Rattle.control.specs.declared.status.Status.TheVariants.{Good, Refused, Invalid}
@@ -13,7 +14,7 @@ use Rattle.operator.specs.Escapes.{shown}
 use Rattle.operator.specs.declared.escapes.Destination.{Destination}
 use Rattle.server.specs.Commands.{request_for}
 use Rattle.faults.specs.declared.faults.Fault.{Fault}
-use Rattle.faults.specs.declared.faults.Fault.TheVariants.{Control, Memory, Output, Reported, ReportedInvalid, Version}
+use Rattle.faults.specs.declared.faults.Fault.TheVariants.{Control, InputTooLong, Memory, Output, Reported, ReportedInvalid, Request, Version}
 use Rattle.cli.specs.Reading.{IsReadTo}
 
 -- how many bytes of its input a command may want: one more than it takes
@@ -73,18 +74,55 @@ HasPrinted before left rest destination was is status =
     × Consumes left rest (before ++ flat_map piece_bytes pieces ++ status_code status ∷ [])
     × Appends was is (shown_pieces destination pieces)
 
--- what was printed is that of pieces that were read
-abbrev pub HasBegun : Destination → (was is : Option (List ℕ)) → Type 0
-HasBegun destination was is = (pieces : List Piece) × Appends was is (shown_pieces destination pieces)
+-- what was printed is that of the pieces that come first of what was left, after these bytes; or nothing was printed
+abbrev pub HasBegun : (before : List ℕ) → (left : Option (List ℕ)) → Destination → (was is : Option (List ℕ)) → Type 0
+HasBegun before left destination was is =
+    (is ≡ was)
+    ⊎ ((pieces : List Piece) × (rest : Option (List ℕ)) × AllByRecursion IsPiece pieces
+    × Consumes left rest (before ++ flat_map piece_bytes pieces) × Appends was is (shown_pieces destination pieces))
 
--- the result is the one that the reply reports, and its output was printed; or the reply does not end, or there is no memory for
--- it, and what it says so far was printed; or what it says could not be written
-abbrev pub IsReplyPrinted : (before : List ℕ) → (left rest : Option (List ℕ)) → Destination → (was is : Option (List ℕ)) → Result ⊤ Fault → Type 0
-IsReplyPrinted before left rest destination was is (Ok done) = HasPrinted before left rest destination was is Good
-IsReplyPrinted before left rest destination was is (Err Reported) = HasPrinted before left rest destination was is Refused
-IsReplyPrinted before left rest destination was is (Err ReportedInvalid) = HasPrinted before left rest destination was is Invalid
-IsReplyPrinted before left rest destination was is (Err Version) = is ≡ was
-IsReplyPrinted before left rest destination was is (Err Control) = HasBegun destination was is
-IsReplyPrinted before left rest destination was is (Err Memory) = HasBegun destination was is
-IsReplyPrinted before left rest destination was is (Err Output) = ⊤
-IsReplyPrinted before left rest destination was is (Err _) = ⊥
+-- the result is the one that a reply reports whose first bytes were these, and its output was printed; or the reply does not end, or
+-- there is no memory for it, and what it says so far was printed; or what it says could not be written
+abbrev pub IsRestPrinted : (before : List ℕ) → (left rest : Option (List ℕ)) → Destination → (was is : Option (List ℕ)) → Result ⊤ Fault → Type 0
+IsRestPrinted before left rest destination was is ended =
+    ((status : Status) × (ended ≡ ending status) × HasPrinted before left rest destination was is status)
+    ⊎ ((fault : Fault) × (ended ≡ Err fault) × IsUnread fault × HasBegun before left destination was is)
+    ⊎ (ended ≡ Err Output)
+
+-- the first byte that was read is that of another version
+abbrev pub HasOtherVersion : (left rest : Option (List ℕ)) → Type 0
+HasOtherVersion left rest = (byte : ℕ) × Consumes left rest (byte ∷ []) × (byte ≢ version)
+
+-- the same of a whole reply; or it is one of another version, and nothing was printed
+abbrev pub IsReplyPrinted : (left rest : Option (List ℕ)) → Destination → (was is : Option (List ℕ)) → Result ⊤ Fault → Type 0
+IsReplyPrinted left rest destination was is ended =
+    ((ended ≡ Err Version) × HasOtherVersion left rest × (is ≡ was))
+    ⊎ IsRestPrinted (version ∷ []) left rest destination was is ended
+
+-- a server answered the command with this status: it took the bytes of the request over a connection, sent the bytes of the reply
+-- over it, and the output of the reply was printed
+pub record HasAnswered (connects : (taken left : Option (List ℕ)) → Type 0) (command : OperatorCommand) (input : Option (List ℕ)) (destination : Destination) (was is : Option (List ℕ)) (status : Status) : Type 0 where
+  pub taken : Option (List ℕ)
+  pub left : Option (List ℕ)
+  pub connected : connects taken left
+  pub request : List ℕ
+  pub unread : Option (List ℕ)
+  pub asked : IsRequestFor command input unread request
+  pub sent : Option (List ℕ)
+  pub took : Appends taken sent request
+  pub rest : Option (List ℕ)
+  pub replied : HasPrinted (version ∷ []) left rest destination was is status
+
+-- there is no request for a command: its input or its words are too long, its input could not be read, or memory ran out
+abbrev pub IsUnasked : Fault → Type 0
+IsUnasked fault = (fault ≡ InputTooLong) ⊎ (fault ≡ Request) ⊎ (fault ≡ Output) ⊎ (fault ≡ Memory)
+
+-- there is no request for a command, or no whole reply to it, or what it says could not be written
+abbrev pub IsUnanswered : Fault → Type 0
+IsUnanswered fault = IsUnasked fault ⊎ IsUnread fault ⊎ (fault ≡ Version)
+
+-- how a command ends that a server is asked for: as the server answered; or with a fault that no server reports
+abbrev pub EndsAsAnswered : (connects : (taken left : Option (List ℕ)) → Type 0) → OperatorCommand → (input : Option (List ℕ)) → Destination → (was is : Option (List ℕ)) → Result ⊤ Fault → Type 0
+EndsAsAnswered connects command input destination was is ended =
+    ((status : Status) × (ended ≡ ending status) × HasAnswered connects command input destination was is status)
+    ⊎ ((fault : Fault) × (ended ≡ Err fault) × IsUnanswered fault)

@@ -2,7 +2,7 @@
 
 ghost use Rattle.std.specs.Prelude.{◌≡◌, length, IfErr, IfOk, IfSome};
 ghost use Rattle.std.specs.Io.KnownBytes.{Consumes};
-ghost use Rattle.cli.specs.Asked.{IsUnread};
+ghost use Rattle.cli.specs.Asked.{IsUnasked, IsUnread};
 ghost use Rattle.cli.specs.Reading.{IsReadTo};
 
 use faults::Fault;
@@ -92,8 +92,9 @@ pub(crate) fn read_input<R: Source>(
     input: &mut R,
     most: usize,
 ) -> Result<Vec<u8>, Fault>
-    ensures { IfOk result (λ bytes.
+    ensures ok { IfOk result (λ bytes.
         IsReadTo most (R.left input.old) (R.left input.new) bytes.items) }
+    ensures err { IfErr result IsUnasked }
 {
     match read_to(alloc, input, most)? {
         Some(bytes) => Ok(bytes),

@@ -4,6 +4,7 @@
 //! success, 1 for a refusal, 2 for invalid arguments. `main` passes the machine's arguments and streams.
 #![tactic(auto)]
 
+mod address;
 mod explaining;
 mod inputs;
 mod migrating;
@@ -21,10 +22,11 @@ mod serve;
 mod session;
 mod via;
 
+pub use address::{Outlet, ServerAddress, ServerConnection, ServerSocket, SocketOutlet};
 pub use command_line::ServeArgs;
 pub use operator::Destination;
 pub use output::Flushed;
 pub use program::{Environment, refuse_args, run};
 pub use reading::size_text;
 pub use serve::{Listeners, serve_listeners};
-pub use via::{Question, print_reply, request_of};
+pub use via::{Question, ask_at, print_reply, request_of};

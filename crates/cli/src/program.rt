@@ -4,6 +4,7 @@ ghost use Rattle.std.specs.Prelude.{◌≡◌, ◌≢◌, ◌≤◌, OnOk};
 ghost use Rattle.std.specs.IoError.{error_kind};
 ghost use Rattle.control.specs.declared.status.Status.TheVariants.{Good};
 
+use crate::address::ServerSocket;
 use crate::explaining::Explaining;
 use crate::migrating::migrate;
 use crate::noting::Notes;
@@ -84,7 +85,8 @@ fn dispatch<S: Start, R: Read, K: Sink, E: Write>(
         }
         Command::Remote(socket, command) => {
             let input = &mut Counted::new(input);
-            ask_at(rt, socket, command, input, destination, output, errors)
+            let address = ServerSocket { rt, path: socket };
+            ask_at(rt, &address, command, input, destination, output, errors)
         }
     }
 }

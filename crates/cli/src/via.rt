@@ -5,8 +5,9 @@ ghost use Rattle.std.specs.Io.KnownBytes.{Appends, Consumes};
 ghost use Rattle.control.specs.Fields.{field};
 ghost use Rattle.control.specs.Replies.{IsPieceSize};
 ghost use Rattle.control.specs.Versions.{version};
-ghost use Rattle.cli.specs.Asked.{IsFramePrinted, IsPiecePrinted, IsReplyPrinted, IsRequestFor, IsUnread, ending, wanted_of};
+ghost use Rattle.cli.specs.Asked.{EndsAsAnswered, IsFramePrinted, IsUnasked, IsPiecePrinted, IsReplyPrinted, IsRequestFor, IsRestPrinted, IsUnread, HasOtherVersion, ending, wanted_of};
 
+use crate::address::{Outlet, ServerAddress, ServerConnection};
 use crate::inputs::{read_exactly, read_input, skip};
 use crate::progress::ProgressLine;
 use command_line::OperatorCommand;
@@ -14,12 +15,10 @@ use control::{
     LONGEST_REQUEST, Start, Status, Stream, VERSION, frame_start, piece_size, request_bytes,
 };
 use faults::Fault;
-use names::{Counted, Sink, Source};
+use names::{Sink, Source};
 use operator::{Destination, LONGEST_PATHS, print, shown};
 use std::alloc::Global;
 use std::io::{self, IsTerminal, Stderr, Write};
-use std::net::Shutdown;
-use std::os::unix::net::UnixStream;
 use std::rt::HostRuntime;
 
 /// How many bytes of its input a command may want: one more than it takes, so that a longer input is noticed.
@@ -43,8 +42,9 @@ pub fn request_of<R: Source>(
     command: &OperatorCommand<'_>,
     input: &mut R,
 ) -> Result<Vec<u8>, Fault>
-    ensures { IfOk result (λ bytes.
+    ensures ok { IfOk result (λ bytes.
         IsRequestFor command.now (R.left input.old) (R.left input.new) bytes.items) }
+    ensures err { IfErr result IsUnasked }
 {
     let words = command.words(alloc)?;
     let input = read_input(alloc, input, wanted_of(command))?;
@@ -190,7 +190,7 @@ impl Printing {
         errors: &mut E,
     ) -> Result<(), Fault>
         ensures reply { (before : List ℕ) (start : Option (List ℕ)) → Consumes start (R.left source.old) before
-            → IsReplyPrinted before start (R.left source.new) self.destination
+            → IsRestPrinted before start (R.left source.new) self.destination
             (K.taken output.old) (K.taken output.new) result }
         ensures good { OnOk result (K.failed output.new ≡ K.failed output.old) }
     {
@@ -210,7 +210,8 @@ impl Printing {
 /// `Control` if there is none, `Version` if it is that of another version, and `Memory`.
 fn read_version<R: Source>(alloc: Global, source: &mut R) -> Result<(), Fault>
     ensures ok { OnOk result (Consumes (R.left source.old) (R.left source.new) (version ∷ [])) }
-    ensures err { IfErr result (λ fault. IsUnread fault ⊎ (fault ≡ Fault.Version)) }
+    ensures err { IfErr result (λ fault. IsUnread fault
+        ⊎ ((fault ≡ Fault.Version) × HasOtherVersion (R.left source.old) (R.left source.new))) }
 {
     if read_byte(alloc, source)? == VERSION {
         Ok(())
@@ -235,7 +236,7 @@ pub fn print_reply<R: Source, K: Sink, E: Write>(
     output: &mut K,
     errors: &mut E,
 ) -> Result<(), Fault>
-    ensures reply { IsReplyPrinted (version ∷ []) (R.left source.old) (R.left source.new) destination
+    ensures reply { IsReplyPrinted (R.left source.old) (R.left source.new) destination
         (K.taken output.old) (K.taken output.new) result }
     ensures good { OnOk result (K.failed output.new ≡ K.failed output.old) }
 {
@@ -281,7 +282,10 @@ fn question_of<'x>(
     request: &'x [u8],
     destination: Destination,
     terminal: Option<&'x Stderr>,
-) -> Question<'x> {
+) -> Question<'x>
+    ensures request { result.request.now ≡ request.now }
+    ensures destination { result.destination ≡ destination }
+{
     Question {
         alloc,
         request,
@@ -303,8 +307,9 @@ impl Question<'_> {
         output: &mut K,
         errors: &mut E,
     ) -> Result<(), Fault>
-        ensures asked { OnOk result (Appends (W.taken to.old) (W.taken to.new) self.now.request.now) }
-        ensures reply { IsReplyPrinted (version ∷ []) (R.left from.old) (R.left from.new)
+        ensures asked { (status : Status) → result ≡ ending status
+            → Appends (W.taken to.old) (W.taken to.new) self.now.request.now }
+        ensures reply { IsReplyPrinted (R.left from.old) (R.left from.new)
             self.now.destination (K.taken output.old) (K.taken output.new) result }
         ensures good { OnOk result (K.failed output.new ≡ K.failed output.old) }
     {
@@ -319,71 +324,93 @@ impl Question<'_> {
         )
     }
 
-    /// The same for a server that is held: after the first piece of the reply was printed, it is held until the input
-    /// ends.
-    fn ask_holding<R: Source, K: Sink, E: Write>(
+    /// The same, and then reads on until the server has gone.
+    fn ask_to_the_end<W: Sink, R: Source, K: Sink, E: Write>(
         &self,
-        stream: &UnixStream,
-        input: &mut R,
+        to: &mut W,
+        from: &mut R,
         output: &mut K,
         errors: &mut E,
     ) -> Result<(), Fault>
-        ensures { OnOk result (K.failed output.new ≡ K.failed output.old) }
+        ensures asked { (status : Status) → result ≡ ending status
+            → Appends (W.taken to.old) (W.taken to.new) self.now.request.now }
+        ensures reply { (rest : Option (List ℕ)) × IsReplyPrinted (R.left from.old) rest
+            self.now.destination (K.taken output.old) (K.taken output.new) result }
+        ensures good { OnOk result (K.failed output.new ≡ K.failed output.old) }
     {
+        let asked = self.ask(to, from, output, errors);
+        let _ = skip(from);
+        asked
+    }
+
+    /// The same for a server that is held: after the first piece of the reply was printed, it is held until the input
+    /// ends.
+    fn ask_holding<W: Outlet, R: Source, I: Source, K: Sink, E: Write>(
+        &self,
+        connection: &mut ServerConnection<W, R>,
+        input: &mut I,
+        output: &mut K,
+        errors: &mut E,
+    ) -> Result<(), Fault>
+        ensures asked { (status : Status) → result ≡ ending status
+            → Appends (W.taken connection.old.to) (W.taken connection.new.to) self.now.request.now }
+        ensures reply { IsReplyPrinted (R.left connection.old.from) (R.left connection.new.from)
+            self.now.destination (K.taken output.old) (K.taken output.new) result }
+        ensures good { OnOk result (K.failed output.new ≡ K.failed output.old) }
+    {
+        let ServerConnection { to, from } = connection;
         let alloc = self.alloc;
-        let (mut to, mut from) = (Counted::new(stream), Counted::new(stream));
         // A hold has no progress.
         let mut progress = ProgressLine::new(None);
         let printing = Printing {
             alloc,
             destination: self.destination,
         };
-        send(&mut to, self.request)?;
-        read_version(alloc, &mut from)?;
-        if let Some(status) = printing.print_frame(&mut from, &mut progress, output, errors)? {
+        send(to, self.request)?;
+        read_version(alloc, from)?;
+        if let Some(status) = printing.print_frame(from, &mut progress, output, errors)? {
             return ending(status);
         }
         // An input that cannot be read has ended too.
         let _ = skip(input);
-        if stream.shutdown(Shutdown::Write).is_err() {
-            return Err(Fault::Control);
-        }
-        printing.print_rest(&mut from, &mut progress, output, errors)
+        to.close()?;
+        printing.print_rest(from, &mut progress, output, errors)
     }
 }
 
-/// Asks the server at the socket to run the command, and prints what the server prints. The command `stop` waits until the
-/// server has closed its database.
+/// Asks the server to run the command, and prints what the server prints. The command `stop` waits until the server has
+/// closed its database.
 ///
 /// # Errors
 ///
 /// Those of [`request_of`], `Control` if the server could not be reached, and those of [`Question::ask`].
-pub(crate) fn ask_at<R: Source, K: Sink, E: Write>(
+pub fn ask_at<A: ServerAddress, R: Source, K: Sink, E: Write>(
     rt: &HostRuntime,
-    socket: &str,
+    address: &A,
     command: &OperatorCommand<'_>,
     input: &mut R,
     destination: Destination,
     output: &mut K,
     errors: &mut E,
 ) -> Result<(), Fault>
-    ensures { OnOk result (K.failed output.new ≡ K.failed output.old) }
+    ensures answered { EndsAsAnswered (A.connects address.now) command.now (R.left input.old) destination
+        (K.taken output.old) (K.taken output.new) result }
+    ensures good { OnOk result (K.failed output.new ≡ K.failed output.old) }
 {
     let alloc = rt.alloc();
     let request = request_of(alloc, command, input)?;
-    let Ok(stream) = UnixStream::connect(rt, socket) else {
-        return Err(Fault::Control);
-    };
+    let mut connection = address.connect()?;
     let error_stream = rt.stderr();
     let terminal = error_stream.is_terminal().then_some(&error_stream);
     let question = question_of(alloc, request.as_slice(), destination, terminal);
-    if let OperatorCommand::Hold(_) = command {
-        return question.ask_holding(&stream, input, output, errors);
+    match command {
+        OperatorCommand::Hold(_) => question.ask_holding(&mut connection, input, output, errors),
+        OperatorCommand::Stop => question.ask_to_the_end(
+            &mut connection.to,
+            &mut connection.from,
+            output,
+            errors,
+        ),
+        _ => question.ask(&mut connection.to, &mut connection.from, output, errors),
     }
-    let (mut to, mut from) = (Counted::new(&stream), Counted::new(&stream));
-    let asked = question.ask(&mut to, &mut from, output, errors);
-    if let OperatorCommand::Stop = command {
-        let _ = skip(&mut from);
-    }
-    asked
 }

@@ -1,7 +1,9 @@
-use Rattle.std.proofs.Common.{◌∙◌, ◌++◌, [], ◌∷◌}
+use Rattle.std.proofs.Common.{◌∙◌, ◌++◌, [], ◌∷◌, inl, refl}
 use Rattle.cli.specs.Asked.{IsFramePrinted}
+use Rattle.std.proofs.lemmas.Result.{err_from_is_err_and}
 use Rattle.std.specs.Prelude.{Ok, None}
-use Rattle.cli.proofs.Asked.{more_printed}
+use Rattle.faults.specs.declared.faults.Fault.TheVariants.{Control}
+use Rattle.cli.proofs.Asked.{more_printed, frame_failed}
 use Rattle.cli.proofs.via.Printing.print_rest.Goals as goal
 
 pub frames-preserved : goal.frames-preserved
@@ -19,3 +21,16 @@ frames-preserved g c =
       );
       good = c.in_ok-status.ensures.good ∙ c.frames.invariant.good;
     }
+
+pub returns-in_err-status-clause-reply : goal.returns-in_err-status-clause-reply
+returns-in_err-status-clause-reply g c before start begins =
+    let so_far = c.frames.invariant.printed in
+    let failed = frame_failed before start (g.R.Source.left c.args.source.now) (g.R.Source.left c.frames.source) (g.R.Source.left c.print_frame.new.source) (g.K.Sink.taken c.args.output.now) (g.K.Sink.taken c.frames.output) c.args.self.destination so_far.0 begins so_far.1 in
+    let p = err_from_is_err_and c.from_residual.result c.from_residual.ensures.1 in
+    rw (p.1, p.2) (failed (g.K.Sink.taken c.print_frame.new.output) c.in_err-status.field-0.0 c.in_err-status.ensures.frame)
+
+pub returns-clause-reply : goal.returns-clause-reply
+returns-clause-reply g c before start begins =
+    let so_far = c.frames.invariant.printed in
+    frame_failed before start (g.R.Source.left c.args.source.now) (g.R.Source.left c.frames.source) (g.R.Source.left c.frames.source) (g.K.Sink.taken c.args.output.now) (g.K.Sink.taken c.frames.output) c.args.self.destination so_far.0 begins so_far.1
+    (g.K.Sink.taken c.frames.output) Control (inl (inl refl, refl))
