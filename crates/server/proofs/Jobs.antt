@@ -68,6 +68,12 @@ module _ {M : Type 0} (m : machine.Ghosts M) where
   moment_untimed u v (Ok now) i = tt
   moment_untimed u v (Err e) i = (idles ∷ [], one_idle u v i, refl)
 
+  -- bytes that were sent to an operator, or not
+  pub sent_or_not : (u v : M) (r : Result ⊤ Fault) (operator : OperatorStream) (bytes : List ℕ) → OnOk r (m.observed u v (sent operator bytes)) → OnErr r (m.idled u v)
+      → (calls : List Call) × Calls m u calls v × ((seen_in calls ≡ sent operator bytes ∷ []) ⊎ (seen_in calls ≡ []))
+  sent_or_not u v (Ok done) operator bytes a i = (observes (sent operator bytes) ∷ [], one_seen u v (sent operator bytes) a, inl refl)
+  sent_or_not u v (Err e) operator bytes a i = (idles ∷ [], one_idle u v i, inr refl)
+
   -- pieces were sent to an operator, and he was waited for
   pub held_for : (u v w : M) (operator : OperatorStream) (seconds : ℕ) (closed : Bool) (calls : List Call) → Calls m u calls v → AreSent operator (seen_in calls) → m.observed v w (waited operator seconds closed)
       → (all : List Call) × Calls m u all w × IsHeld operator seconds closed (seen_in all)

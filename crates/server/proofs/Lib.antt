@@ -5,3 +5,4 @@ mod Jobs
 mod Swept
 mod Inspected
 mod Growing
+mod Numbers

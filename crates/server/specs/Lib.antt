@@ -1,3 +1,4 @@
 pub mod Given
 pub mod Commands
 pub mod Jobs
+pub mod Numbers

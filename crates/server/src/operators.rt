@@ -6,7 +6,8 @@ ghost use Rattle.refinement.specs.Left.{From, Reads};
 ghost use Rattle.server.specs.Commands.{AreReadings, HasEndedSo, IsAnswered, IsDone, IsMomentOf, IsRead, IsEnded, IsInspection, IsRequestDone, IsSilent, Obeys, RunsAs, made_of};
 ghost use Rattle.server.specs.Jobs.{Call, Calls, Helps, seen_in};
 ghost use Rattle.metrics.specs.Stored.{IsStored};
-ghost use Rattle.policy.specs.Values.{repo_view};
+ghost use Rattle.policy.specs.Values.{policy_view, repo_view};
+ghost use Rattle.server.specs.Numbers.{AllStored};
 
 use crate::foreseeing::message_in;
 use crate::outcomes::Outcome;
@@ -257,9 +258,10 @@ impl OperatorContext<'_> {
         Ok(Outcome::Reloaded(policy))
     }
 
-    /// What the repositories of the policy store.
+    /// What the repositories of the policy store, in their order.
     fn stored<S: Alter>(&self, store: &mut Store<S>) -> Result<Vec<Stored<'_>>, Fault>
-        ensures { Reads S.Store store.old store.new (λ _. ⊤) }
+        ensures { Reads S.Store store.old store.new (λ world. IfOk result (λ all.
+            AllStored world (policy_view self.now.policy.now).repos all.items)) }
     {
         let mut all = Vec::new(self.alloc);
         for repo in self.policy.repos() {

@@ -1,6 +1,6 @@
 //! The end of a reply to an operator.
 
-ghost use Rattle.std.specs.Prelude.{List};
+ghost use Rattle.std.specs.Prelude.{◌≡◌, List};
 ghost use Rattle.server.specs.Commands.{IsReplied};
 ghost use Rattle.server.specs.Jobs.{Call, Calls, seen_in};
 ghost use Rattle.faults.specs.Statuses.{status_of_end};
@@ -19,6 +19,16 @@ pub(crate) struct Reply<'a> {
     pub alloc: Global,
     /// Where the operator is.
     pub stream: &'a OperatorStream,
+}
+
+/// The status of a request that ended so. What is said of a fault is added to the text.
+fn status_of(ended: Result<(), Fault>, text: &mut Vec<u8>) -> Status
+    ensures { result ≡ status_of_end ended }
+{
+    match ended {
+        Ok(()) => Status::Good,
+        Err(fault) => refuse(&fault, text),
+    }
 }
 
 impl Reply<'_> {
@@ -54,10 +64,7 @@ impl Reply<'_> {
             × IsReplied self.now.stream.now (status_of_end ended) (seen_in calls) }
     {
         let mut text = Vec::new(self.alloc);
-        let status = match ended {
-            Ok(()) => Status::Good,
-            Err(fault) => refuse(&fault, &mut text),
-        };
+        let status = status_of(ended, &mut text);
         if let Err(fault) = self.send_end(machine, status, text.as_slice(), pieces) {
             let _ = print_fault(&fault, errors);
         }

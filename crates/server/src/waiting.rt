@@ -1,6 +1,6 @@
 //! Operators who wait for the end of a check or a repair, while others are served.
 
-ghost use Rattle.std.specs.Prelude.{◌≡◌, ⊤, IfErr, List};
+ghost use Rattle.std.specs.Prelude.{◌≡◌, ◌≤◌, ⊤, true, vec_len, IfErr, IfOk, List};
 ghost use Rattle.refinement.specs.Left.{From, Reads};
 ghost use Rattle.server.specs.Commands.{IsClean, IsGoneOn, IsInspectionFault, IsSentOn, operator_in};
 ghost use Rattle.server.specs.Jobs.{Call, Calls, Helps, seen_in};
@@ -31,9 +31,12 @@ fn advance<S: Alter>(
     inspection: &mut Inspection,
     pieces: &mut Pieces,
 ) -> Result<bool, Fault>
-    ensures { From S.Store store.old store.new (λ _. Reads S.Store store.old store.new (λ _. ⊤)
+    ensures world { From S.Store store.old store.new (λ _. Reads S.Store store.old store.new (λ _. ⊤)
         × (inspection.old.damaged ≡ 0
         → (inspection.new.damaged ≡ 0) × IfErr result IsInspectionFault)) }
+    ensures rows { inspection.new.rows ≡ inspection.old.rows }
+    ensures done { IfOk result (λ is_done. is_done ≡ true
+        → vec_len inspection.new.rows ≤ inspection.new.next) }
 {
     match inspection.advance(alloc, store)? {
         Advance::More => {}

@@ -1,4 +1,5 @@
 use Rattle.std.proofs.Common.{[], ◌∷◌, refl}
+use Rattle.std.proofs.lemmas.Result.{err_from_is_err_and}
 use Rattle.machine.specs.Observations.{sent}
 use Rattle.server.specs.Jobs.{idles, observes}
 use Rattle.server.proofs.Jobs.{one_idle, one_seen}
@@ -6,7 +7,8 @@ use Rattle.server.proofs.pieces.Pieces.send.Goals as goal
 
 pub returns-in_err-send_pieces-clause-err : goal.returns-in_err-send_pieces-clause-err
 returns-in_err-send_pieces-clause-err g c =
-    rw c.from_residual.ensures.0 (idles ∷ [], one_idle g.M.Machine c.args.machine.now c.send_pieces.new.self c.in_err-send_pieces.ensures.err, refl)
+    let p = err_from_is_err_and c.from_residual.result c.from_residual.ensures.1 in
+    rw p.1 (idles ∷ [], one_idle g.M.Machine c.args.machine.now c.send_pieces.new.self c.in_err-send_pieces.ensures.err, refl)
 
 pub returns-clause-ok : goal.returns-clause-ok
 returns-clause-ok g c =
