@@ -66,7 +66,8 @@ impl Task<'_> {
     /// or one object is. It succeeds or fails as the definitions say: if Git may begin, each path may be pushed, or a reply
     /// is foreseen. A repair leaves the tables as they are: each object of a world has the bytes of its name. After an error
     /// the world is the same, but for an `Output` after tokens or an object were removed. A question or a list leaves the
-    /// tables as they are, whatever becomes of it. `Ok` means that all output was written.
+    /// tables as they are, whatever becomes of it. `Ok` means that all output was written: the text that the definitions
+    /// have for the command, of the world before it. After a `Reported` of a world the same was written.
     ///
     /// # Errors
     ///
