@@ -1,8 +1,6 @@
 -- Requests that push objects: their ref, and the verdicts on verification and on a place for an upload.
-use Rattle.desk.proofs.Prelude.{◌≡◌, ◌∙◌, ℕ, ◌==◌, Bool, true, false, not, List, Option, Some, None, Result, Ok, Err, is_err, refl, ap, subst, X3, X4, V1, V2, ◌>>=◌, check, ok_or, is_gone, size_of, PutForm, VerifyForm, Denial, by_rule, by_rules, may_push, confirms, receives, ref_or_default, put_verdict, verify_verdict, has_place, size_check, IsUserOf, case_policy, case_repo, case_user}
+use Rattle.desk.proofs.Prelude.{◌≡◌, ◌∙◌, ℕ, ◌==◌, Bool, true, false, not, List, Option, Some, None, Result, Ok, Err, refl, ap, subst, X3, X4, V1, V2, ◌>>=◌, check, ok_or, is_gone, size_of, PutForm, VerifyForm, Denial, by_rule, by_rules, may_push, confirms, receives, ref_or_default, put_verdict, verify_verdict, has_place, size_check, IsUserOf, case_policy, case_repo, case_user}
 use Rattle.std.specs.Bool.{⊤}
-use Rattle.std.proofs.lemmas.Bool.{true≢false}
-use Rattle.model.specs.Answers.{Plan}
 use Rattle.model.specs.Callers.{Caller}
 use Rattle.model.specs.Cases.{Case}
 use Rattle.desk.specs.declared.cases.Case as code
@@ -44,4 +42,3 @@ module _ (c : Case) (ref : List ℕ) where
 
   pub put_denied : (left : ℕ) (asked : PutForm) (denial : Denial) → ref_or_default asked.ref c.repo ≡ ref → may ≡ Err denial → put_verdict c left asked ≡ Err denial
   put_denied left asked denial named denied = rw (named, denied) refl
-

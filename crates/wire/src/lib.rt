@@ -31,7 +31,7 @@ pub use cut::{Cut, FIELD_LIMIT, HEAD_LIMIT, first_head, front_of};
 pub use framing::LARGEST_FORM;
 pub use head::Head;
 pub use inflow::{Inflow, WholeFault};
+pub use names::WriteFault;
 pub use reply::{Content, ReplyHead};
 pub use rules::HeadRule;
-pub use names::WriteFault;
 pub use write::write_reply;
