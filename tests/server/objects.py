@@ -128,16 +128,20 @@ def check_cut(server, _):
             client.send(message("PUT", content(oid), data[:cut], length=size))
             client.socket.shutdown(1)
             require(client.socket.recv(1) == b"", f"an upload that was cut after {cut} bytes got a reply")
+        # A server that was killed meanwhile removes what is left at its first request, another one at its next.
+        if cut % 3:
+            whole = cut // CHUNK
+            expect_stored(server, UPLOADS, [f"{FILM}|{size}|0|{whole}|{whole - 1}|{whole * CHUNK}"])
+        require(get(server, oid)[0] == 404, f"an upload that was cut after {cut} bytes is served")
         expect_stored(server, UPLOADS, [])
         expect_stored(server, "SELECT count(*) FROM chunks;", ["0"])
         expect_stored(server, "SELECT count(*) FROM repos;", ["0"])
-        require(get(server, oid)[0] == 404, f"an upload that was cut after {cut} bytes is served")
     require(upload(server, HELLO, b"hello") == 200, "the next upload was refused")
     expect_stored(server, UPLOADS, [row(5)])
     require(upload(server, oid, data) == 200, "the upload was refused")
     require(get(server, oid) == (200, data), "the object differs")
     expect_stored(server, UPLOADS, [row(5), row(size)])
-    return f"{len(cuts)} uploads that were cut left no object, and nothing of their bytes"
+    return f"{len(cuts)} uploads that were cut left no object, and after the next request nothing of their bytes"
 
 
 def stop_after_first_chunk(server):
