@@ -19,7 +19,7 @@ pub record HasRefusedHead (bytes : List ℕ) : Type 0 where
 -- body; Refused: bytes that no head begins with, or a head that a rule refuses
 abbrev pub IsExtent : List ℕ → Extent → Type 0
 IsExtent bytes Head = IsUnfinished bytes × MayBecomeRequest bytes
-IsExtent bytes (Message size body) =
+IsExtent bytes (Message size body transfer) =
     (head : RequestHead) × BeginsWithHead bytes head (drop size bytes) × (check_framing head ≡ Ok tt)
     × (body ≡ content_length head)
 IsExtent bytes Refused = BeginsBadly bytes ⊎ HasRefusedHead bytes

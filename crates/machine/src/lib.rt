@@ -4,6 +4,7 @@
 //! commands over files use the same functions for the time, for random bytes and for the policy file.
 #![tactic(auto)]
 
+mod control_socket;
 mod conversation;
 mod framing;
 mod machine;
@@ -12,6 +13,7 @@ mod policies;
 mod random;
 mod traffic;
 
+pub use control_socket::ControlSocket;
 pub use conversation::{Conversation, Talked};
 pub use machine::{Machine, Sockets};
 pub use moments::moment;

@@ -2,7 +2,7 @@
 
 use crate::harness::{Tester, unwrap};
 use crate::program::{path_of, read, remove, write};
-use sockets::ControlSocket;
+use machine::ControlSocket;
 use std::fs;
 use std::os::unix::fs::PermissionsExt;
 use std::os::unix::net::{UnixListener, UnixStream};

@@ -30,6 +30,7 @@ impl Framing for Letters {
             Some(end) => Extent::Message {
                 head: end.saturating_add(1),
                 body: body_of(bytes.get(..end).unwrap_or(&[])),
+                is_transfer: bytes.first() >= Some(&b't'),
             },
             None if bytes.len() >= 16_384 => Extent::Refused,
             None => Extent::Head,
@@ -122,6 +123,11 @@ const CASES: &[(&str, &str)] = &[
     ("abc!!!", "abc"),
     ("ABCDa!!!!!", "AaBCD"),
     ("Aabcd!!!!!", "Aabcd"),
+    // Letters from t on are transfers: short messages are before them, but none that came after a transfer could be next.
+    ("tuab!!!!", "abtu"),
+    ("tuvab!!!!!", "abtuv"),
+    ("tua!b!!!", "atbu"),
+    ("t!ab!u!!", "tabu"),
     // After a client who was alone an operator comes first, and after an operator a client.
     ("a!bcB!!!", "aBbc"),
     ("A!BCb!!!", "AbBC"),

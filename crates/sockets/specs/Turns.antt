@@ -25,14 +25,14 @@ turn_after turn (Some caller) = other_than (kind_of caller)
 -- how many bytes a turn hands out: those of the message, or all if they are refused
 abbrev pub turn_size : Extent → ℕ
 turn_size extents.Head = 0
-turn_size (extents.Message head body) = min (body + head) 18446744073709551615
+turn_size (extents.Message head body transfer) = min (body + head) 18446744073709551615
 turn_size extents.Refused = 18446744073709551615
 
 -- whether a turn may begin after n bytes have arrived: they begin with a message of at most 80 KiB that is complete or whose
 -- client has ended, with the complete head of a longer message, or with what is refused
 abbrev pub is_ready : Extent → Bool → ℕ → Bool
 is_ready extents.Head ended arrived = false
-is_ready (extents.Message head body) ended arrived =
-    let size = turn_size (extents.Message head body) in
+is_ready (extents.Message head body transfer) ended arrived =
+    let size = turn_size (extents.Message head body transfer) in
     ended || nat_lt 81920 size || nat_le size arrived
 is_ready extents.Refused ended arrived = true

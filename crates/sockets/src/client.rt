@@ -34,6 +34,8 @@ pub enum Extent {
         head: usize,
         /// The number of bytes of the body.
         body: u64,
+        /// Whether it moves the content of an object.
+        is_transfer: bool,
     },
     /// No head, or one that is refused whatever follows it.
     Refused,
@@ -50,8 +52,8 @@ pub trait Framing {
 pub(crate) enum Progress {
     /// Its turn may not begin yet.
     Waiting,
-    /// Its turn may begin.
-    Ready,
+    /// Its turn may begin, of a transfer or of another message.
+    Ready(bool),
     /// The client ended it, within a head or between two messages.
     Ended,
     /// A read failed, or there is no memory for what arrived.
@@ -162,7 +164,7 @@ impl Client {
         let mut piece = [0; 16_384];
         'pieces: for _ in 0..u64::MAX {
             if self.is_ready() {
-                return Progress::Ready;
+                return Progress::Ready(self.is_transfer());
             }
             let mut stream = &self.stream;
             match stream.read(&mut piece) {
@@ -180,6 +182,17 @@ impl Client {
             }
         }
         Progress::Waiting
+    }
+
+    /// Whether the next message moves the content of an object.
+    pub(crate) fn is_transfer(&self) -> bool {
+        matches!(
+            self.extent,
+            Extent::Message {
+                is_transfer: true,
+                ..
+            }
+        )
     }
 
     /// Since when the client sends nothing.
@@ -211,7 +224,7 @@ impl Client {
     {
         match self.extent {
             Extent::Head => 0,
-            Extent::Message { head, body } => body.saturating_add(head as u64),
+            Extent::Message { head, body, .. } => body.saturating_add(head as u64),
             Extent::Refused => u64::MAX,
         }
     }

@@ -5,14 +5,12 @@
 #![tactic(auto)]
 
 mod client;
-mod control_socket;
 mod listening;
 mod patience;
 mod queue;
 mod room;
 
 pub use client::{Client, Extent, Framing, Front};
-pub use control_socket::ControlSocket;
 pub use listening::listen;
 pub use patience::{Course, PatientReader, PatientWriter};
 pub use queue::{Caller, Queue};

@@ -59,8 +59,11 @@ pub struct Ended {
 pub(crate) struct Room {
     alloc: Global,
     places: Slab<Place>,
-    /// The keys of those that are ready, in the order in which they were.
+    /// The keys of those that are ready, in the order in which they were: those whose messages are short, and transfers.
     ready: VecDeque<usize>,
+    transfers: VecDeque<usize>,
+    /// How many short messages still go before the transfer that is next; `None` if none was looked for since the last one.
+    before_transfer: Option<usize>,
     /// Those that had a turn, and ended in the room.
     ended: VecDeque<Ended>,
     limits: Limits,
@@ -80,6 +83,8 @@ impl Room {
             alloc,
             places: Slab::with_capacity(alloc, most)?,
             ready: VecDeque::with_capacity(alloc, most)?,
+            transfers: VecDeque::with_capacity(alloc, most)?,
+            before_transfer: None,
             ended: VecDeque::with_capacity(alloc, most)?,
             limits,
             round: None,
@@ -96,12 +101,12 @@ impl Room {
 
     /// Whether a client is ready.
     pub(crate) fn has_ready(&self) -> bool {
-        !self.ready.is_empty()
+        self.waiting() > 0
     }
 
     /// How many clients are ready.
     pub(crate) fn waiting(&self) -> usize {
-        self.ready.len()
+        self.ready.len().saturating_add(self.transfers.len())
     }
 
     /// Takes in a connection that was accepted now. It is closed if the system refuses to watch it, or if there is no memory.
@@ -143,15 +148,39 @@ impl Room {
         };
         match progress {
             Progress::Waiting => {}
-            Progress::Ready => self.line_up(key),
+            Progress::Ready(is_transfer) => self.line_up(key, is_transfer),
             Progress::Ended => self.remove(key, false),
             Progress::Failed => self.remove(key, true),
         }
     }
 
-    fn line_up(&mut self, key: usize) {
-        if self.ready.push_back(key).is_err() {
+    fn line_up(&mut self, key: usize, is_transfer: bool) {
+        let line = if is_transfer {
+            &mut self.transfers
+        } else {
+            &mut self.ready
+        };
+        if line.push_back(key).is_err() {
             self.remove(key, true);
+        }
+    }
+
+    /// Whose turn it is: short messages are first, but a transfer waits for no more of them than were ready when it could
+    /// have been next.
+    fn next_key(&mut self) -> Option<usize> {
+        if self.transfers.is_empty() {
+            return self.ready.pop_front();
+        }
+        let most = self.ready.len();
+        match self.before_transfer.unwrap_or(most).min(most) {
+            0 => {
+                self.before_transfer = None;
+                self.transfers.pop_front()
+            }
+            count => {
+                self.before_transfer = Some(count - 1);
+                self.ready.pop_front()
+            }
         }
     }
 
@@ -164,9 +193,9 @@ impl Room {
         }
     }
 
-    /// The client that is ready for the longest time.
+    /// The client whose turn it is.
     pub(crate) fn take(&mut self) -> Option<Client> {
-        let key = self.ready.pop_front()?;
+        let key = self.next_key()?;
         let place = self.places.get_mut(key)?;
         match mem::replace(place, Place::Served) {
             Place::Waiting(client) => Some(client),
@@ -201,12 +230,12 @@ impl Room {
     ) {
         let key = client.key;
         let is_failed = client.end(front, now, framing).is_err();
-        let is_ready = client.is_ready();
+        let (is_ready, is_transfer) = (client.is_ready(), client.is_transfer());
         self.put(key, Place::Waiting(client));
         if is_failed {
             self.remove(key, true);
         } else if is_ready {
-            self.line_up(key);
+            self.line_up(key, is_transfer);
         } else {
             self.look_at(key, now, framing);
         }
@@ -311,6 +340,7 @@ impl Room {
             }
         }
         self.ready.clear();
+        self.transfers.clear();
     }
 
     /// Closes the connections that had no turn.

@@ -4,14 +4,14 @@ use Rattle.machine.proofs.framing.extent_of.Goals as goal
 pub returns-in-Ok : goal.returns-in-Ok
 returns-in-Ok c =
     let cut = c.in-Head.ensures.cut in
-    let framed = c.body_length.ensures cut.0 (c.new.ensures cut.0 (rw c.front_of.ensures cut.2)) in
+    let framed = c.body_length.ensures cut.0 (c.new-head.ensures cut.0 (rw c.front_of.ensures cut.2)) in
     let found = rw c.in-Ok.is at framed in
     (cut.0, cut.1, found.0, found.1)
 
 pub returns-in-Err : goal.returns-in-Err
 returns-in-Err c =
     let cut = c.in-Head.ensures.cut in
-    let framed = c.body_length.ensures cut.0 (c.new.ensures cut.0 (rw c.front_of.ensures cut.2)) in
+    let framed = c.body_length.ensures cut.0 (c.new-head.ensures cut.0 (rw c.front_of.ensures cut.2)) in
     inr (record { head = cut.0; rest = _; rule = _; begins = cut.1; refused = rw c.in-Err.is at framed })
 
 pub returns-in-Bad : goal.returns-in-Bad
