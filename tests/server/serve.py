@@ -9,6 +9,7 @@ import json
 import os
 import random
 import resource
+import select
 import signal
 import socket
 import sys
@@ -262,6 +263,27 @@ def check_early_reply(server, _):
     return "20 of 20 requests with 5 MB of body got 413"
 
 
+def check_short_first(server, _):
+    """A lock that arrives after eight uploads, while another message is served, is made before them."""
+    served = put(bytes(200_000))
+    with contextlib.ExitStack() as stack:
+        slow, *clients = [stack.enter_context(server.client()) for _ in range(10)]
+        slow.send(served[:-1])
+        time.sleep(0.3)
+        for number, client in enumerate(clients[1:]):
+            client.send(put(bytes([number]) * 300_000))
+        time.sleep(0.3)
+        clients[0].send(lock("art/hero"))
+        time.sleep(0.3)
+        slow.send(served[-1:])
+        order, waiting = [], {client.socket: client for client in clients}
+        while waiting:
+            for found in select.select(list(waiting), [], [], 60)[0]:
+                order.append(waiting.pop(found).reply()[0])
+    require(order == [201] + 8 * [200], f"the replies came in the order {order}")
+    return "a lock was made before eight uploads that had arrived before it"
+
+
 def load(server, number, answered, is_over):
     """Locks paths until it is over. A path is answered once its reply was read."""
     count = 0
@@ -337,6 +359,7 @@ CHECKS = {
     "no-reader": check_no_reader,
     "reset": check_reset,
     "early-reply": check_early_reply,
+    "short-first": check_short_first,
     "killed": check_killed,
     "terminated": check_terminated,
     "load": check_load,
