@@ -1,0 +1,17 @@
+-- Contents that are being written.
+use Rattle.std.specs.Prelude.{◌≡◌, ℕ, List, length}
+use Rattle.contents.specs.declared.region.Region.{Region}
+use Rattle.contents.specs.declared.draft.Draft.{Draft}
+use Rattle.contents.specs.Files.{HasAt}
+
+-- where a draft is, and how many of its bytes are written
+abbrev pub region_of : Draft → Region
+region_of draft = draft.region
+
+abbrev pub written_of : Draft → ℕ
+written_of draft = draft.written
+
+-- the file has these first bytes of the content, which are all that are written
+pub record HasWritten (file : List ℕ) (draft : Draft) (bytes : List ℕ) : Type 0 where
+  pub size : length bytes ≡ draft.written
+  pub there : HasAt file draft.region.start bytes
