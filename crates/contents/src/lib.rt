@@ -11,8 +11,10 @@ mod draft;
 mod fault;
 mod file;
 mod region;
+mod regions;
 
 pub use draft::Draft;
 pub use fault::ContentsFault;
 pub use file::{read, sync};
 pub use region::Region;
+pub use regions::{LARGEST_END, Regions};
