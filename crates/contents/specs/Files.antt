@@ -1,8 +1,8 @@
 -- What a file of contents has, and what a call and a stop leave of it.
-use Rattle.std.specs.Prelude.{◌≡◌, ◌≤◌, ◌<◌, ◌+◌, ℕ, false, List, length, IsTrue}
+use Rattle.std.specs.Prelude.{◌≡◌, ◌≤◌, ◌<◌, ◌+◌, ℕ, false, List, length, Contains, IsTrue}
 use Rattle.sqlite_disk.specs.Disk.{Holds, Follows, MoreFaults}
 use Rattle.sqlite_disk.specs.declared.Disk.{Ghosts}
-use Rattle.contents.specs.Regions.{AreApart}
+use Rattle.contents.specs.Regions.{AreApart, end_of}
 use Rattle.contents.specs.declared.region.Region.{Region}
 use Rattle.contents.specs.declared.fault.ContentsFault.{ContentsFault}
 use Rattle.contents.specs.declared.fault.ContentsFault.TheVariants.{Outside, Unfinished, Unusable, Failed}
@@ -21,10 +21,10 @@ abbrev pub KeepsOthers : (at n : ℕ) (old new : List ℕ) → Type 0
 KeepsOthers at n old new = (other : ℕ) (bytes : List ℕ) → AreApart at n other (length bytes)
     → HasAt old other bytes → HasAt new other bytes
 
--- all bytes before this offset are still there
-abbrev pub KeepsBefore : (end : ℕ) (old new : List ℕ) → Type 0
-KeepsBefore end old new = (other : ℕ) (bytes : List ℕ) → other + length bytes ≤ end
-    → HasAt old other bytes → HasAt new other bytes
+-- all bytes that lie in one of the regions are still there
+abbrev pub KeepsRegions : List Region → (old new : List ℕ) → Type 0
+KeepsRegions regions old new = (region : Region) → Contains regions region → (at : ℕ) (bytes : List ℕ)
+    → region.start ≤ at → at + length bytes ≤ end_of region → HasAt old at bytes → HasAt new at bytes
 
 module _ {D : Type 0} (g : Ghosts D) where
   -- the bytes of the file are those of before, and a stop leaves nothing that it did not leave before
@@ -33,11 +33,12 @@ module _ {D : Type 0} (g : Ghosts D) where
     pub stop : (left : List ℕ) → g.may_leave new left → g.may_leave old left
     pub clean : IsTrue (g.is_clean new) → IsTrue (g.is_clean old)
 
-  -- the file, and whatever a stop leaves of it, was changed by this step
+  -- the file, and whatever a stop leaves of it, was changed by this step, and may be used as before
   pub record IsChangedBy (step : List ℕ → List ℕ → Type 0) (old new : D) : Type 0 where
     pub seen : step (g.seen old) (g.seen new)
     pub stop : Follows step (g.may_leave old) (g.may_leave new)
     pub clean : IsTrue (g.is_clean new) → IsTrue (g.is_clean old)
+    pub usable : IsTrue (g.is_usable old) → IsTrue (g.is_usable new)
 
   -- the fault says why a call failed: its bytes are not inside; not all is written; both is right, and no call of the file
   -- is allowed any more; or a call of the file failed, which is counted in this case

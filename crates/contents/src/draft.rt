@@ -85,6 +85,7 @@ impl Draft {
         ensures content { OnOk result (IsTrue (D.Disk.is_clean disk.new) → (bytes : List ℕ)
             → HasWritten (D.Disk.seen disk.old) self.now bytes → buf.new ≡ take (length buf.old) (drop at bytes)) }
         ensures same { IsSameFile D.Disk disk.old disk.new }
+        ensures usable { IsTrue (D.Disk.is_usable disk.old) → IsTrue (D.Disk.is_usable disk.new) }
         ensures err { IfErr result (λ fault. FailsFor D.Disk fault
             (IsInside (region_of self.now) (written_of self.now) at (length buf.old)) ⊤
             (IsTrue (D.Disk.is_clean disk.old)
@@ -104,6 +105,7 @@ impl Draft {
         ensures stop { OnOk result ((content : List ℕ) → HasWritten (D.Disk.seen disk.old) self.now content
             → (left : List ℕ) → D.Disk.may_leave disk.new left → HasContent left (region_of self.now) content) }
         ensures durable { OnOk result (Only (D.Disk.seen disk.new) (D.Disk.may_leave disk.new)) }
+        ensures usable { OnOk result (IsTrue (D.Disk.is_usable disk.new)) }
         ensures same { IsSameFile D.Disk disk.old disk.new }
         ensures err { IfErr result (λ fault. FailsFor D.Disk fault ⊤
             (written_of self.now ≡ (region_of self.now).size) ⊤ disk.old disk.new) }

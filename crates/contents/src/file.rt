@@ -1,12 +1,14 @@
 //! What is asked of the file: bytes of a region are read and written, and what was written is synced.
 
-ghost use Rattle.std.specs.Prelude.{◌≡◌, ◌≤◌, ◌<◌, ◌+◌, length, take, drop, List, ℕ, SomeIff, IsTrue, IfErr, OnOk, ⊤};
+ghost use Rattle.std.specs.Prelude.{◌≡◌, ◌≤◌, ◌<◌, ◌+◌, length, take, drop, List, ℕ, SomeIff, is_ok, IsTrue, IfErr, OnOk, ⊤};
 ghost use Rattle.sqlite_disk.specs.Disk.{Only};
-ghost use Rattle.contents.specs.Regions.{IsInside};
-ghost use Rattle.contents.specs.Files.{HasAt, KeepsOthers, HasContent, IsSameFile, IsChangedBy, FailsFor};
+ghost use Rattle.contents.specs.Regions.{IsInside, IsLastEnd};
+ghost use Rattle.contents.specs.InUse.{regions_of};
+ghost use Rattle.contents.specs.Files.{HasAt, KeepsOthers, HasContent, KeepsRegions, IsSameFile, IsChangedBy, FailsFor};
 
 use crate::fault::ContentsFault;
 use crate::region::Region;
+use crate::regions::Regions;
 use sqlite_disk::Disk;
 
 /// The offset in the file of the byte `at` of a region, if so many bytes from there on are among its first `limit`.
@@ -34,6 +36,7 @@ pub(crate) fn read_below<D: Disk>(
         → HasAt (D.Disk.seen disk.old) (region.start + at) buf.new) }
     ensures len { length buf.new ≡ length buf.old }
     ensures same { IsSameFile D.Disk disk.old disk.new }
+    ensures usable { IsTrue (D.Disk.is_usable disk.old) → IsTrue (D.Disk.is_usable disk.new) }
     ensures err { IfErr result (λ fault. FailsFor D.Disk fault (IsInside region limit at (length buf.old)) ⊤
         (IsTrue (D.Disk.is_clean disk.old) → region.start + at + length buf.old ≤ length (D.Disk.seen disk.old))
         disk.old disk.new) }
@@ -78,6 +81,7 @@ pub(crate) fn write<D: Disk>(
 pub fn sync<D: Disk>(disk: &mut D) -> Result<(), ContentsFault>
     ensures durable { OnOk result (Only (D.Disk.seen disk.new) (D.Disk.may_leave disk.new)) }
     ensures same { IsSameFile D.Disk disk.old disk.new }
+    ensures usable { D.Disk.is_usable disk.new ≡ is_ok result }
     ensures err { IfErr result (λ fault. FailsFor D.Disk fault ⊤ ⊤ ⊤ disk.old disk.new) }
 {
     if !disk.may_be_used() {
@@ -104,10 +108,27 @@ pub fn read<D: Disk>(
     ensures content { OnOk result (IsTrue (D.Disk.is_clean disk.new) → (content : List ℕ)
         → HasContent (D.Disk.seen disk.old) region content → buf.new ≡ take (length buf.old) (drop at content)) }
     ensures same { IsSameFile D.Disk disk.old disk.new }
+    ensures usable { IsTrue (D.Disk.is_usable disk.old) → IsTrue (D.Disk.is_usable disk.new) }
     ensures err { IfErr result (λ fault. FailsFor D.Disk fault
         (IsInside region region.size at (length buf.old)) ⊤
         (IsTrue (D.Disk.is_clean disk.old) → region.start + at + length buf.old ≤ length (D.Disk.seen disk.old))
         disk.old disk.new) }
 {
     read_below(disk, region, region.size, at, buf)
+}
+
+/// Cuts the file after the last region that is in use, or makes it as long as that.
+///
+/// Fails with [`ContentsFault::Unusable`] after a failed sync, and with [`ContentsFault::Failed`] if the file fails.
+/// All bytes in the regions stay, also after an error, and in whatever a stop leaves of the file.
+pub fn trim<D: Disk>(disk: &mut D, regions: &Regions) -> Result<(), ContentsFault>
+    ensures len { OnOk result (IsLastEnd (regions_of regions.now) (length (D.Disk.seen disk.new))) }
+    ensures kept { IsChangedBy D.Disk (KeepsRegions (regions_of regions.now)) disk.old disk.new }
+    ensures err { IfErr result (λ fault. FailsFor D.Disk fault ⊤ ⊤ ⊤ disk.old disk.new) }
+{
+    if !disk.may_be_used() {
+        return Err(ContentsFault::Unusable);
+    }
+    disk.set_len(regions.end() as usize)?;
+    Ok(())
 }

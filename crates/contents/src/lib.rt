@@ -15,6 +15,6 @@ mod regions;
 
 pub use draft::Draft;
 pub use fault::ContentsFault;
-pub use file::{read, sync};
+pub use file::{read, sync, trim};
 pub use region::Region;
 pub use regions::{LARGEST_END, Regions};
