@@ -4,7 +4,7 @@ use Rattle.std.specs.List.{AllWithin}
 use Rattle.std.proofs.lemmas.Bool.{cases_lt}
 use Rattle.std.proofs.lemmas.List.{get_or_default}
 use Rattle.contents.specs.declared.region.Region.{Region}
-use Rattle.contents.specs.Regions.{AreInOrder, IsFreeRoom, HasNoRoom, IsGap, end_of, largest_end}
+use Rattle.contents.specs.Regions.{AreInOrder, IsFreeRoom, IsGap, end_of, largest_end}
 
 -- the regions before the index end at `from` or before it, the others begin there or after it, and no room below it is free
 pub record IsWalked (regions : List Region) (n index from : ℕ) : Type 0 where
@@ -48,18 +48,3 @@ module _ (regions : List Region) (index : ℕ) (default : Region) (less : index 
         lowest = was.lowest;
         within = omega arith;
       }
-
--- the room after all regions is large enough
-pub gap_after : (regions : List Region) (n from : ℕ) → IsWalked regions n (length regions) from → n ≤ largest_end - from
-    → IsGap regions n (length regions) from
-gap_after regions n from was large = record {
-  at = omega arith;
-  before = was.before;
-  after = λ k d least end. absurd (omega arith);
-  lowest = was.lowest;
-  within = let most = was.within in omega arith;
-}
-
--- no room is large enough
-pub no_room : (regions : List Region) (n index from : ℕ) → IsWalked regions n index from → largest_end - from < n → HasNoRoom regions n
-no_room regions n index from was small = λ start free. let low = was.lowest start free in omega arith

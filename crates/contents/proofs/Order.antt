@@ -8,12 +8,12 @@ use Rattle.std.proofs.lemmas.List.Quantifiers.{all_pairs_push, all_pairs_remove}
 use Rattle.std.proofs.lemmas.List.Sorted.{IsPermutation-middle, IsPermutation-insert, All-permutation}
 use Rattle.std.proofs.lemmas.List.Elements.{All-cons, All-push}
 use Rattle.contents.specs.declared.region.Region.{Region}
-use Rattle.contents.specs.Regions.{AreInOrder, MayFollow, IsBefore, IsGap, IsReserved, end_of, largest_end}
+use Rattle.contents.specs.Regions.{AreInOrder, FitsAfter, EndsBefore, IsGap, IsReserved, end_of, largest_end}
 
 -- a region that may follow them keeps their order
-pub in_order_pushed : (old : List Region) (region : Region) → AreInOrder old → MayFollow old region → AreInOrder (old ++ region ∷ [])
+pub in_order_pushed : (old : List Region) (region : Region) → AreInOrder old → FitsAfter old region → AreInOrder (old ++ region ∷ [])
 in_order_pushed old region was may = record {
-  order = all_pairs_push IsBefore old region was.order may.after;
+  order = all_pairs_push EndsBefore old region was.order may.after;
   within = All-push (λ it. end_of it ≤ largest_end) old region was.within may.within;
 }
 
@@ -35,7 +35,7 @@ removed_one old index region less is =
 pub in_order_removed : (old : List Region) (index : ℕ) (region : Region) → index < length old → HoldsAt (λ it. it ≡ region) old index
     → AreInOrder old → AreInOrder (remove old index)
 in_order_removed old index region less is was = record {
-  order = all_pairs_remove IsBefore old index less was.order;
+  order = all_pairs_remove EndsBefore old index less was.order;
   within = λ k d end. All-permutation (λ it. end_of it ≤ largest_end) old (region ∷ remove old index) (removed_one old index region less is) was.within (suc k) d (omega arith);
 }
 
@@ -56,7 +56,7 @@ module _ (old : List Region) (n index start : ℕ) (was : AreInOrder old) (gap :
   above : (k : ℕ) (d : Region) → index < k → slice_index_or new k d ≡ slice_index_or old (k - 1) d
   above k d less = let same : k ≡ (k - 1) + 1 = omega arith in ap (λ it. slice_index_or new it d) same ∙ get_or-insert_above old index region d (k - 1) (omega arith) gap.at
 
-  ordered : (i j : ℕ) (d : Region) → i < j → j < length new → IsBefore (slice_index_or new i d) (slice_index_or new j d)
+  ordered : (i j : ℕ) (d : Region) → i < j → j < length new → EndsBefore (slice_index_or new i d) (slice_index_or new j d)
   ordered i j d less end = let size = length-insert old index region gap.at in elim (cases_lt j index) [
     | inl before ↦ rw (below i d (omega arith)) (rw (below j d before) (was.order i j d less (omega arith)))
     | inr after ↦ elim (cases_lt index j) [

@@ -21,6 +21,11 @@ abbrev pub KeepsOthers : (at n : ℕ) (old new : List ℕ) → Type 0
 KeepsOthers at n old new = (other : ℕ) (bytes : List ℕ) → AreApart at n other (length bytes)
     → HasAt old other bytes → HasAt new other bytes
 
+-- each content is still there whose region is apart from this one
+abbrev pub KeepsContents : Region → (old new : List ℕ) → Type 0
+KeepsContents region old new = (other : Region) (content : List ℕ) → AreApart region.start region.size other.start other.size
+    → HasContent old other content → HasContent new other content
+
 -- all bytes that lie in one of the regions are still there
 abbrev pub KeepsRegions : List Region → (old new : List ℕ) → Type 0
 KeepsRegions regions old new = (region : Region) → Contains regions region → (at : ℕ) (bytes : List ℕ)
@@ -39,6 +44,10 @@ module _ {D : Type 0} (g : Ghosts D) where
     pub stop : Follows step (g.may_leave old) (g.may_leave new)
     pub clean : IsTrue (g.is_clean new) → IsTrue (g.is_clean old)
     pub usable : IsTrue (g.is_usable old) → IsTrue (g.is_usable new)
+
+  -- the file goes to this offset, if the disk was honest
+  abbrev pub ReachesTo : (end : ℕ) → D → Type 0
+  ReachesTo end file = IsTrue (g.is_clean file) → end ≤ length (g.seen file)
 
   -- the fault says why a call failed: its bytes are not inside; not all is written; both is right, and no call of the file
   -- is allowed any more; or a call of the file failed, which is counted in this case

@@ -21,12 +21,12 @@ abbrev pub largest_end : ℕ
 largest_end = 9223372036854775807
 
 -- the first region ends before the second begins
-abbrev pub IsBefore : Region → Region → Type 0
-IsBefore first second = end_of first ≤ second.start
+abbrev pub EndsBefore : Region → Region → Type 0
+EndsBefore first second = end_of first ≤ second.start
 
 -- these regions follow each other, and end where a file may end
 pub record AreInOrder (regions : List Region) : Type 0 where
-  pub order : AllPairs IsBefore regions
+  pub order : AllPairs EndsBefore regions
   pub within : All (λ region. end_of region ≤ largest_end) regions
 
 -- n bytes from `start` on have no byte in common with these regions
@@ -51,8 +51,8 @@ abbrev pub HasNoRoom : List Region → ℕ → Type 0
 HasNoRoom regions n = (start : ℕ) → IsFreeRoom regions start n → largest_end < start + n
 
 -- the region may follow all of these
-pub record MayFollow (regions : List Region) (region : Region) : Type 0 where
-  pub after : All (λ other. IsBefore other region) regions
+pub record FitsAfter (regions : List Region) (region : Region) : Type 0 where
+  pub after : All (λ other. EndsBefore other region) regions
   pub within : end_of region ≤ largest_end
 
 -- n bytes from `start` on are free between the regions before the index and those from it on, and no lower room is free

@@ -2,9 +2,8 @@
 
 ghost use Rattle.std.specs.Prelude.{◌≡◌, ◌≤◌, ◌<◌, ◌+◌, ◌++◌, ◌^◌, min, length, take, drop, List, ℕ, IsTrue, IfErr, IfOk, OnOk, OnErr, ⊤};
 ghost use Rattle.sqlite_disk.specs.Disk.{Only};
-ghost use Rattle.contents.specs.Regions.{IsInside};
-ghost use Rattle.contents.specs.Files.{HasAt, HasContent, KeepsOthers, IsSameFile, IsChangedBy, FailsFor};
-ghost use Rattle.contents.specs.Drafts.{HasWritten, region_of, written_of};
+ghost use Rattle.contents.specs.Files.{HasAt, HasContent, KeepsOthers, KeepsContents, IsSameFile, IsChangedBy, ReachesTo, FailsFor};
+ghost use Rattle.contents.specs.Drafts.{HasWritten, HasRoomFor, AreWritten, region_of, written_of};
 
 use crate::fault::ContentsFault;
 use crate::file;
@@ -56,18 +55,18 @@ impl Draft {
     /// their place may have any bytes. After an error the draft is as before. All bytes apart from theirs are as
     /// before, in the file and in whatever a stop leaves of it.
     pub fn append<D: Disk>(&mut self, disk: &mut D, bytes: &[u8]) -> Result<(), ContentsFault>
-        ensures inside { OnOk result (IsInside (region_of self.old) (region_of self.old).size
-            (written_of self.old) (length bytes.now)) }
+        ensures inside { OnOk result (HasRoomFor self.old (length bytes.now)) }
         ensures region { region_of self.new ≡ region_of self.old }
         ensures written { OnOk result (written_of self.new ≡ written_of self.old + length bytes.now) }
-        ensures bytes { OnOk result ((before : List ℕ) → HasWritten (D.Disk.seen disk.old) self.old before
+        ensures bytes { OnOk result ((before : List ℕ)
+            → HasWritten (D.Disk.seen disk.old) self.old before
             → HasWritten (D.Disk.seen disk.new) self.new (before ++ bytes.now)) }
-        ensures others { IsChangedBy D.Disk
-            (KeepsOthers ((region_of self.old).start + written_of self.old) (length bytes.now)) disk.old disk.new }
+        ensures others { IsChangedBy D.Disk (KeepsOthers
+            ((region_of self.old).start + written_of self.old) (length bytes.now)) disk.old disk.new }
+        ensures contents { IsChangedBy D.Disk (KeepsContents (region_of self.old)) disk.old disk.new }
         ensures unchanged { OnErr result (self.new ≡ self.old) }
         ensures err { IfErr result (λ fault. FailsFor D.Disk fault
-            (IsInside (region_of self.old) (region_of self.old).size (written_of self.old) (length bytes.now))
-            ⊤ ⊤ disk.old disk.new) }
+            (HasRoomFor self.old (length bytes.now)) ⊤ ⊤ disk.old disk.new) }
     {
         file::write(disk, self.region, self.written, bytes)?;
         self.written += bytes.len() as u64;
@@ -79,17 +78,17 @@ impl Draft {
     /// Fails with [`ContentsFault::Outside`] exactly if they are not all written, and otherwise as [`crate::read`].
     /// Nothing changes.
     pub fn read<D: Disk>(&self, disk: &mut D, at: u64, buf: &mut [u8]) -> Result<(), ContentsFault>
-        ensures inside { OnOk result (IsInside (region_of self.now) (written_of self.now) at (length buf.old)) }
+        ensures inside { OnOk result (AreWritten self.now at (length buf.old)) }
         ensures read { OnOk result (IsTrue (D.Disk.is_clean disk.new)
             → HasAt (D.Disk.seen disk.old) ((region_of self.now).start + at) buf.new) }
         ensures content { OnOk result (IsTrue (D.Disk.is_clean disk.new) → (bytes : List ℕ)
-            → HasWritten (D.Disk.seen disk.old) self.now bytes → buf.new ≡ take (length buf.old) (drop at bytes)) }
+            → HasWritten (D.Disk.seen disk.old) self.now bytes
+            → buf.new ≡ take (length buf.old) (drop at bytes)) }
         ensures same { IsSameFile D.Disk disk.old disk.new }
         ensures usable { IsTrue (D.Disk.is_usable disk.old) → IsTrue (D.Disk.is_usable disk.new) }
         ensures err { IfErr result (λ fault. FailsFor D.Disk fault
-            (IsInside (region_of self.now) (written_of self.now) at (length buf.old)) ⊤
-            (IsTrue (D.Disk.is_clean disk.old)
-            → (region_of self.now).start + at + length buf.old ≤ length (D.Disk.seen disk.old))
+            (AreWritten self.now at (length buf.old)) ⊤
+            (ReachesTo D.Disk ((region_of self.now).start + at + length buf.old) disk.old)
             disk.old disk.new) }
     {
         file::read_below(disk, self.region, self.written, at, buf)
@@ -102,8 +101,10 @@ impl Draft {
     pub fn finish<D: Disk>(&self, disk: &mut D) -> Result<Region, ContentsFault>
         ensures region { IfOk result (λ region. region ≡ region_of self.now) }
         ensures finished { OnOk result (written_of self.now ≡ (region_of self.now).size) }
-        ensures stop { OnOk result ((content : List ℕ) → HasWritten (D.Disk.seen disk.old) self.now content
-            → (left : List ℕ) → D.Disk.may_leave disk.new left → HasContent left (region_of self.now) content) }
+        ensures stop { OnOk result ((content : List ℕ)
+            → HasWritten (D.Disk.seen disk.old) self.now content
+            → (left : List ℕ) → D.Disk.may_leave disk.new left
+            → HasContent left (region_of self.now) content) }
         ensures durable { OnOk result (Only (D.Disk.seen disk.new) (D.Disk.may_leave disk.new)) }
         ensures usable { OnOk result (IsTrue (D.Disk.is_usable disk.new)) }
         ensures same { IsSameFile D.Disk disk.old disk.new }

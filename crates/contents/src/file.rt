@@ -4,7 +4,7 @@ ghost use Rattle.std.specs.Prelude.{◌≡◌, ◌≤◌, ◌<◌, ◌+◌, leng
 ghost use Rattle.sqlite_disk.specs.Disk.{Only};
 ghost use Rattle.contents.specs.Regions.{IsInside, IsLastEnd};
 ghost use Rattle.contents.specs.InUse.{regions_of};
-ghost use Rattle.contents.specs.Files.{HasAt, KeepsOthers, HasContent, KeepsRegions, IsSameFile, IsChangedBy, FailsFor};
+ghost use Rattle.contents.specs.Files.{HasAt, KeepsOthers, KeepsContents, HasContent, KeepsRegions, IsSameFile, IsChangedBy, ReachesTo, FailsFor};
 
 use crate::fault::ContentsFault;
 use crate::region::Region;
@@ -37,8 +37,9 @@ pub(crate) fn read_below<D: Disk>(
     ensures len { length buf.new ≡ length buf.old }
     ensures same { IsSameFile D.Disk disk.old disk.new }
     ensures usable { IsTrue (D.Disk.is_usable disk.old) → IsTrue (D.Disk.is_usable disk.new) }
-    ensures err { IfErr result (λ fault. FailsFor D.Disk fault (IsInside region limit at (length buf.old)) ⊤
-        (IsTrue (D.Disk.is_clean disk.old) → region.start + at + length buf.old ≤ length (D.Disk.seen disk.old))
+    ensures err { IfErr result (λ fault. FailsFor D.Disk fault
+        (IsInside region limit at (length buf.old)) ⊤
+        (ReachesTo D.Disk (region.start + at + length buf.old) disk.old)
         disk.old disk.new) }
 {
     let Some(offset) = offset_in(region, limit, at, buf.len()) else {
@@ -60,7 +61,9 @@ pub(crate) fn write<D: Disk>(
 ) -> Result<(), ContentsFault>
     ensures inside { OnOk result (IsInside region region.size at (length bytes.now)) }
     ensures written { OnOk result (HasAt (D.Disk.seen disk.new) (region.start + at) bytes.now) }
-    ensures others { IsChangedBy D.Disk (KeepsOthers (region.start + at) (length bytes.now)) disk.old disk.new }
+    ensures others { IsChangedBy D.Disk
+        (KeepsOthers (region.start + at) (length bytes.now)) disk.old disk.new }
+    ensures contents { IsChangedBy D.Disk (KeepsContents region) disk.old disk.new }
     ensures err { IfErr result (λ fault. FailsFor D.Disk fault
         (IsInside region region.size at (length bytes.now)) ⊤ ⊤ disk.old disk.new) }
 {
@@ -106,12 +109,13 @@ pub fn read<D: Disk>(
     ensures read { OnOk result (IsTrue (D.Disk.is_clean disk.new)
         → HasAt (D.Disk.seen disk.old) (region.start + at) buf.new) }
     ensures content { OnOk result (IsTrue (D.Disk.is_clean disk.new) → (content : List ℕ)
-        → HasContent (D.Disk.seen disk.old) region content → buf.new ≡ take (length buf.old) (drop at content)) }
+        → HasContent (D.Disk.seen disk.old) region content
+        → buf.new ≡ take (length buf.old) (drop at content)) }
     ensures same { IsSameFile D.Disk disk.old disk.new }
     ensures usable { IsTrue (D.Disk.is_usable disk.old) → IsTrue (D.Disk.is_usable disk.new) }
     ensures err { IfErr result (λ fault. FailsFor D.Disk fault
         (IsInside region region.size at (length buf.old)) ⊤
-        (IsTrue (D.Disk.is_clean disk.old) → region.start + at + length buf.old ≤ length (D.Disk.seen disk.old))
+        (ReachesTo D.Disk (region.start + at + length buf.old) disk.old)
         disk.old disk.new) }
 {
     read_below(disk, region, region.size, at, buf)

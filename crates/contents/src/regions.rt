@@ -1,7 +1,7 @@
 //! The regions of a file that are in use, and room for new ones.
 
 ghost use Rattle.std.specs.Prelude.{◌≡◌, ◌≤◌, ◌<◌, ◌+◌, ◌++◌, ◌∷◌, [], ℕ, List, length, All, Contains, HoldsAt, IsPermutation, MatchBool, MatchOption, MatchResult, IfOk, IfSome, IfNone, OnErr};
-ghost use Rattle.contents.specs.Regions.{AreInOrder, IsFreeRoom, IsLastEnd, IsReserved, HasNoRoom, MayFollow, IsGap, end_of, largest_end};
+ghost use Rattle.contents.specs.Regions.{AreInOrder, IsFreeRoom, IsLastEnd, IsReserved, HasNoRoom, FitsAfter, IsGap, end_of, largest_end};
 
 use crate::region::Region;
 use std::alloc::{AllocError, Global};
@@ -51,8 +51,10 @@ impl Regions {
     /// or ends after [`LARGEST_END`]. If memory runs out nothing changes.
     pub fn push(&mut self, region: Region) -> Result<bool, AllocError>
         ensures ok { IfOk result (λ added. MatchBool added
-            (MayFollow (regions_of self.old) region × (regions_of self.new ≡ regions_of self.old ++ region ∷ []))
-            ((MayFollow (regions_of self.old) region → ⊥) × (regions_of self.new ≡ regions_of self.old))) }
+            (FitsAfter (regions_of self.old) region
+            × (regions_of self.new ≡ regions_of self.old ++ region ∷ []))
+            ((FitsAfter (regions_of self.old) region → ⊥)
+            × (regions_of self.new ≡ regions_of self.old))) }
         ensures err { OnErr result (regions_of self.new ≡ regions_of self.old) }
     {
         let Some(end) = region.end() else {
@@ -117,7 +119,8 @@ fn gap(regions: &[Region], size: u64) -> Option<(usize, u64)>
 
 /// The index of a region.
 fn index_of(regions: &[Region], region: Region) -> Option<usize>
-    ensures some { IfSome result (λ index. (index < length regions.now) × HoldsAt (λ it. it ≡ region) regions.now index) }
+    ensures some { IfSome result (λ index.
+        (index < length regions.now) × HoldsAt (λ it. it ≡ region) regions.now index) }
     ensures none { IfNone result (Contains regions.now region → ⊥) }
 {
     regions.iter().position(|used| *used == region)
