@@ -5,10 +5,11 @@ use Rattle.contents.specs.declared.draft.Draft.{Draft}
 use Rattle.contents.specs.Regions.{IsInside}
 use Rattle.contents.specs.Files.{HasAt}
 
--- where a draft is, and how many of its bytes are written
+-- where the content of a draft is to be
 abbrev pub region_of : Draft → Region
 region_of draft = draft.region
 
+-- how many of its bytes are written
 abbrev pub written_of : Draft → ℕ
 written_of draft = draft.written
 

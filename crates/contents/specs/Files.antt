@@ -32,13 +32,15 @@ KeepsRegions regions old new = (region : Region) → Contains regions region →
     → region.start ≤ at → at + length bytes ≤ end_of region → HasAt old at bytes → HasAt new at bytes
 
 module _ {D : Type 0} (g : Ghosts D) where
-  -- the bytes of the file are those of before, and a stop leaves nothing that it did not leave before
+  -- the bytes of the file are those of before, a stop leaves nothing that it did not leave before, and the disk was honest
+  -- if it is
   pub record IsSameFile (old new : D) : Type 0 where
     pub seen : g.seen new ≡ g.seen old
     pub stop : (left : List ℕ) → g.may_leave new left → g.may_leave old left
     pub clean : IsTrue (g.is_clean new) → IsTrue (g.is_clean old)
 
-  -- the file, and whatever a stop leaves of it, was changed by this step, and may be used as before
+  -- the file, and whatever a stop leaves of it, was changed by this step; the disk was honest if it is, and may be used if it
+  -- might before
   pub record IsChangedBy (step : List ℕ → List ℕ → Type 0) (old new : D) : Type 0 where
     pub seen : step (g.seen old) (g.seen new)
     pub stop : Follows step (g.may_leave old) (g.may_leave new)

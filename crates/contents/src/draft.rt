@@ -1,6 +1,6 @@
 //! A content that is being written.
 
-ghost use Rattle.std.specs.Prelude.{◌≡◌, ◌≤◌, ◌<◌, ◌+◌, ◌++◌, ◌^◌, min, length, take, drop, List, ℕ, IsTrue, IfErr, IfOk, OnOk, OnErr, ⊤};
+ghost use Rattle.std.specs.Prelude.{◌≡◌, ◌≤◌, ◌<◌, ◌+◌, ◌++◌, ◌^◌, min, length, take, drop, List, ℕ, is_ok, IsTrue, IfErr, IfOk, OnOk, OnErr, ⊤};
 ghost use Rattle.sqlite_disk.specs.Disk.{Only};
 ghost use Rattle.contents.specs.Files.{HasAt, HasContent, KeepsOthers, KeepsContents, IsSameFile, IsChangedBy, ReachesTo, FailsFor};
 ghost use Rattle.contents.specs.Drafts.{HasWritten, HasRoomFor, AreWritten, region_of, written_of};
@@ -44,6 +44,8 @@ impl Draft {
     pub fn truncate(&mut self, len: u64)
         ensures region { region_of self.new ≡ region_of self.old }
         ensures written { written_of self.new ≡ min len (written_of self.old) }
+        ensures bytes { (file bytes : List ℕ) → HasWritten file self.old bytes
+            → HasWritten file self.new (take (written_of self.new) bytes) }
     {
         self.written = self.written.min(len);
     }
@@ -106,7 +108,8 @@ impl Draft {
             → (left : List ℕ) → D.Disk.may_leave disk.new left
             → HasContent left (region_of self.now) content) }
         ensures durable { OnOk result (Only (D.Disk.seen disk.new) (D.Disk.may_leave disk.new)) }
-        ensures usable { OnOk result (IsTrue (D.Disk.is_usable disk.new)) }
+        ensures usable { written_of self.now ≡ (region_of self.now).size
+            → D.Disk.is_usable disk.new ≡ is_ok result }
         ensures same { IsSameFile D.Disk disk.old disk.new }
         ensures err { IfErr result (λ fault. FailsFor D.Disk fault ⊤
             (written_of self.now ≡ (region_of self.now).size) ⊤ disk.old disk.new) }
