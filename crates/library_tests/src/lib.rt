@@ -1,5 +1,5 @@
-//! Tests of the crates that need no database: `names`, `policy`, `policy_review`, `forms`, `wire`, `routes` and `control`,
-//! through their public items. In a crate of their own the tests are proved without the code of those
+//! Tests of the crates that need no database: `names`, `policy`, `policy_review`, `forms`, `wire`, `routes`, `control` and
+//! `contents`, through their public items. In a crate of their own the tests are proved without the code of those
 //! crates, which is proved already.
 #![tactic(auto)]
 
@@ -9,6 +9,8 @@ mod answers;
 mod batches;
 #[cfg(test)]
 mod connections;
+#[cfg(test)]
+mod content_files;
 #[cfg(test)]
 mod harness;
 #[cfg(test)]

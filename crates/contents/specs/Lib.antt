@@ -1,0 +1,4 @@
+pub mod Regions
+pub mod InUse
+pub mod Files
+pub mod Drafts
