@@ -130,7 +130,7 @@ SUITES = [
     Suite("page", "tests.site.page", "The page with the locks works in a browser.",
           1, ("nginx", "openssl", "chromium", "chromium-driver", "python3-selenium")),
     Suite("mirror", "tests.site.mirror", "The programs `mirror` and `unlock` copy objects and release locks.",
-          10, ("curl", "git", "git-lfs"), quick=only("words", "git_lfs", "ssh")),
+          10, ("curl", "git", "git-lfs", "nginx", "openssl"), quick=only("words", "git_lfs", "ssh")),
     Suite("package", "tests.site.package", "The package follows no link, and the unit gives no more than is needed.",
           0, quick=()),
     Suite("security", "tests.site.security", "A whole machine with the package keeps what the pages say of security.",
