@@ -1,8 +1,8 @@
 #!/bin/sh
-# Makes a Debian package of the program, its manual page, the unit for systemd, the programs of the site and the documents. It
-# needs dpkg-deb, pandoc, gzip, strip and objdump (of binutils), awk, git and python3; what is missing is named, and no package is made.
-# The program is one that LLVM compiled: tools/build makes it, if the one of this checkout is none. `lintian` then has nothing
-# to report but how the program was compiled.
+# Makes a Debian package of the program, its manual page, the unit for systemd, the programs of the site and the
+# documents. It needs dpkg-deb, pandoc, gzip, strip and objdump (of binutils), awk, git and python3; what is missing is
+# named, and no package is made. The program is one that LLVM compiled: tools/build makes it, if the one of this checkout
+# is none. `lintian` then has nothing to report but how the program was compiled.
 # usage: deploy/package.sh [FOLDER]      the package is written to the folder, or to this one
 # CUSTODY has the path of another program, if one is to be packaged.
 set -eu
@@ -52,6 +52,7 @@ install -m 644 "$top/deploy/sshd/custody.conf" "$documents/examples/sshd-custody
 install -m 644 "$top/deploy/systemd/custody-group.conf" "$top/examples/policy.toml" "$documents/examples"
 # The home of the user, which is root's; and what nginx keeps of requests and replies, for which a disk may be mounted there.
 install -d -m 755 "$root/var/lib/custody" "$root/var/spool/custody"
+install -m 755 -t "$documents/examples" "$top/examples/custody-check-size"
 install -m 644 "$top/docs/locks.png" "$documents"
 
 # The licence, in Debian's form: the text is a field, so its empty lines have a dot.
@@ -174,9 +175,9 @@ END
 # The keys, in /etc/custody/authorized_keys, are no conffile: an upgrade could replace them.
 echo /etc/custody/policy.toml > "$root/DEBIAN/conffiles"
 install -m 755 -t "$root/DEBIAN" "$top/deploy/debian/postinst" "$top/deploy/debian/prerm" "$top/deploy/debian/postrm"
-# What lintian is to pass over: the server is started by the unit alone, which confines it; in the program texts and code
-# are next to each other, so that it sees words which nobody wrote; nginx serves the page with the locks; dash, too, has the
-# limits of the forced command; and a terminal has no end of a page, where a row of the manual would be too long.
+# What lintian is to pass over: the server is started by the unit alone, which confines it; in the program texts and
+# code are next to each other, so that it sees words which nobody wrote; nginx serves the page with the locks; dash, too,
+# has the limits of the forced command; and a terminal has no end of a page, where a row of the manual would be too long.
 mkdir -p "$root/usr/share/lintian/overrides"
 cat > "$root/usr/share/lintian/overrides/custody" << 'END'
 custody: package-supports-alternative-init-but-no-init.d-script [lib/systemd/system/custody.service]

@@ -6,7 +6,9 @@ and which requests get which status have to follow from docs/PROTOCOL.md: the ch
 one of them differs.
 """
 import json
+import os
 import re
+import shutil
 import socketserver
 import subprocess
 import sys
@@ -17,7 +19,7 @@ from pathlib import Path
 from tests.studio.checks import Checks, arguments
 from tests.studio.clone import Clone, Workroom
 from tests.studio.policy import BASE, row
-from tests.studio.program import TOP, free_port, target
+from tests.studio.program import TOP, free_port, name_of, target
 
 # As sshd runs the forced command of a user's key: the client's own words come as one text. Git's own commands are run
 # on the repository of this folder.
@@ -35,6 +37,8 @@ API = target("")
 VERIFIED = "POST locks/verify 200"
 MOMENT = re.compile(r"\d{4}-\d\d-\d\dT\d\d:\d\d:\d\dZ")
 MORE = 120
+# The most bytes of an object.
+MOST = 4 << 30
 
 
 def read_message(connection):
@@ -264,9 +268,41 @@ def try_rights(studio):
     told(bob, "lfs unlock --id=5", "POST locks/5/unlock 200", prints=["Unlocked Lock 5"])
 
 
+def try_sizes(studio):
+    """A file that is larger than the server takes: the hook of the examples names it, and a push without the hook does
+    not. Only the pointer is written, and in its place among the objects a file without blocks."""
+    ann, told = studio.ann, studio.told
+    ann.git("checkout", "-q", "main")
+    ann.git("lfs", "track", "*.mov")
+    ann.commit("Tracks films")
+    shutil.copy(TOP / "examples/custody-check-size", ann.path(".git/hooks/pre-commit"))
+    for name, size in (("cut", MOST), ("first cut", MOST + 1), ("second", 300_000_000)):
+        oid = name_of(name.encode())
+        text = f"version https://git-lfs.github.com/spec/v1\noid sha256:{oid}\nsize {size}\n"
+        ann.path(f"art/{name}.mov").write_text(text, encoding="utf-8")
+        stored = ann.path(f".git/lfs/objects/{oid[:2]}/{oid[2:4]}/{oid}")
+        stored.parent.mkdir(parents=True)
+        stored.touch()
+        os.truncate(stored, size)
+    told(ann, "add art/cut.mov", prints=[])
+    told(ann, "commit -m Cut", says=["art/cut.mov"])
+    told(ann, "add art", prints=[])
+    told(ann, "commit -m Cuts", status=1, prints=[
+        f"custody: art/first cut.mov has {MOST + 1} bytes, and the server takes at most {MOST}: it is not committed"])
+    told(ann, "config custody.largest 256m", prints=[])
+    told(ann, "commit -m Cuts", status=1, says=["art/second.mov has 300000000 bytes, and the server takes at most "
+                                                f"{256 << 20}: "])
+    told(ann, "reset -q HEAD art/second.mov", prints=[])
+    told(ann, "commit --no-verify -m Cuts", says=["art/first cut.mov"])
+    oid = name_of(b"first cut")
+    told(ann, "push -q origin main", VERIFIED, "POST objects/batch 200", status=1, says=[
+        f"[{oid}] B2: the object name or size is not valid"])
+    told(ann, "lfs ls-files --size", says=[f"{oid[:10]} - art/first cut.mov"])
+
+
 def try_all(studio):
     """Each part: the later ones go on from what the earlier ones have locked."""
-    for part in (try_locks, try_pushes, try_releases, try_ids, try_branches, try_pages, try_rights):
+    for part in (try_locks, try_pushes, try_releases, try_ids, try_branches, try_pages, try_rights, try_sizes):
         part(studio)
 
 

@@ -1,5 +1,5 @@
-"""Runs the maintainer scripts of the package by themselves, over a folder that stands for the whole machine, and makes a
-package of the program, whose files it looks at.
+"""Runs the maintainer scripts of the package by themselves, over a folder that stands for the whole machine, and makes
+a package of the program, whose files it looks at.
 
 DPKG_ROOT names the folder, and stand-ins for the commands that need root or systemd write down their words. A check
 fails if a script follows a link that the user custody made, changes something before it refuses one, does not say which
@@ -242,7 +242,7 @@ def try_package(checks, program):
         checks.expect(all(": hardening-no-" in it for it in said),
                       f"lintian reports how the program was compiled, and nothing else: {len(said)} lines", "\n".join(said))
         pages = sorted(root.rglob("*.md"))
-        links = [(it, target) for it in pages for target in re.findall(r"\]\((\S+?)\)", it.read_text(encoding="utf-8"))]
+        links = [(it, target) for it in pages for target in re.findall(r"\]\((\S+?)\)", it.read_text())]
         dead = [f"{page.relative_to(root)}: {target}" for page, target in links if is_dead(page, target)]
         checks.expect(len(pages) > 15 and len(links) > 200 and not dead,
                       f"{len(links)} links of {len(pages)} pages lead to what is installed", "\n".join(dead))
