@@ -268,11 +268,29 @@ def try_rights(studio):
     told(bob, "lfs unlock --id=5", "POST locks/5/unlock 200", prints=["Unlocked Lock 5"])
 
 
+def try_settings(studio):
+    """A setting that is committed holds in each clone; and the lock of a path that does not exist."""
+    ann, bob, told = studio.ann, studio.bob, studio.told
+    ann.git("checkout", "-q", "main")
+    ann.git("pull", "-q", "origin", "main")
+    told(bob, "lfs lock art/tree.psd", "POST locks 201", prints=["Locked art/tree.psd"])
+    told(ann, "config -f .lfsconfig lfs.locksverify true", prints=[])
+    write_and_commit(ann, tree="a tree of ann's")
+    told(ann, "push -q origin main", VERIFIED, status=1, says=[
+        "Unable to push locked files:\n* art/tree.psd - bob (refs: main)", "Cannot update locked files."])
+    ann.git("reset", "-q", "--hard", "origin/main")
+    told(bob, "lfs unlock art/tree.psd", "GET locks 200", f"POST locks/{MORE + 7}/unlock 200",
+         prints=["Unlocked art/tree.psd"])
+    ann.git("lfs", "track", "--lockable", "*.max")
+    told(ann, "lfs lock art/heroo.max", "POST locks 201", prints=["Locked art/heroo.max"])
+    told(ann, "lfs unlock art/heroo.max", "GET locks 200", f"POST locks/{MORE + 8}/unlock 200", status=2,
+         says=["art/heroo.max: no such file or directory"])
+
+
 def try_sizes(studio):
     """A file that is larger than the server takes: the hook of the examples names it, and a push without the hook does
     not. Only the pointer is written, and in its place among the objects a file without blocks."""
     ann, told = studio.ann, studio.told
-    ann.git("checkout", "-q", "main")
     ann.git("lfs", "track", "*.mov")
     ann.commit("Tracks films")
     shutil.copy(TOP / "examples/custody-check-size", ann.path(".git/hooks/pre-commit"))
@@ -302,7 +320,8 @@ def try_sizes(studio):
 
 def try_all(studio):
     """Each part: the later ones go on from what the earlier ones have locked."""
-    for part in (try_locks, try_pushes, try_releases, try_ids, try_branches, try_pages, try_rights, try_sizes):
+    for part in (try_locks, try_pushes, try_releases, try_ids, try_branches, try_pages, try_settings, try_rights,
+                 try_sizes):
         part(studio)
 
 
