@@ -231,6 +231,10 @@ def try_policy(site):
     site.make_repository("studio/none")
     refuses(site, "a repository that the policy does not have", "R1: no such repository",
             RECEIVE.replace(FILM, "studio/none"), UPLOAD.replace(FILM, "studio/none"))
+
+
+def try_sentences(site):
+    """What stops Git and Git LFS is said in words."""
     refuses(site, "a name with a capital letter", "has small letters, digits, _ and -, as studio/film",
             RECEIVE.replace(FILM, "studio/Film"), UPLOAD.replace(FILM, "studio/Film"))
     bare = Path(site.room, "git", f"{FILM}.git")
@@ -297,7 +301,7 @@ def main():
         site.install()
         site.start_sshd(("ann", "bob"))
         site.make_repository(FILM)
-        for part in (try_lines, try_policy, try_open):
+        for part in (try_lines, try_policy, try_sentences, try_open):
             checks.part(part.__name__.removeprefix("try_"), lambda: part(site))
     return checks.end()
 
