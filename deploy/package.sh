@@ -1,15 +1,15 @@
 #!/bin/sh
-# Makes a Debian package of the program, its manual page, the unit for systemd, the programs of the site and the documents. It
-# needs dpkg-deb, pandoc, gzip, strip (of binutils), awk, git and python3; what is missing is named, and no package is made.
-# The program is one that LLVM compiled: tools/build makes it, if the one of this checkout is none. `lintian` then has nothing
-# to report but how the program was compiled.
+# Makes a Debian package of the program, its manual page, the unit for systemd, the programs of the site and the
+# documents. It needs dpkg-deb, pandoc, gzip, strip and objdump (of binutils), awk, git and python3; what is missing is
+# named, and no package is made. The program is one that LLVM compiled: tools/build makes it, if the one of this checkout
+# is none. `lintian` then has nothing to report but how the program was compiled.
 # usage: deploy/package.sh [FOLDER]      the package is written to the folder, or to this one
 # CUSTODY has the path of another program, if one is to be packaged.
 set -eu
 unset CDPATH
 # The modes of a package's folders and files are those that it installs, whoever makes it.
 umask 022
-for command in dpkg-deb pandoc gzip strip awk git python3; do
+for command in dpkg-deb pandoc gzip strip objdump awk git python3; do
     if ! command -v "$command" > /dev/null; then
         echo "package.sh: $command is missing: install it first" >&2
         exit 2
@@ -52,6 +52,7 @@ install -m 644 "$top/deploy/sshd/custody.conf" "$documents/examples/sshd-custody
 install -m 644 "$top/deploy/systemd/custody-group.conf" "$top/examples/policy.toml" "$documents/examples"
 # The home of the user, which is root's; and what nginx keeps of requests and replies, for which a disk may be mounted there.
 install -d -m 755 "$root/var/lib/custody" "$root/var/spool/custody"
+install -m 755 -t "$documents/examples" "$top/examples/custody-check-size"
 install -m 644 "$top/docs/locks.png" "$documents"
 
 # The licence, in Debian's form: the text is a field, so its empty lines have a dot.
@@ -147,6 +148,13 @@ END
     -V footer="custody $version" \
     | gzip -9 -n > "$root/usr/share/man/man1/custody.1.gz"
 
+# The oldest library of C that has all that the program uses.
+libc=$(objdump -T "$root/usr/bin/custody" | sed -n 's/.*GLIBC_\([0-9][0-9.]*\).*/\1/p' | sort -V | tail -n 1)
+if [ -z "$libc" ]; then
+    echo "package.sh: objdump names no version of the library of C: is $program a program of this architecture?" >&2
+    exit 2
+fi
+
 mkdir "$root/DEBIAN"
 cat > "$root/DEBIAN/control" << END
 Package: custody
@@ -154,7 +162,7 @@ Version: $version
 Architecture: $architecture
 Maintainer: $maintainer
 Installed-Size: $(du -sk "$root" | cut -f 1)
-Depends: libc6, passwd
+Depends: libc6 (>= $libc), passwd
 Recommends: nginx, openssh-server, git, python3, curl
 Suggests: sqlite3
 Section: vcs
@@ -167,12 +175,16 @@ END
 # The keys, in /etc/custody/authorized_keys, are no conffile: an upgrade could replace them.
 echo /etc/custody/policy.toml > "$root/DEBIAN/conffiles"
 install -m 755 -t "$root/DEBIAN" "$top/deploy/debian/postinst" "$top/deploy/debian/prerm" "$top/deploy/debian/postrm"
-# What lintian is to pass over: the server is started by the unit alone, which confines it; and in the program a text that
-# ends with "user" is next to one that begins with "a".
+# What lintian is to pass over: the server is started by the unit alone, which confines it; in the program texts and
+# code are next to each other, so that it sees words which nobody wrote; nginx serves the page with the locks; dash, too,
+# has the limits of the forced command; and a terminal has no end of a page, where a row of the manual would be too long.
 mkdir -p "$root/usr/share/lintian/overrides"
 cat > "$root/usr/share/lintian/overrides/custody" << 'END'
 custody: package-supports-alternative-init-but-no-init.d-script [lib/systemd/system/custody.service]
-custody: spelling-error-in-binary usera users [usr/bin/custody]
+custody: spelling-error-in-binary * [usr/bin/custody]
+custody: package-contains-documentation-outside-usr-share-doc [usr/share/custody/locks.html]
+custody: bash-term-in-posix-shell 'ulimit' [usr/lib/custody/forced-command:*]
+custody: groff-message * table text block will not fit on one page *
 END
 # Each file that is not a conffile, with its digest.
 (cd "$root" && find usr lib -type f | sort | xargs md5sum) > "$root/DEBIAN/md5sums"

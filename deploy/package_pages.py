@@ -33,7 +33,7 @@ PLACES = PAGES | {
     "deploy/policy.toml": "/etc/custody/policy.toml",
     "deploy/web/locks.html": "/usr/share/custody/locks.html",
     "docs/locks.png": f"{DOCUMENTS}/locks.png",
-    "examples/policy.toml": f"{DOCUMENTS}/examples/policy.toml",
+    **{f"examples/{name}": f"{DOCUMENTS}/examples/{name}" for name in ("custody-check-size", "policy.toml")},
     **{f"deploy/programs/{it.name}": f"/usr/lib/custody/{it.name}" for it in (TOP / "deploy/programs").iterdir()},
 }
 LINK = re.compile(r"\[([^\]]*)\]\(([^)\s]+)\)")

@@ -6,7 +6,9 @@ and which requests get which status have to follow from docs/PROTOCOL.md: the ch
 one of them differs.
 """
 import json
+import os
 import re
+import shutil
 import socketserver
 import subprocess
 import sys
@@ -17,7 +19,7 @@ from pathlib import Path
 from tests.studio.checks import Checks, arguments
 from tests.studio.clone import Clone, Workroom
 from tests.studio.policy import BASE, row
-from tests.studio.program import TOP, free_port, target
+from tests.studio.program import TOP, free_port, name_of, target
 
 # As sshd runs the forced command of a user's key: the client's own words come as one text. Git's own commands are run
 # on the repository of this folder.
@@ -35,6 +37,8 @@ API = target("")
 VERIFIED = "POST locks/verify 200"
 MOMENT = re.compile(r"\d{4}-\d\d-\d\dT\d\d:\d\d:\d\dZ")
 MORE = 120
+# The most bytes of an object.
+MOST = 4 << 30
 
 
 def read_message(connection):
@@ -264,9 +268,60 @@ def try_rights(studio):
     told(bob, "lfs unlock --id=5", "POST locks/5/unlock 200", prints=["Unlocked Lock 5"])
 
 
+def try_settings(studio):
+    """A setting that is committed holds in each clone; and the lock of a path that does not exist."""
+    ann, bob, told = studio.ann, studio.bob, studio.told
+    ann.git("checkout", "-q", "main")
+    ann.git("pull", "-q", "origin", "main")
+    told(bob, "lfs lock art/tree.psd", "POST locks 201", prints=["Locked art/tree.psd"])
+    told(ann, "config -f .lfsconfig lfs.locksverify true", prints=[])
+    write_and_commit(ann, tree="a tree of ann's")
+    told(ann, "push -q origin main", VERIFIED, status=1, says=[
+        "Unable to push locked files:\n* art/tree.psd - bob (refs: main)", "Cannot update locked files."])
+    ann.git("reset", "-q", "--hard", "origin/main")
+    told(bob, "lfs unlock art/tree.psd", "GET locks 200", f"POST locks/{MORE + 7}/unlock 200",
+         prints=["Unlocked art/tree.psd"])
+    ann.git("lfs", "track", "--lockable", "*.max")
+    told(ann, "lfs lock art/heroo.max", "POST locks 201", prints=["Locked art/heroo.max"])
+    told(ann, "lfs unlock art/heroo.max", "GET locks 200", f"POST locks/{MORE + 8}/unlock 200", status=2,
+         says=["art/heroo.max: no such file or directory"])
+
+
+def try_sizes(studio):
+    """A file that is larger than the server takes: the hook of the examples names it, and a push without the hook does
+    not. Only the pointer is written, and in its place among the objects a file without blocks."""
+    ann, told = studio.ann, studio.told
+    ann.git("lfs", "track", "*.mov")
+    ann.commit("Tracks films")
+    shutil.copy(TOP / "examples/custody-check-size", ann.path(".git/hooks/pre-commit"))
+    for name, size in (("cut", MOST), ("first cut", MOST + 1), ("second", 300_000_000)):
+        oid = name_of(name.encode())
+        text = f"version https://git-lfs.github.com/spec/v1\noid sha256:{oid}\nsize {size}\n"
+        ann.path(f"art/{name}.mov").write_text(text, encoding="utf-8")
+        stored = ann.path(f".git/lfs/objects/{oid[:2]}/{oid[2:4]}/{oid}")
+        stored.parent.mkdir(parents=True)
+        stored.touch()
+        os.truncate(stored, size)
+    told(ann, "add art/cut.mov", prints=[])
+    told(ann, "commit -m Cut", says=["art/cut.mov"])
+    told(ann, "add art", prints=[])
+    told(ann, "commit -m Cuts", status=1, prints=[
+        f"custody: art/first cut.mov has {MOST + 1} bytes, and the server takes at most {MOST}: it is not committed"])
+    told(ann, "config custody.largest 256m", prints=[])
+    told(ann, "commit -m Cuts", status=1, says=["art/second.mov has 300000000 bytes, and the server takes at most "
+                                                f"{256 << 20}: "])
+    told(ann, "reset -q HEAD art/second.mov", prints=[])
+    told(ann, "commit --no-verify -m Cuts", says=["art/first cut.mov"])
+    oid = name_of(b"first cut")
+    told(ann, "push -q origin main", VERIFIED, "POST objects/batch 200", status=1, says=[
+        f"[{oid}] B2: the object name or size is not valid"])
+    told(ann, "lfs ls-files --size", says=[f"{oid[:10]} - art/first cut.mov"])
+
+
 def try_all(studio):
     """Each part: the later ones go on from what the earlier ones have locked."""
-    for part in (try_locks, try_pushes, try_releases, try_ids, try_branches, try_pages, try_rights):
+    for part in (try_locks, try_pushes, try_releases, try_ids, try_branches, try_pages, try_settings, try_rights,
+                 try_sizes):
         part(studio)
 
 

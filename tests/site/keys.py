@@ -231,6 +231,22 @@ def try_policy(site):
     site.make_repository("studio/none")
     refuses(site, "a repository that the policy does not have", "R1: no such repository",
             RECEIVE.replace(FILM, "studio/none"), UPLOAD.replace(FILM, "studio/none"))
+
+
+def try_sentences(site):
+    """What stops Git and Git LFS is said in words."""
+    refuses(site, "a name with a capital letter", "has small letters, digits, _ and -, as studio/film",
+            RECEIVE.replace(FILM, "studio/Film"), UPLOAD.replace(FILM, "studio/Film"))
+    bare = Path(site.room, "git", f"{FILM}.git")
+    bare.rename(f"{bare}.away")
+    refuses(site, "a repository that only the policy has", "there is no Git repository for it", RECEIVE, UPLOAD)
+    Path(f"{bare}.away").rename(bare)
+    program = Path(site.room, "bin/custody")
+    program.unlink()
+    site.write("bin/custody", "#!/bin/sh\necho 'custody: store G2' >&2\nexit 1\n", 0o755)
+    refuses(site, "a full disk", "cannot read or write its database now", RECEIVE, UPLOAD, ISSUE)
+    program.unlink()
+    program.symlink_to(site.server.program)
     site.server.end(signal.SIGTERM)
     refuses(site, "no server runs", "The Git LFS server is not running: try again in a minute", RECEIVE, UPLOAD, ISSUE)
     site.server.start()
@@ -285,7 +301,7 @@ def main():
         site.install()
         site.start_sshd(("ann", "bob"))
         site.make_repository(FILM)
-        for part in (try_lines, try_policy, try_open):
+        for part in (try_lines, try_policy, try_sentences, try_open):
             checks.part(part.__name__.removeprefix("try_"), lambda: part(site))
     return checks.end()
 

@@ -15,6 +15,7 @@ import random
 import re
 import signal
 import sqlite3
+import ssl
 import subprocess
 import sys
 import tempfile
@@ -27,7 +28,7 @@ from tests.studio.checks import Checks, arguments, beside, comes_true, require
 from tests.studio.clone import Clone, Workroom, same_files
 from tests.studio.policy import FILM, GAME, MAIN, WORK, row
 from tests.studio.program import LAST, TOP, free_port, name_of, put, run
-from tests.studio.site import SiteServer, placed
+from tests.studio.site import Site, SiteServer, placed
 
 ROWS = (
     row("allow", ["ann"], ["force"], repos=["*"]),
@@ -515,6 +516,28 @@ def try_ssh(trial):
     trial.check(ran[0] == 1 and "R1: no such repository" in ran[2], f"no such repository: {ran[2].strip()}", ran)
 
 
+def try_tls(trial):
+    """A server that is reached through nginx, by TLS."""
+    place, folder, new = trial.place([10_000] * 1000), trial.folder(), trial.folder()
+    trial.mirror(place, folder)
+    site = trial.enter_context(Site(trial.program, trial.folder(), ROWS, trial.checks))
+    site.start_nginx()
+    # A client knows many certificates, which take long to read.
+    texts = [Path(it).read_text() for it in (ssl.get_default_verify_paths().cafile, site.certificate) if it]
+    control, more = site.server.control(), {"SSL_CERT_FILE": str(site.write("known.pem", "".join(texts)))}
+    timed(trial, "1000 objects of 10 KB by TLS", (folder, control), 1000, **more)
+    timed(trial, "and back", (control, new), 1000, **more)
+    trial.check(stored(new) == place.objects(), "each is whole")
+    lines = Path(site.room, "custody.access.log").read_text(encoding="utf-8").splitlines()
+    count = len({line.split()[1] for line in lines})
+    # nginx ends a connection after 1,000 requests.
+    trial.check(count <= len(lines) / 500, f"{len(lines)} requests came by {count} connections")
+    begun, ran = time.monotonic(), trial.mirror(folder, control)
+    taken = time.monotonic() - begun
+    trial.check(ran[0] == 1 and "its certificate is not trusted" in ran[2] and taken < 20,
+                f"without the certificate, after {taken:.1f} s (at most 20): {ran[2].strip()}", ran)
+
+
 class Busy(http.server.BaseHTTPRequestHandler):
     """In the place of nginx: refuses two batches, and replies to the third one that all is stored."""
 
@@ -590,10 +613,10 @@ def try_unlock(trial):
                 f"no socket: {ran[2].splitlines()[-1]}", ran)
 
 
-def timed(trial, what, words, count):
+def timed(trial, what, words, count, **more):
     """A run that copies this many objects, with its time."""
     begun = time.monotonic()
-    ran = trial.mirror(*words)
+    ran = trial.mirror(*words, **more)
     trial.expect(f"{what}: {time.monotonic() - begun:.1f} s", ran, count, 0)
 
 

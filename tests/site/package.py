@@ -1,9 +1,11 @@
-"""Runs the maintainer scripts of the package by themselves, over a folder that stands for the whole machine.
+"""Runs the maintainer scripts of the package by themselves, over a folder that stands for the whole machine, and makes
+a package of the program, whose files it looks at.
 
 DPKG_ROOT names the folder, and stand-ins for the commands that need root or systemd write down their words. A check
 fails if a script follows a link that the user custody made, changes something before it refuses one, does not say which
 path it is, or does not do what it has to where there is no link; or if the unit, or a folder that the pages have made,
-gives anybody more than is needed.
+gives anybody more than is needed. Of the package, if it does not depend on the libraries that its program needs, or a
+link of a page leads to nothing that it installs.
 """
 import os
 import re
@@ -15,7 +17,7 @@ import sys
 import tempfile
 from pathlib import Path
 
-from tests.studio.checks import Checks, arguments
+from tests.studio.checks import Checks, arguments, require
 from tests.studio.program import TOP, run
 
 HOME = "var/lib/custody"
@@ -205,11 +207,53 @@ def try_folders(checks):
                           errors)
 
 
+def anchors(text):
+    """The anchors of the headings of a page."""
+    heads = re.findall(r"^#+ (.*)$", text, re.M)
+    plain = [re.sub(r"\[([^\]]*)\]\([^)]*\)", r"\1", it).strip().lower() for it in heads]
+    return {re.sub(r"[^\w -]", "", it).replace(" ", "-") for it in plain}
+
+
+def is_dead(page, target):
+    """Whether a link of a page is no full address, and leads to no file or heading that is there."""
+    if re.match(r"https?://[a-z]", target):
+        return False
+    path, _, anchor = target.partition("#")
+    file = page.parent / path if path else page
+    return not file.exists() or file.suffix == ".md" and anchor and anchor not in anchors(file.read_text())
+
+
+def try_package(checks, program):
+    """A package depends on what its program needs, and its pages lead to files that it installs."""
+    with tempfile.TemporaryDirectory() as room:
+        root = Path(room, "root")
+        built = TOP / "crates/custody/out/custody" if program == str(TOP / "bin/custody") else program
+        status, output, errors = run([TOP / "deploy/package.sh", room], env={**os.environ, "CUSTODY": str(built)})
+        require(status == 0, f"deploy/package.sh: {output}{errors}")
+        package = next(Path(room).glob("*.deb"))
+        depends = run(["dpkg-deb", "-f", package, "Depends"])[1].strip()
+        require(run(["dpkg-deb", "-x", package, root])[0] == 0, "the package has no files")
+        needs = run(["readelf", "-dV", root / "usr/bin/custody"])[1]
+        versions = {tuple(map(int, it.split("."))) for it in re.findall(r"Name: GLIBC_([\d.]+)", needs)}
+        libraries, libc = set(re.findall(r"\(NEEDED\).*\[(.*)\]", needs)), ".".join(map(str, max(versions)))
+        checks.expect(libraries <= {"libc.so.6", "libm.so.6"} and f"libc6 (>= {libc})" in depends.split(", "),
+                      f"the program needs {', '.join(libraries)} of version {libc}, and the package {depends}")
+        said = run(["lintian", "-I", "--pedantic", "--allow-root", package])[1].splitlines()
+        checks.expect(all(": hardening-no-" in it for it in said),
+                      f"lintian reports how the program was compiled, and nothing else: {len(said)} lines", "\n".join(said))
+        pages = sorted(root.rglob("*.md"))
+        links = [(it, target) for it in pages for target in re.findall(r"\]\((\S+?)\)", it.read_text())]
+        dead = [f"{page.relative_to(root)}: {target}" for page, target in links if is_dead(page, target)]
+        checks.expect(len(pages) > 15 and len(links) > 200 and not dead,
+                      f"{len(links)} links of {len(pages)} pages lead to what is installed", "\n".join(dead))
+
+
 def main():
     """Runs the suite."""
     parser = arguments(__doc__)
     parser.add_argument("--scripts", default=TOP / "deploy/debian", type=lambda it: Path(os.path.abspath(it)),
                         metavar="FOLDER", help="the scripts, if not those of this tree: older ones have to fail")
+    parser.add_argument("--no-package", action="store_true", help="make no package, for which pandoc is needed")
     options, checks = parser.parse_args(), Checks()
     for name in (".", *TOUCHED):
         try_link(checks, options.scripts, CONFIGURE, name)
@@ -223,6 +267,8 @@ def main():
     try_unit(checks)
     try_group(checks)
     try_folders(checks)
+    if not options.no_package:
+        checks.part("package", lambda: try_package(checks, options.program))
     return checks.end()
 
 

@@ -131,6 +131,8 @@ class Site(Workroom):
                          ("listen 443", f"listen 127.0.0.1:{self.https}"), ("lfs.example;", "localhost;"),
                          ("/etc/ssl/certs/lfs.example.pem", self.certificate), ("/etc/ssl/private/lfs.example.key",
                                                                                 key),
+                         # The log has which connection a request came by.
+                         ("'$remote_addr [", "'$remote_addr $connection ["),
                          ("/var/log/nginx", self.room), ("/var/spool/custody", f"{self.room}/spool"),
                          ("/usr/share/custody", str(TOP / "deploy/web"))]:
             require(old in site, f"deploy/nginx/site has no {old}")
