@@ -11,7 +11,8 @@ use crate::region::Region;
 use crate::regions::Regions;
 use sqlite_disk::Disk;
 
-/// The offset in the file of the byte `at` of a region, if so many bytes from there on are among its first `limit`.
+/// Returns the offset in the file of the byte `at` of a region, if the `len` bytes from there on are among its first
+/// `limit`.
 fn offset_in(region: Region, limit: u64, at: u64, len: usize) -> Option<usize>
     ensures { SomeIff result (IsInside region limit at len) (region.start + at) }
 {

@@ -97,8 +97,8 @@ impl Regions {
     }
 }
 
-/// Finds the lowest room of so many bytes between regions and after them: the index of the first region after it, and
-/// its start.
+/// Finds the lowest free room of `size` bytes between regions and after them. Returns the index of the first region
+/// after it, and its start.
 fn gap(regions: &[Region], size: u64) -> Option<(usize, u64)>
     requires { AreInOrder regions.now }
     ensures some { IfSome result (λ found. IsGap regions.now size found.0 found.1) }

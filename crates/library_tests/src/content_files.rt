@@ -4,7 +4,7 @@ use crate::harness::{Tester, unwrap};
 use contents::{ContentsFault, Draft, LARGEST_END, Region, Regions, read, sync, trim};
 use sqlite_disk::{Crash, Disk, Fuse, Memory, Rot};
 
-/// The region of so many bytes from there on.
+/// The region of `size` bytes from `start` on.
 fn place(start: u64, size: u64) -> Region {
     Region { start, size }
 }

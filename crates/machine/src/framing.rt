@@ -19,7 +19,7 @@ fn is_transfer(method: &[u8], target: &[u8], body: u64) -> bool {
         b"PUT" => body > SHORT_UPLOAD,
         b"GET" => target
             .windows(9)
-            .any(|part| part == b"/objects/".as_slice()),
+            .any(|part| part == b"/content/".as_slice()),
         _ => false,
     }
 }
