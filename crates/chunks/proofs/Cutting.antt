@@ -1,19 +1,19 @@
 -- Bytes that are cut into chunks, one after the other.
 use Rattle.std.proofs.Common.{◌≡◌, ◌<◌, ◌≤◌, ◌+◌, ℕ, List, [], ◌∷◌, ◌++◌, length, Result, Ok, Err, OnOk, OnErr, sym, ap, subst, ◌∙◌, arith, take, append-nil, append_assoc, length-append, length-take}
 use Rattle.std.specs.List.{AllByRecursion, concat}
-use Rattle.sqlite_trees.specs.declared.store.Store.{Ghosts}
+use Rattle.store.specs.declared.state.State.{Ghosts}
 use Rattle.sqlite_trees.proofs.ListLemmas.{all-append}
 use Rattle.model.specs.World.{World}
-use Rattle.tables.specs.declared.Store.{Store}
 use Rattle.tables.specs.declared.new_rows.LastChunk.{LastChunk}
 use Rattle.tables.specs.Rows.{Tables}
 use Rattle.tables.specs.Statements.{with_chunk}
+use Rattle.store.specs.Normal.{normal}
 use Rattle.tables.specs.Staging.{upload_number, asked_chunk}
-use Rattle.tables.specs.Shown.{IsHonest, HasTables, Makes, Fails}
+use Rattle.store.specs.Shown.{IsHonest, HasTables, Puts, Fails}
 use Rattle.refinement.specs.Representation.{Holds}
 use Rattle.refinement.specs.Left.{Keeps, From}
 use Rattle.refinement.specs.Staging.{Stages, pieces_with}
-use Rattle.refinement.proofs.Leading.{leads_none, keeps_still, keeps_then, was_by}
+use Rattle.refinement.proofs.Leading.{leads_none, keeps_still, keeps_then, was_put_by}
 use Rattle.refinement.proofs.Staged.{stages_more, keeps_chunk}
 use Rattle.chunks.specs.declared.intake.Intake.{Intake}
 use Rattle.chunks.specs.Intakes.{chunk_size, AreChunks, IsCut, KeepsCount, IsWhole, Cuts, HasTaken, Advances, KeepsWithin}
@@ -82,7 +82,7 @@ count_then i j k p q = record { upload = q.upload ∙ p.upload; size = q.size �
 module _ {S : Type 0} (g : Ghosts S) where
   -- ---- nothing was written
 
-  pub keeps_nothing : (s : Store S) (i : Intake) (more : ℕ) → KeepsWithin g s i s more
+  pub keeps_nothing : (s : S) (i : Intake) (more : ℕ) → KeepsWithin g s i s more
   keeps_nothing s i more = record {
     honest = λ k. k;
     ready = λ h. h;
@@ -92,31 +92,33 @@ module _ {S : Type 0} (g : Ghosts S) where
   -- ---- one chunk was written
 
   abbrev step : Intake → Tables → Tables
-  step i = with_chunk (asked_chunk (upload_number i.upload) i.written i.last.items)
+  step i t = normal (with_chunk (asked_chunk (upload_number i.upload) i.written i.last.items) t)
 
-  made_ready : {T E : Type 0} (f : Tables → Tables) (s t : Store S) (r : Result T E) → OnOk r (Makes g f s t) → OnErr r (Fails g f s t) → HasTables g s → HasTables g t
+  made_ready : {T E : Type 0} (f : Tables → Tables) (s t : S) (r : Result T E) → OnOk r (Puts g f s t) → OnErr r (Fails g f s t) → HasTables g s → HasTables g t
   made_ready f s t (Ok x) made fails = made.moves.ready
   made_ready f s t (Err e) made fails = fails.moves.ready
 
-  pub chunk_kept : {T E : Type 0} (s t : Store S) (i : Intake) (r : Result T E) → OnOk r (Makes g (step i) s t) → OnErr r (Fails g (step i) s t) → KeepsWithin g s i t 0
+  pub chunk_kept : {T E : Type 0} (s t : S) (i : Intake) (r : Result T E) → OnOk r (Puts g (step i) s t) → OnErr r (Fails g (step i) s t) → KeepsWithin g s i t 0
   chunk_kept s t i r made fails = record {
-    honest = was_by g (step i) s t r made fails;
+    honest = was_put_by g (step i) s t r made fails;
     ready = made_ready (step i) s t r made fails;
     kept = λ repo name size bytes cuts fits world h.
-        let at : step i ≡ with_chunk (asked_chunk (upload_number i.upload) (length cuts.pieces) i.last.items) = ap (λ n. with_chunk (asked_chunk (upload_number i.upload) n i.last.items)) cuts.cut.count in
-        keeps_chunk g s t (upload_number i.upload) repo name size cuts.pieces r world i.last.items (subst (λ f. OnOk r (Makes g f s t)) at made) (subst (λ f. OnErr r (Fails g f s t)) at fails)
+        let at : step i ≡ (λ t. normal (with_chunk (asked_chunk (upload_number i.upload) (length cuts.pieces) i.last.items) t)) =
+        ap (λ n t. normal (with_chunk (asked_chunk (upload_number i.upload) n i.last.items) t)) cuts.cut.count in
+        keeps_chunk g s t (upload_number i.upload) repo name size cuts.pieces r world i.last.items (subst (λ f. OnOk r (Puts g f s t)) at made) (subst (λ f. OnErr r (Fails g f s t)) at fails)
         cuts.staged (let e = within i.written i.last.items cuts.pieces bytes cuts.cut in omega (arith, e, fits)) h;
   }
 
   -- its bytes are one piece more of the staged upload
-  chunk_staged : (s t : Store S) (i : Intake) → Makes g (step i) s t → HasTables g s → (repo name : List ℕ) (size : ℕ) (bytes : List ℕ) (cuts : Cuts g s i repo name size bytes)
+  chunk_staged : (s t : S) (i : Intake) → Puts g (step i) s t → HasTables g s → (repo name : List ℕ) (size : ℕ) (bytes : List ℕ) (cuts : Cuts g s i repo name size bytes)
       → Stages g t (upload_number i.upload) repo name size (cuts.pieces ++ i.last.items ∷ [])
   chunk_staged s t i made ready repo name size bytes cuts =
-      let at : step i ≡ with_chunk (asked_chunk (upload_number i.upload) (length cuts.pieces) i.last.items) = ap (λ n. with_chunk (asked_chunk (upload_number i.upload) n i.last.items)) cuts.cut.count in
-      let moves = subst (λ f. Makes g f s t) at made in
+      let at : step i ≡ (λ t. normal (with_chunk (asked_chunk (upload_number i.upload) (length cuts.pieces) i.last.items) t)) =
+      ap (λ n t. normal (with_chunk (asked_chunk (upload_number i.upload) n i.last.items) t)) cuts.cut.count in
+      let moves = subst (λ f. Puts g f s t) at made in
       stages_more g s t (upload_number i.upload) repo name size cuts.pieces i.last.items ready moves.moves cuts.staged
 
-  pub chunk_advances : (s t : Store S) (i j : Intake) → Makes g (step i) s t → j.upload ≡ i.upload → j.written ≡ i.written + 1 → j.last.items ≡ [] → length i.last.items ≡ chunk_size → Advances g s i t j []
+  pub chunk_advances : (s t : S) (i j : Intake) → Puts g (step i) s t → j.upload ≡ i.upload → j.written ≡ i.written + 1 → j.last.items ≡ [] → length i.last.items ≡ chunk_size → Advances g s i t j []
   chunk_advances s t i j made upload written last full ready repo name size bytes cuts = record {
     pieces = cuts.pieces ++ i.last.items ∷ [];
     cut = rw (written, last) (cut_chunk i.written i.last.items cuts.pieces bytes full cuts.cut);
@@ -125,7 +127,7 @@ module _ {S : Type 0} (g : Ghosts S) where
 
   -- ---- bytes in memory, and one chunk
 
-  more_held : (s : Store S) (i j : Intake) (part : List ℕ) → j.upload ≡ i.upload → j.written ≡ i.written → j.last.items ≡ i.last.items ++ part → length (i.last.items ++ part) ≤ chunk_size
+  more_held : (s : S) (i j : Intake) (part : List ℕ) → j.upload ≡ i.upload → j.written ≡ i.written → j.last.items ≡ i.last.items ++ part → length (i.last.items ++ part) ≤ chunk_size
       → (repo name : List ℕ) (size : ℕ) (bytes : List ℕ) → Cuts g s i repo name size bytes → Cuts g s j repo name size (bytes ++ part)
   more_held s i j part upload written last short repo name size bytes cuts = record {
     pieces = cuts.pieces;
@@ -134,7 +136,7 @@ module _ {S : Type 0} (g : Ghosts S) where
   }
 
   -- after more bytes came into memory, a chunk was written
-  pub more_kept : (s t : Store S) (i j : Intake) (part : List ℕ) (limit : ℕ) → length part ≤ limit → j.upload ≡ i.upload → j.written ≡ i.written → j.last.items ≡ i.last.items ++ part → length (i.last.items ++ part) ≤ chunk_size → KeepsWithin g s j t 0
+  pub more_kept : (s t : S) (i j : Intake) (part : List ℕ) (limit : ℕ) → length part ≤ limit → j.upload ≡ i.upload → j.written ≡ i.written → j.last.items ≡ i.last.items ++ part → length (i.last.items ++ part) ≤ chunk_size → KeepsWithin g s j t 0
       → KeepsWithin g s i t limit
   more_kept s t i j part limit less upload written last short k = record {
     honest = k.honest;
@@ -144,20 +146,20 @@ module _ {S : Type 0} (g : Ghosts S) where
   }
 
   -- more bytes came into memory
-  pub more_advances : (s : Store S) (i j : Intake) (part : List ℕ) → j.upload ≡ i.upload → j.written ≡ i.written → j.last.items ≡ i.last.items ++ part → length (i.last.items ++ part) ≤ chunk_size → Advances g s i s j part
+  pub more_advances : (s : S) (i j : Intake) (part : List ℕ) → j.upload ≡ i.upload → j.written ≡ i.written → j.last.items ≡ i.last.items ++ part → length (i.last.items ++ part) ≤ chunk_size → Advances g s i s j part
   more_advances s i j part upload written last short ready = more_held s i j part upload written last short
 
   -- no more bytes
-  pub advances_none : (s : Store S) (i : Intake) → Advances g s i s i []
+  pub advances_none : (s : S) (i : Intake) → Advances g s i s i []
   advances_none s i ready repo name size bytes cuts = subst (Cuts g s i repo name size) (sym (append-nil bytes)) cuts
 
   -- ---- one after the other
 
-  pub advances_then : (a b c : Store S) (i j k : Intake) (xs ys : List ℕ) → (HasTables g a → HasTables g b) → Advances g a i b j xs → Advances g b j c k ys → Advances g a i c k (xs ++ ys)
+  pub advances_then : (a b c : S) (i j k : Intake) (xs ys : List ℕ) → (HasTables g a → HasTables g b) → Advances g a i b j xs → Advances g b j c k ys → Advances g a i c k (xs ++ ys)
   advances_then a b c i j k xs ys later p q ready repo name size bytes cuts =
       subst (Cuts g c k repo name size) (append_assoc bytes xs ys) (q (later ready) repo name size (bytes ++ xs) (p ready repo name size bytes cuts))
 
-  pub keeps_after : (a b c : Store S) (i j : Intake) (xs : List ℕ) (limit more : ℕ) → length xs + more ≤ limit → KeepsWithin g a i b limit → Advances g a i b j xs → KeepsWithin g b j c more → KeepsWithin g a i c limit
+  pub keeps_after : (a b c : S) (i j : Intake) (xs : List ℕ) (limit more : ℕ) → length xs + more ≤ limit → KeepsWithin g a i b limit → Advances g a i b j xs → KeepsWithin g b j c more → KeepsWithin g a i c limit
   keeps_after a b c i j xs limit more less p goes q = record {
     honest = λ k. p.honest (q.honest k);
     ready = λ h. q.ready (p.ready h);
@@ -170,7 +172,7 @@ module _ {S : Type 0} (g : Ghosts S) where
   -- ---- a call on an intake
 
   -- each world is kept, since the upload has room for what the intake may write
-  pub from_room : (s t : Store S) (i : Intake) (more : ℕ) → (IsHonest g t → IsHonest g s)
+  pub from_room : (s t : S) (i : Intake) (more : ℕ) → (IsHonest g t → IsHonest g s)
       → ((repo name : List ℕ) (size : ℕ) (bytes : List ℕ) → Cuts g s i repo name size bytes → length bytes + more ≤ size → (world : World) → Holds g s world → Keeps g s t world)
       → ((repo name : List ℕ) (size : ℕ) (bytes : List ℕ) → HasTaken g s i repo name size bytes → length bytes + more ≤ size)
       → From g s t (λ world. (repo name : List ℕ) (size : ℕ) (bytes : List ℕ) → HasTaken g s i repo name size bytes → Keeps g s t world)
@@ -180,5 +182,5 @@ module _ {S : Type 0} (g : Ghosts S) where
   }
 
   -- nothing was written
-  pub from_nothing : (s : Store S) (i : Intake) → From g s s (λ world. (repo name : List ℕ) (size : ℕ) (bytes : List ℕ) → HasTaken g s i repo name size bytes → Keeps g s s world)
+  pub from_nothing : (s : S) (i : Intake) → From g s s (λ world. (repo name : List ℕ) (size : ℕ) (bytes : List ℕ) → HasTaken g s i repo name size bytes → Keeps g s s world)
   from_nothing s i = record { honest = λ k. k; each = λ clean world h repo name size bytes taken. keeps_still g s s world (leads_none g s world h) }

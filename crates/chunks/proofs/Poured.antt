@@ -10,12 +10,11 @@ use Rattle.std.proofs.Math.Seq.{take-append-add}
 use Rattle.std.proofs.lemmas.List.{take-append-le}
 use Rattle.sha2.specs.Hashers.{Holds256}
 use Rattle.sha2.specs.declared.Sha256.{Sha256}
-use Rattle.sqlite_trees.specs.declared.store.Store.{Ghosts}
+use Rattle.store.specs.declared.state.State.{Ghosts}
 use Rattle.tables.specs.Rows.{Chunk, Tables}
-use Rattle.tables.specs.declared.Store.{Store}
 use Rattle.tables.specs.declared.chunks.ChunkRow.{ChunkRow}
 use Rattle.tables.specs.declared.fault.StoreFault.{StoreFault}
-use Rattle.tables.specs.Shown.{IsHonest, IsOpen, HasTables, shown, Moves}
+use Rattle.store.specs.Shown.{IsHonest, IsOpen, HasTables, shown, Moves}
 use Rattle.tables.specs.Statements.{is_chunk}
 use Rattle.tables.specs.Staging.{chunk_bytes, IsChunkOf}
 use Rattle.refinement.specs.Objects.{chunk_kept, piece_rows, HasPieces}
@@ -181,7 +180,7 @@ poured_part cause old mid new written n k pieces bytes h at t =
 
 -- ---- the chunk that was read
 
-module _ {S : Type 0} (g : Ghosts S) (a b c : Store S) (id : ℤ) (n : ℕ) where
+module _ {S : Type 0} (g : Ghosts S) (a b c : S) (id : ℤ) (n : ℕ) where
   pub piece_read : (found : Option ChunkRow) → Moves g (λ t. t) a b → (IsHonest g c → IsHonest g b) → (IsHonest g c → HasTables g b → IsOpen g b × IsChunkOf found (find (is_chunk id (pos n)) (shown g b).chunks))
       → IsHonest g c → HasTables g a → (pieces : List (List ℕ)) → HasPieces id pieces (shown g a).chunks → option_map chunk_bytes found ≡ slice_get pieces n
   piece_read found moves honest answers k h pieces has =
@@ -195,7 +194,7 @@ module _ {S : Type 0} (g : Ghosts S) (a b c : Store S) (id : ℤ) (n : ℕ) wher
 
 -- ---- of the bytes that the store has
 
-module _ {S : Type 0} (g : Ghosts S) (fault : StoreFault) (a : Store S) (id : ℤ) (old new : Option (List ℕ)) (written n : ℕ) where
+module _ {S : Type 0} (g : Ghosts S) (fault : StoreFault) (a : S) (id : ℤ) (old new : Option (List ℕ)) (written n : ℕ) where
   -- nothing more was written
   pub front_of : IsUntouched old new written n ⊎ IsOpen g a → ((pieces : List (List ℕ)) → HasPieces id pieces (shown g a).chunks → HasPoured old new written n pieces) → IsHonest g a → (bytes : List ℕ) → Stores g a id bytes
       → TookFront (ByStore fault) old new bytes written

@@ -3,11 +3,10 @@ use Rattle.std.specs.Prelude.{◌≡◌, ◌<◌, ◌≤◌, ◌+◌, ℕ, ℤ, 
 use Rattle.std.specs.List.{AllByRecursion, concat}
 use Rattle.sha2.specs.Hashers.{Holds256}
 use Rattle.sha2.specs.declared.Sha256.{Sha256}
-use Rattle.sqlite_trees.specs.declared.store.Store.{Ghosts}
+use Rattle.store.specs.declared.state.State.{Ghosts}
 use Rattle.model.specs.World.{World}
-use Rattle.tables.specs.declared.Store.{Store}
 use Rattle.tables.specs.declared.new_rows.LastChunk.{LastChunk}
-use Rattle.tables.specs.Shown.{IsHonest, HasTables}
+use Rattle.store.specs.Shown.{IsHonest, HasTables}
 use Rattle.tables.specs.Staging.{upload_number}
 use Rattle.refinement.specs.Representation.{Holds}
 use Rattle.refinement.specs.Left.{Keeps}
@@ -53,37 +52,37 @@ pub record KeepsCount (old new : Intake) : Type 0 where
 
 module _ {S : Type 0} (g : Ghosts S) where
   -- an upload is staged for this repository, name and size; its chunks and the last bytes, in memory, are these bytes
-  pub record Holding (s : Store S) (id : ℤ) (written : ℕ) (last : List ℕ) (repo name : List ℕ) (size : ℕ) (bytes : List ℕ)
+  pub record Holding (s : S) (id : ℤ) (written : ℕ) (last : List ℕ) (repo name : List ℕ) (size : ℕ) (bytes : List ℕ)
       : Type 0 where
     pub pieces : List (List ℕ)
     pub cut : IsCut written last pieces bytes
     pub staged : Stages g s id repo name size pieces
 
   -- the same of the upload of an intake
-  abbrev pub Cuts : Store S → Intake → List ℕ → List ℕ → ℕ → List ℕ → Type 0
+  abbrev pub Cuts : S → Intake → List ℕ → List ℕ → ℕ → List ℕ → Type 0
   Cuts s i = Holding s (upload_number i.upload) i.written i.last.items
 
   -- the intake has taken these bytes, of an upload that is staged for this repository, name and size
-  pub record HasTaken (s : Store S) (i : Intake) (repo name : List ℕ) (size : ℕ) (bytes : List ℕ) : Type 0 where
+  pub record HasTaken (s : S) (i : Intake) (repo name : List ℕ) (size : ℕ) (bytes : List ℕ) : Type 0 where
     pub limit : i.size ≡ size
     pub within : length bytes ≤ size
     pub counted : HasCounted i.hasher i.taken bytes
     pub cuts : Cuts s i repo name size bytes
 
   -- an upload is staged for this repository, name and size; its chunks and this last one are these bytes
-  pub record HasArrived (s : Store S) (id : ℤ) (last : LastChunk) (repo name : List ℕ) (size : ℕ) (bytes : List ℕ) : Type 0 where
+  pub record HasArrived (s : S) (id : ℤ) (last : LastChunk) (repo name : List ℕ) (size : ℕ) (bytes : List ℕ) : Type 0 where
     pub pieces : List (List ℕ)
     pub whole : IsWhole pieces last bytes
     pub staged : Stages g s id repo name size pieces
 
   -- the intake went on by these bytes
-  abbrev pub Advances : Store S → Intake → Store S → Intake → List ℕ → Type 0
+  abbrev pub Advances : S → Intake → S → Intake → List ℕ → Type 0
   Advances s i t j more =
       HasTables g s → (repo name : List ℕ) (size : ℕ) (bytes : List ℕ) → Cuts s i repo name size bytes
       → Cuts t j repo name size (bytes ++ more)
 
   -- each world that the store held is kept, if the upload has room for this number of bytes more
-  pub record KeepsWithin (s : Store S) (i : Intake) (t : Store S) (more : ℕ) : Type 0 where
+  pub record KeepsWithin (s : S) (i : Intake) (t : S) (more : ℕ) : Type 0 where
     pub honest : IsHonest g t → IsHonest g s
     pub ready : HasTables g s → HasTables g t
     pub kept : (repo name : List ℕ) (size : ℕ) (bytes : List ℕ) → Cuts s i repo name size bytes

@@ -2,9 +2,8 @@
 use Rattle.std.specs.Prelude.{◌≡◌, ◌≤◌, ◌<◌, ℕ, ℤ, List, Option, take, length}
 use Rattle.std.specs.Io.KnownBytes.{Appends}
 use Rattle.names.specs.Streams.{HasGrown}
-use Rattle.sqlite_trees.specs.declared.store.Store.{Ghosts}
-use Rattle.tables.specs.declared.Store.{Store}
-use Rattle.tables.specs.Shown.{IsHonest, HasTables}
+use Rattle.store.specs.declared.state.State.{Ghosts}
+use Rattle.store.specs.Shown.{IsHonest, HasTables}
 use Rattle.refinement.specs.Staging.{Stores}
 use Rattle.chunks.specs.declared.pouring.PourCause.{PourCause}
 use Rattle.chunks.specs.declared.pouring.PourCause.TheVariants.{Store as ByStore, Device as ByDevice}
@@ -25,7 +24,7 @@ IsCause (ByStore fault) old new = new ≡ old
 IsCause ByDevice old new = HasGrown old new
 
 -- if the disk is honest, this holds of the bytes that the store has of the upload
-abbrev pub OfBytes : {S : Type 0} → Ghosts S → Store S → Store S → ℤ → (List ℕ → Type 0) → Type 0
+abbrev pub OfBytes : {S : Type 0} → Ghosts S → S → S → ℤ → (List ℕ → Type 0) → Type 0
 OfBytes g old new id P = IsHonest g new → HasTables g old → (bytes : List ℕ) → Stores g old id bytes → P bytes
 
 -- a sink took all of the bytes, and this is their number

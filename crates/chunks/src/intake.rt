@@ -3,14 +3,15 @@
 ghost use Rattle.std.specs.Prelude.{◌≡◌, ◌+◌, ◌<◌, ◌≤◌, ◌++◌, ℕ, List, true, false, [], length, take, drop, Err, IfOk, OnOk, OnErr};
 ghost use Rattle.sha2.specs.Hashers.{Holds256};
 ghost use Rattle.model.specs.World.{name_of};
-ghost use Rattle.tables.specs.Shown.{HasTables};
+ghost use Rattle.store.specs.Shown.{HasTables};
 ghost use Rattle.refinement.specs.Left.{From, Keeps};
 ghost use Rattle.chunks.specs.Intakes.{IsCut, IsWhole, HasCounted, KeepsCount, HasTaken, Advances, KeepsWithin};
 
 use names::{Oid, Size};
 use sha2::{Digest, Sha256};
 use std::alloc::{AllocError, Global};
-use tables::{Alter, LastChunk, Store, StoreFault, UploadId};
+use store::Store;
+use tables::{LastChunk, StoreFault, UploadId};
 
 /// The number of bytes of a chunk; the last one of an upload may be shorter.
 const CHUNK: usize = 65_536;
@@ -69,12 +70,12 @@ impl Intake {
     }
 
     /// Writes the bytes in memory, which are a full chunk, as the next one.
-    fn write_chunk<S: Alter>(&mut self, store: &mut Store<S>) -> Result<(), StoreFault>
+    fn write_chunk<S: Store>(&mut self, store: &mut S) -> Result<(), StoreFault>
         ensures same { KeepsCount self.old self.new }
         ensures empty { OnOk result (self.new.last.items ≡ []) }
         ensures advances { length self.old.last.items ≡ CHUNK
-            → OnOk result (Advances S.Store store.old self.old store.new self.new []) }
-        ensures keeps { KeepsWithin S.Store store.old self.old store.new 0 }
+            → OnOk result (Advances S.State store.old self.old store.new self.new []) }
+        ensures keeps { KeepsWithin S.State store.old self.old store.new 0 }
     {
         let Some(next) = self.written.checked_add(1) else {
             return Err(StoreFault::Refused);
@@ -86,14 +87,14 @@ impl Intake {
     }
 
     /// Takes bytes from the front until the chunk is full, which is then written, and returns how many it took.
-    fn fill<S: Alter>(&mut self, store: &mut Store<S>, rest: &[u8]) -> Result<usize, StoreFault>
+    fn fill<S: Store>(&mut self, store: &mut S, rest: &[u8]) -> Result<usize, StoreFault>
         requires { length self.old.last.items < CHUNK }
         ensures some { IfOk result (λ n. (0 < length rest.now → 0 < n) × (n ≤ length rest.now)) }
         ensures short { OnOk result (length self.new.last.items < CHUNK) }
         ensures same { KeepsCount self.old self.new }
         ensures advances { IfOk result
-            (λ n. Advances S.Store store.old self.old store.new self.new (take n rest.now)) }
-        ensures keeps { KeepsWithin S.Store store.old self.old store.new (length rest.now) }
+            (λ n. Advances S.State store.old self.old store.new self.new (take n rest.now)) }
+        ensures keeps { KeepsWithin S.State store.old self.old store.new (length rest.now) }
     {
         let size = rest.len().min(CHUNK - self.last.len());
         self.last.extend_from_slice(&rest[..size])?;
@@ -104,11 +105,11 @@ impl Intake {
     }
 
     /// Takes all of the bytes.
-    fn fill_all<S: Alter>(&mut self, store: &mut Store<S>, piece: &[u8]) -> Result<(), StoreFault>
+    fn fill_all<S: Store>(&mut self, store: &mut S, piece: &[u8]) -> Result<(), StoreFault>
         ensures same { KeepsCount self.old self.new }
         ensures advances { OnOk result
-            (Advances S.Store store.old self.old store.new self.new piece.now) }
-        ensures keeps { KeepsWithin S.Store store.old self.old store.new (length piece.now) }
+            (Advances S.State store.old self.old store.new self.new piece.now) }
+        ensures keeps { KeepsWithin S.State store.old self.old store.new (length piece.now) }
     {
         if self.last.len() >= CHUNK {
             return Err(StoreFault::Refused);
@@ -126,13 +127,13 @@ impl Intake {
     ///
     /// A [`StoreFault`]; `Refused` also for a piece beyond the size of the upload. The intake is then spent. The
     /// contents of the store are unchanged: the chunks that were written are those of a staged upload.
-    pub fn push<S: Alter>(&mut self, store: &mut Store<S>, piece: &[u8]) -> Result<(), StoreFault>
-        ensures taken { HasTables S.Store store.old → OnOk result ((repo name : List ℕ) (size : ℕ)
-            (bytes : List ℕ) → HasTaken S.Store store.old self.old repo name size bytes
-            → HasTaken S.Store store.new self.new repo name size (bytes ++ piece.now)) }
-        ensures kept { From S.Store store.old store.new (λ world. (repo name : List ℕ) (size : ℕ)
-            (bytes : List ℕ) → HasTaken S.Store store.old self.old repo name size bytes
-            → Keeps S.Store store.old store.new world) }
+    pub fn push<S: Store>(&mut self, store: &mut S, piece: &[u8]) -> Result<(), StoreFault>
+        ensures taken { HasTables S.State store.old → OnOk result ((repo name : List ℕ) (size : ℕ)
+            (bytes : List ℕ) → HasTaken S.State store.old self.old repo name size bytes
+            → HasTaken S.State store.new self.new repo name size (bytes ++ piece.now)) }
+        ensures kept { From S.State store.old store.new (λ world. (repo name : List ℕ) (size : ℕ)
+            (bytes : List ℕ) → HasTaken S.State store.old self.old repo name size bytes
+            → Keeps S.State store.old store.new world) }
         ensures upload { self.new.upload ≡ self.old.upload }
         ensures spent { OnErr result (self.new.is_spent ≡ true) }
         ensures refused { self.old.is_spent ≡ true

@@ -6,11 +6,12 @@ ghost use Rattle.names.specs.Streams.{HasGrown};
 ghost use Rattle.tables.specs.Rows.{Chunk};
 ghost use Rattle.tables.specs.Statements.{is_chunk};
 ghost use Rattle.tables.specs.Staging.{upload_number, chunk_bytes, IsChunkOf};
-ghost use Rattle.tables.specs.Shown.{IsHonest, IsOpen, HasTables, shown, Moves, AddsNothing};
+ghost use Rattle.store.specs.Shown.{IsHonest, IsOpen, HasTables, shown, Moves, AddsNothing};
 ghost use Rattle.chunks.specs.Pouring.{TookFront, TookAll, IsCause, OfBytes};
 
 use names::{Sink, write_whole};
-use tables::{Alter, ChunkRow, Store, StoreFault, UploadId};
+use store::Store;
+use tables::{ChunkRow, StoreFault, UploadId};
 use thiserror::Error;
 
 /// Why the bytes of an upload were not written to their end.
@@ -34,17 +35,17 @@ pub struct PourFault {
 }
 
 /// Reads the chunk with this number.
-fn read_chunk<S: Alter>(
-    store: &mut Store<S>,
+fn read_chunk<S: Store>(
+    store: &mut S,
     upload: UploadId,
     n: u32,
     written: u64,
 ) -> Result<Option<ChunkRow>, PourFault>
-    ensures answers { IsHonest S.Store store.new → HasTables S.Store store.old → IfOk result
-        (λ found. IsOpen S.Store store.old × IsChunkOf found
-        (find (is_chunk (upload_number upload) (pos n)) (shown S.Store store.old).chunks)) }
-    ensures same { Moves S.Store (λ t. t) store.old store.new }
-    ensures adds { AddsNothing S.Store store.old store.new }
+    ensures answers { IsHonest S.State store.new → HasTables S.State store.old → IfOk result
+        (λ found. IsOpen S.State store.old × IsChunkOf found
+        (find (is_chunk (upload_number upload) (pos n)) (shown S.State store.old).chunks)) }
+    ensures same { Moves S.State (λ t. t) store.old store.new }
+    ensures adds { AddsNothing S.State store.old store.new }
     ensures fault { IfErr result (λ e. (e.written ≡ written)
         × (fault : StoreFault) × (e.cause ≡ PourCause.Store fault)) }
 {
@@ -87,19 +88,19 @@ fn write_bytes<K: Sink>(sink: &mut K, bytes: &[u8], written: u64) -> Result<u64,
 ///
 /// A [`PourFault`]: the sink took a prefix of the bytes. If the sink is the cause, it counts one failure, and it did
 /// not take all of the bytes.
-pub fn pour<S: Alter, K: Sink>(
-    store: &mut Store<S>,
+pub fn pour<S: Store, K: Sink>(
+    store: &mut S,
     upload: UploadId,
     sink: &mut K,
 ) -> Result<u64, PourFault>
-    ensures all { IfOk result (λ count. OfBytes S.Store store.old store.new (upload_number upload)
+    ensures all { IfOk result (λ count. OfBytes S.State store.old store.new (upload_number upload)
         (TookAll (K.taken sink.old) (K.taken sink.new) count)) }
-    ensures part { IfErr result (λ e. OfBytes S.Store store.old store.new (upload_number upload)
+    ensures part { IfErr result (λ e. OfBytes S.State store.old store.new (upload_number upload)
         (λ bytes. TookFront e.cause (K.taken sink.old) (K.taken sink.new) bytes e.written)) }
     ensures good { OnOk result (K.failed sink.new ≡ K.failed sink.old) }
     ensures fault { IfErr result (λ e. IsCause e.cause (K.failed sink.old) (K.failed sink.new)) }
-    ensures same { Moves S.Store (λ t. t) store.old store.new }
-    ensures adds { AddsNothing S.Store store.old store.new }
+    ensures same { Moves S.State (λ t. t) store.old store.new }
+    ensures adds { AddsNothing S.State store.old store.new }
 {
     let mut written = 0;
     let mut n = 0;

@@ -3,14 +3,15 @@
 ghost use Rattle.std.specs.Prelude.{◌≡◌, ◌&&◌, ℕ, List, length, nat_eq, bytes_eq, IfOk};
 ghost use Rattle.model.specs.World.{name_of};
 ghost use Rattle.tables.specs.Staging.{upload_number};
-ghost use Rattle.tables.specs.Shown.{Moves, AddsNothing};
+ghost use Rattle.store.specs.Shown.{Moves, AddsNothing};
 ghost use Rattle.chunks.specs.Intakes.{HasCounted};
 ghost use Rattle.chunks.specs.Pouring.{OfBytes};
 
 use crate::intake::name_of;
 use names::{Oid, Size};
 use sha2::{Digest, Sha256};
-use tables::{Alter, Store, StoreFault, UploadId};
+use store::Store;
+use tables::{StoreFault, UploadId};
 
 /// Whether the bytes that were hashed and counted are as many as `size`, and have this name.
 fn are_named(hasher: Sha256, count: u64, oid: &Oid, size: Size) -> Result<bool, StoreFault>
@@ -27,16 +28,16 @@ fn are_named(hasher: Sha256, count: u64, oid: &Oid, size: Size) -> Result<bool, 
 /// # Errors
 ///
 /// `Refused` or `Memory`. The tables are unchanged in any case.
-pub fn is_whole<S: Alter>(
-    store: &mut Store<S>,
+pub fn is_whole<S: Store>(
+    store: &mut S,
     upload: UploadId,
     oid: &Oid,
     size: Size,
 ) -> Result<bool, StoreFault>
-    ensures exact { OfBytes S.Store store.old store.new (upload_number upload) (λ bytes. IfOk result
+    ensures exact { OfBytes S.State store.old store.new (upload_number upload) (λ bytes. IfOk result
         (λ whole. whole ≡ (nat_eq (length bytes) size && bytes_eq (name_of bytes) oid.now))) }
-    ensures same { Moves S.Store (λ t. t) store.old store.new }
-    ensures adds { AddsNothing S.Store store.old store.new }
+    ensures same { Moves S.State (λ t. t) store.old store.new }
+    ensures adds { AddsNothing S.State store.old store.new }
 {
     let mut hasher = Sha256::new();
     let mut count = 0u64;

@@ -1,9 +1,8 @@
 //! Opens the database, for work over it, or to migrate it.
 
 ghost use Rattle.std.specs.Prelude.{◌≡◌, ⊤, OnOk, Result};
-ghost use Rattle.sqlite_trees.specs.declared.store.Store.{Ghosts};
+ghost use Rattle.store.specs.declared.state.State.{Ghosts};
 ghost use Rattle.model.specs.World.{World};
-ghost use Rattle.tables.specs.declared.Store as tables;
 ghost use Rattle.refinement.specs.Left.{From};
 ghost use Rattle.faults.specs.declared.faults.Fault.{Fault};
 
@@ -13,7 +12,8 @@ use refinement::open_from;
 use std::fs::OpenOptions;
 use std::os::unix::fs::OpenOptionsExt;
 use std::rt::HostRuntime;
-use tables::{Migrated, Start, Storage, Store};
+use store::Store;
+use tables::{Migrated, Start};
 
 /// The mode of a new database: only the user of the process may read it. Its log is made with the same mode.
 const MODE: u32 = 0o600;
@@ -21,15 +21,15 @@ const MODE: u32 = 0o600;
 /// What is done with an open database.
 pub(crate) trait Work: Drop {
     /// The work led a store that held this world to the other store, and ended so.
-    ghost leads: { Self → {S : Type 0} → Ghosts S → (old new : tables.Store S) → World → Result ⊤ Fault → Type 0 };
+    ghost leads: { Self → {S : Type 0} → Ghosts S → (old new : S) → World → Result ⊤ Fault → Type 0 };
 
     /// Whether the database is closed afterwards, so that its file holds it without the log.
     fn closes(&self) -> bool;
 
     /// Does it, and prints what it has to. `Ok` means that all of that was written.
-    fn run<S: Storage, K: Sink>(self, store: &mut Store<S>, output: &mut K) -> Result<(), Fault>
-        ensures world { From S.Store store.old store.new (λ world.
-            leads self S.Store store.old store.new world result) }
+    fn run<S: Store, K: Sink>(self, store: &mut S, output: &mut K) -> Result<(), Fault>
+        ensures world { From S.State store.old store.new (λ world.
+            leads self S.State store.old store.new world result) }
         ensures good { OnOk result (K.failed output.new ≡ K.failed output.old) };
 }
 
@@ -84,7 +84,7 @@ pub(crate) fn migrate_at<S: Start>(
     start: S,
 ) -> Result<Migrated, Fault> {
     make_file(rt, db);
-    let mut store = Store::open_from(rt, db, start)?;
+    let mut store = tables::Store::open_from(rt, db, start)?;
     let migrated = refinement::migrate(rt.alloc(), &mut store)?;
     Ok(migrated)
 }

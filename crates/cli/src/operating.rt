@@ -15,7 +15,8 @@ use service::LONGEST_MESSAGE;
 use std::alloc::Global;
 use std::io::IsTerminal;
 use std::rt::HostRuntime;
-use tables::{Start, Storage, Store};
+use store::Store;
+use tables::Start;
 
 /// A task over the database.
 #[derive(Drop)]
@@ -32,7 +33,7 @@ impl Work for OperatorTask<'_> {
         false
     }
 
-    fn run<S: Storage, K: Sink>(self, store: &mut Store<S>, output: &mut K) -> Result<(), Fault> {
+    fn run<S: Store, K: Sink>(self, store: &mut S, output: &mut K) -> Result<(), Fault> {
         self.task.run(self.alloc, store, self.destination, output)?;
         Ok(())
     }
@@ -125,10 +126,10 @@ fn foresee<S: Start, R: Source, K: Sink>(
 /// # Errors
 ///
 /// `Clock`, `PolicyFile`, `Policy`, `Repository`, `Random`, `BadPath`, `TooManyPaths` and `NoMessage`, which leave the
-/// database unopened; `Store`, `Token` (K1, K2), `NoCaller`, `NoObject` and `Memory`; `Output` if the input could not be
-/// read, or a line not be written; and `Reported` if Git may not begin, a path may not be pushed, or an object is damaged.
-/// After any of them the world is as before, but for `Output` after tokens were pruned or an object was retired, and except perhaps if the
-/// database failed within the change.
+/// database unopened; `Store`, `Token` (K1, K2), `NoCaller`, `NoObject` and `Memory`; `Output` if the input could not
+/// be read, or a line not be written; and `Reported` if Git may not begin, a path may not be pushed, or an object is
+/// damaged. After any of them the world is as before, but for `Output` after tokens were pruned or an object was
+/// retired, and except perhaps if the database failed within the change.
 pub(crate) fn operate<S: Start, R: Source, K: Sink>(
     rt: &HostRuntime,
     files: &Files<'_>,

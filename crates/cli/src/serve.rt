@@ -23,7 +23,8 @@ use std::net::TcpListener;
 use std::os::unix::net::UnixListener;
 use std::rt::HostRuntime;
 use std::time::{Clock, Duration};
-use tables::{Start, Storage, Store};
+use store::Store;
+use tables::Start;
 
 /// The most connections of clients at a time. With those of operators and the files they fit the 1,024 files that a
 /// system usually allows a process.
@@ -76,16 +77,16 @@ struct ServeContext<'a, C> {
 
 impl<C: Clock> ServeContext<'_, C> {
     /// Serves those who connect at the listeners, first under this policy. Returns the operator who has stopped the server.
-    fn serve<S: Storage, K: Sink, E: Write>(
+    fn serve<S: Store, K: Sink, E: Write>(
         &self,
-        store: &mut Store<S>,
+        store: &mut S,
         policy: Policy,
         listeners: Listeners<'_>,
         output: &mut K,
         errors: &mut E,
     ) -> Result<Option<OperatorStream>, Fault>
-        ensures world { From S.Store store.old store.new (λ world.
-            ServesAll S.Store policy store.old store.new world) }
+        ensures world { From S.State store.old store.new (λ world.
+            ServesAll S.State policy store.old store.new world) }
         ensures good { OnOk result (K.failed output.new ≡ K.failed output.old) }
     {
         let limits = Limits {
@@ -112,17 +113,17 @@ impl<C: Clock> ServeContext<'_, C> {
     }
 
     /// The same with a control socket at the path, which is removed in the end.
-    fn serve_controlled<S: Storage, K: Sink, E: Write>(
+    fn serve_controlled<S: Store, K: Sink, E: Write>(
         &self,
-        store: &mut Store<S>,
+        store: &mut S,
         policy: Policy,
         clients: &TcpListener,
         path: &str,
         output: &mut K,
         errors: &mut E,
     ) -> Result<Option<OperatorStream>, Fault>
-        ensures world { From S.Store store.old store.new (λ world.
-            ServesAll S.Store policy store.old store.new world) }
+        ensures world { From S.State store.old store.new (λ world.
+            ServesAll S.State policy store.old store.new world) }
         ensures good { OnOk result (K.failed output.new ≡ K.failed output.old) }
     {
         let Ok(control) = ControlSocket::bind(self.rt, path) else {
@@ -135,16 +136,16 @@ impl<C: Clock> ServeContext<'_, C> {
     }
 
     /// Serves with the control socket that the arguments name, if they name one.
-    fn serve_at<S: Storage, K: Sink, E: Write>(
+    fn serve_at<S: Store, K: Sink, E: Write>(
         &self,
-        store: &mut Store<S>,
+        store: &mut S,
         policy: Policy,
         listeners: Listeners<'_>,
         output: &mut K,
         errors: &mut E,
     ) -> Result<Option<OperatorStream>, Fault>
-        ensures world { From S.Store store.old store.new (λ world.
-            ServesAll S.Store policy store.old store.new world) }
+        ensures world { From S.State store.old store.new (λ world.
+            ServesAll S.State policy store.old store.new world) }
         ensures good { OnOk result (K.failed output.new ≡ K.failed output.old) }
     {
         let Some(path) = self.args.control else {
@@ -172,7 +173,7 @@ impl<C: Clock, E: Write> Work for Serving<'_, C, E> {
         true
     }
 
-    fn run<S: Storage, K: Sink>(self, store: &mut Store<S>, output: &mut K) -> Result<(), Fault> {
+    fn run<S: Store, K: Sink>(self, store: &mut S, output: &mut K) -> Result<(), Fault> {
         let Serving {
             context,
             policy,

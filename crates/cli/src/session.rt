@@ -13,7 +13,8 @@ use policy::Policy;
 use service::{End, Routes, serve};
 use std::alloc::Global;
 use std::rt::HostRuntime;
-use tables::{Start, Storage, Store};
+use store::Store;
+use tables::Start;
 
 /// What a session is served with.
 #[derive(Clone, Copy)]
@@ -50,7 +51,7 @@ impl<R: Source> Work for Connection<'_, R> {
         false
     }
 
-    fn run<S: Storage, K: Sink>(self, store: &mut Store<S>, output: &mut K) -> Result<(), Fault> {
+    fn run<S: Store, K: Sink>(self, store: &mut S, output: &mut K) -> Result<(), Fault> {
         let Connection {
             alloc,
             context,

@@ -14,7 +14,8 @@ use crate::pages::{Page, cut};
 use locks::{Lock, window};
 use names::{LockId, RepoName};
 use std::alloc::Global;
-use tables::{Alter, Store, StoreFault};
+use store::Store;
+use tables::StoreFault;
 
 /// The wanted locks of a window, and the id at which the next window begins.
 #[derive(Drop)]
@@ -91,9 +92,9 @@ pub(crate) fn keep_wanted<V: Fn(&Lock) -> bool>(
 }
 
 /// Reads the window that begins at this id, and keeps the wanted locks.
-fn read_window<S: Alter, V: Fn(&Lock) -> bool>(
+fn read_window<S: Store, V: Fn(&Lock) -> bool>(
     alloc: Global,
-    store: &mut Store<S>,
+    store: &mut S,
     repo: &RepoName,
     wanted: &Filter<'_>,
     visible: &V,
@@ -102,7 +103,7 @@ fn read_window<S: Alter, V: Fn(&Lock) -> bool>(
     requires { V.IsAlwaysCallable visible.now }
     ensures later { IfOk result (λ window. IfSome window.next
         (λ id. (start < id) × (id ≤ last_lock_id))) }
-    ensures world { Reads S.Store store.old store.new (λ world.
+    ensures world { Reads S.State store.old store.new (λ world.
         (sees : Test) → Sees V.Fn visible.now (repo_text repo.now) sees → IfOk result (λ window.
         map (lock_seen (repo_text repo.now)) window.locks.items
         ++ left (wanted_locks (repo_text repo.now) world wanted.entry.now sees) window.next
@@ -135,9 +136,9 @@ fn unless_full(limit: u32, found: &[Lock], next: Option<LockId>) -> Option<LockI
 /// # Errors
 ///
 /// `Refused` or `Memory`. The contents of the store are unchanged in any case.
-pub fn page<S: Alter, V: Fn(&Lock) -> bool>(
+pub fn page<S: Store, V: Fn(&Lock) -> bool>(
     alloc: Global,
-    store: &mut Store<S>,
+    store: &mut S,
     repo: &RepoName,
     wanted: &Filter<'_>,
     visible: V,
@@ -145,7 +146,7 @@ pub fn page<S: Alter, V: Fn(&Lock) -> bool>(
     limit: u32,
 ) -> Result<Page, StoreFault>
     requires { V.IsAlwaysCallable visible }
-    ensures { Reads S.Store store.old store.new (λ world.
+    ensures { Reads S.State store.old store.new (λ world.
         (sees : Test) → Sees V.Fn visible (repo_text repo.now) sees → IfOk result (λ page.
         page_seen (repo_text repo.now) page ≡ page_of (cursor_or_first cursor) limit
         (wanted_locks (repo_text repo.now) world wanted.entry.now sees))) }

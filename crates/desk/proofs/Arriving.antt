@@ -1,11 +1,11 @@
 -- An upload, from the bytes that arrive to the answer.
-use Rattle.desk.proofs.Prelude.{◌≡◌, ◌∙◌, ◌+◌, ◌≤◌, ℕ, Bool, true, false, List, [], ◌++◌, length, replicate, Option, Some, None, is_some, Result, Ok, Err, bytes_eq, refl, sym, ap, subst, arith, take, append-nil, append_assoc, length-append, length-take, IsTrue, nil_from_length, length-replicate, Ghosts, X2, World, Object, name_of, object_named, with_object, Answer, stores, by_rule, store_refusal, content_verdict, Ending, changed, unchanged, failed, answer_ending, Store, StoreFault, Holds, From, Keeps, Ends, leads_none, keeps_still, keeps_then, keeps_ends, ends_then, ends_reported, Receipt, Differs, ReceiveFault, HasRead, object_from, Takes, HasAll, Fills, Carries, Settles, Receives, ReceivesStaged}
+use Rattle.desk.proofs.Prelude.{◌≡◌, ◌∙◌, ◌+◌, ◌≤◌, ℕ, Bool, true, false, List, [], ◌++◌, length, replicate, Option, Some, None, is_some, Result, Ok, Err, bytes_eq, refl, sym, ap, subst, arith, take, append-nil, append_assoc, length-append, length-take, IsTrue, nil_from_length, length-replicate, Ghosts, X2, World, Object, name_of, object_named, with_object, Answer, stores, by_rule, store_refusal, content_verdict, Ending, changed, unchanged, failed, answer_ending, StoreFault, Holds, From, Keeps, Ends, leads_none, keeps_still, keeps_then, keeps_ends, ends_then, ends_reported, Receipt, Differs, ReceiveFault, HasRead, object_from, Takes, HasAll, Fills, Carries, Settles, Receives, ReceivesStaged}
 use Rattle.std.proofs.lemmas.Bool.{true≢false}
 use Rattle.std.proofs.lemmas.Slice.Eq.{bytes_eq-Decides}
 use Rattle.names.specs.declared.bodies.Body.{Ghosts as BodyGhosts}
 use Rattle.names.specs.Texts.{is_repo}
 use Rattle.model.specs.Steps.{after}
-use Rattle.tables.specs.Shown.{HasTables}
+use Rattle.store.specs.Shown.{HasTables}
 use Rattle.tables.specs.Staging.{upload_number}
 use Rattle.tables.specs.declared.rows.UploadId.{UploadId}
 use Rattle.refinement.specs.Left.{Gives}
@@ -84,7 +84,7 @@ answered_by (Err f) = Err (fault.Store f)
 module _ {S : Type 0} (g : Ghosts S) where
   -- ---- what is answered
 
-  module _ (old new : Store S) (world : World) where
+  module _ (old new : S) (world : World) where
     -- the world is kept, and the store is reported as refusing
     pub kept_refused : (verdict : Answer) → Keeps g old new world → Gives g old new world verdict store_refusal
     kept_refused verdict keeps = ends_reported g old new world (after world (Some verdict)) keeps
@@ -140,7 +140,7 @@ module _ {S : Type 0} (g : Ghosts S) where
       completed (Err upload_fault.Differs) done = differs (bytes_eq upload.name (name_of (bytes_in upload))) refl done
       completed (Err (upload_fault.Store f)) done = refused (bytes_eq upload.name (name_of (bytes_in upload))) f refl done
 
-  pub settled : (old new : Store S) (id : UploadId) (arrival : Arrival) (r : Result Kept UploadFault)
+  pub settled : (old new : S) (id : UploadId) (arrival : Arrival) (r : Result Kept UploadFault)
       → From g old new (λ world. (upload : Staged) → Arrives g old id upload arrival.last arrival.name arrival.size → Completes g world id upload old new r)
       → From g old new (Settles g old new id arrival (receipt_of r))
   settled old new id arrival r done = record {
@@ -161,13 +161,13 @@ module _ {S : Type 0} (g : Ghosts S) where
   }
 
   -- the same after a call that kept the world
-  carries_then : (a b c : Store S) (world : World) (o : Object) (r : Result Receipt StoreFault) → Keeps g a b world → Carries g b c world o r → Carries g a c world o r
+  carries_then : (a b c : S) (world : World) (o : Object) (r : Result Receipt StoreFault) → Keeps g a b world → Carries g b c world o r → Carries g a c world o r
   carries_then a b c world o (Ok receipt) keeps done = (done.0, keeps_ends g a b c (answer_ending world (Some (content_verdict o))) world (after world (Some (content_verdict o))) (after world (Some (content_verdict o))) keeps done.1)
   carries_then a b c world o (Err f) keeps done = keeps_ends g a b c failed world (after world (Some (content_verdict o))) world keeps done
 
   -- ---- the loop
 
-  module _ (a : Store S) (i : Intake) where
+  module _ (a : S) (i : Intake) where
     pub takes_none : From g a a (Takes g a i a i [] taken)
     takes_none = record {
       honest = λ k. k;
@@ -178,13 +178,13 @@ module _ {S : Type 0} (g : Ghosts S) where
     }
 
     -- what happened before a fault
-    pub takes_failed : (b : Store S) (j : Intake) (xs ys : List ℕ) (e : ReceiveFault) → From g a b (Takes g a i b j xs taken) → From g a b (Takes g {T = Unit} a i b j ys (Err e))
+    pub takes_failed : (b : S) (j : Intake) (xs ys : List ℕ) (e : ReceiveFault) → From g a b (Takes g a i b j xs taken) → From g a b (Takes g {T = Unit} a i b j ys (Err e))
     takes_failed b j xs ys e so_far = record {
       honest = so_far.honest;
       each = λ k world h repo name size bytes had. ((so_far.each k world h repo name size bytes had).0, tt);
     }
 
-    module _ (b c : Store S) (j k : Intake) (xs : List ℕ) (so_far : From g a b (Takes g a i b j xs taken))
+    module _ (b c : S) (j k : Intake) (xs : List ℕ) (so_far : From g a b (Takes g a i b j xs taken))
         (kept : From g b c (λ world. (repo name : List ℕ) (size : ℕ) (bytes : List ℕ) → HasTaken g b j repo name size bytes → Keeps g b c world)) where
       pub takes_more : (piece ys : List ℕ) → piece ≡ ys
           → (HasTables g b → (repo name : List ℕ) (size : ℕ) (bytes : List ℕ) → HasTaken g b j repo name size bytes → HasTaken g c k repo name size (bytes ++ piece))
@@ -209,7 +209,7 @@ module _ {S : Type 0} (g : Ghosts S) where
 
   -- ---- all of the upload
 
-  module _ (a : Store S) (i : Intake) (id : UploadId) (size : ℕ) (same : i.upload ≡ id) (limit : i.size ≡ size) (empty : IsCut i.written i.last.items [] [] × HasCounted i.hasher i.taken []) where
+  module _ (a : S) (i : Intake) (id : UploadId) (size : ℕ) (same : i.upload ≡ id) (limit : i.size ≡ size) (empty : IsCut i.written i.last.items [] [] × HasCounted i.hasher i.taken []) where
     -- an intake that begins has taken no byte
     taken_none : (repo name : List ℕ) → Stages g a (upload_number id) repo name size [] → HasTaken g a i repo name size []
     taken_none repo name stages = record {
@@ -223,13 +223,13 @@ module _ {S : Type 0} (g : Ghosts S) where
       };
     }
 
-    pub fills_failed : (b : Store S) (j : Intake) (bytes : List ℕ) (r : Result Unit ReceiveFault) (e : ReceiveFault) → From g a b (Takes g a i b j bytes r) → From g a b (Fills g a b id size bytes (Err e))
+    pub fills_failed : (b : S) (j : Intake) (bytes : List ℕ) (r : Result Unit ReceiveFault) (e : ReceiveFault) → From g a b (Takes g a i b j bytes r) → From g a b (Fills g a b id size bytes (Err e))
     fills_failed b j bytes r e so_far = record {
       honest = so_far.honest;
       each = λ clean world h repo name stages. ((so_far.each clean world h repo name size [] (taken_none repo name stages)).0, tt);
     }
 
-    pub fills_all : (b : Store S) (j : Intake) (bytes : List ℕ) (arrival : Arrival) → j.upload ≡ i.upload → From g a b (Takes g a i b j bytes taken)
+    pub fills_all : (b : S) (j : Intake) (bytes : List ℕ) (arrival : Arrival) → j.upload ≡ i.upload → From g a b (Takes g a i b j bytes taken)
         → ((bytes : List ℕ) → HasCounted j.hasher j.taken bytes → (arrival.name ≡ name_of bytes) × (arrival.size ≡ length bytes))
         → ((pieces : List (List ℕ)) (bytes : List ℕ) → IsCut j.written j.last.items pieces bytes → IsWhole pieces arrival.last bytes)
         → From g a b (Fills g {E = ReceiveFault} a b id size bytes (Ok arrival))
@@ -255,12 +255,12 @@ module _ {S : Type 0} (g : Ghosts S) where
   -- ---- from the upload to the answer
 
   -- whatever the fault is, the world is kept
-  pub received_none : (old new : Store S) (world : World) (repo name bytes : List ℕ) (left : ℕ) (e : ReceiveFault) → Keeps g old new world → Receives g old new world repo name bytes left (Err e)
+  pub received_none : (old new : S) (world : World) (repo name bytes : List ℕ) (left : ℕ) (e : ReceiveFault) → Keeps g old new world → Receives g old new world repo name bytes left (Err e)
   received_none old new world repo name bytes left (fault.Store f) keeps = (λ rest is. kept_refused old new world (content_verdict (object_from repo name (bytes ++ rest))) keeps, λ some. keeps)
   received_none old new world repo name bytes left (fault.Body f) keeps = keeps
 
   -- no content is left
-  received_all : (old new : Store S) (world : World) (repo name bytes : List ℕ) (left : ℕ) (r : Result Receipt StoreFault) → left ≡ 0 → Carries g old new world (object_from repo name bytes) r
+  received_all : (old new : S) (world : World) (repo name bytes : List ℕ) (left : ℕ) (r : Result Receipt StoreFault) → left ≡ 0 → Carries g old new world (object_from repo name bytes) r
       → Receives g old new world repo name bytes left (answered_by r)
   received_all old new world repo name bytes left (Ok receipt) none done = done
   received_all old new world repo name bytes left (Err f) none done = (
@@ -268,16 +268,16 @@ module _ {S : Type 0} (g : Ghosts S) where
     λ some. absurd (omega (arith, none, some)),
   )
 
-  module _ (a : Store S) (id : UploadId) (size : ℕ) where
+  module _ (a : S) (id : UploadId) (size : ℕ) where
     -- a fault ended the content
-    pub staged_part : (b : Store S) (bytes : List ℕ) (left : ℕ) (r : Result Arrival ReceiveFault) (e : ReceiveFault) → From g a b (Fills g a b id size bytes r) → From g a b (ReceivesStaged g a b id size bytes left (Err e))
+    pub staged_part : (b : S) (bytes : List ℕ) (left : ℕ) (r : Result Arrival ReceiveFault) (e : ReceiveFault) → From g a b (Fills g a b id size bytes r) → From g a b (ReceivesStaged g a b id size bytes left (Err e))
     staged_part b bytes left r e filled = record {
       honest = filled.honest;
       each = λ clean world h repo name is whole stages. received_none a b world repo name bytes left e (filled.each clean world h repo name stages).0;
     }
 
     -- all of it arrived
-    pub staged_all : (b c : Store S) (bytes : List ℕ) (left : ℕ) (arrival : Arrival) (r : Result Receipt StoreFault) → left ≡ 0 → From g a b (Fills g {E = ReceiveFault} a b id size bytes (Ok arrival))
+    pub staged_all : (b c : S) (bytes : List ℕ) (left : ℕ) (arrival : Arrival) (r : Result Receipt StoreFault) → left ≡ 0 → From g a b (Fills g {E = ReceiveFault} a b id size bytes (Ok arrival))
         → From g b c (Settles g b c id arrival r) → From g a c (ReceivesStaged g a c id size bytes left (answered_by r))
     staged_all b c bytes left arrival r none filled settled = record {
       honest = λ clean. filled.honest (settled.honest clean);
@@ -292,15 +292,15 @@ module _ {S : Type 0} (g : Ghosts S) where
   -- ---- what an upload left is removed
 
   -- nothing was done
-  pub kept_none : (a : Store S) → From g a a (Keeps g a a)
+  pub kept_none : (a : S) → From g a a (Keeps g a a)
   kept_none a = record { honest = λ k. k; each = λ k world h. keeps_still g a a world (leads_none g a world h) }
 
   -- all staged uploads were removed, or some of them
-  pub swept_keeps : (a b : Store S) (world : World) (r : Result ℕ StoreFault) → Sweeps g world a b r → Keeps g a b world
+  pub swept_keeps : (a b : S) (world : World) (r : Result ℕ StoreFault) → Sweeps g world a b r → Keeps g a b world
   swept_keeps a b world (Ok n) swept = swept.0
   swept_keeps a b world (Err f) keeps = keeps
 
-  module _ (a b c : Store S) (world : World) (keeps : (kept : World) → Holds g b kept → Keeps g b c kept) where
+  module _ (a b c : S) (world : World) (keeps : (kept : World) → Holds g b kept → Keeps g b c kept) where
     stored_then : (o : Object) (found : Option Object) → object_named o.repo o.name world ≡ found → Carries g a b world o (Ok Stored) → Carries g a c world o (Ok Stored)
     stored_then o None free done =
         let made = with_object o world in
@@ -315,12 +315,12 @@ module _ {S : Type 0} (g : Ghosts S) where
         carried_again a c world o done.0 there (keeps_then g a b c world kept (keeps world kept.holds))
 
   module _ (repo name bytes : List ℕ) (left : ℕ) (world : World) where
-    received_then : (a b c : Store S) (r : Result Receipt ReceiveFault) → Keeps g a b world → Receives g b c world repo name bytes left r → Receives g a c world repo name bytes left r
+    received_then : (a b c : S) (r : Result Receipt ReceiveFault) → Keeps g a b world → Receives g b c world repo name bytes left r → Receives g a c world repo name bytes left r
     received_then a b c (Ok receipt) keeps done = carries_then a b c world (object_from repo name bytes) (Ok receipt) keeps done
     received_then a b c (Err (fault.Store f)) keeps done = (λ rest is. carries_then a b c world (object_from repo name (bytes ++ rest)) (Err f) keeps (done.0 rest is), λ some. keeps_then g a b c world keeps (done.1 some))
     received_then a b c (Err (fault.Body cut)) keeps done = keeps_then g a b c world keeps done
 
-    then_cleared : (a b c : Store S) (r : Result Receipt ReceiveFault) → Receives g a b world repo name bytes left r → ((kept : World) → Holds g b kept → Keeps g b c kept) → Receives g a c world repo name bytes left r
+    then_cleared : (a b c : S) (r : Result Receipt ReceiveFault) → Receives g a b world repo name bytes left r → ((kept : World) → Holds g b kept → Keeps g b c kept) → Receives g a c world repo name bytes left r
     then_cleared a b c (Ok Stored) done keeps = stored_then a b c world keeps (object_from repo name bytes) (object_named repo name world) refl done
     then_cleared a b c (Ok Differs) done keeps =
         let kept : Keeps g a b world = subst (λ (v : Answer). Gives g a b world v v) done.0 done.1 in
@@ -333,7 +333,7 @@ module _ {S : Type 0} (g : Ghosts S) where
     then_cleared a b c (Err (fault.Body cut)) done keeps = keeps_then g a b c world done (keeps world done.holds)
 
   -- an upload was begun, its content was received, and what it left was removed or not
-  pub received : (a b c d : Store S) (id : UploadId) (repo name : List ℕ) (size : ℕ) (bytes : List ℕ) (left : ℕ) (r : Result Receipt ReceiveFault) → IsTrue (is_repo repo) → length bytes + left ≡ size
+  pub received : (a b c d : S) (id : UploadId) (repo name : List ℕ) (size : ℕ) (bytes : List ℕ) (left : ℕ) (r : Result Receipt ReceiveFault) → IsTrue (is_repo repo) → length bytes + left ≡ size
       → From g a b (λ world. Keeps g a b world × Stages g b (upload_number id) repo name size []) → From g b c (ReceivesStaged g b c id size bytes left r) → From g c d (Keeps g c d)
       → From g a d (λ world. Receives g a d world repo name bytes left r)
   received a b c d id repo name size bytes left r is whole begun came cleared = record {

@@ -1,5 +1,5 @@
 -- After an answer a repository has at most its quota and one largest object in the database.
-use Rattle.desk.proofs.Prelude.{◌≡◌, ◌≤◌, ℕ, Bool, true, false, cond, List, ◌∷◌, ◌++◌, length, replicate, Result, Ok, Err, Some, refl, arith, length-append, AllByRecursion, length-replicate, Ghosts, World, Answer, Bound, store_refusal, left_by, answer_ending, policy_view, Store, From, IsBoundedBy, Holds, IsHonest, is_upload_of, plan_seen, request_seen, setting_of, AnswersAll, AnswersIf, LeavesOthers, LeavesWorld, StaysWithin, verdict_by, Reply, BodyFault, given_in, is_refused}
+use Rattle.desk.proofs.Prelude.{◌≡◌, ◌≤◌, ℕ, Bool, true, false, cond, List, ◌∷◌, ◌++◌, length, replicate, Result, Ok, Err, Some, refl, arith, length-append, AllByRecursion, length-replicate, Ghosts, World, Answer, Bound, store_refusal, left_by, answer_ending, policy_view, From, IsBoundedBy, Holds, IsHonest, is_upload_of, plan_seen, request_seen, setting_of, AnswersAll, AnswersIf, LeavesOthers, LeavesWorld, StaysWithin, verdict_by, Reply, BodyFault, given_in, is_refused}
 use Rattle.refinement.specs.Left.{Gives}
 use Rattle.names.specs.declared.bodies.Body.{Ghosts as BodyGhosts}
 use Rattle.model.specs.World.{total}
@@ -12,7 +12,7 @@ use Rattle.policy.specs.declared.policies.Policy.{Policy}
 use Rattle.uploads.proofs.Bounds.{leaves_within, stores_within}
 use Rattle.desk.specs.declared.admission.RepoRequest.{RepoRequest}
 
-module _ {S : Type 0} (g : Ghosts S) (old new : Store S) where
+module _ {S : Type 0} (g : Ghosts S) (old new : S) where
   -- the store holds the world after the verdict, or the world before it
   pub answer_holds : (P : World → Type 0) (world : World) (verdict : Answer) (r : Result Reply BodyFault) → AnswersIf g old new world verdict r → P world → P (after world (Some verdict))
       → (kept : World) × Holds g new kept × P kept
@@ -38,7 +38,7 @@ IsLeftOf policy repo world kept =
     LeavesOthers repo world kept
     × ((name : List ℕ) (most : ℕ) → total name world ≤ most → quota_of name (policy_view policy) ≤ most → total name kept ≤ most)
 
-module _ {S B : Type 0} {g : Ghosts S} {b : BodyGhosts B} {old new : Store S} {before content : B} {r : Result Reply BodyFault} (policy : Policy) (now : ℕ) (asked : RepoRequest)
+module _ {S B : Type 0} {g : Ghosts S} {b : BodyGhosts B} {old new : S} {before content : B} {r : Result Reply BodyFault} (policy : Policy) (now : ℕ) (asked : RepoRequest)
     (done : AnswersAll g b (is_upload_of asked) (setting_of policy now) (request_seen asked) old new before content r) where
   -- the verdict that was answered, on a content that begins with the bytes that were read
   outcome : IsHonest g new → (world : World) → Holds g old world → (verdict : Answer) × AnswersIf g old new world verdict r × IsLeftOf policy asked.repo.now world (after world (Some verdict))

@@ -1,5 +1,5 @@
 -- A reply before the content of an upload is read, after calls that only read, and to a request without content.
-use Rattle.desk.proofs.Prelude.{◌≡◌, ◌∙◌, ◌<◌, ℕ, Bool, true, false, not, MatchBool, List, [], ◌∷◌, ◌++◌, Some, Result, Ok, Err, is_err, refl, sym, ap, subst, Ghosts, World, Answer, Denial, Plan, receives, store_refusal, answer_ending, failed, Store, From, Leads, Keeps, KeepsTables, Reads, ends_still, keeps_still, leaves_kept, leaves_then, reads_lead, still_then, left_by, Reply, IsReplyOf, ShowsIf, given_in, is_refused, IsAnsweredAs, AnswersBy, AnswersIf, AnswersRequest, BodyFault, given_with, verdict_by, uploads, request_asked}
+use Rattle.desk.proofs.Prelude.{◌≡◌, ◌∙◌, ◌<◌, ℕ, Bool, true, false, not, MatchBool, List, [], ◌∷◌, ◌++◌, Some, Result, Ok, Err, is_err, refl, sym, ap, subst, Ghosts, World, Answer, Denial, Plan, receives, store_refusal, answer_ending, failed, From, Leads, Keeps, KeepsTables, Reads, ends_still, keeps_still, leaves_kept, leaves_then, reads_lead, still_then, left_by, Reply, IsReplyOf, ShowsIf, given_in, is_refused, IsAnsweredAs, AnswersBy, AnswersIf, AnswersRequest, BodyFault, given_with, verdict_by, uploads, request_asked}
 use Rattle.std.specs.Result.{IfErr, IfOk}
 use Rattle.std.proofs.lemmas.Bool.{true≢false}
 use Rattle.names.specs.declared.bodies.Body.{Ghosts as BodyGhosts}
@@ -12,7 +12,7 @@ use Rattle.desk.proofs.Told.{refused_is, told_refusal, told_denial}
 use Rattle.desk.proofs.Unchanged.{Replies}
 
 module _ {S : Type 0} (g : Ghosts S) (is_upload : Bool) (world : World) (repo : List ℕ) (plan : Result Plan Denial) where
-  module _ (old new : Store S) (lead : Leads g old new world (λ bound. bound)) (same : KeepsTables g old new) (left : ℕ) where
+  module _ (old new : S) (lead : Leads g old new world (λ bound. bound)) (same : KeepsTables g old new) (left : ℕ) where
     early : (reply : Reply) → ((more : List ℕ) → AnswersBy g old new world (verdict_by world repo plan more) reply)
         → (is_upload ≡ true → is_refused reply ≡ false → MatchBool reply.body_read ((name : List ℕ) × (plan ≡ Ok (receives name)) × (left ≡ 0)) (is_err plan ≡ true))
         → IsAnsweredAs g is_upload old new world repo plan [] left (Ok reply)
@@ -39,7 +39,7 @@ module _ {S : Type 0} (g : Ghosts S) (is_upload : Bool) (world : World) (repo : 
         unread false e = ap is_err is
         unread true e = absurd (true≢false e)
 
-  module _ (old mid new : Store S) (lead : Leads g old mid world (λ bound. bound)) (same : KeepsTables g old mid) (bytes : List ℕ) (left : ℕ) where
+  module _ (old mid new : S) (lead : Leads g old mid world (λ bound. bound)) (same : KeepsTables g old mid) (bytes : List ℕ) (left : ℕ) where
     if_then : (verdict : Answer) (r : Result Reply BodyFault) → AnswersIf g mid new world verdict r → AnswersIf g old new world verdict r
     if_then verdict (Ok reply) done =
         let given = given_in verdict reply in record {
@@ -63,7 +63,7 @@ module _ {S : Type 0} (g : Ghosts S) (is_upload : Bool) (world : World) (repo : 
 
 -- ---- the reply to a request, whoever asks
 
-module _ {S B W : Type 0} {g : Ghosts S} {b : BodyGhosts B} {is_upload : Bool} {repo : List ℕ} {IsAsking : W → Type 0} {plan : World → W → ℕ → Result Plan Denial} {old new : Store S} {content : B}
+module _ {S B W : Type 0} {g : Ghosts S} {b : BodyGhosts B} {is_upload : Bool} {repo : List ℕ} {IsAsking : W → Type 0} {plan : World → W → ℕ → Result Plan Denial} {old new : S} {content : B}
     (unread : b.moves content content []) where
   -- the content is as it was
   first : (reply : Reply) → (is_upload ≡ false → reply.body_read ≡ true) → (is_refused reply ≡ false → reply.body_read ≡ true → is_upload ≡ true → ⊥)
@@ -115,7 +115,7 @@ module _ {S B W : Type 0} {g : Ghosts S} {b : BodyGhosts B} {is_upload : Bool} {
       })
 
 module _ {S B W V : Type 0} {g : Ghosts S} {b : BodyGhosts B} {is_upload other : Bool} {repo name : List ℕ} {IsAsking : W → Type 0} {IsCalling : V → Type 0} {plan : World → W → ℕ → Result Plan Denial}
-    {made : World → V → ℕ → Result Plan Denial} {old mid new : Store S} {before after : B} {r : Result Reply BodyFault} {P : World → Type 0} where
+    {made : World → V → ℕ → Result Plan Denial} {old mid new : S} {before after : B} {r : Result Reply BodyFault} {P : World → Type 0} where
   -- the same plan for the same request, after calls that only read
   pub answered_after : is_upload ≡ other → repo ≡ name → Reads g old mid P
       → ((world : World) → P world → (v : V) → IsCalling v → (size : ℕ) → (is_upload ≡ true → size ≡ b.size before) → (who : W) × IsAsking who × (plan world who size ≡ made world v size))

@@ -1,5 +1,5 @@
 -- From the result of a request for a lock to the reply.
-use Rattle.desk.proofs.Prelude.{◌≡◌, ◌∙◌, ◌<◌, ◌+◌, ℕ, true, nat_lt, Some, None, Option, Result, Ok, Err, refl, sym, ap, subst, arith, false, nat_tests, Ghosts, repo_text, ref_text, path_text, L5, World, Lock, lock_at, Answer, makes_lock, by_lock, by_rule, store_refusal, Store, NewLock, LockRow, ends_reported, lock_seen, state_of, lock_wanted, placed_verdict, Creates, NotGranted, Reply, IsReplyOf, Answers, AnswersAlone, free_verdict, IsReadyAfter, ReportsHeld}
+use Rattle.desk.proofs.Prelude.{◌≡◌, ◌∙◌, ◌<◌, ◌+◌, ℕ, true, nat_lt, Some, None, Option, Result, Ok, Err, refl, sym, ap, subst, arith, false, nat_tests, Ghosts, repo_text, ref_text, path_text, L5, World, Lock, lock_at, Answer, makes_lock, by_lock, by_rule, store_refusal, NewLock, LockRow, ends_reported, lock_seen, state_of, lock_wanted, placed_verdict, Creates, NotGranted, Reply, IsReplyOf, Answers, AnswersAlone, free_verdict, IsReadyAfter, ReportsHeld}
 use Rattle.names.specs.Texts.{last_lock_id}
 use Rattle.locks.specs.declared.creating.LockFault.TheVariants as fault
 use Rattle.refinement.specs.Left.{Gives}
@@ -24,7 +24,7 @@ module _ (world : World) (w : NewLock) where
       at None free given = sym (rw free refl) ∙ given
       at (Some k) there given = absurd (names_none k (sym (rw there refl) ∙ given))
 
-module _ {S : Type 0} (g : Ghosts S) (mid new : Store S) (world : World) (w : NewLock) (made : ℕ) (counted : made ≡ world.made (repo_text w.repo.now)) (ready : Reply) (is_ready : IsReadyAfter made w ready) where
+module _ {S : Type 0} (g : Ghosts S) (mid new : S) (world : World) (w : NewLock) (made : ℕ) (counted : made ≡ world.made (repo_text w.repo.now)) (ready : Reply) (is_ready : IsReadyAfter made w ready) where
   -- the reply for a free path, if this is the verdict on one
   free_reply : (v : Answer) → free_verdict (world.made (repo_text w.repo.now)) (lock_wanted world w) ≡ v → IsReplyOf ready v
   free_reply v is = subst (IsReplyOf ready) (ap (λ n. free_verdict n (lock_wanted world w)) counted ∙ is) (is_ready (lock_wanted world w) (ap (λ n. n + 1) (sym counted)) refl refl refl)
@@ -45,7 +45,7 @@ module _ {S : Type 0} (g : Ghosts S) (mid new : Store S) (world : World) (w : Ne
   pub used_done : Creates g world w mid new (Err fault.UsedUp) → AnswersAlone g mid new world (placed_verdict world w) (Ok ready)
   used_done done = let v : Answer = Err (by_rule L5) in as_placed v (Ok ready) done.0.0 (free_done v (λ k e. absurd (cc)) done.0.0 done.0.1, done.1)
 
-module _ {S : Type 0} (g : Ghosts S) (mid new : Store S) (world : World) (w : NewLock) (row : LockRow) (done : Creates g world w mid new (Err (fault.Held row))) where
+module _ {S : Type 0} (g : Ghosts S) (mid new : S) (world : World) (w : NewLock) (row : LockRow) (done : Creates g world w mid new (Err (fault.Held row))) where
   abbrev held : Answer
   held = Err (by_lock (lock_seen (repo_text w.repo.now) row))
 

@@ -49,14 +49,13 @@ pub use Rattle.policy.specs.Values.{policy_view, question_view, repo_view}
 pub use Rattle.refinement.proofs.Leading.{denial_changes_none, ends_reported, ends_still, ends_then, from_weaker, keeps_ends, keeps_still, keeps_then, leads_none, leaves_kept, leaves_then, reads_lead, reads_none, still_then}
 pub use Rattle.refinement.specs.Left.{Ends, From, IsBoundedBy, Keeps, KeepsTables, Leads, LeavesTables, Reads}
 pub use Rattle.refinement.specs.Representation.{Holds}
-pub use Rattle.sqlite_trees.specs.declared.store.Store.{Ghosts}
+pub use Rattle.store.specs.declared.state.State.{Ghosts}
 pub use Rattle.std.proofs.Common.{Bool, Bor, Err, IfOk, IsErrAnd, IsTrue, List, MatchBool, None, Ok, OnOk, Option, Result, Some, [], ap, append-nil, append_assoc, ap₂, arith, bytes_eq, cond, false, filter, find, if◌then◌else◌, is_err, is_ok, is_some, length, length-append, length-take, map, nat_le, nat_lt, not, option_map, refl, replicate, rules, string_bytes, subst, sym, take, true, ℕ, ◌&&◌, ◌++◌, ◌+◌, ◌-◌, ◌<◌, ◌==◌, ◌||◌, ◌∙◌, ◌∷◌, ◌≡◌, ◌≤◌}
 pub use Rattle.std.proofs.lemmas.Bool.Decides.{nat_tests}
 pub use Rattle.std.proofs.lemmas.List.{length-replicate, map-append, nil_from_length, take_all, take_more}
 pub use Rattle.std.proofs.lemmas.Result.{IfOk-weaker, err_from_is_err_and}
 pub use Rattle.std.specs.List.{AllByRecursion, AllZip}
-pub use Rattle.tables.specs.Shown.{IsHonest}
-pub use Rattle.tables.specs.declared.Store.{Store}
+pub use Rattle.store.specs.Shown.{IsHonest}
 pub use Rattle.tables.specs.declared.fault.StoreFault.{StoreFault}
 pub use Rattle.tables.specs.declared.fault.StoreFault.TheVariants.{Memory, Refused}
 pub use Rattle.tables.specs.declared.new_rows.NewLock.{NewLock}

@@ -1,5 +1,5 @@
 -- Requests to upload an object: denied before its content is read, or answered by all of it.
-use Rattle.desk.proofs.Prelude.{◌≡◌, ◌∙◌, ℕ, Bool, false, true, cond, List, ◌++◌, length, Result, Ok, Err, is_ok, is_err, refl, sym, ap, subst, append-nil, arith, IfOk, nil_from_length, Ghosts, X2, World, PutForm, Answer, Denial, Plan, by_rule, receives, put_verdict, content_verdict, store_refusal, Store, From, Reads, reads_lead, BodyFault, Receipt, ReceiveFault, Differs, Reply, HasRead, IsLeftBy, IsLeftAfter, IsReplyOf, IsUserOf, case_repo, case_seen, AnswersBy, AnswersIf, AnswersRequest, IsAnsweredAs, verdict_by, given_in, is_refused, MatchBool, OnOk, ShowsIf, RepliesReceived, Receives, object_from, answer_of}
+use Rattle.desk.proofs.Prelude.{◌≡◌, ◌∙◌, ℕ, Bool, false, true, cond, List, ◌++◌, length, Result, Ok, Err, is_ok, is_err, refl, sym, ap, subst, append-nil, arith, IfOk, nil_from_length, Ghosts, X2, World, PutForm, Answer, Denial, Plan, by_rule, receives, put_verdict, content_verdict, store_refusal, From, Reads, reads_lead, BodyFault, Receipt, ReceiveFault, Differs, Reply, HasRead, IsLeftBy, IsLeftAfter, IsReplyOf, IsUserOf, case_repo, case_seen, AnswersBy, AnswersIf, AnswersRequest, IsAnsweredAs, verdict_by, given_in, is_refused, MatchBool, OnOk, ShowsIf, RepliesReceived, Receives, object_from, answer_of}
 use Rattle.std.specs.Prelude.{IfErr}
 use Rattle.std.proofs.lemmas.Bool.{true≢false}
 use Rattle.names.specs.declared.bodies.Body.{Ghosts as BodyGhosts}
@@ -23,7 +23,7 @@ granted_not is refused = true≢false (sym refused ∙ ap is_err is)
 
 -- ---- an upload whose plan is to receive these bytes
 
-module _ {S : Type 0} (g : Ghosts S) (old new : Store S) (world : World) (repo name bytes : List ℕ) (left : ℕ) {plan : Result Plan Denial} (is : plan ≡ Ok (receives name)) where
+module _ {S : Type 0} (g : Ghosts S) (old new : S) (world : World) (repo name bytes : List ℕ) (left : ℕ) {plan : Result Plan Denial} (is : plan ≡ Ok (receives name)) where
   -- the content was cut off
   put_cut : (cut : BodyFault) → Receives g old new world repo name bytes left (Err (fault.Body cut)) → IsAnsweredAs g true old new world repo plan bytes left (Err cut)
   put_cut cut received = record { answers = λ more len. received; in_time = λ put. ap is_ok is; kept = λ put. tt; tables = λ more denied. absurd (granted_not is (denied refl)) }
@@ -106,7 +106,7 @@ read_left : {B : Type 0} (b : BodyGhosts B) (before after : B) (received : Resul
 read_left b before after (Ok receipt) out = out.whole
 read_left b before after (Err e) out = tt
 
-module _ {S B : Type 0} {g : Ghosts S} {b : BodyGhosts B} {old mid new : Store S} {before after : B} {size : ℕ} {bytes repo : List ℕ} {r : Result Reply BodyFault} (case : Case) (asked : PutForm)
+module _ {S B : Type 0} {g : Ghosts S} {b : BodyGhosts B} {old mid new : S} {before after : B} {size : ℕ} {bytes repo : List ℕ} {r : Result Reply BodyFault} (case : Case) (asked : PutForm)
     (received : Result Receipt ReceiveFault) where
   -- the content was received
   pub received_put : size ≡ b.size before → Reads g old mid (λ world. (who : Caller) → IsUserOf case who → put_verdict (case_seen world case who) size asked ≡ Ok (receives asked.name))

@@ -1,5 +1,5 @@
 -- Requests that only read their repository: what the function of each shows.
-use Rattle.desk.proofs.Prelude.{◌&&◌, bytes_eq, found_passes, case_repo, case_seen, case_with, IsCallerOf, AnswersEach, leaves_kept, answer_ending, ◌≡◌, ◌∙◌, ◌==◌, ℕ, Bool, true, false, not, List, [], length, Option, Some, None, option_map, Result, Ok, Err, IfOk, IsErrAnd, refl, sym, ap, subst, X1, X4, V1, V2, ◌>>=◌, check, ok_or, World, IsWorld, Object, object_named, Holds, IsHonest, Reads, Answer, Denial, Plan, receives, serves, by_rules, may_pull, may_push, permit, push_question, ref_or_default, cursor_in, plan_for, plan_to, batch_verdict, may_batch, list_verdict, verify_locks_verdict, verify_verdict, Repo, RepoState, repo_state, Reply, IsReply, IsReplyOf, NotGranted, ReadsRepo, ShowsPlan, ShowsVerdict, Store, StoreFault, denial_view, has_room, is_gone, size_of, has_place, is_some, verdict_by}
+use Rattle.desk.proofs.Prelude.{◌&&◌, bytes_eq, found_passes, case_repo, case_seen, case_with, IsCallerOf, AnswersEach, leaves_kept, answer_ending, ◌≡◌, ◌∙◌, ◌==◌, ℕ, Bool, true, false, not, List, [], length, Option, Some, None, option_map, Result, Ok, Err, IfOk, IsErrAnd, refl, sym, ap, subst, X1, X4, V1, V2, ◌>>=◌, check, ok_or, World, IsWorld, Object, object_named, Holds, IsHonest, Reads, Answer, Denial, Plan, receives, serves, by_rules, may_pull, may_push, permit, push_question, ref_or_default, cursor_in, plan_for, plan_to, batch_verdict, may_batch, list_verdict, verify_locks_verdict, verify_verdict, Repo, RepoState, repo_state, Reply, IsReply, IsReplyOf, NotGranted, ReadsRepo, ShowsPlan, ShowsVerdict, StoreFault, denial_view, has_room, is_gone, size_of, has_place, is_some, verdict_by}
 use Rattle.std.specs.Prelude.{⊤}
 use Rattle.std.proofs.lemmas.Bool.{true≢false}
 use Rattle.std.proofs.lemmas.Option.{none-some, same_Some}
@@ -13,7 +13,7 @@ use Rattle.model.specs.Cases as model
 use Rattle.model.specs.Forms as form
 use Rattle.model.specs.Forms.{asks_batch, asks_get, asks_put, asks_verify, asks_lock, asks_list, asks_verify_locks, asks_unlock}
 use Rattle.model.specs.Views.{plan_reply}
-use Rattle.tables.specs.Shown.{AddsNothing, Moves}
+use Rattle.store.specs.Shown.{AddsNothing, Moves}
 use Rattle.forms.specs.Requests.{request_asked}
 use Rattle.forms.specs.declared.lock.LockRequest.{LockRequest}
 use Rattle.forms.specs.declared.unlock.UnlockRequest.{UnlockRequest}
@@ -124,7 +124,7 @@ planned case request verdict plans asks r reads =
 
 -- ---- a store
 
-module _ {S : Type 0} (g : store.Ghosts S) {old new : Store S} (repo : Repo) (P : RepoState → Type 0) where
+module _ {S : Type 0} (g : store.Ghosts S) {old new : S} (repo : Repo) (P : RepoState → Type 0) where
   -- what holds of the repository's state holds of the world that the store holds
   pub as_reads : Moves g (λ t. t) old new × AddsNothing g old new
       → (IsHonest g new → (state : RepoState) → ((world : World) × Holds g old world × (state ≡ repo_state repo world)) → P state) → Reads g old new (λ world. P (repo_state repo world))
@@ -209,7 +209,7 @@ module _ (world : World) (repo : Repo) (content : List ℕ) (laws : IsWorld worl
           }
 
 -- a request that only reads is answered by what it shows
-module _ {S : Type 0} (g : store.Ghosts S) (case : Case) (asked : form.Request) (only : only_reads asked ≡ true) {old new : Store S} where
+module _ {S : Type 0} (g : store.Ghosts S) (case : Case) (asked : form.Request) (only : only_reads asked ≡ true) {old new : S} where
   pub answered_reading : (r : Result Reply NotGranted) → Reads g old new (λ world. (who : Caller) → IsCallerOf case who → (size : ℕ) → ShowsPlan r (plan_for (case_seen world case who) size asked))
       → (size : ℕ) (content : List ℕ) → AnswersEach g (IsCallerOf case) old new (λ world who. verdict_by world (case_repo case).name (plan_for (case_seen world case who) size asked) content) r
   answered_reading (Err (not_granted.Store fault)) reads size content = refused_after fault _ reads refl

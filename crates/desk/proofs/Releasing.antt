@@ -1,5 +1,5 @@
 -- The verdict on a request to release a lock, from the lock that is found.
-use Rattle.desk.proofs.Prelude.{ap₂, lock_seen, LockRow, ◌≡◌, ◌∙◌, ◌<◌, ◌==◌, ◌&&◌, ℕ, Bool, true, false, List, [], ◌∷◌, find, cond, Option, Some, None, is_some, Result, Ok, Err, if◌then◌else◌, refl, sym, ap, subst, arith, IsErrAnd, Ghosts, Question, changed, failed, found_passes, Store, StoreFault, Ends, Removes, Reply, IsReplyOf, AnswersAlone, NotGranted, AllByRecursion, nat_tests, L2, L3, ◌>>=◌, check, ok_or, World, Lock, IsWorld, locks_of, UnlockForm, lock_question, sees, Denial, permit, releases, by_rule, by_rules, store_refusal, release_verdict, unlock_verdict, IsBelow, lock_with, case_policy, case_repo, case_user, case_seen, case_with, RepoState, repo_state, denial_view, IsUserOf, Judges, right_to_release, found_verdict}
+use Rattle.desk.proofs.Prelude.{ap₂, lock_seen, LockRow, ◌≡◌, ◌∙◌, ◌<◌, ◌==◌, ◌&&◌, ℕ, Bool, true, false, List, [], ◌∷◌, find, cond, Option, Some, None, is_some, Result, Ok, Err, if◌then◌else◌, refl, sym, ap, subst, arith, IsErrAnd, Ghosts, Question, changed, failed, found_passes, StoreFault, Ends, Removes, Reply, IsReplyOf, AnswersAlone, NotGranted, AllByRecursion, nat_tests, L2, L3, ◌>>=◌, check, ok_or, World, Lock, IsWorld, locks_of, UnlockForm, lock_question, sees, Denial, permit, releases, by_rule, by_rules, store_refusal, release_verdict, unlock_verdict, IsBelow, lock_with, case_policy, case_repo, case_user, case_seen, case_with, RepoState, repo_state, denial_view, IsUserOf, Judges, right_to_release, found_verdict}
 use Rattle.std.proofs.lemmas.Bool.{true≢false}
 use Rattle.model.specs.declared.Right.{Right}
 use Rattle.refinement.specs.Left.{Gives}
@@ -122,7 +122,7 @@ pub id_found : (repo : List ℕ) (id : ℕ) (world : World) (l : Lock) → lock_
 id_found repo id world l there =
     subst (λ n. lock_with repo n world ≡ Some l) (sym (number_is l.id id (found_passes (λ (k : Lock). k.id == id) (locks_of repo world) l there))) there
 
-module _ {S : Type 0} (g : Ghosts S) (old new : Store S) (world : World) (repo : List ℕ) (id : ℕ) (l : Lock) (there : lock_with repo id world ≡ Some l) where
+module _ {S : Type 0} (g : Ghosts S) (old new : S) (world : World) (repo : List ℕ) (id : ℕ) (l : Lock) (there : lock_with repo id world ≡ Some l) where
   pub removed : (reply : Reply) → IsReplyOf reply (Ok (releases l)) → Removes g world repo id old new (Ok true) → AnswersAlone g old new world (Ok (releases l)) (Ok reply)
   removed reply shows done = (
     record {

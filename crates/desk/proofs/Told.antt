@@ -1,5 +1,5 @@
 -- A reply that shows a verdict, or is the store refusal; for proofs in other crates.
-use Rattle.desk.proofs.Prelude.{◌≡◌, ◌∙◌, Bool, true, false, cond, Some, Err, Ok, refl, sym, ap, subst, Ghosts, Rule, World, Answer, Denial, by_rule, by_lock, offers, serves, stores, confirms, makes_lock, lists, splits, releases, store_refusal, is_store_refusal, failed, answer_ending, Store, Ends, Leads, ends_still, denial_changes_none, AnswersBy, IsReplyOf, ShowsIf, Reply, given_in, is_refused, is_s1_if}
+use Rattle.desk.proofs.Prelude.{◌≡◌, ◌∙◌, Bool, true, false, cond, Some, Err, Ok, refl, sym, ap, subst, Ghosts, Rule, World, Answer, Denial, by_rule, by_lock, offers, serves, stores, confirms, makes_lock, lists, splits, releases, store_refusal, is_store_refusal, failed, answer_ending, Ends, Leads, ends_still, denial_changes_none, AnswersBy, IsReplyOf, ShowsIf, Reply, given_in, is_refused, is_s1_if}
 use Rattle.names.specs.declared.rules.Rule.TheVariants as rule
 use Rattle.model.specs.Answers.{is_s1, by_row}
 use Rattle.model.specs.Replies.{reply_of}
@@ -62,7 +62,7 @@ says_read a b read is = ap (λ (r : Reply). r.body_read) is
 
 -- ---- what was done
 
-module _ {S : Type 0} (g : Ghosts S) (old new : Store S) (world : World) (verdict : Answer) where
+module _ {S : Type 0} (g : Ghosts S) (old new : S) (world : World) (verdict : Answer) where
   -- the verdict was carried out, and the reply shows it
   pub told : (reply : Reply) → IsReplyOf reply verdict → Gives g old new world verdict verdict → AnswersBy g old new world verdict reply
   told reply shows gives = record {

@@ -1,5 +1,5 @@
 -- Requests that only read the store: their replies, and what a stop leaves.
-use Rattle.desk.proofs.Prelude.{◌≡◌, ◌∙◌, ℕ, Bool, true, false, cond, List, Some, Result, Ok, Err, refl, sym, ap, subst, IsErrAnd, Ghosts, World, Object, IsWorld, Answer, Denial, serves, is_store_refusal, plan_to, plan_for, failed, unchanged, is_changed, answer_ending, Store, Holds, StoreFault, From, KeepsTables, LeavesTables, Reads, Ends, reads_lead, reads_none, ends_still, leaves_kept, Reply, IsReplyOf, Answers, AnswersAlone, AnswersCaller, AnswersEach, AnswersUser, RepliesOrDenies, verdict_by, IsCallerOf, case_repo, case_seen, denial_view, NotGranted, AnswersBy, given_in}
+use Rattle.desk.proofs.Prelude.{◌≡◌, ◌∙◌, ℕ, Bool, true, false, cond, List, Some, Result, Ok, Err, refl, sym, ap, subst, IsErrAnd, Ghosts, World, Object, IsWorld, Answer, Denial, serves, is_store_refusal, plan_to, plan_for, failed, unchanged, is_changed, answer_ending, Holds, StoreFault, From, KeepsTables, LeavesTables, Reads, Ends, reads_lead, reads_none, ends_still, leaves_kept, Reply, IsReplyOf, Answers, AnswersAlone, AnswersCaller, AnswersEach, AnswersUser, RepliesOrDenies, verdict_by, IsCallerOf, case_repo, case_seen, denial_view, NotGranted, AnswersBy, given_in}
 use Rattle.std.specs.Prelude.{⊤}
 use Rattle.model.specs.Callers.{Caller}
 use Rattle.model.specs.Forms.{Request}
@@ -12,7 +12,7 @@ use Rattle.desk.proofs.Verdicts.{answer_finished, refused_done}
 use Rattle.desk.proofs.Told.{given_same, given_refusal, still_shows, told, told_refusal, told_denial}
 
 -- the verdict changes nothing, and its reply is given after calls that only read
-pub replied_with : {S : Type 0} (g : Ghosts S) (old new : Store S) (P : World → Type 0) (verdict given : Answer) (reply : Reply) → Reads g old new P
+pub replied_with : {S : Type 0} (g : Ghosts S) (old new : S) (P : World → Type 0) (verdict given : Answer) (reply : Reply) → Reads g old new P
     → ((world : World) → is_changed (answer_ending world (Some given)) ≡ false) → ((world : World) → after world (Some given) ≡ world)
     → IsReplyOf reply given → (world : World) → Holds g old world → verdict ≡ given → Answers g old new world verdict (Ok reply)
 replied_with g old new P verdict given reply reads ending same shows world h is =
@@ -22,7 +22,7 @@ replied_with g old new P verdict given reply reads ending same shows world h is 
           (ends_still g old new (answer_ending world (Some given)) world world (ending world) (reads_lead g old new P world reads h));
     })
 
-module _ {S : Type 0} {g : Ghosts S} {old new : Store S} {IsAsking : Caller → Type 0} {verdict : World → Caller → Answer} {P : World → Type 0} where
+module _ {S : Type 0} {g : Ghosts S} {old new : S} {IsAsking : Caller → Type 0} {verdict : World → Caller → Answer} {P : World → Type 0} where
   -- the store refused, or memory ran out, after calls that only read
   pub refused_after : (fault : StoreFault) (r : Result Reply NotGranted) → Reads g old new P → IsErrAnd r (λ e. e ≡ not_granted.Store fault) → AnswersEach g IsAsking old new verdict r
   refused_after fault (Ok reply) reads is = absurd is
@@ -44,11 +44,11 @@ module _ {S : Type 0} {g : Ghosts S} {old new : Store S} {IsAsking : Caller → 
   })
 
 -- the request is denied before any call
-pub denied_unread : {S : Type 0} {g : Ghosts S} {s : Store S} {IsAsking : Caller → Type 0} {verdict : World → Caller → Answer} (denial : code.Denial) (r : Result Reply NotGranted) → IsErrAnd r (λ e. e ≡ not_granted.Denied denial)
+pub denied_unread : {S : Type 0} {g : Ghosts S} {s : S} {IsAsking : Caller → Type 0} {verdict : World → Caller → Answer} (denial : code.Denial) (r : Result Reply NotGranted) → IsErrAnd r (λ e. e ≡ not_granted.Denied denial)
     → ((world : World) (who : Caller) → IsAsking who → verdict world who ≡ Err (denial_view denial)) → AnswersEach g IsAsking s s verdict r
 denied_unread denial r is given = denied_after denial r (reads_none _ _ (λ _. ⊤) (λ _ _ _. tt)) is (λ world laws read who asks. given world who asks)
 
-module _ {S : Type 0} {g : Ghosts S} {old new : Store S} {IsAsking IsCalling : Caller → Type 0} {verdict given : World → Caller → Answer} {r : Result Reply NotGranted} where
+module _ {S : Type 0} {g : Ghosts S} {old new : S} {IsAsking IsCalling : Caller → Type 0} {verdict given : World → Caller → Answer} {r : Result Reply NotGranted} where
   -- the same verdict
   pub answers_alike : ((world : World) (who : Caller) → IsCalling who → IsAsking who × (verdict world who ≡ given world who)) → AnswersEach g IsAsking old new verdict r → AnswersEach g IsCalling old new given r
   answers_alike alike done = record {
@@ -70,13 +70,13 @@ module _ (case : Case) (verdict : cases.Case → Answer) (asked : Request) (left
       let seen = case_seen world case who in
       sym (ap (λ plan. verdict_by world (case_repo case).name plan content) (plans seen) ∙ answer_finished world (case_repo case).name content (verdict seen))
 
-  module _ {S : Type 0} {g : Ghosts S} {old new : Store S} {r : Result Reply NotGranted} where
+  module _ {S : Type 0} {g : Ghosts S} {old new : S} {r : Result Reply NotGranted} where
     pub whole_user : AnswersUser g case old new verdict r → AnswersEach g (IsCallerOf case) old new answer_to r
     whole_user done = answers_alike (λ world who is. (is.user, planned world who)) done
 
 -- ---- the reply to a request, or to its denial
 
-module _ {S : Type 0} (g : Ghosts S) (old new : Store S) where
+module _ {S : Type 0} (g : Ghosts S) (old new : S) where
   -- the reply, and what is left of the tables
   abbrev pub Replies : World → Answer → Reply → Type 0
   Replies world verdict r = AnswersBy g old new world verdict r × LeavesTables g (answer_ending world (Some (given_in verdict r))) old new

@@ -1,5 +1,5 @@
 -- How the definitions decide a request, step by step.
-use Rattle.desk.proofs.Prelude.{◌≡◌, ◌∙◌, ℕ, not, ◌||◌, List, Some, Result, Ok, Err, bytes_eq, refl, sym, ap₂, subst, IsErrAnd, Ghosts, Rule, repo_text, ◌>>=◌, check, ok_or, World, Repo, Question, repo_named, needs_upload, is_upload, caller_by, lock_question, Answer, Denial, Plan, by_rule, by_rules, permit, store_refusal, place_verdict, new_lock, finish, plan_to, plan_for, caller_plan, desk_plan, failed, left_by, answer_ending, lock_asked, Store, StoreFault, Holds, From, IsHonest, Leads, KeepsTables, Reads, ends_still, denial_changes_none, leaves_then, reads_lead, still_then, Answers, AnswersAlone, AnswersOrDenies, given_by, given_or, NotGranted, IsReplyOf, Reply, admission_result, state_of, lock_wanted, IsWantedBy, question_on, allowed_verdict, IsUserOf, case_policy, case_seen, NewLock}
+use Rattle.desk.proofs.Prelude.{◌≡◌, ◌∙◌, ℕ, not, ◌||◌, List, Some, Result, Ok, Err, bytes_eq, refl, sym, ap₂, subst, IsErrAnd, Ghosts, Rule, repo_text, ◌>>=◌, check, ok_or, World, Repo, Question, repo_named, needs_upload, is_upload, caller_by, lock_question, Answer, Denial, Plan, by_rule, by_rules, permit, store_refusal, place_verdict, new_lock, finish, plan_to, plan_for, caller_plan, desk_plan, failed, left_by, answer_ending, lock_asked, StoreFault, Holds, From, IsHonest, Leads, KeepsTables, Reads, ends_still, denial_changes_none, leaves_then, reads_lead, still_then, Answers, AnswersAlone, AnswersOrDenies, given_by, given_or, NotGranted, IsReplyOf, Reply, admission_result, state_of, lock_wanted, IsWantedBy, question_on, allowed_verdict, IsUserOf, case_policy, case_seen, NewLock}
 use Rattle.std.specs.Bool.{⊤}
 use Rattle.names.specs.declared.rules.Rule.TheVariants as rule
 use Rattle.model.specs.declared.Right.TheVariants as right
@@ -78,7 +78,7 @@ answer_finished world repo body (Err denial) = refl
 
 -- ---- answers, as they are given
 
-module _ {S : Type 0} (g : Ghosts S) (old new : Store S) (world : World) (given : Answer) where
+module _ {S : Type 0} (g : Ghosts S) (old new : S) (world : World) (given : Answer) where
   -- a refusal of the inner call is passed on as a refusal
   pub passed_on : (fault : StoreFault) (r : Result Reply NotGranted) → IsErrAnd r (λ e. e ≡ not_granted.Store fault) → Gives g old new world given store_refusal → KeepsTables g old new → AnswersAlone g old new world given r
   passed_on fault (Ok reply) is p same = absurd is
@@ -91,7 +91,7 @@ module _ {S : Type 0} (g : Ghosts S) (old new : Store S) (world : World) (given 
   pub refused_early : (fault : StoreFault) (r : Result Reply NotGranted) → IsErrAnd r (λ e. e ≡ not_granted.Store fault) → Leads g old new world (λ bound. bound) → KeepsTables g old new → AnswersAlone g old new world given r
   refused_early fault r is p same = passed_on fault r is (ends_still g old new failed world (after world (Some given)) refl p) same
 
-module _ {S : Type 0} (g : Ghosts S) (old mid new : Store S) (world : World) (given : Answer) where
+module _ {S : Type 0} (g : Ghosts S) (old mid new : S) (world : World) (given : Answer) where
   -- the result after calls that only read
   pub done_then : (r : Result Reply StoreFault) → Leads g old mid world (λ bound. bound) → Answers g mid new world given r → Answers g old new world given r
   done_then r p done = record {
@@ -107,7 +107,7 @@ module _ {S : Type 0} (g : Ghosts S) (old mid new : Store S) (world : World) (gi
   pub granted_then : {P : World → Type 0} (r : Result Reply NotGranted) → Reads g old mid P → Holds g old world → AnswersAlone g mid new world given r → AnswersAlone g old new world given r
   granted_then r reads h done = (granted_or_denied r (reads_lead g old mid _ world reads h) done.0, leaves_then g old mid new (answer_ending world (Some (given_or given r))) reads.same done.1)
 
-module _ {S : Type 0} (g : Ghosts S) {old mid new : Store S} {P : World → Type 0} (verdict : World → Answer) (r : Result Reply NotGranted) (read : Reads g old mid P) where
+module _ {S : Type 0} (g : Ghosts S) {old mid new : S} {P : World → Type 0} (verdict : World → Answer) (r : Result Reply NotGranted) (read : Reads g old mid P) where
   -- what answers after calls that only read, with what they found
   pub then_answers : (IsHonest g new → IsHonest g mid) → (IsHonest g new → (world : World) → Holds g mid world → P world → AnswersAlone g mid new world (verdict world) r) → From g old new (λ world. AnswersAlone g old new world (verdict world) r)
   then_answers honest answers = record {

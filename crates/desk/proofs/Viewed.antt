@@ -1,6 +1,6 @@
 -- What a view lists is what the world has.
 use Rattle.model.specs.Policy.{Policy}
-use Rattle.desk.proofs.Prelude.{◌≡◌, ◌∙◌, Lock, ℕ, true, false, List, [], ◌∷◌, map, filter, length, bytes_eq, Some, refl, sym, ap, ap₂, subst, AllByRecursion, AllZip, arith, World, IsWorld, Object, Ghosts, Store, repo_text}
+use Rattle.desk.proofs.Prelude.{◌≡◌, ◌∙◌, Lock, ℕ, true, false, List, [], ◌∷◌, map, filter, length, bytes_eq, Some, refl, sym, ap, ap₂, subst, AllByRecursion, AllZip, arith, World, IsWorld, Object, Ghosts, repo_text}
 use Rattle.std.proofs.Common.{AllPairs, IsPermutation, IsSorted, Ordering, ℤ, pos, suc}
 use Rattle.std.specs.Ordering.{ordering_then, is_gt, nat_cmp}
 use Rattle.std.specs.Cmp.Lexicographic.{slice_cmp}
@@ -75,7 +75,7 @@ names_rise repo (o ∷ os) all up = (
   names_rise repo os all.1 (λ i j d below within. up (suc i) (suc j) d (omega (arith, below)) (omega (arith, within))),
 )
 
-module _ {S : Type 0} (g : Ghosts S) (s : Store S) where
+module _ {S : Type 0} (g : Ghosts S) (s : S) where
   sizes_are : (rows : List UploadRow) (os : List Object) → AllZip (IsRowOf g s) rows os → map size_of_row rows ≡ map object_size os
   sizes_are [] [] all = refl
   sizes_are [] (o ∷ os) all = absurd all

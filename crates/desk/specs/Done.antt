@@ -1,6 +1,6 @@
 -- An answered request.
 use Rattle.std.specs.Prelude.{◌≡◌, ◌≢◌, ◌<◌, ◌≤◌, ◌+◌, ◌++◌, ℕ, Bool, true, false, List, length, Option, Some, None, Result, Ok, Err, IfOk, IfErr, OnOk, is_ok, is_err, MatchBool, ⊤}
-use Rattle.sqlite_trees.specs.declared.store.Store.{Ghosts}
+use Rattle.store.specs.declared.state.State.{Ghosts}
 use Rattle.names.specs.Texts.{largest_object}
 use Rattle.names.specs.declared.bodies.Body.{Ghosts as BodyGhosts}
 use Rattle.names.specs.declared.bodies.BodyFault.{BodyFault}
@@ -16,9 +16,8 @@ use Rattle.model.specs.Objects.{finish}
 use Rattle.model.specs.Views.{SameViews}
 use Rattle.model.specs.Bounds.{Bound, answer_ending}
 use Rattle.model.specs.Laws.{quota_of}
-use Rattle.tables.specs.declared.Store.{Store}
 use Rattle.tables.specs.declared.fault.StoreFault.{StoreFault}
-use Rattle.tables.specs.Shown.{IsHonest}
+use Rattle.store.specs.Shown.{IsHonest}
 use Rattle.refinement.specs.Representation.{Holds}
 use Rattle.refinement.specs.Left.{From, Gives, IsBoundedBy, Keeps, Leads, LeavesTables}
 use Rattle.uploads.specs.Bounds.{AreWithin, StoresWithin, LeavesWithin}
@@ -47,36 +46,36 @@ LeavesOthers repo old new = (other : List ℕ) → repo ≢ other → SameViews 
 
 module _ {S : Type 0} (g : Ghosts S) where
   -- a reply shows the verdict, and the given answer is carried out
-  pub record Answers (old new : Store S) (world : World) (verdict : Answer) (r : Result Reply StoreFault) : Type 0 where
+  pub record Answers (old new : S) (world : World) (verdict : Answer) (r : Result Reply StoreFault) : Type 0 where
     pub shows : IfOk r (λ reply. IsReplyOf reply verdict)
     pub gives : Gives g old new world verdict (given_by verdict r)
 
   -- the verdict is answered; or it is this denial, and the store was only read
-  abbrev pub AnswersOrDenies : Store S → Store S → World → Answer → Result Reply NotGranted → Type 0
+  abbrev pub AnswersOrDenies : S → S → World → Answer → Result Reply NotGranted → Type 0
   AnswersOrDenies old new world verdict (Ok reply) = Answers old new world verdict (Ok reply)
   AnswersOrDenies old new world verdict (Err (not_granted.Store fault)) = Answers old new world verdict (Err fault)
   AnswersOrDenies old new world verdict (Err (not_granted.Denied denial)) =
       (verdict ≡ Err (denial_view denial)) × Leads g old new world (λ bound. bound)
 
   -- the same, and unless the answer makes a change the tables are as before
-  abbrev pub AnswersAlone : Store S → Store S → World → Answer → Result Reply NotGranted → Type 0
+  abbrev pub AnswersAlone : S → S → World → Answer → Result Reply NotGranted → Type 0
   AnswersAlone old new world verdict r =
       AnswersOrDenies old new world verdict r × LeavesTables g (answer_ending world (Some (given_or verdict r))) old new
 
   -- each such caller is answered or denied: the verdict is that on the world that the store held
   pub record AnswersEach
-      (IsAsking : Caller → Type 0) (old new : Store S) (verdict : World → Caller → Answer) (r : Result Reply NotGranted) : Type 0 where
+      (IsAsking : Caller → Type 0) (old new : S) (verdict : World → Caller → Answer) (r : Result Reply NotGranted) : Type 0 where
     pub honest : IsHonest g new → IsHonest g old
     pub each : IsHonest g new → (world : World) → Holds g old world → (who : Caller) → IsAsking who
         → AnswersAlone old new world (verdict world who) r
 
   -- the user of the case is answered or denied, by the verdict on the case
-  abbrev pub AnswersUser : Case → Store S → Store S → (model.Case → Answer) → Result Reply NotGranted → Type 0
+  abbrev pub AnswersUser : Case → S → S → (model.Case → Answer) → Result Reply NotGranted → Type 0
   AnswersUser case old new verdict r =
       AnswersEach (IsUserOf case) old new (λ world who. verdict (case_seen world case who)) r
 
   -- the same, if the verdict also depends on the token that the caller presented
-  abbrev pub AnswersCaller : Case → Store S → Store S → (model.Case → Answer) → Result Reply NotGranted → Type 0
+  abbrev pub AnswersCaller : Case → S → S → (model.Case → Answer) → Result Reply NotGranted → Type 0
   AnswersCaller case old new verdict r =
       AnswersEach (IsCallerOf case) old new (λ world who. verdict (case_seen world case who)) r
 
@@ -111,12 +110,12 @@ IsSettled (Err fault) = ⊥
 
 module _ {S : Type 0} (g : Ghosts S) where
   -- the reply shows the verdict, or is the store refusal, and this answer is carried out
-  pub record AnswersBy (old new : Store S) (world : World) (verdict : Answer) (reply : Reply) : Type 0 where
+  pub record AnswersBy (old new : S) (world : World) (verdict : Answer) (reply : Reply) : Type 0 where
     pub shows : ShowsIf verdict reply
     pub gives : Gives g old new world verdict (given_in verdict reply)
 
   -- a reply is given; or the content is cut off, and the world is kept
-  abbrev pub AnswersIf : Store S → Store S → World → Answer → Result Reply BodyFault → Type 0
+  abbrev pub AnswersIf : S → S → World → Answer → Result Reply BodyFault → Type 0
   AnswersIf old new world verdict (Ok reply) = AnswersBy old new world verdict reply
   AnswersIf old new world verdict (Err fault) = Keeps g old new world
 
@@ -125,7 +124,7 @@ module _ {S : Type 0} (g : Ghosts S) where
   -- all of it; after the store refusal the world is kept unless all of it was read. Unless a content may have been begun,
   -- the tables are as before if the answer makes no change
   pub record IsAnsweredAs
-      (is_upload : Bool) (old new : Store S) (world : World) (repo : List ℕ) (plan : Result Plan Denial) (bytes : List ℕ)
+      (is_upload : Bool) (old new : S) (world : World) (repo : List ℕ) (plan : Result Plan Denial) (bytes : List ℕ)
       (left : ℕ) (r : Result Reply BodyFault) : Type 0 where
     pub answers : (more : List ℕ) → (is_upload ≡ true → length more ≡ left)
         → AnswersIf old new world (verdict_by world repo plan (bytes ++ more)) r
@@ -138,7 +137,7 @@ module _ {S : Type 0} (g : Ghosts S) where
 -- unless it is refused or cut off; of any other request none
 pub record AnswersRequest
     {S B W : Type 0} (g : Ghosts S) (b : BodyGhosts B) (is_upload : Bool) (repo : List ℕ) (IsAsking : W → Type 0)
-    (plan : World → W → ℕ → Result Plan Denial) (old new : Store S) (before after : B) (r : Result Reply BodyFault) : Type 0 where
+    (plan : World → W → ℕ → Result Plan Denial) (old new : S) (before after : B) (r : Result Reply BodyFault) : Type 0 where
   pub bytes : List ℕ
   pub read : HasRead b before after bytes
   pub answered : From g old new (λ world. (who : W) → IsAsking who → (size : ℕ) → (is_upload ≡ true → size ≡ b.size before)
@@ -151,14 +150,14 @@ pub record AnswersRequest
 
 -- a request to the desk, whose content has this size, is answered by the definitions' plan for it
 abbrev pub AnswersAll : {S B : Type 0} → Ghosts S → BodyGhosts B → (is_upload : Bool) → Setting → (ℕ → DeskRequest)
-    → (old new : Store S) → (before after : B) → Result Reply BodyFault → Type 0
+    → (old new : S) → (before after : B) → Result Reply BodyFault → Type 0
 AnswersAll g b is_upload setting asked old new before after r =
     AnswersRequest g b is_upload (asked 0).repo (λ (who : ⊤). ⊤) (λ world who size. desk_plan world setting (asked size)) old new before after r
 
 module _ {S : Type 0} (g : Ghosts S) where
   -- the world that the store holds after a request in a repository: other repositories are unchanged, and a total that was
   -- at most a bound, as the policy's quota for it is, still is
-  pub record LeavesWorld (new : Store S) (policy : Policy) (repo : List ℕ) (world : World) : Type 0 where
+  pub record LeavesWorld (new : S) (policy : Policy) (repo : List ℕ) (world : World) : Type 0 where
     pub kept : World
     pub holds : Holds g new kept
     pub apart : LeavesOthers repo world kept
@@ -166,7 +165,7 @@ module _ {S : Type 0} (g : Ghosts S) where
 
   -- a repository whose total was at most a bound, as the policy's quota for it is, has at most this bound and one largest
   -- object in the database; and in whatever a stop leaves, if its total was in each world that a stop might have left
-  abbrev pub StaysWithin : Store S → Store S → Policy → World → Type 0
+  abbrev pub StaysWithin : S → S → Policy → World → Type 0
   StaysWithin old new policy world =
       (repo : List ℕ) (most : ℕ) → total repo world ≤ most → quota_of repo policy ≤ most
       → StoresWithin g new repo (most + largest_object)

@@ -1,6 +1,6 @@
 -- The bytes of an upload are received.
 use Rattle.std.specs.Prelude.{◌≡◌, ◌<◌, ◌+◌, ℕ, List, [], ◌++◌, length, Result, Ok, Err, OnOk, IfOk, IsTrue, ⊤}
-use Rattle.sqlite_trees.specs.declared.store.Store.{Ghosts}
+use Rattle.store.specs.declared.state.State.{Ghosts}
 use Rattle.names.specs.Texts.{is_repo}
 use Rattle.names.specs.declared.bodies.BodyFault.{BodyFault}
 use Rattle.names.specs.declared.rules.Rule.TheVariants.{X2}
@@ -8,7 +8,6 @@ use Rattle.model.specs.World.{World, Object, name_of}
 use Rattle.model.specs.Answers.{Answer, stores, by_rule, store_refusal}
 use Rattle.model.specs.Objects.{content_verdict}
 use Rattle.tables.specs.Staging.{upload_number}
-use Rattle.tables.specs.declared.Store.{Store}
 use Rattle.tables.specs.declared.fault.StoreFault.{StoreFault}
 use Rattle.tables.specs.declared.rows.UploadId.{UploadId}
 use Rattle.refinement.specs.Left.{Keeps, Gives}
@@ -34,38 +33,38 @@ answer_of o Differs = Err (by_rule X2)
 
 module _ {S : Type 0} (g : Ghosts S) where
   -- the world is kept, and after an Ok the intake has taken these bytes too
-  abbrev pub Takes : {T E : Type 0} → Store S → Intake → Store S → Intake → List ℕ → Result T E → World → Type 0
+  abbrev pub Takes : {T E : Type 0} → S → Intake → S → Intake → List ℕ → Result T E → World → Type 0
   Takes old i new j more r world =
       (repo name : List ℕ) (size : ℕ) (bytes : List ℕ) → HasTaken g old i repo name size bytes
       → Keeps g old new world × OnOk r (HasTaken g new j repo name size (bytes ++ more))
 
   -- these bytes arrived: the upload is staged, and its chunks and the last one are these bytes, of this name and number
-  pub record HasAll (s : Store S) (id : UploadId) (arrival : Arrival) (repo name : List ℕ) (size : ℕ) (bytes : List ℕ) : Type 0 where
+  pub record HasAll (s : S) (id : UploadId) (arrival : Arrival) (repo name : List ℕ) (size : ℕ) (bytes : List ℕ) : Type 0 where
     pub arrived : HasArrived g s (upload_number id) arrival.last repo name size bytes
     pub named : arrival.name ≡ name_of bytes
     pub counted : arrival.size ≡ length bytes
 
   -- the world is kept, and after an Ok these bytes arrived
-  abbrev pub Fills : {E : Type 0} → Store S → Store S → UploadId → ℕ → List ℕ → Result Arrival E → World → Type 0
+  abbrev pub Fills : {E : Type 0} → S → S → UploadId → ℕ → List ℕ → Result Arrival E → World → Type 0
   Fills old new id size bytes r world =
       (repo name : List ℕ) → Stages g old (upload_number id) repo name size []
       → Keeps g old new world × IfOk r (λ arrival. HasAll new id arrival repo name size bytes)
 
   -- the verdict on the object was given and carried out, as the receipt reports; or the store refused
-  abbrev pub Carries : Store S → Store S → World → Object → Result Receipt StoreFault → Type 0
+  abbrev pub Carries : S → S → World → Object → Result Receipt StoreFault → Type 0
   Carries old new world o (Ok receipt) =
       (content_verdict o ≡ answer_of o receipt) × Gives g old new world (content_verdict o) (content_verdict o)
   Carries old new world o (Err f) = Gives g old new world (content_verdict o) store_refusal
 
   -- an upload whose bytes arrived, as many as it was begun with, was answered
-  abbrev pub Settles : Store S → Store S → UploadId → Arrival → Result Receipt StoreFault → World → Type 0
+  abbrev pub Settles : S → S → UploadId → Arrival → Result Receipt StoreFault → World → Type 0
   Settles old new id arrival r world =
       (repo name bytes : List ℕ) → IsTrue (is_repo repo) → HasAll old id arrival repo name arrival.size bytes
       → Carries old new world (object_from repo name bytes) r
 
   -- these bytes of an upload arrived, and `left` more did not. It was answered if none is left. If the store refused,
   -- it was answered whatever the rest is, and the world is kept unless all arrived; if the bytes ended, the world is kept
-  abbrev pub Receives : Store S → Store S → World → (repo name bytes : List ℕ) → (left : ℕ) → Result Receipt ReceiveFault → Type 0
+  abbrev pub Receives : S → S → World → (repo name bytes : List ℕ) → (left : ℕ) → Result Receipt ReceiveFault → Type 0
   Receives old new world repo name bytes left (Ok receipt) =
       Carries old new world (object_from repo name bytes) (Ok receipt)
   Receives old new world repo name bytes left (Err (fault.Store f)) =
@@ -74,7 +73,7 @@ module _ {S : Type 0} (g : Ghosts S) where
   Receives old new world repo name bytes left (Err (fault.Body cause)) = Keeps g old new world
 
   -- the same of an upload that was staged without bytes, for a repository and with a name
-  abbrev pub ReceivesStaged : Store S → Store S → UploadId → (size : ℕ) → (bytes : List ℕ) → (left : ℕ) → Result Receipt ReceiveFault → World → Type 0
+  abbrev pub ReceivesStaged : S → S → UploadId → (size : ℕ) → (bytes : List ℕ) → (left : ℕ) → Result Receipt ReceiveFault → World → Type 0
   ReceivesStaged old new id size bytes left r world =
       (repo name : List ℕ) → IsTrue (is_repo repo) → size ≡ length bytes + left → Stages g old (upload_number id) repo name size []
       → Receives old new world repo name bytes left r

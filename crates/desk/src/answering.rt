@@ -31,7 +31,8 @@ use forms::Request;
 use names::{Body, BodyFault, Moment, Rule};
 use policy::Policy;
 use std::alloc::Global;
-use tables::{Alter, Store, StoreFault};
+use store::Store;
+use tables::StoreFault;
 use tokens::{Caller, CallerFault};
 
 /// Answers a request in a repository, and makes the change that the answer reports.
@@ -50,21 +51,21 @@ use tokens::{Caller, CallerFault};
 ///
 /// The fault of `content`: the input ended or a read failed within the bytes of an upload. The locks, the objects and the
 /// tokens of the store are then unchanged.
-pub fn answer<S: Alter, B: Body>(
+pub fn answer<S: Store, B: Body>(
     alloc: Global,
-    store: &mut Store<S>,
+    store: &mut S,
     policy: &Policy,
     now: Moment,
     asked: &RepoRequest<'_>,
     content: &mut B,
 ) -> Result<Reply, BodyFault>
-    ensures answered { AnswersAll S.Store B.Body (is_upload_of asked.entry.now)
+    ensures answered { AnswersAll S.State B.Body (is_upload_of asked.entry.now)
         (setting_of policy.entry.now now) (request_seen asked.entry.now)
         store.old store.new content.old content.new result }
-    ensures world { From S.Store store.old store.new
-        (LeavesWorld S.Store store.new (policy_view policy.entry.now) asked.entry.now.repo.now) }
-    ensures bounded { From S.Store store.old store.new
-        (StaysWithin S.Store store.old store.new (policy_view policy.entry.now)) }
+    ensures world { From S.State store.old store.new
+        (LeavesWorld S.State store.new (policy_view policy.entry.now) asked.entry.now.repo.now) }
+    ensures bounded { From S.State store.old store.new
+        (StaysWithin S.State store.old store.new (policy_view policy.entry.now)) }
 {
     match tokens::caller(store, asked.authorization, now) {
         Ok(caller) => answer_caller(alloc, store, policy, now, &caller, asked, content),
@@ -86,16 +87,16 @@ fn refusal(alloc: Global, asked: &RepoRequest<'_>, rule: Rule) -> Reply
 /// # Errors
 ///
 /// The errors of [`answer`].
-fn answer_caller<S: Alter, B: Body>(
+fn answer_caller<S: Store, B: Body>(
     alloc: Global,
-    store: &mut Store<S>,
+    store: &mut S,
     policy: &Policy,
     now: Moment,
     caller: &Caller<'_>,
     asked: &RepoRequest<'_>,
     content: &mut B,
 ) -> Result<Reply, BodyFault>
-    ensures { AnswersRequest S.Store B.Body (is_upload_of asked.entry.now) asked.entry.now.repo.now
+    ensures { AnswersRequest S.State B.Body (is_upload_of asked.entry.now) asked.entry.now.repo.now
         (IsHolder caller.entry.now) (λ world who size. caller_plan world
         (setting_of policy.entry.now now) who (request_seen asked.entry.now size))
         store.old store.new content.old content.new result }
@@ -121,14 +122,14 @@ fn answer_caller<S: Alter, B: Body>(
 /// # Errors
 ///
 /// The errors of [`answer`].
-fn answer_request<S: Alter, B: Body>(
+fn answer_request<S: Store, B: Body>(
     alloc: Global,
-    store: &mut Store<S>,
+    store: &mut S,
     case: &Case<'_>,
     request: &Request,
     content: &mut B,
 ) -> Result<Reply, BodyFault>
-    ensures { AnswersRequest S.Store B.Body (uploads (request_asked request.entry.now))
+    ensures { AnswersRequest S.State B.Body (uploads (request_asked request.entry.now))
         (case_repo case.entry.now).name (IsCallerOf case.entry.now) (λ world who size.
         plan_for (case_seen world case.entry.now who) size (request_asked request.entry.now))
         store.old store.new content.old content.new result }
@@ -147,14 +148,14 @@ fn answer_request<S: Alter, B: Body>(
 /// # Errors
 ///
 /// `Denied`, and `Store`, which is `Refused` for an upload. Both leave the tables unchanged.
-fn answer_whole<S: Alter>(
+fn answer_whole<S: Store>(
     alloc: Global,
-    store: &mut Store<S>,
+    store: &mut S,
     case: &Case<'_>,
     request: &Request,
 ) -> Result<Reply, NotGranted>
     ensures { (size : ℕ) (content : List ℕ)
-        → AnswersEach S.Store (IsCallerOf case.entry.now) store.old store.new (λ world who.
+        → AnswersEach S.State (IsCallerOf case.entry.now) store.old store.new (λ world who.
         verdict_by world (case_repo case.entry.now).name (plan_for
         (case_seen world case.entry.now who) size (request_asked request.entry.now)) content)
         result }

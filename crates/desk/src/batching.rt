@@ -24,7 +24,8 @@ use forms::{Actions, Answer, BatchObject, BatchRequest, DenialStatus, Links, Off
 use names::{Oid, Operation, RefName, Rule, Size};
 use policy::Repo;
 use std::alloc::{AllocError, Global};
-use tables::{Alter, Store, StoreFault};
+use store::Store;
+use tables::StoreFault;
 
 /// An object of a batch whose name and size are valid.
 #[derive(Clone, Copy, Debug)]
@@ -147,13 +148,13 @@ fn judge_all<'a, R: RepoReader>(
 /// # Errors
 ///
 /// A [`StoreFault`], which leaves the tables unchanged.
-pub fn batch_objects<'a, S: Alter>(
+pub fn batch_objects<'a, S: Store>(
     alloc: Global,
-    store: &mut Store<S>,
+    store: &mut S,
     repo: &Repo,
     asked: &'a BatchRequest,
 ) -> Result<Vec<Offer<'a>>, StoreFault>
-    ensures { Reads S.Store store.old store.new (λ world. IfOk result (λ offers.
+    ensures { Reads S.State store.old store.new (λ world. IfOk result (λ offers.
         map judged_by offers.items ≡ map (judged_on (repo_state (repo_view repo.now) world)
         (batch_asked asked.now)) (batch_asked asked.now).objects)) }
 {

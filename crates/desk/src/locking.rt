@@ -21,7 +21,8 @@ use model::Right;
 use names::{LockId, Rule};
 use policy::Question;
 use std::alloc::{AllocError, Global};
-use tables::{Alter, NewLock, Store};
+use store::Store;
+use tables::NewLock;
 
 /// The part of a row that a client sees.
 pub(crate) fn shown(row: &Lock) -> ShownLock<'_>
@@ -78,13 +79,13 @@ pub(crate) fn held_reply(alloc: Global, row: &Lock) -> Result<Reply, AllocError>
 /// # Errors
 ///
 /// `Store`, which leaves the tables unchanged.
-fn make_lock<S: Alter>(
-    store: &mut Store<S>,
+fn make_lock<S: Store>(
+    store: &mut S,
     alloc: Global,
     wanted: &NewLock<'_>,
 ) -> Result<Reply, NotGranted>
-    ensures { From S.Store store.old store.new (λ world.
-        AnswersAlone S.Store store.old store.new world
+    ensures { From S.State store.old store.new (λ world.
+        AnswersAlone S.State store.old store.new world
         (placed_verdict world wanted.entry.now) result) }
 {
     let made = locks::made(store, wanted.repo)?;
@@ -128,13 +129,13 @@ pub(crate) fn question_on<'a>(wanted: &NewLock<'a>) -> Question<'a>
 /// # Errors
 ///
 /// `Denied` by the policy, and `Store`. Both leave the tables unchanged.
-pub(crate) fn lock<S: Alter>(
-    store: &mut Store<S>,
+pub(crate) fn lock<S: Store>(
+    store: &mut S,
     alloc: Global,
     case: &Case<'_>,
     asked: &LockRequest,
 ) -> Result<Reply, NotGranted>
-    ensures { AnswersUser S.Store case.entry.now store.old store.new
+    ensures { AnswersUser S.State case.entry.now store.old store.new
         (λ seen. lock_verdict seen (lock_asked asked.entry.now)) result }
 {
     let wanted = wanted_by(case, asked);

@@ -11,7 +11,8 @@ ghost use Rattle.desk.specs.Receiving.{Takes, Fills, Settles, ReceivesStaged, Re
 use chunks::{Arrival, Intake};
 use names::{Body, BodyFault, Oid, RepoName, Size};
 use std::alloc::{AllocError, Global};
-use tables::{Alter, Store, StoreFault, UploadId};
+use store::Store;
+use tables::{StoreFault, UploadId};
 use uploads::UploadFault;
 
 /// The largest number of bytes that are read at a time.
@@ -80,16 +81,16 @@ fn piece_of(size: Size) -> usize
 ///
 /// `Body` if the content was not read to its end, and `Store` of the errors of [`Intake::push`]. The contents of the
 /// store are unchanged.
-fn take_all<S: Alter, B: Body>(
-    store: &mut Store<S>,
+fn take_all<S: Store, B: Body>(
+    store: &mut S,
     content: &mut B,
     intake: &mut Intake,
     buffer: &mut [u8],
 ) -> Result<(), ReceiveFault>
     requires { 0 < length buffer.old }
     ensures bytes { (bytes : List ℕ) × HasRead B.Body content.old content.new bytes
-        × From S.Store store.old store.new (λ world.
-        Takes S.Store store.old intake.old store.new intake.new bytes result world) }
+        × From S.State store.old store.new (λ world.
+        Takes S.State store.old intake.old store.new intake.new bytes result world) }
     ensures upload { intake.new.upload ≡ intake.old.upload }
     ensures whole { OnOk result (IsReadOut B.Body content.old content.new) }
     ensures fault { IfErr result (IsLeftAfter B.Body content.old content.new) }
@@ -108,16 +109,16 @@ fn take_all<S: Alter, B: Body>(
 ///
 /// `Body` if the content was not read to its end, and `Store` of the errors of [`Intake::push`] and [`Intake::end`].
 /// The contents of the store are unchanged.
-fn fill<S: Alter, B: Body>(
+fn fill<S: Store, B: Body>(
     alloc: Global,
-    store: &mut Store<S>,
+    store: &mut S,
     upload: UploadId,
     size: Size,
     content: &mut B,
 ) -> Result<Arrival, ReceiveFault>
     ensures bytes { (bytes : List ℕ) × HasRead B.Body content.old content.new bytes
-        × From S.Store store.old store.new (λ world.
-        Fills S.Store store.old store.new upload size bytes result world) }
+        × From S.State store.old store.new (λ world.
+        Fills S.State store.old store.new upload size bytes result world) }
     ensures whole { OnOk result (IsReadOut B.Body content.old content.new) }
     ensures fault { IfErr result (IsLeftAfter B.Body content.old content.new) }
 {
@@ -132,13 +133,13 @@ fn fill<S: Alter, B: Body>(
 /// # Errors
 ///
 /// The errors of [`uploads::complete`], which leave the objects of the store unchanged.
-fn settle<S: Alter>(
-    store: &mut Store<S>,
+fn settle<S: Store>(
+    store: &mut S,
     upload: UploadId,
     arrival: &Arrival,
 ) -> Result<Receipt, StoreFault>
-    ensures { From S.Store store.old store.new (λ world.
-        Settles S.Store store.old store.new upload arrival.now result world) }
+    ensures { From S.State store.old store.new (λ world.
+        Settles S.State store.old store.new upload arrival.now result world) }
 {
     match uploads::complete(store, upload, &arrival.last, &arrival.name, arrival.size) {
         Ok(_) => Ok(Receipt::Stored),
@@ -153,15 +154,15 @@ fn settle<S: Alter>(
 /// # Errors
 ///
 /// `Store` and `Body`, as [`receive`]. The upload may still be staged; the world is unchanged.
-fn receive_staged<S: Alter, B: Body>(
+fn receive_staged<S: Store, B: Body>(
     alloc: Global,
-    store: &mut Store<S>,
+    store: &mut S,
     upload: UploadId,
     size: Size,
     content: &mut B,
 ) -> Result<Receipt, ReceiveFault>
     ensures bytes { (bytes : List ℕ) × HasRead B.Body content.old content.new bytes
-        × From S.Store store.old store.new (λ world. ReceivesStaged S.Store store.old store.new
+        × From S.State store.old store.new (λ world. ReceivesStaged S.State store.old store.new
         upload size bytes (B.size content.new) result world) }
     ensures whole { OnOk result (IsReadOut B.Body content.old content.new) }
     ensures fault { IfErr result (IsLeftAfter B.Body content.old content.new) }
@@ -173,15 +174,15 @@ fn receive_staged<S: Alter, B: Body>(
 /// Removes what arrived of an upload that has other bytes, if the store allows it. After a refusal of the store it removes
 /// whatever is staged: on a full disk, uploads that failed before may be staged too. An upload that is cut off stays
 /// staged. What is not removed here is removed by the next upload of its repository.
-fn clear<S: Alter>(
+fn clear<S: Store>(
     alloc: Global,
-    store: &mut Store<S>,
+    store: &mut S,
     upload: UploadId,
     size: Size,
     received: &Result<Receipt, ReceiveFault>,
 )
-    ensures { From S.Store store.old store.new (λ world.
-        Keeps S.Store store.old store.new world) }
+    ensures { From S.State store.old store.new (λ world.
+        Keeps S.State store.old store.new world) }
 {
     match received {
         Ok(Receipt::Stored) | Err(ReceiveFault::Body(_)) => {}
@@ -205,15 +206,15 @@ fn clear<S: Alter>(
 /// - [`ReceiveFault::Body`]: the content was not read to its end.
 ///
 /// Both leave the contents of the store unchanged.
-pub(crate) fn receive<S: Alter, B: Body>(
+pub(crate) fn receive<S: Store, B: Body>(
     alloc: Global,
-    store: &mut Store<S>,
+    store: &mut S,
     repo: &RepoName,
     name: &Oid,
     content: &mut B,
 ) -> Result<Receipt, ReceiveFault>
     ensures bytes { (bytes : List ℕ) × HasRead B.Body content.old content.new bytes
-        × From S.Store store.old store.new (λ world. Receives S.Store store.old store.new world
+        × From S.State store.old store.new (λ world. Receives S.State store.old store.new world
         (repo_text repo.now) name.now bytes (B.size content.new) result) }
     ensures whole { OnOk result (IsReadOut B.Body content.old content.new) }
     ensures fault { IfErr result (IsLeftAfter B.Body content.old content.new) }

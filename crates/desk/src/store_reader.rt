@@ -4,8 +4,8 @@ ghost use Rattle.std.specs.Prelude.{◌≡◌, map, option_map};
 ghost use Rattle.model.specs.RepoState.{repo_state};
 ghost use Rattle.model.specs.World.{World};
 ghost use Rattle.policy.specs.Values.{policy_view, question_view};
-ghost use Rattle.tables.specs.Shown.{AddsNothing, IsHonest, Moves};
-ghost use Rattle.tables.proofs.Moved.{moves_none, moves_then, nothing_none, nothing_then};
+ghost use Rattle.store.specs.Shown.{AddsNothing, IsHonest, Moves};
+ghost use Rattle.store.proofs.Moved.{moves_none, moves_then, nothing_none, nothing_then};
 ghost use Rattle.refinement.specs.Representation.{Holds};
 ghost use Rattle.refinement.proofs.Holding.{holds_still};
 ghost use Rattle.desk.specs.Visible.{is_visible};
@@ -17,7 +17,8 @@ use locks::Lock;
 use names::{LockId, Oid, Size};
 use policy::{ApplicableRows, Repo};
 use std::alloc::Global;
-use tables::{Alter, Store, StoreFault};
+use store::Store;
+use tables::StoreFault;
 
 /// Whether the rows allow the lock; if none are given, every lock is allowed.
 pub(crate) fn is_visible(visible: Option<&ApplicableRows<'_>>, row: &Lock) -> bool
@@ -29,12 +30,12 @@ pub(crate) fn is_visible(visible: Option<&ApplicableRows<'_>>, row: &Lock) -> bo
     }
 }
 
-impl<S: Alter> RepoReader for Store<S> {
-    ghost honest = { λ s. IsHonest S.Store s };
+impl<S: Store> RepoReader for S {
+    ghost honest = { λ s. IsHonest S.State s };
 
-    ghost shows = { λ s repo state. (world : World) × Holds S.Store s world × (state ≡ repo_state repo world) };
+    ghost shows = { λ s repo state. (world : World) × Holds S.State s world × (state ≡ repo_state repo world) };
 
-    ghost reads = { λ one two. Moves S.Store (λ t. t) one two × AddsNothing S.Store one two };
+    ghost reads = { λ one two. Moves S.State (λ t. t) one two × AddsNothing S.State one two };
 
     fn room(&mut self, repo: &Repo) -> Result<i128, StoreFault> {
         let used = uploads::used(self, repo.name())?;

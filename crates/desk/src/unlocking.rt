@@ -22,7 +22,8 @@ use locks::Lock;
 use model::Right;
 use names::{RepoName, Rule};
 use std::alloc::{AllocError, Global};
-use tables::{Alter, Store, StoreFault};
+use store::Store;
+use tables::StoreFault;
 
 /// The right that releasing the lock asks of the caller: lock for one's own, and force for another's.
 fn right_for(case: &Case<'_>, force: bool, row: &Lock) -> Result<Right, Denial>
@@ -88,16 +89,16 @@ pub(crate) fn released_reply(alloc: Global, row: &Lock) -> Result<Reply, AllocEr
 /// # Errors
 ///
 /// `Store`, which leaves the tables unchanged.
-fn release<S: Alter>(
-    store: &mut Store<S>,
+fn release<S: Store>(
+    store: &mut S,
     alloc: Global,
     repo: &RepoName,
     row: &Lock,
 ) -> Result<Reply, NotGranted>
-    ensures { From S.Store store.old store.new (λ world.
+    ensures { From S.State store.old store.new (λ world.
         lock_with (repo_text repo.now) row.now.id world
         ≡ Some (lock_seen (repo_text repo.now) row.now)
-        → AnswersAlone S.Store store.old store.new world
+        → AnswersAlone S.State store.old store.new world
         (Ok (releases (lock_seen (repo_text repo.now) row.now))) result) }
 {
     let reply = released_reply(alloc, row)?;
@@ -113,13 +114,13 @@ fn release<S: Alter>(
 /// # Errors
 ///
 /// `Denied` by L2, L3 or the policy, and `Store`. Both leave the tables unchanged.
-pub(crate) fn unlock<S: Alter>(
-    store: &mut Store<S>,
+pub(crate) fn unlock<S: Store>(
+    store: &mut S,
     alloc: Global,
     case: &Case<'_>,
     asked: &UnlockRequest,
 ) -> Result<Reply, NotGranted>
-    ensures { AnswersUser S.Store case.entry.now store.old store.new
+    ensures { AnswersUser S.State case.entry.now store.old store.new
         (λ seen. unlock_verdict seen (unlock_asked asked.entry.now)) result }
 {
     let found = locks::get(store, case.repo.name(), asked.id)?;

@@ -22,7 +22,8 @@ use forms::PutRequest;
 use names::{Body, BodyFault, Oid, Rule};
 use policy::Repo;
 use std::alloc::Global;
-use tables::{Alter, Store, StoreFault};
+use store::Store;
+use tables::StoreFault;
 
 /// Whether the quota holds an upload of this size, or an object of the name is stored.
 fn has_place<R: RepoReader>(
@@ -102,14 +103,14 @@ fn received_reply(
 /// # Errors
 ///
 /// The fault by which the content was cut off. The objects of the store are unchanged.
-pub(crate) fn put<S: Alter, B: Body>(
-    store: &mut Store<S>,
+pub(crate) fn put<S: Store, B: Body>(
+    store: &mut S,
     alloc: Global,
     case: &Case<'_>,
     asked: &PutRequest,
     content: &mut B,
 ) -> Result<Reply, BodyFault>
-    ensures { AnswersRequest S.Store B.Body true (case_repo case.entry.now).name
+    ensures { AnswersRequest S.State B.Body true (case_repo case.entry.now).name
         (IsUserOf case.entry.now) (λ world who size.
         put_verdict (case_seen world case.entry.now who) size (put_asked asked.entry.now))
         store.old store.new content.old content.new result }

@@ -19,7 +19,8 @@ use locks::Lock;
 use names::{Oid, RepoName, UserName};
 use policy::Policy;
 use std::alloc::{AllocError, Global};
-use tables::{Alter, Store, StoreFault, TokenRow, UploadRow};
+use store::Store;
+use tables::{StoreFault, TokenRow, UploadRow};
 
 fn own_token(row: &TokenRow) -> OwnToken
     ensures { own_seen result ≡ own_of row.now }
@@ -49,13 +50,13 @@ fn sort_by_digest(tokens: &mut Vec<OwnToken>) -> Result<(), AllocError>
 }
 
 /// The user's tokens for the repository, in the order of their digests.
-fn own_tokens<S: Alter>(
+fn own_tokens<S: Store>(
     alloc: Global,
-    store: &mut Store<S>,
+    store: &mut S,
     user: &UserName,
     repo: &RepoName,
 ) -> Result<Vec<OwnToken>, StoreFault>
-    ensures { Reads S.Store store.old store.new (λ world. IfOk result (λ tokens.
+    ensures { Reads S.State store.old store.new (λ world. IfOk result (λ tokens.
         map own_seen tokens.items ≡ tokens_of (user_text user.now) (repo_text repo.now) world)) }
 {
     let rows = tokens::of(alloc, store, user, repo)?;
@@ -80,12 +81,12 @@ fn sizes_from(alloc: Global, rows: &[UploadRow]) -> Result<Vec<ObjectSize>, Allo
 }
 
 /// The objects of the repository, in the order of their names.
-fn objects_in<S: Alter>(
+fn objects_in<S: Store>(
     alloc: Global,
-    store: &mut Store<S>,
+    store: &mut S,
     repo: &RepoName,
 ) -> Result<Vec<ObjectSize>, StoreFault>
-    ensures { Reads S.Store store.old store.new (λ world. IfOk result (λ objects.
+    ensures { Reads S.State store.old store.new (λ world. IfOk result (λ objects.
         map size_seen objects.items ≡ objects_of (repo_text repo.now) world)) }
 {
     let rows = uploads::all(alloc, store, Some(repo))?;
@@ -93,12 +94,12 @@ fn objects_in<S: Alter>(
 }
 
 /// The objects that the user sees.
-fn seen_objects<S: Alter>(
+fn seen_objects<S: Store>(
     alloc: Global,
-    store: &mut Store<S>,
+    store: &mut S,
     asker: &Asker<'_>,
 ) -> Result<Vec<ObjectSize>, StoreFault>
-    ensures { Reads S.Store store.old store.new (λ world. IfOk result (λ objects.
+    ensures { Reads S.State store.old store.new (λ world. IfOk result (λ objects.
         map size_seen objects.items ≡ (if sees_objects (asker_policy asker.now) (asker_user asker.now)
         (asker_repo asker.now) then objects_of (asker_repo asker.now) world else []))) }
 {
@@ -110,12 +111,12 @@ fn seen_objects<S: Alter>(
 }
 
 /// The names that the repository retired, in rising order, if the user sees the objects.
-fn seen_retired<S: Alter>(
+fn seen_retired<S: Store>(
     alloc: Global,
-    store: &mut Store<S>,
+    store: &mut S,
     asker: &Asker<'_>,
 ) -> Result<Vec<Oid>, StoreFault>
-    ensures { Reads S.Store store.old store.new (λ world. IfOk result (λ names.
+    ensures { Reads S.State store.old store.new (λ world. IfOk result (λ names.
         names.items ≡ (if sees_objects (asker_policy asker.now) (asker_user asker.now)
         (asker_repo asker.now) then retired_of (asker_repo asker.now) world else []))) }
 {
@@ -136,12 +137,12 @@ fn keep_seen(rows: &mut Vec<Lock>, sight: &Sight<'_>)
 }
 
 /// The locks that the user sees, in rising ids.
-fn seen_locks<S: Alter>(
+fn seen_locks<S: Store>(
     alloc: Global,
-    store: &mut Store<S>,
+    store: &mut S,
     asker: &Asker<'_>,
 ) -> Result<Vec<Lock>, StoreFault>
-    ensures { Reads S.Store store.old store.new (λ world. IfOk result (λ locks.
+    ensures { Reads S.State store.old store.new (λ world. IfOk result (λ locks.
         map (lock_seen (asker_repo asker.now)) locks.items
         ≡ filter (sees (asker_policy asker.now) (asker_user asker.now))
         (locks_of (asker_repo asker.now) world))) }
@@ -153,12 +154,8 @@ fn seen_locks<S: Alter>(
 }
 
 /// The quota less the stored total; 0 if the policy has no such repository.
-fn room_in<S: Alter>(
-    store: &mut Store<S>,
-    policy: &Policy,
-    repo: &RepoName,
-) -> Result<i128, StoreFault>
-    ensures { Reads S.Store store.old store.new (λ world. IfOk result (λ room.
+fn room_in<S: Store>(store: &mut S, policy: &Policy, repo: &RepoName) -> Result<i128, StoreFault>
+    ensures { Reads S.State store.old store.new (λ world. IfOk result (λ room.
         room ≡ room_in (repo_named (repo_text repo.now) (policy_view policy.now)) world)) }
 {
     match policy.repo(repo.as_str()) {
@@ -175,14 +172,14 @@ fn room_in<S: Alter>(
 /// # Errors
 ///
 /// `Refused`, or `Memory`: the view has all locks that the user sees, and all objects if the user sees them.
-pub fn view<'a, S: Alter>(
+pub fn view<'a, S: Store>(
     alloc: Global,
-    store: &mut Store<S>,
+    store: &mut S,
     policy: &'a Policy,
     user: &'a UserName,
     repo: &'a RepoName,
 ) -> Result<View<'a>, StoreFault>
-    ensures { Reads S.Store store.old store.new (λ world. IfOk result (λ view. view_seen view
+    ensures { Reads S.State store.old store.new (λ world. IfOk result (λ view. view_seen view
         ≡ view_of world (policy_view policy.entry.now) (user_text user.entry.now)
         (repo_text repo.entry.now))) }
 {

@@ -1,10 +1,10 @@
 -- From the result of removing a lock in the tables to the world without it.
-use Rattle.locks.proofs.Prelude.{◌≡◌, ◌∙◌, ℕ, pos, Bool, true, false, nat_lt, length, filter, List, Option, Some, None, is_some, Ok, Err, refl, sym, subst, Ghosts, World, Lock, changed, unchanged, has_id, without_lock, IsHonest, IsOpen, shown, Makes, Fails, StoreFault, Store, Holds, ends_made, ends_failed, lock_with}
+use Rattle.locks.proofs.Prelude.{◌≡◌, ◌∙◌, ℕ, pos, Bool, true, false, nat_lt, length, filter, List, Option, Some, None, is_some, Ok, Err, refl, sym, subst, Ghosts, World, Lock, changed, unchanged, has_id, without_lock, IsHonest, IsOpen, shown, Makes, Fails, StoreFault, Holds, ends_made, ends_failed, lock_with}
 use Rattle.refinement.specs.Removal.{without_found}
 use Rattle.refinement.proofs.Removing.{holds_removed, still_if_none, would_remove, removed_any}
 use Rattle.locks.specs.Removing.{Removes}
 
-module _ {S : Type 0} (g : Ghosts S) (old new : Store S) (world : World) (repo : List ℕ) (id : ℕ) (honest : IsHonest g new) (h : Holds g old world) where
+module _ {S : Type 0} (g : Ghosts S) (old new : S) (world : World) (repo : List ℕ) (id : ℕ) (honest : IsHonest g new) (h : Holds g old world) where
   -- if no lock has the id, the world stays as it is
   none_there : (o : Option Lock) → is_some o ≡ false → without_found o world ≡ world
   none_there None none = refl

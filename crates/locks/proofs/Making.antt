@@ -1,5 +1,5 @@
 -- From the result of making a lock in the tables to the verdict on its place.
-use Rattle.locks.proofs.Prelude.{◌≡◌, ◌∙◌, ◌<◌, ◌+◌, ℕ, pos, true, false, nat_lt, Some, None, Option, Result, Ok, Err, IfSome, refl, sym, ap, subst, arith, Ghosts, repo_text, ref_text, path_text, user_text, World, IsWorld, Lock, with_lock, changed, unchanged, failed, Tables, IsHonest, IsOpen, shown, Moves, Makes, Fails, asked_lock, Outcome, held, used_up, created, outcome_of, read_lock, after_outcome, with_new_lock, StoreFault, Store, LockRow, Holds, Represents, lock_kept, found_own, ends_made, ends_failed, ends_still, leads_none, lock_on}
+use Rattle.locks.proofs.Prelude.{◌≡◌, ◌∙◌, ◌<◌, ◌+◌, ℕ, pos, true, false, nat_lt, Some, None, Option, Result, Ok, Err, IfSome, refl, sym, ap, subst, arith, Ghosts, repo_text, ref_text, path_text, user_text, World, IsWorld, Lock, with_lock, changed, unchanged, failed, Tables, IsHonest, IsOpen, shown, Moves, Makes, Fails, asked_lock, Outcome, held, used_up, created, outcome_of, read_lock, after_outcome, with_new_lock, StoreFault, LockRow, Holds, Represents, lock_kept, found_own, ends_made, ends_failed, ends_still, leads_none, lock_on}
 use Rattle.std.specs.Prelude.{IsErrAnd}
 use Rattle.std.proofs.lemmas.Bool.Decides.{nat_tests}
 use Rattle.names.specs.Texts.{last_lock_id}
@@ -10,7 +10,7 @@ use Rattle.model.proofs.Keeping.{IsNewLock, counted_itself, keeps_with_lock}
 use Rattle.tables.specs.Rows as row
 use Rattle.tables.specs.Steps.{after_create}
 use Rattle.tables.specs.declared.new_rows.NewLock.{NewLock}
-use Rattle.tables.proofs.Moved.{moves_none}
+use Rattle.store.proofs.Moved.{moves_none}
 use Rattle.refinement.specs.Left.{Ends, From}
 use Rattle.refinement.proofs.Changes.{new_lock_represented}
 use Rattle.refinement.proofs.Outcomes.{outcome_number, outcome_created, outcome_held, outcome_used}
@@ -88,7 +88,7 @@ would_make t world w s laws = at (outcome_of (asked_lock w) t) refl
         by (Ok (makes_lock l)) (with_new_lock asked (pos next) t) (granted world w o.0 (less _ _ o.1)) (create_is asked t (created (pos next)) numbered)
         (keeps_with_lock world l (is_new world w o.0 o.1) laws, new_lock_represented t world asked (pos next) l s refl refl refl)
 
-module _ {S : Type 0} (g : Ghosts S) (old new : Store S) (world : World) (w : NewLock) (honest : IsHonest g new) (h : Holds g old world) where
+module _ {S : Type 0} (g : Ghosts S) (old new : S) (world : World) (w : NewLock) (honest : IsHonest g new) (h : Holds g old world) where
   -- the outcome in the tables, while they are open
   abbrev Comes : Outcome → Type 0
   Comes o = IsOpen g old × (o ≡ outcome_of (asked_lock w) (shown g old))
@@ -131,7 +131,7 @@ module _ {S : Type 0} (g : Ghosts S) (old new : Store S) (world : World) (w : Ne
       (ends_failed g old new world (after world (Some (placed_verdict world w))) (after_create (asked_lock w)) fails (λ s. would_make (shown g old) world w s h.laws) h, fails.moves)
 
 -- memory ran out before anything was tried
-pub refused_early : {S : Type 0} (g : Ghosts S) (s : Store S) (w : NewLock) (f : StoreFault) (r : Result LockRow LockFault) → IsErrAnd r (λ e. e ≡ fault.Store f) → From g s s (λ world. Creates g world w s s r)
+pub refused_early : {S : Type 0} (g : Ghosts S) (s : S) (w : NewLock) (f : StoreFault) (r : Result LockRow LockFault) → IsErrAnd r (λ e. e ≡ fault.Store f) → From g s s (λ world. Creates g world w s s r)
 refused_early g s w f (Ok row) is = absurd is
 refused_early g s w f (Err e) is = subst (λ (x : LockFault). From g s s (λ world. Creates g world w s s (Err x))) (sym is) (record {
   honest = λ k. k;

@@ -7,13 +7,12 @@ pub use Rattle.names.specs.Names.{path_text, ref_text, repo_text, user_text}
 pub use Rattle.refinement.proofs.Leading.{ends_failed, ends_made, ends_still, leads_none}
 pub use Rattle.refinement.proofs.Lookups.{found_own, lock_found, number_found}
 pub use Rattle.refinement.specs.Representation.{Holds, Represents, lock_kept, lock_row}
-pub use Rattle.sqlite_trees.specs.declared.store.Store.{Ghosts}
+pub use Rattle.store.specs.declared.state.State.{Ghosts}
 pub use Rattle.std.proofs.Common.{Bool, Err, IfSome, List, None, Ok, Option, Result, Some, [], ap, ap₂, arith, false, filter, find, is_some, length, map, nat_le, nat_lt, option_map, pos, refl, subst, suc, sym, take, true, zero, ℕ, ◌+◌, ◌<◌, ◌∙◌, ◌∷◌, ◌≡◌}
 pub use Rattle.std.proofs.lemmas.Result.{IfOk-weaker, err_from_is_err_and}
 pub use Rattle.tables.specs.Rows.{Tables}
-pub use Rattle.tables.specs.Shown.{Fails, IsHonest, IsOpen, Makes, Moves, shown}
+pub use Rattle.store.specs.Shown.{Fails, IsHonest, IsOpen, Makes, Moves, shown}
 pub use Rattle.tables.specs.Statements.{by_id, has_id, is_at, is_from, is_in, without_lock}
 pub use Rattle.tables.specs.Steps.{AreLocksOf, IsLockOf, LockFields, Outcome, after_outcome, asked_lock, created, held, lock_fields, made_of, outcome_of, read_creation, read_lock, used_up, with_new_lock}
-pub use Rattle.tables.specs.declared.Store.{Store}
 pub use Rattle.tables.specs.declared.fault.StoreFault.{StoreFault}
 pub use Rattle.tables.specs.declared.rows.LockRow.{LockRow}

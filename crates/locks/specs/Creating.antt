@@ -1,13 +1,12 @@
 -- Locks that are made.
 use Rattle.std.specs.Prelude.{◌≡◌, ◌+◌, ℕ, List, [], Result, Ok, Err}
-use Rattle.sqlite_trees.specs.declared.store.Store.{Ghosts}
+use Rattle.store.specs.declared.state.State.{Ghosts}
 use Rattle.names.specs.Names.{repo_text, ref_text, path_text, user_text}
 use Rattle.names.specs.declared.rules.Rule.TheVariants.{L5}
 use Rattle.model.specs.World.{World, Lock}
 use Rattle.model.specs.RepoState.{RepoState, repo_state}
 use Rattle.model.specs.Answers.{Answer, makes_lock, by_lock, by_rule, store_refusal}
 use Rattle.model.specs.Locks.{place_verdict}
-use Rattle.tables.specs.declared.Store.{Store}
 use Rattle.tables.specs.declared.new_rows.NewLock.{NewLock}
 use Rattle.tables.specs.declared.rows.LockRow.{LockRow}
 use Rattle.refinement.specs.Left.{Gives, KeepsTables}
@@ -36,12 +35,12 @@ placed_verdict world w = place_verdict (state_of (repo_text w.repo.now) world) (
 
 module _ {S : Type 0} (g : Ghosts S) where
   -- the verdict on the place is this one, and it was carried out
-  abbrev pub Carries : World → NewLock → Store S → Store S → Answer → Type 0
+  abbrev pub Carries : World → NewLock → S → S → Answer → Type 0
   Carries world w old new given = (placed_verdict world w ≡ given) × Gives g old new world given given
 
   -- the verdict on the place was carried out: the lock was made as it was wanted, or the place denies it; or the store
   -- refused. If no lock was made, the tables are as before
-  abbrev pub Creates : World → NewLock → Store S → Store S → Result LockRow LockFault → Type 0
+  abbrev pub Creates : World → NewLock → S → S → Result LockRow LockFault → Type 0
   Creates world w old new (Ok row) =
       Carries world w old new (Ok (makes_lock (lock_wanted world w))) × (lock_seen (repo_text w.repo.now) row ≡ lock_wanted world w)
   Creates world w old new (Err (fault.Held row)) =

@@ -7,7 +7,8 @@ ghost use Rattle.locks.specs.declared.creating.LockFault.TheVariants.{Store as b
 ghost use Rattle.tables.specs.declared.fault.StoreFault.TheVariants.{Memory as WantsMemory};
 
 use std::alloc::{AllocError, Global};
-use tables::{Alter, Creation, LockRow, NewLock, Store, StoreFault};
+use store::Store;
+use tables::{Creation, LockRow, NewLock, StoreFault};
 use thiserror::Error;
 
 /// Why no lock was made. The tables are unchanged.
@@ -46,13 +47,13 @@ impl From<AllocError> for LockFault {
 /// # Errors
 ///
 /// `Held` and `UsedUp` by the verdict, and `Store`. They leave the tables unchanged.
-pub fn create<S: Alter>(
+pub fn create<S: Store>(
     alloc: Global,
-    store: &mut Store<S>,
+    store: &mut S,
     lock: &NewLock<'_>,
 ) -> Result<LockRow, LockFault>
-    ensures { From S.Store store.old store.new (λ world.
-        Creates S.Store world lock.entry.now store.old store.new result) }
+    ensures { From S.State store.old store.new (λ world.
+        Creates S.State world lock.entry.now store.old store.new result) }
 {
     let ref_name = lock.ref_name.to_owned(alloc)?;
     let path = lock.path.to_owned(alloc)?;

@@ -8,15 +8,16 @@ ghost use Rattle.locks.specs.Finding.{lock_seen, lock_on, lock_with};
 
 use names::{LockId, LockPath, RefName, RepoName};
 use std::alloc::Global;
-use tables::{Alter, LockRow, Store, StoreFault};
+use store::Store;
+use tables::{LockRow, StoreFault};
 
 /// Returns the number of locks that the repository ever made.
 ///
 /// # Errors
 ///
 /// `Refused` or `Memory`. The contents of the store are unchanged in any case.
-pub fn made<S: Alter>(store: &mut Store<S>, repo: &RepoName) -> Result<u32, StoreFault>
-    ensures { Reads S.Store store.old store.new (λ world.
+pub fn made<S: Store>(store: &mut S, repo: &RepoName) -> Result<u32, StoreFault>
+    ensures { Reads S.State store.old store.new (λ world.
         IfOk result (λ n. n ≡ world.made (repo_text repo.now))) }
 {
     store.made(repo)
@@ -27,13 +28,13 @@ pub fn made<S: Alter>(store: &mut Store<S>, repo: &RepoName) -> Result<u32, Stor
 /// # Errors
 ///
 /// `Refused` or `Memory`. The contents of the store are unchanged in any case.
-pub fn at<S: Alter>(
-    store: &mut Store<S>,
+pub fn at<S: Store>(
+    store: &mut S,
     repo: &RepoName,
     ref_name: &RefName,
     path: &LockPath,
 ) -> Result<Option<LockRow>, StoreFault>
-    ensures { Reads S.Store store.old store.new (λ world.
+    ensures { Reads S.State store.old store.new (λ world.
         IfOk result (λ found. option_map (lock_seen (repo_text repo.now)) found
         ≡ lock_on (repo_text repo.now) (ref_text ref_name.now) (path_text path.now) world)) }
 {
@@ -45,12 +46,12 @@ pub fn at<S: Alter>(
 /// # Errors
 ///
 /// `Refused` or `Memory`. The contents of the store are unchanged in any case.
-pub fn get<S: Alter>(
-    store: &mut Store<S>,
+pub fn get<S: Store>(
+    store: &mut S,
     repo: &RepoName,
     id: LockId,
 ) -> Result<Option<LockRow>, StoreFault>
-    ensures { Reads S.Store store.old store.new (λ world.
+    ensures { Reads S.State store.old store.new (λ world.
         IfOk result (λ found. option_map (lock_seen (repo_text repo.now)) found
         ≡ lock_with (repo_text repo.now) id world)) }
 {
@@ -62,12 +63,12 @@ pub fn get<S: Alter>(
 /// # Errors
 ///
 /// `Refused` or `Memory`. The contents of the store are unchanged in any case.
-pub fn all<S: Alter>(
+pub fn all<S: Store>(
     alloc: Global,
-    store: &mut Store<S>,
+    store: &mut S,
     repo: &RepoName,
 ) -> Result<Vec<LockRow>, StoreFault>
-    ensures { Reads S.Store store.old store.new (λ world.
+    ensures { Reads S.State store.old store.new (λ world.
         IfOk result (λ found. map (lock_seen (repo_text repo.now)) found.items
         ≡ locks_of (repo_text repo.now) world)) }
 {
@@ -79,13 +80,13 @@ pub fn all<S: Alter>(
 /// # Errors
 ///
 /// `Refused` or `Memory`. The contents of the store are unchanged in any case.
-pub fn window<S: Alter>(
+pub fn window<S: Store>(
     alloc: Global,
-    store: &mut Store<S>,
+    store: &mut S,
     repo: &RepoName,
     id: LockId,
 ) -> Result<Vec<LockRow>, StoreFault>
-    ensures { Reads S.Store store.old store.new (λ world.
+    ensures { Reads S.State store.old store.new (λ world.
         IfOk result (λ found. map (lock_seen (repo_text repo.now)) found.items
         ≡ take 64 (filter (λ l. nat_le id l.id) (locks_of (repo_text repo.now) world)))) }
 {

@@ -1,8 +1,7 @@
 //! The turn of a client: his message is read, and the reply is sent to him.
 
-ghost use Rattle.sqlite_trees.specs.declared.store.Store.{Ghosts};
+ghost use Rattle.store.specs.declared.state.State.{Ghosts};
 ghost use Rattle.model.specs.World.{World};
-ghost use Rattle.tables.specs.declared.Store as tables;
 ghost use Rattle.refinement.specs.Left.{From};
 ghost use Rattle.service.specs.declared.ends.Served.{Served};
 ghost use Rattle.machine.specs.Observations.{Talk};
@@ -11,21 +10,21 @@ use metrics::Turn;
 use names::{Sink, Source};
 use service::Served;
 use sockets::Front;
-use tables::{Storage, Store};
+use store::Store;
 
 /// What is done in the turn of a client.
 pub trait Conversation {
     /// In this talk, which ended so, the store that held this world was led to the other one.
-    ghost leads: { Self → {S : Type 0} → Ghosts S → Talk → Served → (old new : tables.Store S) → World → Type 0 };
+    ghost leads: { Self → {S : Type 0} → Ghosts S → Talk → Served → (old new : S) → World → Type 0 };
 
     /// Reads what the client sends, and writes what is sent to him.
-    fn hold<S: Storage, R: Source, K: Sink>(
+    fn hold<S: Store, R: Source, K: Sink>(
         &self,
-        store: &mut Store<S>,
+        store: &mut S,
         source: &mut R,
         sink: &mut K,
     ) -> Served
-        ensures { From S.Store store.old store.new (λ world. leads self.now S.Store
+        ensures { From S.State store.old store.new (λ world. leads self.now S.State
             (record {
               left = R.left source.old;
               rest = R.left source.new;

@@ -25,7 +25,7 @@ use std::io::{self, ErrorKind, Read, Write};
 use std::os::unix::net::UnixStream;
 use std::rt::HostRuntime;
 use std::time::{Clock, Duration, Instant};
-use tables::{Storage, Store};
+use store::Store;
 
 /// How long an operator may take to send a command, and to take the beginning of a reply, in seconds.
 const PATIENCE: u64 = 2;
@@ -172,15 +172,15 @@ pub trait Machine {
 
     /// Holds the conversation of a client's turn over his connection. Returns what came of it; `None` if the system refuses
     /// to set the option of the socket, and nothing was read or sent.
-    fn converse<S: Storage, T: Conversation>(
+    fn converse<S: Store, T: Conversation>(
         &mut self,
         client: &mut Client,
-        store: &mut Store<S>,
+        store: &mut S,
         conversation: &T,
     ) -> Option<Talked>
         ensures some { IfSome result (λ held. (talk : Talk)
             × observed self.old self.new (talked client.old talk held.turn.served)
-            × From S.Store store.old store.new (λ world. T.leads conversation.now S.Store
+            × From S.State store.old store.new (λ world. T.leads conversation.now S.State
             talk held.turn.served store.old store.new world)) }
         ensures none { IfNone result ((store.new ≡ store.old) × idled self.old self.new) };
 
@@ -329,15 +329,15 @@ impl<C: Clock> Sockets<'_, C> {
     }
 
     /// Holds a conversation over the connection of a client. What had arrived is read first.
-    fn talk<S: Storage, T: Conversation>(
+    fn talk<S: Store, T: Conversation>(
         &self,
         client: &Client,
         front: &mut Front,
-        store: &mut Store<S>,
+        store: &mut S,
         conversation: &T,
     ) -> Turn
-        ensures { (talk : Talk) × From S.Store store.old store.new (λ world.
-            T.leads conversation.now S.Store talk result.served store.old store.new world) }
+        ensures { (talk : Talk) × From S.State store.old store.new (λ world.
+            T.leads conversation.now S.State talk result.served store.old store.new world) }
     {
         let course = Cell::new(Course::new());
         let (received, sent) = (Cell::new(0), Cell::new(0));
@@ -459,10 +459,10 @@ impl<C: Clock> Machine for Sockets<'_, C> {
         self.queue.ended()
     }
 
-    fn converse<S: Storage, T: Conversation>(
+    fn converse<S: Store, T: Conversation>(
         &mut self,
         client: &mut Client,
-        store: &mut Store<S>,
+        store: &mut S,
         conversation: &T,
     ) -> Option<Talked> {
         let mut front = client.begin(self.rt.alloc()).ok()?;

@@ -1,5 +1,5 @@
 -- What a repository uses, by the rows that the calls return.
-use Rattle.operator.proofs.Prelude.{◌≡◌, ◌∙◌, ℕ, List, [], ◌∷◌, ◌++◌, Result, Ok, Err, IfOk, refl, sym, ap, subst, true, false, length, World, Reads, reads_then, ⊤, Ghosts, repo_text, Store, UploadRow}
+use Rattle.operator.proofs.Prelude.{◌≡◌, ◌∙◌, ℕ, List, [], ◌∷◌, ◌++◌, Result, Ok, Err, IfOk, refl, sym, ap, subst, true, false, length, World, Reads, reads_then, ⊤, Ghosts, repo_text, UploadRow}
 use Rattle.std.proofs.Common.{Bool, IsErrAnd, pos, suc, ◌+◌, ◌<◌, map, filter, take, cond, get_or, Some, option_map, bytes_eq}
 use Rattle.std.specs.List.{AllZip}
 use Rattle.std.proofs.lemmas.List.{length-map, take_more}
@@ -11,7 +11,7 @@ use Rattle.model.specs.World.{Object}
 use Rattle.model.specs.Orders.{insert_by, sort_by, text_before}
 use Rattle.model.specs.RepoState.{ObjectSize, object_size, objects_of}
 use Rattle.tables.specs.Rows.{Tables}
-use Rattle.tables.specs.Shown.{HasTables}
+use Rattle.store.specs.Shown.{HasTables}
 use Rattle.refinement.proofs.Holding.{holds_still}
 use Rattle.refinement.specs.Left.{KeepsTables}
 use Rattle.uploads.specs.Listing.{IsRowOf, Lists}
@@ -40,7 +40,7 @@ sort_length before (x ∷ xs) = insert_length before x (sort_by before xs) ∙ a
 
 module _ {S : Type 0} (g : Ghosts S) where
   -- there are as many rows as objects
-  pub objects_length : (world : World) (s : Store S) (repo : List ℕ) (rows : List UploadRow) → Lists g world s (Some repo) rows → length rows ≡ length (objects_of repo world)
+  pub objects_length : (world : World) (s : S) (repo : List ℕ) (rows : List UploadRow) → Lists g world s (Some repo) rows → length rows ≡ length (objects_of repo world)
   objects_length world s repo rows l =
       let own = filter (λ (o : Object). bytes_eq o.repo repo) world.objects in
       sym (AllZip-long (IsRowOf g s) rows l.objects l.each) ∙ sym (length_permutation l.objects own l.same)
@@ -55,7 +55,7 @@ zip_more R (a ∷ xs) (b ∷ ys) x y p q = (p.0, zip_more R xs ys x y p.1 q)
 
 module _ {S : Type 0} (g : Ghosts S) where
   -- after calls that left the tables, a repository uses what it used
-  uses_still : (a b : Store S) (world : World) (repo : List ℕ) (now : ℕ) (u : Usage) → HasTables g a → KeepsTables g a b → Uses g world a repo now u → Uses g world b repo now u
+  uses_still : (a b : S) (world : World) (repo : List ℕ) (now : ℕ) (u : Usage) → HasTables g a → KeepsTables g a b → Uses g world a repo now u → Uses g world b repo now u
   uses_still a b world repo now u ready m p = record {
     objects = p.objects;
     bytes = p.bytes;
@@ -64,7 +64,7 @@ module _ {S : Type 0} (g : Ghosts S) where
     tokens = p.tokens;
   }
 
-  lines_still : (a b : Store S) (world : World) (now : ℕ) (repos : List Repo) (lines : List (List (List ℕ))) → HasTables g a → KeepsTables g a b
+  lines_still : (a b : S) (world : World) (now : ℕ) (repos : List Repo) (lines : List (List (List ℕ))) → HasTables g a → KeepsTables g a b
       → AllZip (IsLineOf g world a now) repos lines → AllZip (IsLineOf g world b now) repos lines
   lines_still a b world now [] [] ready m p = tt
   lines_still a b world now [] (l ∷ ls) ready m p = absurd p
@@ -73,7 +73,7 @@ module _ {S : Type 0} (g : Ghosts S) where
       ((p.0.0, uses_still a b world (repo_text r.name) now p.0.0 ready m p.0.1, p.0.2), lines_still a b world now rs ls ready m p.1)
 
   -- one more line
-  pub lines_then : (a b c : Store S) (now : ℕ) (repos : List Repo) (i : ℕ) (repo : Repo) (lines : List (List (List ℕ))) (usage : Usage) (line : List (List ℕ)) → i < length repos → repo ≡ get_or repos i repo
+  pub lines_then : (a b c : S) (now : ℕ) (repos : List Repo) (i : ℕ) (repo : Repo) (lines : List (List (List ℕ))) (usage : Usage) (line : List (List ℕ)) → i < length repos → repo ≡ get_or repos i repo
       → Reads g a b (λ world. AllZip (IsLineOf g world b now) (take i repos) lines) → Reads g b c (λ world. Uses g world c (repo_text repo.name) now usage)
       → line ≡ usage_cells (repo_text repo.name) repo.quota usage → Reads g a c (λ world. AllZip (IsLineOf g world c now) (take (i + 1) repos) (lines ++ line ∷ []))
   lines_then a b c now repos i repo lines usage line within is p q texts =
@@ -89,7 +89,7 @@ module _ {S : Type 0} (g : Ghosts S) where
       }
 
   -- the lines of repositories as the definitions have them
-  pub lines_viewed : (s : Store S) (world : World) (now : ℕ) (repos : List Repo) (lines : List (List (List ℕ))) → AllZip (IsLineOf g world s now) repos lines → AllZip (IsLine g world s now) (map repo_view repos) lines
+  pub lines_viewed : (s : S) (world : World) (now : ℕ) (repos : List Repo) (lines : List (List (List ℕ))) → AllZip (IsLineOf g world s now) repos lines → AllZip (IsLine g world s now) (map repo_view repos) lines
   lines_viewed s world now [] [] all = tt
   lines_viewed s world now [] (l ∷ ls) all = absurd all
   lines_viewed s world now (r ∷ rs) [] all = absurd all

@@ -1,5 +1,5 @@
 -- Objects of a world are whole, so an inspection finds none of them damaged.
-use Rattle.operator.proofs.Prelude.{⊤, ◌≡◌, ℕ, ◌∷◌, List, [], Result, Ok, Err, IfOk, IfErr, ap, refl, sym, ◌∙◌, subst, false, true, rules, World, IsWorld, From, Reads, reads_none, reads_then, reads_lead, from_weaker, Appends, OnOk, line, Ghosts, repo_text, Store, UploadRow, IsPlain, TaskFault}
+use Rattle.operator.proofs.Prelude.{⊤, ◌≡◌, ℕ, ◌∷◌, List, [], Result, Ok, Err, IfOk, IfErr, ap, refl, sym, ◌∙◌, subst, false, true, rules, World, IsWorld, From, Reads, reads_none, reads_then, reads_lead, from_weaker, Appends, OnOk, line, Ghosts, repo_text, UploadRow, IsPlain, TaskFault}
 use Rattle.std.specs.Prelude.{Bool, not, Option, Some, None, IfSome, filter, find, length, bytes_eq, vec_len, ◌&&◌}
 use Rattle.std.proofs.Common.{true≢false}
 use Rattle.std.proofs.lemmas.Bool.{cond_both}
@@ -9,7 +9,7 @@ use Rattle.std.proofs.lemmas.List.Elements.{recursion_from_All}
 use Rattle.std.proofs.lemmas.Slice.Eq.{bytes_eq-Decides}
 use Rattle.model.proofs.Checks.{find_ok}
 use Rattle.model.specs.World.{Object, IsObject, name_of, object_named}
-use Rattle.tables.specs.Shown.{AddsNothing, HasTables, IsHonest, Moves}
+use Rattle.store.specs.Shown.{AddsNothing, HasTables, IsHonest, Moves}
 use Rattle.tables.specs.Staging.{upload_number}
 use Rattle.tables.specs.declared.fault.StoreFault.{StoreFault}
 use Rattle.tables.specs.declared.rows.ObjectRow.{ObjectRow}
@@ -44,7 +44,7 @@ named_whole world repo name o laws is =
 
 module _ {S : Type 0} (g : Ghosts S) where
   -- an object that is found as it was listed is whole
-  pub found_whole : (world : World) (s : Store S) (row : UploadRow) (found : ObjectRow) → IsWorld world → Finds g world s (repo_text row.repo) row.oid (Some found)
+  pub found_whole : (world : World) (s : S) (row : UploadRow) (found : ObjectRow) → IsWorld world → Finds g world s (repo_text row.repo) row.oid (Some found)
       → found.id ≡ row.id → found.size ≡ row.size → IsWhole g s row
   found_whole world s row found laws f id size = (
     f.0.bytes,
@@ -53,13 +53,13 @@ module _ {S : Type 0} (g : Ghosts S) where
   )
 
   -- a whole object is not found damaged
-  whole_passes : (a b : Store S) (row : UploadRow) (r : Result Bool StoreFault) → OfBytes g a b (upload_number row.id) (λ bytes. IfOk r (λ damaged. damaged ≡ not (has_bytes row bytes)))
+  whole_passes : (a b : S) (row : UploadRow) (r : Result Bool StoreFault) → OfBytes g a b (upload_number row.id) (λ bytes. IfOk r (λ damaged. damaged ≡ not (has_bytes row bytes)))
       → IsHonest g b → HasTables g a → IsWhole g a row → IfOk r (λ damaged. damaged ≡ false)
   whole_passes a b row (Ok damaged) exact honest ready w = subst (λ (x : Bool). damaged ≡ not x) w.2 (exact honest ready w.0 w.1)
   whole_passes a b row (Err e) exact honest ready w = tt
 
   -- an object that is stored as it was listed, and is then looked at
-  pub reads_damaged : (a b c : Store S) (row : UploadRow) (r : Result Bool StoreFault) → Reads g a b (λ world. IsWhole g b row) → Reads g b c (λ _. ⊤)
+  pub reads_damaged : (a b c : S) (row : UploadRow) (r : Result Bool StoreFault) → Reads g a b (λ world. IsWhole g b row) → Reads g b c (λ _. ⊤)
       → OfBytes g b c (upload_number row.id) (λ bytes. IfOk r (λ damaged. damaged ≡ not (has_bytes row bytes))) → Reads g a c (λ world. IfOk r (λ damaged. damaged ≡ false))
   reads_damaged a b c row r p q exact =
       let both = reads_then g a b c _ _ (λ _. ⊤) (λ world laws x y. tt) p q in
@@ -70,7 +70,7 @@ module _ {S : Type 0} (g : Ghosts S) where
       }
 
   -- one more call that only reads
-  pub reads_on : (a b c : Store S) → Reads g a b (λ _. ⊤) → Moves g (λ t. t) b c → AddsNothing g b c → Reads g a c (λ _. ⊤)
+  pub reads_on : (a b c : S) → Reads g a b (λ _. ⊤) → Moves g (λ t. t) b c → AddsNothing g b c → Reads g a c (λ _. ⊤)
   reads_on a b c p same adds =
       let q : Reads g b c (λ _. ⊤) = record { same = same; adds = adds; each = λ honest world h. tt } in
       reads_then g a b c _ _ (λ _. ⊤) (λ world laws x y. tt) p q
@@ -78,11 +78,11 @@ module _ {S : Type 0} (g : Ghosts S) where
   -- ---- an inspection
 
   -- nothing was done
-  pub spares_none : (a : Store S) (was : Inspection) → From g a a (λ _. Spares g a a was was)
+  pub spares_none : (a : S) (was : Inspection) → From g a a (λ _. Spares g a a was was)
   spares_none a was = record { honest = λ k. k; each = λ honest world h. record { reads = reads_none g a (λ _. ⊤) (λ _ _ _. tt); none = refl } }
 
   -- and then calls that only read
-  pub spares_read : (a b c : Store S) (P : World → Type 0) (was mid is : Inspection) → From g a b (λ _. Spares g a b was mid) → Reads g b c P → is.damaged ≡ mid.damaged → From g a c (λ _. Spares g a c was is)
+  pub spares_read : (a b c : S) (P : World → Type 0) (was mid is : Inspection) → From g a b (λ _. Spares g a b was mid) → Reads g b c P → is.damaged ≡ mid.damaged → From g a c (λ _. Spares g a c was is)
   spares_read a b c P was mid is p q same = record {
     honest = λ k. p.honest (q.same.was_honest k);
     each = λ honest world h.
@@ -91,7 +91,7 @@ module _ {S : Type 0} (g : Ghosts S) where
   }
 
   -- no object of a world is found damaged
-  pub never_damaged : (a b c d : Store S) (was mid : Inspection) (P : World → Type 0) → From g a b (λ _. Spares g a b was mid) → Reads g b c (λ _. true ≡ false) → (IsHonest g d → IsHonest g c) → From g a d P
+  pub never_damaged : (a b c d : S) (was mid : Inspection) (P : World → Type 0) → From g a b (λ _. Spares g a b was mid) → Reads g b c (λ _. true ≡ false) → (IsHonest g d → IsHonest g c) → From g a d P
   never_damaged a b c d was mid P p q honest = record {
     honest = λ k. p.honest (q.same.was_honest (honest k));
     each = λ k world h.
@@ -101,11 +101,11 @@ module _ {S : Type 0} (g : Ghosts S) where
   }
 
   -- what is done to a damaged object is not done in a world
-  pub spares_damaged : (a b c d : Store S) (was mid is : Inspection) → From g a b (λ _. Spares g a b was mid) → Reads g b c (λ _. true ≡ false) → (IsHonest g d → IsHonest g c) → From g a d (λ _. Spares g a d was is)
+  pub spares_damaged : (a b c d : S) (was mid is : Inspection) → From g a b (λ _. Spares g a b was mid) → Reads g b c (λ _. true ≡ false) → (IsHonest g d → IsHonest g c) → From g a d (λ _. Spares g a d was is)
   spares_damaged a b c d was mid is p q honest = never_damaged a b c d was mid (λ _. Spares g a d was is) p q honest
 
   -- an inspection that went on, with nothing found damaged before
-  pub inspected_on : (a b c : Store S) (mid is : Inspection) → From g a b (λ _. Reads g a b (λ _. ⊤) × (mid.damaged ≡ 0)) → From g b c (λ _. Spares g b c mid is) → From g a c (λ _. Reads g a c (λ _. ⊤) × (is.damaged ≡ 0))
+  pub inspected_on : (a b c : S) (mid is : Inspection) → From g a b (λ _. Reads g a b (λ _. ⊤) × (mid.damaged ≡ 0)) → From g b c (λ _. Spares g b c mid is) → From g a c (λ _. Reads g a c (λ _. ⊤) × (is.damaged ≡ 0))
   inspected_on a b c mid is p q = record {
     honest = λ k. p.honest (q.honest k);
     each = λ honest world h.
@@ -115,7 +115,7 @@ module _ {S : Type 0} (g : Ghosts S) where
   }
 
   -- an inspection that ended, for a plain reason if nothing was found damaged
-  pub inspected_so : {A : Type 0} (a b : Store S) (is : Inspection) (r : Result A TaskFault) → From g a b (λ _. Reads g a b (λ _. ⊤) × (is.damaged ≡ 0)) → (is.damaged ≡ 0 → IfErr r IsPlain)
+  pub inspected_so : {A : Type 0} (a b : S) (is : Inspection) (r : Result A TaskFault) → From g a b (λ _. Reads g a b (λ _. ⊤) × (is.damaged ≡ 0)) → (is.damaged ≡ 0 → IfErr r IsPlain)
       → From g a b (λ _. Reads g a b (λ _. ⊤) × IfErr r IsPlain)
   inspected_so a b is r p why = from_weaker g a b _ _ (λ world d. (d.0, why d.1)) p
 
@@ -130,7 +130,7 @@ all_listed [] = refl
 all_listed (o ∷ objects) = ap (λ (l : List Object). o ∷ l) (all_listed objects)
 
 -- there are as many rows as objects
-pub rows_length : {S : Type 0} (g : Ghosts S) (world : World) (s : Store S) (rows : List UploadRow) → Lists g world s None rows → length rows ≡ length world.objects
+pub rows_length : {S : Type 0} (g : Ghosts S) (world : World) (s : S) (rows : List UploadRow) → Lists g world s None rows → length rows ≡ length world.objects
 rows_length g world s rows l =
     sym (AllZip-long (IsRowOf g s) rows l.objects l.each) ∙ sym (length_permutation l.objects (filter (is_listed None) world.objects) l.same) ∙ ap length (all_listed world.objects)
 

@@ -1,5 +1,5 @@
 -- Why a token is not issued.
-use Rattle.operator.proofs.Prelude.{◌≡◌, sym, subst, World, From, Reads, reads_lead, Ghosts, Store, TaskFault}
+use Rattle.operator.proofs.Prelude.{◌≡◌, sym, subst, World, From, Reads, reads_lead, Ghosts, TaskFault}
 use Rattle.model.specs.Operator.{token_verdict}
 use Rattle.tables.specs.declared.fault.StoreFault.TheVariants as tables
 use Rattle.tokens.specs.Issuing.{denial_of, token_asked}
@@ -29,7 +29,7 @@ token_output world asked e is = subst (IsTokenFault world asked) (sym is) tt
 
 module _ {S : Type 0} (g : Ghosts S) where
   -- the token was not stored
-  pub from_offered : (a b : Store S) (asked : TokenRequest) (e : TaskFault) (P : World → Type 0) → ((world : World) → P world → IsTokenFault world asked e) → Reads g a b P
+  pub from_offered : (a b : S) (asked : TokenRequest) (e : TaskFault) (P : World → Type 0) → ((world : World) → P world → IsTokenFault world asked e) → Reads g a b P
       → From g a b (λ world. Fails g (IsIssueOf asked) ⊥ a b world × IsTokenFault world asked e)
   from_offered a b asked e P why p = record {
     honest = p.same.was_honest;

@@ -16,12 +16,11 @@ pub use Rattle.policy.specs.Values.{policy_view}
 pub use Rattle.refinement.proofs.Leading.{from_weaker, keeps_still, leads_none, reads_lead, reads_none, takes_then}
 pub use Rattle.refinement.proofs.ReadOnly.{reads_then, reads_weaker}
 pub use Rattle.refinement.specs.Left.{From, IsAmong, IsBoundedBy, Keeps, Leads, Reads, Takes}
-pub use Rattle.sqlite_trees.specs.declared.store.Store.{Ghosts}
+pub use Rattle.store.specs.declared.state.State.{Ghosts}
 pub use Rattle.std.proofs.Common.{Err, List, IfErr, IfOk, MatchResult, Ok, Result, Some, [], ap, append_assoc, arith, false, inl, inr, length, refl, rules, string_bytes, subst, sym, true, ℕ, ◌++◌, ◌∙◌, ◌∷◌, ◌≡◌, ◌≤◌, ◌⊎◌, flat_map, map, take, ap₂, ◌+◌, ◌<◌, get_or}
 pub use Rattle.std.proofs.lemmas.Result.{IfOk-weaker, err_from_is_err_and, on_ok_weaker}
 pub use Rattle.std.specs.Io.KnownBytes.{Appends}
 pub use Rattle.std.specs.Prelude.{OnOk, codes, vec_len, zip, ⊤}
-pub use Rattle.tables.specs.declared.Store.{Store}
 pub use Rattle.tables.specs.declared.rows.UploadRow.{UploadRow}
 pub use Rattle.tokens.specs.Pruning.{Prunes}
 pub use Rattle.uploads.specs.Removing.{Sweeps}

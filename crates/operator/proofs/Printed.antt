@@ -1,5 +1,5 @@
 -- What a task prints, by what its calls return.
-use Rattle.operator.proofs.Prelude.{⊤, ◌≡◌, ◌∙◌, ℕ, List, [], ◌∷◌, ◌++◌, Some, Result, Ok, Err, IfErr, MatchResult, refl, sym, ap, subst, false, arith, length, World, IsWorld, From, Reads, OnOk, line, on_ok_weaker, Ghosts, Store, UploadRow, IsPlain, TaskFault}
+use Rattle.operator.proofs.Prelude.{⊤, ◌≡◌, ◌∙◌, ℕ, List, [], ◌∷◌, ◌++◌, Some, Result, Ok, Err, IfErr, MatchResult, refl, sym, ap, subst, false, arith, length, World, IsWorld, From, Reads, OnOk, line, on_ok_weaker, Ghosts, UploadRow, IsPlain, TaskFault}
 use Rattle.std.proofs.Common.{AllPairs, IsErrAnd, Ordering, ◌+◌, ◌<◌, suc, append-nil, ap₂, bytes_eq, filter, flat_map, get_or, map, take, true}
 use Rattle.std.specs.List.{AllByRecursion, AllZip}
 use Rattle.std.specs.Ordering.{is_gt, nat_cmp, ordering_then}
@@ -69,15 +69,15 @@ err_of D F (Err e) p = p
 
 module _ {S : Type 0} (g : Ghosts S) where
   -- what a call that only reads finds
-  pub from_reads : (a b : Store S) (P : World → Type 0) → Reads g a b P → From g a b P
+  pub from_reads : (a b : S) (P : World → Type 0) → Reads g a b P → From g a b P
   from_reads a b P p = record { honest = p.same.was_honest; each = p.each }
 
   -- a call that only read, before nothing was written of it
-  pub printed_none : (P : World → Type 0) (a b : Store S) (Q : World → Type 0) → ((world : World) → Q world) → Reads g a b P → From g a b Q
+  pub printed_none : (P : World → Type 0) (a b : S) (Q : World → Type 0) → ((world : World) → Q world) → Reads g a b P → From g a b Q
   printed_none P a b Q q p = record { honest = p.same.was_honest; each = λ honest world h. q world }
 
   -- a call that only reads, and fails for a plain reason
-  pub printed_plain : (a b : Store S) (P Q : World → Type 0) (r : Result ⊤ TaskFault) → IfErr r IsPlain → ((world : World) → P world → Q world) → Reads g a b (λ world. OnOk r (P world))
+  pub printed_plain : (a b : S) (P Q : World → Type 0) (r : Result ⊤ TaskFault) → IfErr r IsPlain → ((world : World) → P world → Q world) → Reads g a b (λ world. OnOk r (P world))
       → From g a b (λ world. IfWritten r (Q world))
   printed_plain a b P Q r why f p = record {
     honest = p.same.was_honest;
@@ -85,12 +85,12 @@ module _ {S : Type 0} (g : Ghosts S) where
   }
 
   -- a call that only reads, and may report what is wrong
-  pub printed_reads : (a b : Store S) (P Q : World → Type 0) (r : Result ⊤ TaskFault) → ((world : World) → P world → Q world) → Reads g a b (λ world. IfWritten r (P world))
+  pub printed_reads : (a b : S) (P Q : World → Type 0) (r : Result ⊤ TaskFault) → ((world : World) → P world → Q world) → Reads g a b (λ world. IfWritten r (P world))
       → From g a b (λ world. IfWritten r (Q world))
   printed_reads a b P Q r f p = record { honest = p.same.was_honest; each = λ honest world h. written_so (P world) (Q world) r (f world) (p.each honest world h) }
 
   -- a call that never reports, by what it does and by what it writes
-  pub printed_from : (a b : Store S) (D P Q : World → Type 0) (F : World → TaskFault → Type 0) (r : Result ⊤ TaskFault) → ((world : World) → F world fault.Reported → ⊥) → ((world : World) → P world → Q world)
+  pub printed_from : (a b : S) (D P Q : World → Type 0) (F : World → TaskFault → Type 0) (r : Result ⊤ TaskFault) → ((world : World) → F world fault.Reported → ⊥) → ((world : World) → P world → Q world)
       → From g a b (λ world. MatchResult r (λ _. D world) (F world)) → From g a b (λ world. OnOk r (P world)) → From g a b (λ world. IfWritten r (Q world))
   printed_from a b D P Q F r never f d p = record {
     honest = p.honest;
@@ -136,7 +136,7 @@ names_rise repo (o ∷ os) all up = (
 abbrev pub row_line : UploadRow → List ℕ
 row_line row = line (object_line row.oid row.size)
 
-module _ {S : Type 0} (g : Ghosts S) (s : Store S) where
+module _ {S : Type 0} (g : Ghosts S) (s : S) where
   lines_are : (rows : List UploadRow) (os : List Object) → AllZip (IsRowOf g s) rows os → flat_map row_line rows ≡ object_lines (map object_size os)
   lines_are [] [] all = refl
   lines_are [] (o ∷ os) all = absurd all

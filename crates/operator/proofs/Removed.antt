@@ -1,5 +1,5 @@
 -- An object that a command removes for good, and what the command reports of it.
-use Rattle.operator.proofs.Prelude.{⊤, ◌≡◌, List, Some, Result, Ok, Err, IfErr, MatchResult, refl, sym, subst, ℕ, World, IsStep, From, Takes, from_weaker, OnOk, Ghosts, Store, TaskFault}
+use Rattle.operator.proofs.Prelude.{⊤, ◌≡◌, List, Some, Result, Ok, Err, IfErr, MatchResult, refl, sym, subst, ℕ, World, IsStep, From, Takes, from_weaker, OnOk, Ghosts, TaskFault}
 use Rattle.std.proofs.lemmas.Option.{none-some, same_Some}
 use Rattle.model.specs.Operator.{Removal, removed_now, removed_before, no_object, removal_of, after_removal, retire_outcome, Reports, by_success, by_fault}
 use Rattle.model.specs.Steps.{retires}
@@ -34,14 +34,14 @@ cause no_object e why = subst (IsRemovalFault no_object) (sym why) refl
 
 module _ {S : Type 0} (g : Ghosts S) where
   -- what is left of a removal that was not reported
-  unreported : (a b : Store S) (world : World) (repo name : List ℕ) (given : Removal) (e : TaskFault) → IsReportFault given e
+  unreported : (a b : S) (world : World) (repo name : List ℕ) (given : Removal) (e : TaskFault) → IsReportFault given e
       → Takes g a b world (retires repo name (Some given)) (after_removal world repo name given) → Fails g (IsRemovalOf repo name) (IsOutput e) a b world
   unreported a b world repo name removed_now e why t = fails_after g _ _ a b world _ _ (_, refl) t (output_follows e why)
   unreported a b world repo name removed_before e why t = fails_before g _ _ a b world _ (_, refl) t
   unreported a b world repo name no_object e why t = fails_before g _ _ a b world _ (_, refl) t
 
   -- the removal, and what the command then reports of it
-  pub from_removal : (a b : Store S) (repo name : List ℕ) (given : Removal) (r : Result ⊤ TaskFault) → OnOk r (IsGone given) → IfErr r (IsReportFault given)
+  pub from_removal : (a b : S) (repo name : List ℕ) (given : Removal) (r : Result ⊤ TaskFault) → OnOk r (IsGone given) → IfErr r (IsReportFault given)
       → From g a b (λ world. Takes g a b world (retires repo name (Some given)) (after_removal world repo name given))
       → From g a b (λ world. MatchResult r (λ _. IsRemoved g a b world repo name) (λ e. Fails g (IsRemovalOf repo name) (IsOutput e) a b world × IsRemovalFault (removal_of world repo name) e))
   from_removal a b repo name given (Ok u) gone why p = from_weaker g a b _ _ (λ world t. (given, gone, t)) p

@@ -1,10 +1,9 @@
 -- What a task that fails leaves, and why it fails.
 use Rattle.std.specs.Prelude.{◌≡◌, ◌⊎◌, Option, Result, ⊤}
-use Rattle.sqlite_trees.specs.declared.store.Store.{Ghosts}
+use Rattle.store.specs.declared.state.State.{Ghosts}
 use Rattle.model.specs.World.{World, Token}
 use Rattle.model.specs.Operator.{TokenDenial, token_verdict}
 use Rattle.model.specs.Steps.{Event, issues}
-use Rattle.tables.specs.declared.Store.{Store}
 use Rattle.refinement.specs.Left.{Keeps, Takes}
 use Rattle.tokens.specs.Issuing.{denial_of, token_asked}
 use Rattle.tokens.specs.declared.requests.TokenRequest.{TokenRequest}
@@ -13,12 +12,12 @@ use Rattle.operator.specs.declared.faults.TaskFault.TheVariants.{Store as refuse
 
 module _ {S : Type 0} (g : Ghosts S) where
   -- the world is kept, or a step of the task's own leads from it to another one
-  abbrev pub Attempts : (Event → Type 0) → Store S → Store S → World → World → Type 0
+  abbrev pub Attempts : (Event → Type 0) → S → S → World → World → Type 0
   Attempts IsOwn old new world kept =
       (Keeps g old new world × (kept ≡ world)) ⊎ ((event : Event) × IsOwn event × Takes g old new world event kept)
 
   -- a task failed: the world is as before, unless the step is one that a fault may follow
-  pub record Fails (IsOwn : Event → Type 0) (follows : Type 0) (old new : Store S) (world : World) : Type 0 where
+  pub record Fails (IsOwn : Event → Type 0) (follows : Type 0) (old new : S) (world : World) : Type 0 where
     pub kept : World
     pub attempts : Attempts IsOwn old new world kept
     pub same : (kept ≡ world) ⊎ follows

@@ -2,7 +2,7 @@
 use Rattle.std.specs.Prelude.{◌≡◌, ℕ, ◌++◌, List, [], flat_map, length, map, Option, Result, Ok, Err, IsSorted, if◌then◌else◌, codes, string_bytes, ⊤}
 use Rattle.std.specs.Io.KnownBytes.{Appends}
 use Rattle.serde_json.specs.Written.{compact_text}
-use Rattle.sqlite_trees.specs.declared.store.Store.{Ghosts}
+use Rattle.store.specs.declared.state.State.{Ghosts}
 use Rattle.names.specs.Names.{repo_text, path_text, user_text}
 use Rattle.policy.specs.Values.{policy_view}
 use Rattle.policy.specs.declared.policies.Policy.{Policy}
@@ -12,7 +12,6 @@ use Rattle.model.specs.PushChecks.{path_verdict}
 use Rattle.model.specs.Replies.{action_data}
 use Rattle.model.specs.RepoState.{ObjectSize, locks_of, objects_of}
 use Rattle.model.specs.World.{World, Lock, expired_count}
-use Rattle.tables.specs.declared.Store.{Store}
 use Rattle.tables.specs.declared.rows.TokenRow.{TokenRow}
 use Rattle.tokens.specs.Issuing.{Offers}
 use Rattle.tokens.specs.declared.requests.TokenRequest.{TokenRequest}
@@ -95,13 +94,13 @@ PrintsToken world policy asked text =
 -- ---- a number
 
 -- the line with the number of the uploads that were staged
-abbrev pub PrintsSwept : {S : Type 0} (g : Ghosts S) → Store S → List ℕ → Type 0
+abbrev pub PrintsSwept : {S : Type 0} (g : Ghosts S) → S → List ℕ → Type 0
 PrintsSwept g old text = (n : ℕ) × HasStaged g old n × (text ≡ line (count_line (codes "swept") n (codes "uploads")))
 
 -- ---- tasks
 
 -- the text is what the task prints in this world
-abbrev pub Prints : {S : Type 0} (g : Ghosts S) → Store S → Store S → World → Destination → Task → List ℕ → Type 0
+abbrev pub Prints : {S : Type 0} (g : Ghosts S) → S → S → World → Destination → Task → List ℕ → Type 0
 Prints g old new world destination (Issue policy asked) text = PrintsToken world policy.now asked text
 Prints g old new world destination (Prune now) text = text ≡ line (count_line (codes "pruned") (expired_count now world) (codes "tokens"))
 Prints g old new world destination (May asked) text = text ≡ line (if may_begin asked then codes "yes" else codes "no")
@@ -118,7 +117,7 @@ Prints g old new world destination (Retire repo oid) text =
     text ≡ line (retired_line (removal_of world (repo_text repo.now) oid.now) oid.now)
 
 -- known bytes grew by what the task prints
-abbrev pub AppendsOutput : {S : Type 0} (g : Ghosts S) → Store S → Store S → World → Destination → Task → Option (List ℕ) → Option (List ℕ) → Type 0
+abbrev pub AppendsOutput : {S : Type 0} (g : Ghosts S) → S → S → World → Destination → Task → Option (List ℕ) → Option (List ℕ) → Type 0
 AppendsOutput g old new world destination task was is = (text : List ℕ) × Prints g old new world destination task text × Appends was is text
 
 -- this holds if the task did all that it is to do, or reports what is wrong

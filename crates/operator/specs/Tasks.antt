@@ -1,7 +1,7 @@
 -- What a task does: it succeeds or fails as its verdicts say, and takes no step but its own.
 use Rattle.std.specs.Prelude.{◌≡◌, ◌⊎◌, ℕ, Bool, true, false, List, [], ◌∷◌, map, Option, Some, Result, Ok, Err, MatchResult, ⊤}
 use Rattle.std.specs.List.{list_all}
-use Rattle.sqlite_trees.specs.declared.store.Store.{Ghosts}
+use Rattle.store.specs.declared.state.State.{Ghosts}
 use Rattle.names.specs.Names.{repo_text, path_text, user_text}
 use Rattle.policy.specs.Access.{may}
 use Rattle.policy.specs.Values.{policy_view}
@@ -9,7 +9,6 @@ use Rattle.model.specs.World.{World, Token}
 use Rattle.model.specs.Operator.{Removal, removal_of, token_verdict}
 use Rattle.model.specs.PushChecks.{PushVerdict, free, push_verdicts}
 use Rattle.model.specs.Steps.{Event, issues, prunes, retires}
-use Rattle.tables.specs.declared.Store.{Store}
 use Rattle.refinement.specs.Left.{Leads, KeepsTables}
 use Rattle.tokens.specs.Issuing.{Issues, token_asked}
 use Rattle.tokens.specs.Pruning.{Prunes}
@@ -46,7 +45,7 @@ may_push world push =
 -- the token is issued, the expired ones are removed, no upload is left staged, or the object is removed, now or before; the
 -- other tasks only read: Git may begin, each path may be pushed, a reply is foreseen; a repair finds no damaged object in a
 -- world, and leaves the tables
-abbrev pub Does : {S : Type 0} (g : Ghosts S) → Store S → Store S → World → Task → Type 0
+abbrev pub Does : {S : Type 0} (g : Ghosts S) → S → S → World → Task → Type 0
 Does g old new world (Issue policy asked) = (text : List ℕ) × Issues g world old new asked text
 Does g old new world (Prune now) = (n : ℕ) × Prunes g world now old new (Ok n)
 Does g old new world Sweep = (n : ℕ) × Sweeps g world old new (Ok n)
@@ -102,7 +101,7 @@ IsFaultOf world (Retire repo oid) fault = IsRemovalFault (removal_of world (repo
 IsFaultOf world _ fault = IsPlain fault
 
 -- the task fails for a reason of its own, and takes no step but its own
-abbrev pub FailsAs : {S : Type 0} (g : Ghosts S) → Store S → Store S → World → Task → TaskFault → Type 0
+abbrev pub FailsAs : {S : Type 0} (g : Ghosts S) → S → S → World → Task → TaskFault → Type 0
 FailsAs g old new world task fault = Fails g (IsStepOf task) (MayFollow task fault) old new world × IsFaultOf world task fault
 
 -- ---- the tables
@@ -121,7 +120,7 @@ IsQuestion _ = ⊥
 -- ---- both
 
 -- the task did what it is to do, or failed
-abbrev pub Ran : {S : Type 0} (g : Ghosts S) → Store S → Store S → World → Task → Result ⊤ TaskFault → Type 0
+abbrev pub Ran : {S : Type 0} (g : Ghosts S) → S → S → World → Task → Result ⊤ TaskFault → Type 0
 Ran g old new world task result = MatchResult result (λ _. Does g old new world task) (FailsAs g old new world task)
 
 -- ---- the steps of both
@@ -152,6 +151,6 @@ HasEnded world task steps kept (Err fault) =
     HasTried task steps × ((kept ≡ world) ⊎ MayFollow task fault) × IsFaultOf world task fault
 
 -- a task ended so: the store was led by its steps
-pub record WorksAs {S : Type 0} (g : Ghosts S) (old new : Store S) (world : World) (task : Task) (ended : Result ⊤ TaskFault) : Type 0 where
+pub record WorksAs {S : Type 0} (g : Ghosts S) (old new : S) (world : World) (task : Task) (ended : Result ⊤ TaskFault) : Type 0 where
   pub done : Works g old new world
   pub end : HasEnded world task (steps_of done.works) done.kept ended

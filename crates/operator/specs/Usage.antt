@@ -1,16 +1,15 @@
 -- What a repository uses.
 use Rattle.std.specs.Prelude.{◌≡◌, ℕ, ℤ, pos, ◌*◌, ◌/◌, ◌==◌, ◌++◌, List, [], ◌∷◌, length, find, Option, Some, None, option_map, if◌then◌else◌, codes, decimal}
 use Rattle.std.specs.List.{AllZip}
-use Rattle.sqlite_trees.specs.declared.store.Store.{Ghosts}
+use Rattle.store.specs.declared.state.State.{Ghosts}
 use Rattle.policy.specs.Values.{repo_view}
 use Rattle.policy.specs.declared.repos.Repo.{Repo}
 use Rattle.model.specs.Policy as model
 use Rattle.model.specs.World.{World, total}
 use Rattle.model.specs.RepoState.{locks_of, objects_of}
 use Rattle.tables.specs.Rows.{Tables}
-use Rattle.tables.specs.Shown.{IsHonest, IsOpen, shown}
+use Rattle.store.specs.Shown.{IsHonest, IsOpen, shown}
 use Rattle.tables.specs.Statements.{is_staged_in}
-use Rattle.tables.specs.declared.Store.{Store}
 use Rattle.operator.specs.Columns.{table_lines}
 use Rattle.operator.specs.Tokens.{valid_in}
 use Rattle.operator.specs.declared.counting.Usage.{Usage}
@@ -23,12 +22,12 @@ staged_size repo t = option_map (λ u. u.size) (find (is_staged_in repo) t.uploa
 
 module _ {S : Type 0} (g : Ghosts S) where
   -- while the disk is honest and the store open, it shows a staged upload of this size, or none
-  abbrev pub HasStaged : Store S → List ℕ → Option ℕ → Type 0
+  abbrev pub HasStaged : S → List ℕ → Option ℕ → Type 0
   HasStaged s repo size = IsHonest g s → IsOpen g s → option_map pos size ≡ staged_size repo (shown g s)
 
   -- the number of the repository's objects, their sizes added up, the size of its staged upload, and the numbers of its locks
   -- and of its tokens that are valid at the moment
-  pub record Uses (world : World) (s : Store S) (repo : List ℕ) (now : ℕ) (u : Usage) : Type 0 where
+  pub record Uses (world : World) (s : S) (repo : List ℕ) (now : ℕ) (u : Usage) : Type 0 where
     pub objects : u.objects ≡ length (objects_of repo world)
     pub bytes : u.bytes ≡ total repo world
     pub staged : HasStaged s repo u.staged
@@ -58,12 +57,12 @@ usage_cells repo quota u =
     ∷ decimal u.locks ∷ decimal u.tokens ∷ []
 
 -- the texts are those in the line of the repository, by what it uses
-abbrev pub IsLine : {S : Type 0} (g : Ghosts S) → World → Store S → (now : ℕ) → model.Repo → List (List ℕ) → Type 0
+abbrev pub IsLine : {S : Type 0} (g : Ghosts S) → World → S → (now : ℕ) → model.Repo → List (List ℕ) → Type 0
 IsLine g world s now repo texts =
     (usage : Usage) × Uses g world s repo.name now usage × (texts ≡ usage_cells repo.name repo.quota usage)
 
 -- the same of a repository of a policy
-abbrev pub IsLineOf : {S : Type 0} (g : Ghosts S) → World → Store S → (now : ℕ) → Repo → List (List ℕ) → Type 0
+abbrev pub IsLineOf : {S : Type 0} (g : Ghosts S) → World → S → (now : ℕ) → Repo → List (List ℕ) → Type 0
 IsLineOf g world s now repo texts = IsLine g world s now (repo_view repo) texts
 
 -- the headings of the columns
@@ -73,6 +72,6 @@ usage_headings =
     ∷ codes "tokens" ∷ []
 
 -- the table of what each of the repositories uses, in their order
-abbrev pub ListsUsage : {S : Type 0} (g : Ghosts S) → World → Store S → (now : ℕ) → List model.Repo → List ℕ → Type 0
+abbrev pub ListsUsage : {S : Type 0} (g : Ghosts S) → World → S → (now : ℕ) → List model.Repo → List ℕ → Type 0
 ListsUsage g world s now repos text =
     (rows : List (List (List ℕ))) × AllZip (IsLine g world s now) repos rows × (text ≡ table_lines usage_headings rows)

@@ -1,10 +1,9 @@
 -- What an operator's command does to the world, and what a stop leaves after it.
 use Rattle.std.specs.Prelude.{List, [], ◌∷◌}
-use Rattle.sqlite_trees.specs.declared.store.Store.{Ghosts}
+use Rattle.store.specs.declared.state.State.{Ghosts}
 use Rattle.model.specs.World.{World}
 use Rattle.model.specs.Steps.{Event, Run}
 use Rattle.model.specs.Bounds.{Bound, next_world, bound_after}
-use Rattle.tables.specs.declared.Store.{Store}
 use Rattle.refinement.specs.Left.{Leads}
 
 -- a call takes a step of the definitions, or it keeps the world
@@ -25,7 +24,7 @@ bound_of_works world (takes event ∷ works) bound = bound_of_works (next_world 
 bound_of_works world (keeps ∷ works) bound = bound_of_works world works (world ∷ bound)
 
 -- calls led the store from this world to another, by the steps of a run of the definitions
-pub record Works {S : Type 0} (g : Ghosts S) (old new : Store S) (world : World) : Type 0 where
+pub record Works {S : Type 0} (g : Ghosts S) (old new : S) (world : World) : Type 0 where
   pub works : List Work
   pub kept : World
   pub run : Run world (steps_of works) kept

@@ -8,14 +8,15 @@ ghost use Rattle.operator.specs.Damage.{has_bytes};
 
 use chunks::is_whole;
 use std::io::{Stderr, Write};
-use tables::{Alter, Store, StoreFault};
+use store::Store;
+use tables::StoreFault;
 use uploads::Stored;
 
 /// Whether the stored bytes of the object are not as many as its size says, or do not have its name.
-pub(crate) fn is_damaged<S: Alter>(store: &mut Store<S>, row: &Stored) -> Result<bool, StoreFault>
-    ensures exact { OfBytes S.Store store.old store.new (upload_number row.now.id) (λ bytes. IfOk result
+pub(crate) fn is_damaged<S: Store>(store: &mut S, row: &Stored) -> Result<bool, StoreFault>
+    ensures exact { OfBytes S.State store.old store.new (upload_number row.now.id) (λ bytes. IfOk result
         (λ damaged. damaged ≡ not (has_bytes row.now bytes))) }
-    ensures reads { Reads S.Store store.old store.new (λ _. ⊤) }
+    ensures reads { Reads S.State store.old store.new (λ _. ⊤) }
 {
     Ok(!is_whole(store, row.id, &row.oid, row.size)?)
 }

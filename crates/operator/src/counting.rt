@@ -10,7 +10,8 @@ ghost use Rattle.operator.specs.Usage.{HasStaged, Uses};
 use crate::listing_tokens::valid_tokens;
 use names::{Moment, RepoName, Size};
 use std::alloc::Global;
-use tables::{Alter, Store, StoreFault};
+use store::Store;
+use tables::StoreFault;
 
 /// What a repository uses.
 #[derive(Clone, Copy, Debug)]
@@ -28,50 +29,42 @@ pub(crate) struct Usage {
 }
 
 /// The number of the repository's objects.
-fn object_count<S: Alter>(
-    alloc: Global,
-    store: &mut Store<S>,
-    repo: &RepoName,
-) -> Result<u64, StoreFault>
-    ensures { Reads S.Store store.old store.new (λ world.
+fn object_count<S: Store>(alloc: Global, store: &mut S, repo: &RepoName) -> Result<u64, StoreFault>
+    ensures { Reads S.State store.old store.new (λ world.
         IfOk result (λ n. n ≡ length (objects_of (repo_text repo.now) world))) }
 {
     Ok(uploads::all(alloc, store, Some(repo))?.len() as u64)
 }
 
 /// The number of the repository's locks.
-fn lock_count<S: Alter>(
-    alloc: Global,
-    store: &mut Store<S>,
-    repo: &RepoName,
-) -> Result<u64, StoreFault>
-    ensures { Reads S.Store store.old store.new (λ world.
+fn lock_count<S: Store>(alloc: Global, store: &mut S, repo: &RepoName) -> Result<u64, StoreFault>
+    ensures { Reads S.State store.old store.new (λ world.
         IfOk result (λ n. n ≡ length (locks_of (repo_text repo.now) world))) }
 {
     Ok(locks::all(alloc, store, repo)?.len() as u64)
 }
 
 /// The number of the tokens for the repository that are valid at the moment.
-fn token_count<S: Alter>(
+fn token_count<S: Store>(
     alloc: Global,
-    store: &mut Store<S>,
+    store: &mut S,
     repo: &RepoName,
     now: Moment,
 ) -> Result<u64, StoreFault>
-    ensures { Reads S.Store store.old store.new (λ world.
+    ensures { Reads S.State store.old store.new (λ world.
         IfOk result (λ n. n ≡ length (valid_in (repo_text repo.now) now world))) }
 {
     Ok(valid_tokens(alloc, store, repo, now)?.len() as u64)
 }
 
 /// The size of the upload that the repository has staged, if one is.
-fn staged_size<S: Alter>(
+fn staged_size<S: Store>(
     alloc: Global,
-    store: &mut Store<S>,
+    store: &mut S,
     repo: &RepoName,
 ) -> Result<Option<Size>, StoreFault>
-    ensures { Reads S.Store store.old store.new (λ world.
-        IfOk result (HasStaged S.Store store.new (repo_text repo.now))) }
+    ensures { Reads S.State store.old store.new (λ world.
+        IfOk result (HasStaged S.State store.new (repo_text repo.now))) }
 {
     match store.staged_upload(alloc, repo)? {
         Some(upload) => Ok(Some(upload.size)),
@@ -86,14 +79,14 @@ fn staged_size<S: Alter>(
 /// # Errors
 ///
 /// `Refused` or `Memory`. The contents of the store are unchanged in any case.
-pub(crate) fn usage_of<S: Alter>(
+pub(crate) fn usage_of<S: Store>(
     alloc: Global,
-    store: &mut Store<S>,
+    store: &mut S,
     repo: &RepoName,
     now: Moment,
 ) -> Result<Usage, StoreFault>
-    ensures { Reads S.Store store.old store.new (λ world.
-        IfOk result (Uses S.Store world store.new (repo_text repo.now) now)) }
+    ensures { Reads S.State store.old store.new (λ world.
+        IfOk result (Uses S.State world store.new (repo_text repo.now) now)) }
 {
     let objects = object_count(alloc, store, repo)?;
     let bytes = uploads::used(store, repo)?;

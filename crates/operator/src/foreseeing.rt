@@ -16,7 +16,7 @@ use desk::{Reply, ReplyBody, RepoRequest, foresee, view};
 use names::{Moment, RepoName, Sink, UserName};
 use policy::Policy;
 use std::alloc::{AllocError, Global};
-use tables::{Alter, Store};
+use store::Store;
 
 /// A request whose reply is foreseen.
 #[derive(Clone, Copy, Debug)]
@@ -36,12 +36,12 @@ pub struct Foresight<'a> {
 }
 
 /// The reply that the user would get.
-fn reply_to<S: Alter>(
+fn reply_to<S: Store>(
     alloc: Global,
-    store: &mut Store<S>,
+    store: &mut S,
     asked: &Foresight<'_>,
 ) -> Result<Reply, TaskFault>
-    ensures reads { Reads S.Store store.old store.new (λ world.
+    ensures reads { Reads S.State store.old store.new (λ world.
         Foretells world asked.entry.now result) }
     ensures err { IfErr result IsReplyFault }
 {
@@ -76,16 +76,16 @@ fn lines_of(alloc: Global, reply: &Reply, destination: Destination) -> Result<Li
 ///
 /// `NoCaller` if the request presents no valid token of the user for the repository; `Store` and `Memory`; and `Output` if a
 /// line could not be written.
-pub(crate) fn print_foreseen<S: Alter, K: Sink>(
+pub(crate) fn print_foreseen<S: Store, K: Sink>(
     alloc: Global,
-    store: &mut Store<S>,
+    store: &mut S,
     asked: &Foresight<'_>,
     destination: Destination,
     output: &mut K,
 ) -> Result<(), TaskFault>
-    ensures reads { Reads S.Store store.old store.new (λ world. MatchResult result
+    ensures reads { Reads S.State store.old store.new (λ world. MatchResult result
         (λ _. HasForetold world asked.entry.now) (IsForesightFault world asked.entry.now)) }
-    ensures printed { Reads S.Store store.old store.new (λ world. OnOk result ((text : List ℕ)
+    ensures printed { Reads S.State store.old store.new (λ world. OnOk result ((text : List ℕ)
         × PrintsForeseen destination world asked.entry.now text
         × Appends (K.taken output.old) (K.taken output.new) text)) }
     ensures good { OnOk result (K.failed output.new ≡ K.failed output.old) }

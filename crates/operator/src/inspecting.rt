@@ -2,7 +2,7 @@
 
 ghost use Rattle.std.specs.Prelude.{◌≡◌, ⊤, false, length, true, string_bytes, vec_len, IfErr, IfOk, IfSome, OnOk};
 ghost use Rattle.std.specs.Io.KnownBytes.{Appends};
-ghost use Rattle.tables.specs.Shown.{IsHonest};
+ghost use Rattle.store.specs.Shown.{IsHonest};
 ghost use Rattle.refinement.specs.Left.{From, Reads};
 ghost use Rattle.operator.specs.Damage.{IsWhole};
 ghost use Rattle.operator.specs.Failing.{IsPlain};
@@ -19,7 +19,8 @@ use names::Sink;
 use sha2::{Digest, Sha256};
 use std::alloc::{AllocError, Global};
 use std::io::Stderr;
-use tables::{Alter, ObjectRow, Store, StoreFault};
+use store::Store;
+use tables::{ObjectRow, StoreFault};
 use uploads::Stored;
 
 /// How many bytes are hashed at a time, about: an object that is larger is read in slices of as many.
@@ -84,8 +85,8 @@ impl Reading {
     }
 
     /// Reads the next slice of the object.
-    fn advance<S: Alter>(mut self, store: &mut Store<S>, row: &Stored) -> Result<Pass, StoreFault>
-        ensures { Reads S.Store store.old store.new (λ _. ⊤) }
+    fn advance<S: Store>(mut self, store: &mut S, row: &Stored) -> Result<Pass, StoreFault>
+        ensures { Reads S.State store.old store.new (λ _. ⊤) }
     {
         'chunks: for _ in 0..CHUNKS {
             let Some(chunk) = store.chunk(row.id, self.next)? else {
@@ -122,9 +123,9 @@ fn is_same(found: ObjectRow, row: &Stored) -> bool
 }
 
 /// Whether the object is still stored as it was listed.
-fn is_stored<S: Alter>(store: &mut Store<S>, row: &Stored) -> Result<bool, StoreFault>
-    ensures { Reads S.Store store.old store.new (λ world. IfOk result
-        (λ stored. stored ≡ true → IsWhole S.Store store.new row.now)) }
+fn is_stored<S: Store>(store: &mut S, row: &Stored) -> Result<bool, StoreFault>
+    ensures { Reads S.State store.old store.new (λ world. IfOk result
+        (λ stored. stored ≡ true → IsWhole S.State store.new row.now)) }
 {
     match uploads::find(store, &row.repo, &row.oid)? {
         Some(found) => Ok(is_same(found, row)),
@@ -133,8 +134,8 @@ fn is_stored<S: Alter>(store: &mut Store<S>, row: &Stored) -> Result<bool, Store
 }
 
 /// Whether the object is still stored, and is damaged. No object of a world is.
-fn is_still_damaged<S: Alter>(store: &mut Store<S>, row: &Stored) -> Result<bool, StoreFault>
-    ensures { Reads S.Store store.old store.new (λ world. IfOk result
+fn is_still_damaged<S: Store>(store: &mut S, row: &Stored) -> Result<bool, StoreFault>
+    ensures { Reads S.State store.old store.new (λ world. IfOk result
         (λ damaged. damaged ≡ false)) }
 {
     if is_stored(store, row)? {
@@ -146,12 +147,12 @@ fn is_still_damaged<S: Alter>(store: &mut Store<S>, row: &Stored) -> Result<bool
 
 /// Reads the next slice of the object, and returns whether it is damaged; `None` if more of it is left. The store may
 /// change between two slices, so what they have in sum is only a reason to look again.
-fn verdict_by_slices<S: Alter>(
-    store: &mut Store<S>,
+fn verdict_by_slices<S: Store>(
+    store: &mut S,
     row: &Stored,
     reading: &mut Option<Reading>,
 ) -> Result<Option<bool>, StoreFault>
-    ensures { Reads S.Store store.old store.new (λ world. IfOk result
+    ensures { Reads S.State store.old store.new (λ world. IfOk result
         (λ found. IfSome found (λ damaged. damaged ≡ false))) }
 {
     let begun = reading.take().unwrap_or(Reading::new());
@@ -166,13 +167,13 @@ fn verdict_by_slices<S: Alter>(
 }
 
 /// Whether the object is damaged; `None` if only a slice of it was read, for which it has to be large, and `pauses` true.
-fn verdict_on<S: Alter>(
-    store: &mut Store<S>,
+fn verdict_on<S: Store>(
+    store: &mut S,
     row: &Stored,
     reading: &mut Option<Reading>,
     pauses: bool,
 ) -> Result<Option<bool>, StoreFault>
-    ensures { Reads S.Store store.old store.new (λ world. IfOk result
+    ensures { Reads S.State store.old store.new (λ world. IfOk result
         (λ found. IfSome found (λ damaged. damaged ≡ false))) }
 {
     if pauses && row.size.get() > SLICE {
@@ -183,14 +184,14 @@ fn verdict_on<S: Alter>(
 
 impl Purpose {
     /// Does what is to be done with a damaged object, and returns the line that says so. The line is ready before.
-    fn treat<S: Alter>(
+    fn treat<S: Store>(
         self,
         alloc: Global,
-        store: &mut Store<S>,
+        store: &mut S,
         row: &Stored,
     ) -> Result<String, TaskFault>
-        ensures honest { IsHonest S.Store store.new → IsHonest S.Store store.old }
-        ensures reads { self ≡ Purpose.Check → Reads S.Store store.old store.new (λ _. ⊤) }
+        ensures honest { IsHonest S.State store.new → IsHonest S.State store.old }
+        ensures reads { self ≡ Purpose.Check → Reads S.State store.old store.new (λ _. ⊤) }
         ensures err { IfErr result IsPlain }
     {
         let mut line = match self {
@@ -228,17 +229,17 @@ impl Inspection {
     /// # Errors
     ///
     /// `Store` and `Memory`.
-    pub fn begin<S: Alter>(
+    pub fn begin<S: Store>(
         alloc: Global,
-        store: &mut Store<S>,
+        store: &mut S,
         purpose: Purpose,
         pauses: bool,
     ) -> Result<Inspection, TaskFault>
-        ensures reads { Reads S.Store store.old store.new (λ _. ⊤) }
+        ensures reads { Reads S.State store.old store.new (λ _. ⊤) }
         ensures purpose { IfOk result (λ inspection. inspection.purpose ≡ purpose) }
         ensures none { IfOk result (λ inspection. inspection.damaged ≡ 0) }
-        ensures all { Reads S.Store store.old store.new (λ world. IfOk result
-            (λ inspection. Lists S.Store world store.new None inspection.rows.items)) }
+        ensures all { Reads S.State store.old store.new (λ world. IfOk result
+            (λ inspection. Lists S.State world store.new None inspection.rows.items)) }
         ensures err { IfErr result IsPlain }
     {
         let rows = uploads::all(alloc, store, None)?;
@@ -260,17 +261,13 @@ impl Inspection {
     /// # Errors
     ///
     /// `Store` and `Memory`. Of a repair, the objects whose lines were returned are removed, and perhaps the next one.
-    pub fn advance<S: Alter>(
-        &mut self,
-        alloc: Global,
-        store: &mut Store<S>,
-    ) -> Result<Advance, TaskFault>
-        ensures world { From S.Store store.old store.new (λ _.
-            Spares S.Store store.old store.new self.old self.new) }
-        ensures reads { self.old.purpose ≡ Purpose.Check → Reads S.Store store.old store.new (λ _. ⊤) }
+    pub fn advance<S: Store>(&mut self, alloc: Global, store: &mut S) -> Result<Advance, TaskFault>
+        ensures world { From S.State store.old store.new (λ _.
+            Spares S.State store.old store.new self.old self.new) }
+        ensures reads { self.old.purpose ≡ Purpose.Check → Reads S.State store.old store.new (λ _. ⊤) }
         ensures purpose { self.new.purpose ≡ self.old.purpose }
         ensures rows { self.new.rows ≡ self.old.rows }
-        ensures quiet { From S.Store store.old store.new (λ _. IfOk result IsQuiet) }
+        ensures quiet { From S.State store.old store.new (λ _. IfOk result IsQuiet) }
         ensures done { IfOk result (IsDoneAtEnd self.new) }
         ensures err { IfErr result IsPlain }
     {
@@ -342,17 +339,17 @@ impl Inspection {
 ///
 /// `Store` and `Memory`, `Output` if a line could not be written, and `Reported` if a check found an object damaged. Of a
 /// repair, the objects for which a line was written are removed, and perhaps the next one.
-pub(crate) fn inspect_all<S: Alter, K: Sink>(
+pub(crate) fn inspect_all<S: Store, K: Sink>(
     alloc: Global,
-    store: &mut Store<S>,
+    store: &mut S,
     purpose: Purpose,
     terminal: Option<&Stderr>,
     output: &mut K,
 ) -> Result<(), TaskFault>
-    ensures world { From S.Store store.old store.new (λ _.
-        Reads S.Store store.old store.new (λ _. ⊤) × IfErr result IsPlain) }
-    ensures reads { purpose ≡ Purpose.Check → Reads S.Store store.old store.new (λ _. ⊤) }
-    ensures printed { From S.Store store.old store.new (λ world. OnOk result
+    ensures world { From S.State store.old store.new (λ _.
+        Reads S.State store.old store.new (λ _. ⊤) × IfErr result IsPlain) }
+    ensures reads { purpose ≡ Purpose.Check → Reads S.State store.old store.new (λ _. ⊤) }
+    ensures printed { From S.State store.old store.new (λ world. OnOk result
         (Appends (K.taken output.old) (K.taken output.new)
         (line (inspected_line purpose (length world.objects) 0)))) }
     ensures good { OnOk result (K.failed output.new ≡ K.failed output.old) }

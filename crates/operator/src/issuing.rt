@@ -19,7 +19,7 @@ use forms::Action;
 use names::{RepoName, Sink};
 use policy::Policy;
 use std::alloc::{AllocError, Global};
-use tables::{Alter, Store};
+use store::Store;
 use tokens::{TokenRequest, issue, offer};
 
 /// The policy's repository that a path names. The path may have the form of an address, with one slash
@@ -70,18 +70,18 @@ fn token_line(
 ///
 /// `Output` if the line could not be written; `Token`, `Store` and `Memory`. After each of them the
 /// contents of the store are unchanged.
-pub(crate) fn grant<S: Alter, K: Sink>(
+pub(crate) fn grant<S: Store, K: Sink>(
     alloc: Global,
-    store: &mut Store<S>,
+    store: &mut S,
     policy: &Policy,
     asked: &TokenRequest<'_>,
     output: &mut K,
 ) -> Result<(), TaskFault>
-    ensures world { From S.Store store.old store.new (λ world. MatchResult result
-        (λ _. (text : List ℕ) × Issues S.Store world store.old store.new asked.entry.now text)
-        (λ fault. Fails S.Store (IsIssueOf asked.entry.now) ⊥ store.old store.new world
+    ensures world { From S.State store.old store.new (λ world. MatchResult result
+        (λ _. (text : List ℕ) × Issues S.State world store.old store.new asked.entry.now text)
+        (λ fault. Fails S.State (IsIssueOf asked.entry.now) ⊥ store.old store.new world
         × IsTokenFault world asked.entry.now fault)) }
-    ensures printed { From S.Store store.old store.new (λ world. OnOk result ((text : List ℕ)
+    ensures printed { From S.State store.old store.new (λ world. OnOk result ((text : List ℕ)
         × PrintsToken world policy.now asked.entry.now text
         × Appends (K.taken output.old) (K.taken output.new) text)) }
     ensures good { OnOk result (K.failed output.new ≡ K.failed output.old) }

@@ -1,6 +1,7 @@
 //! The commands of an operator, over an open database: tokens are issued and removed, locks, objects, tokens and what
-//! each repository uses are listed, Git is let in or not, the paths of a push are checked, replies are foreseen, objects are hashed again, and
-//! uploads that were not completed, objects that may not be kept, and objects that are damaged, are removed.
+//! each repository uses are listed, Git is let in or not, the paths of a push are checked, replies are foreseen, objects
+//! are hashed again, and uploads that were not completed, objects that may not be kept, and objects that are damaged, are
+//! removed.
 //!
 //! A [`Task`] is a command whose words, files and input were read. [`Task::run`] writes what the command prints. It is
 //! the same over a database that was opened for the command, and over one that a running server has open.

@@ -17,7 +17,7 @@ use crate::output::Lines;
 use locks::Lock;
 use names::{RepoName, Sink};
 use std::alloc::{AllocError, Global};
-use tables::{Alter, Store};
+use store::Store;
 
 /// A line for each lock.
 fn lines_of(alloc: Global, rows: &[Lock], destination: Destination) -> Result<Lines, AllocError>
@@ -36,14 +36,14 @@ fn lines_of(alloc: Global, rows: &[Lock], destination: Destination) -> Result<Li
 /// # Errors
 ///
 /// `Store` and `Memory`, and `Output` if a line could not be written.
-pub(crate) fn list_locks<S: Alter, K: Sink>(
+pub(crate) fn list_locks<S: Store, K: Sink>(
     alloc: Global,
-    store: &mut Store<S>,
+    store: &mut S,
     repo: &RepoName,
     destination: Destination,
     output: &mut K,
 ) -> Result<(), TaskFault>
-    ensures reads { Reads S.Store store.old store.new (λ world. OnOk result
+    ensures reads { Reads S.State store.old store.new (λ world. OnOk result
         (Appends (K.taken output.old) (K.taken output.new)
         (lock_lines destination (locks_of (repo_text repo.now) world)))) }
     ensures good { OnOk result (K.failed output.new ≡ K.failed output.old) }

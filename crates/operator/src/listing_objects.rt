@@ -16,7 +16,7 @@ use crate::lines::object_line;
 use crate::output::Lines;
 use names::{RepoName, Sink};
 use std::alloc::{AllocError, Global};
-use tables::{Alter, Store};
+use store::Store;
 use uploads::Stored;
 
 /// A line for each object.
@@ -36,13 +36,13 @@ fn lines_of(alloc: Global, rows: &[Stored]) -> Result<Lines, AllocError>
 /// # Errors
 ///
 /// `Store` and `Memory`, and `Output` if a line could not be written.
-pub(crate) fn list_objects<S: Alter, K: Sink>(
+pub(crate) fn list_objects<S: Store, K: Sink>(
     alloc: Global,
-    store: &mut Store<S>,
+    store: &mut S,
     repo: &RepoName,
     output: &mut K,
 ) -> Result<(), TaskFault>
-    ensures reads { Reads S.Store store.old store.new (λ world. OnOk result
+    ensures reads { Reads S.State store.old store.new (λ world. OnOk result
         (Appends (K.taken output.old) (K.taken output.new)
         (object_lines (objects_of (repo_text repo.now) world)))) }
     ensures good { OnOk result (K.failed output.new ≡ K.failed output.old) }

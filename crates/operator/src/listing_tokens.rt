@@ -16,7 +16,8 @@ use crate::output::Lines;
 use names::{Moment, RepoName, Sink};
 use std::alloc::{AllocError, Global};
 use std::cmp::Ordering;
-use tables::{Alter, Store, StoreFault, TokenRow};
+use store::Store;
+use tables::{StoreFault, TokenRow};
 
 /// Whether the token is valid at the moment: its expiry is later.
 fn is_valid(row: &TokenRow, now: Moment) -> bool
@@ -37,13 +38,13 @@ fn keep_valid(rows: &mut Vec<TokenRow>, now: Moment)
 /// # Errors
 ///
 /// `Refused` or `Memory`. The contents of the store are unchanged in any case.
-pub(crate) fn valid_tokens<S: Alter>(
+pub(crate) fn valid_tokens<S: Store>(
     alloc: Global,
-    store: &mut Store<S>,
+    store: &mut S,
     repo: &RepoName,
     now: Moment,
 ) -> Result<Vec<TokenRow>, StoreFault>
-    ensures { Reads S.Store store.old store.new (λ world.
+    ensures { Reads S.State store.old store.new (λ world.
         IfOk result (λ rows. AreValid (repo_text repo.now) now world rows.items)) }
 {
     let mut rows = tokens::all(alloc, store, repo)?;
@@ -70,13 +71,13 @@ fn sort(rows: &mut Vec<TokenRow>) -> Result<(), AllocError>
 }
 
 /// The tokens for the repository that are valid at the moment, in the order of the list.
-fn listed_tokens<S: Alter>(
+fn listed_tokens<S: Store>(
     alloc: Global,
-    store: &mut Store<S>,
+    store: &mut S,
     repo: &RepoName,
     now: Moment,
 ) -> Result<Vec<TokenRow>, StoreFault>
-    ensures valid { Reads S.Store store.old store.new (λ world.
+    ensures valid { Reads S.State store.old store.new (λ world.
         IfOk result (λ rows. AreValid (repo_text repo.now) now world rows.items)) }
     ensures sorted { IfOk result (λ rows. IsSorted token_cmp rows.items) }
 {
@@ -102,15 +103,15 @@ fn lines_of(alloc: Global, rows: &[TokenRow], destination: Destination) -> Resul
 /// # Errors
 ///
 /// `Store` and `Memory`, and `Output` if a line could not be written.
-pub(crate) fn list_tokens<S: Alter, K: Sink>(
+pub(crate) fn list_tokens<S: Store, K: Sink>(
     alloc: Global,
-    store: &mut Store<S>,
+    store: &mut S,
     repo: &RepoName,
     now: Moment,
     destination: Destination,
     output: &mut K,
 ) -> Result<(), TaskFault>
-    ensures reads { Reads S.Store store.old store.new (λ world. OnOk result ((text : List ℕ)
+    ensures reads { Reads S.State store.old store.new (λ world. OnOk result ((text : List ℕ)
         × ListsTokens destination (repo_text repo.now) now world text
         × Appends (K.taken output.old) (K.taken output.new) text)) }
     ensures good { OnOk result (K.failed output.new ≡ K.failed output.old) }

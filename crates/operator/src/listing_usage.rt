@@ -14,7 +14,8 @@ use crate::faults::TaskFault;
 use names::{Moment, Sink, Size};
 use policy::{Policy, Repo};
 use std::alloc::{AllocError, Global};
-use tables::{Alter, Store, StoreFault};
+use store::Store;
+use tables::StoreFault;
 
 /// How much of the quota the bytes are, in whole percent, rounded down; `None` for a quota of 0.
 fn share(bytes: u64, quota: u64) -> Option<u128>
@@ -79,14 +80,14 @@ fn headings(alloc: Global) -> Result<Cells, AllocError>
 }
 
 /// The texts in the line of each repository, in the order of the repositories.
-fn rows_of<S: Alter>(
+fn rows_of<S: Store>(
     alloc: Global,
-    store: &mut Store<S>,
+    store: &mut S,
     repos: &[Repo],
     now: Moment,
 ) -> Result<Vec<Cells>, StoreFault>
-    ensures { Reads S.Store store.old store.new (λ world.
-        IfOk result (λ rows. AllZip (IsLineOf S.Store world store.new now) repos.now
+    ensures { Reads S.State store.old store.new (λ world.
+        IfOk result (λ rows. AllZip (IsLineOf S.State world store.new now) repos.now
         (map (map string_bytes) rows.items))) }
 {
     let mut rows = Vec::new(alloc);
@@ -105,16 +106,16 @@ fn rows_of<S: Alter>(
 /// # Errors
 ///
 /// `Store` and `Memory`, and `Output` if a line could not be written.
-pub(crate) fn list_usage<S: Alter, K: Sink>(
+pub(crate) fn list_usage<S: Store, K: Sink>(
     alloc: Global,
-    store: &mut Store<S>,
+    store: &mut S,
     policy: &Policy,
     now: Moment,
     output: &mut K,
 ) -> Result<(), TaskFault>
-    ensures reads { Reads S.Store store.old store.new (λ world. OnOk result
+    ensures reads { Reads S.State store.old store.new (λ world. OnOk result
         ((text : List ℕ)
-        × ListsUsage S.Store world store.new now (policy_view policy.now).repos text
+        × ListsUsage S.State world store.new now (policy_view policy.now).repos text
         × Appends (K.taken output.old) (K.taken output.new) text)) }
     ensures good { OnOk result (K.failed output.new ≡ K.failed output.old) }
     ensures err { IfErr result IsPlain }

@@ -13,7 +13,7 @@ ghost use Rattle.operator.specs.Listed.{line};
 use crate::faults::TaskFault;
 use crate::output::print_count;
 use names::{Moment, Sink};
-use tables::{Alter, Store};
+use store::Store;
 
 /// Removes the tokens that are not valid at the moment, and prints their number.
 ///
@@ -21,16 +21,16 @@ use tables::{Alter, Store};
 ///
 /// `Store` and `Memory`, which leave the tokens; and `Output` if the line could not be written: the tokens are removed
 /// all the same.
-pub(crate) fn prune<S: Alter, K: Sink>(
-    store: &mut Store<S>,
+pub(crate) fn prune<S: Store, K: Sink>(
+    store: &mut S,
     now: Moment,
     output: &mut K,
 ) -> Result<(), TaskFault>
-    ensures world { From S.Store store.old store.new (λ world. MatchResult result
-        (λ _. (n : ℕ) × Prunes S.Store world now store.old store.new (Ok n))
-        (λ fault. Fails S.Store (λ event. (given : Option ℕ) × (event ≡ prunes now given))
+    ensures world { From S.State store.old store.new (λ world. MatchResult result
+        (λ _. (n : ℕ) × Prunes S.State world now store.old store.new (Ok n))
+        (λ fault. Fails S.State (λ event. (given : Option ℕ) × (event ≡ prunes now given))
         (IsOutput fault) store.old store.new world × IsPlain fault)) }
-    ensures printed { From S.Store store.old store.new (λ world. OnOk result
+    ensures printed { From S.State store.old store.new (λ world. OnOk result
         (Appends (K.taken output.old) (K.taken output.new)
         (line (count_line (codes "pruned") (expired_count now world) (codes "tokens"))))) }
     ensures good { OnOk result (K.failed output.new ≡ K.failed output.old) }

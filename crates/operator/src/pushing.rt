@@ -21,7 +21,7 @@ use names::{LockPath, RefName, RepoName, Sink, UserName};
 use policy::Policy;
 use pushcheck::{PushVerdict, check};
 use std::alloc::{AllocError, Global};
-use tables::{Alter, Store};
+use store::Store;
 
 /// A push that is checked.
 #[derive(Debug, Drop)]
@@ -78,16 +78,16 @@ fn lines_of(
 /// # Errors
 ///
 /// `Store` and `Memory`; `Output` if a line could not be written; and `Reported` if a path may not be pushed.
-pub(crate) fn check_push<S: Alter, K: Sink>(
+pub(crate) fn check_push<S: Store, K: Sink>(
     alloc: Global,
-    store: &mut Store<S>,
+    store: &mut S,
     push: &Push<'_>,
     destination: Destination,
     output: &mut K,
 ) -> Result<(), TaskFault>
-    ensures reads { Reads S.Store store.old store.new (λ world. MatchResult result
+    ensures reads { Reads S.State store.old store.new (λ world. MatchResult result
         (λ _. may_push world push.now ≡ true) (IsPushFault world push.now)) }
-    ensures printed { Reads S.Store store.old store.new (λ world. IfWritten result
+    ensures printed { Reads S.State store.old store.new (λ world. IfWritten result
         (Appends (K.taken output.old) (K.taken output.new) (verdict_lines destination world push.now))) }
     ensures good { OnOk result (K.failed output.new ≡ K.failed output.old) }
 {

@@ -10,6 +10,7 @@ ghost use Rattle.model.specs.Bounds.{IsWithin, SameWorld};
 ghost use Rattle.model.specs.Laws.{IsHalfDone};
 ghost use Rattle.model.specs.Steps.{Run};
 ghost use Rattle.tables.specs.Shown.{connection, IsHonest};
+ghost use Rattle.store.specs.Database.{alone};
 ghost use Rattle.refinement.specs.Representation.{Holds};
 ghost use Rattle.refinement.specs.Left.{From};
 ghost use Rattle.refinement.specs.Opening.{HoldsAmong, IsAt};
@@ -32,20 +33,20 @@ pub fn reopening_law<D: Disk + Drop>(
     opened: &Store<FileStore<D>>,
     store: Store<FileStore<D>>,
 ) -> FileStore<D>
-    ensures stop { (world : World) → IsClean (view result) → IsAt over_files opened.now world
-        → (done : Works over_files opened.now store world)
+    ensures stop { (world : World) → IsClean (view result) → IsAt (alone over_files) opened.now world
+        → (done : Works (alone over_files) opened.now store world)
         → (image : Image) → (state (connection store).store).may_leave image
         → HoldsAmong image (bound_of_works world done.works (world ∷ [])) }
     ensures last { (world kept left : World) (works : List Work) → Run world (steps_of works) kept
         → IsWithin (bound_of_works world works (world ∷ [])) left
         → SameWorld kept left ⊎ IsHalfDone (steps_of works) kept left }
     ensures held { (world : World) → IsReached world → IsHonest over_files store
-        → IsAt over_files opened.now world
-        → From over_files opened.now store (Works over_files opened.now store)
-        → (kept : World) × IsReached kept × Holds over_files store kept }
+        → IsAt (alone over_files) opened.now world
+        → From (alone over_files) opened.now store (Works (alone over_files) opened.now store)
+        → (kept : World) × IsReached kept × Holds (alone over_files) store kept }
     ensures reached { (world : World) → IsReached world → IsClean (view result)
-        → IsAt over_files opened.now world
-        → (done : Works over_files opened.now store world)
+        → IsAt (alone over_files) opened.now world
+        → (done : Works (alone over_files) opened.now store world)
         → (image : Image) → (state (connection store).store).may_leave image
         → HoldsReached image }
 {

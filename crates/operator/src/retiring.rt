@@ -18,7 +18,7 @@ use arrayvec::ArrayString;
 use names::{Oid, RepoName, Sink};
 use std::alloc::Global;
 use std::fmt::Write;
-use tables::{Alter, Store};
+use store::Store;
 use uploads::Retired;
 
 /// Prints what became of the object. This needs no memory, so it can be done after the removal.
@@ -61,19 +61,19 @@ fn report<K: Sink>(output: &mut K, oid: &Oid, removal: Retired) -> Result<(), Ta
 ///
 /// `NoObject` if the repository has neither the object nor its name among those removed; `Store` and `Memory`, which leave
 /// the object; and `Output` if the line could not be written: the object is removed all the same.
-pub(crate) fn retire<S: Alter, K: Sink>(
+pub(crate) fn retire<S: Store, K: Sink>(
     alloc: Global,
-    store: &mut Store<S>,
+    store: &mut S,
     repo: &RepoName,
     oid: &Oid,
     output: &mut K,
 ) -> Result<(), TaskFault>
-    ensures world { From S.Store store.old store.new (λ world. MatchResult result
-        (λ _. IsRemoved S.Store store.old store.new world (repo_text repo.now) oid.now)
-        (λ fault. Fails S.Store (IsRemovalOf (repo_text repo.now) oid.now) (IsOutput fault)
+    ensures world { From S.State store.old store.new (λ world. MatchResult result
+        (λ _. IsRemoved S.State store.old store.new world (repo_text repo.now) oid.now)
+        (λ fault. Fails S.State (IsRemovalOf (repo_text repo.now) oid.now) (IsOutput fault)
         store.old store.new world
         × IsRemovalFault (removal_of world (repo_text repo.now) oid.now) fault)) }
-    ensures printed { From S.Store store.old store.new (λ world. OnOk result
+    ensures printed { From S.State store.old store.new (λ world. OnOk result
         (Appends (K.taken output.old) (K.taken output.new)
         (line (retired_line (removal_of world (repo_text repo.now) oid.now) oid.now)))) }
     ensures good { OnOk result (K.failed output.new ≡ K.failed output.old) }

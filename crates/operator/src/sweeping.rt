@@ -11,7 +11,7 @@ use crate::faults::TaskFault;
 use crate::output::print_count;
 use names::Sink;
 use std::alloc::Global;
-use tables::{Alter, Store};
+use store::Store;
 
 /// Removes the uploads that were not completed, and prints their number.
 ///
@@ -19,16 +19,16 @@ use tables::{Alter, Store};
 ///
 /// `Store` and `Memory`, after which some of the uploads may be removed; and `Output` if the line could not be written:
 /// the uploads are removed all the same. No object is removed in any case.
-pub(crate) fn sweep<S: Alter, K: Sink>(
+pub(crate) fn sweep<S: Store, K: Sink>(
     alloc: Global,
-    store: &mut Store<S>,
+    store: &mut S,
     output: &mut K,
 ) -> Result<(), TaskFault>
-    ensures world { From S.Store store.old store.new (λ world. MatchResult result
-        (λ _. (n : ℕ) × Sweeps S.Store world store.old store.new (Ok n))
-        (λ fault. Keeps S.Store store.old store.new world × IsPlain fault)) }
-    ensures printed { From S.Store store.old store.new (λ _. OnOk result ((text : List ℕ)
-        × PrintsSwept S.Store store.old text
+    ensures world { From S.State store.old store.new (λ world. MatchResult result
+        (λ _. (n : ℕ) × Sweeps S.State world store.old store.new (Ok n))
+        (λ fault. Keeps S.State store.old store.new world × IsPlain fault)) }
+    ensures printed { From S.State store.old store.new (λ _. OnOk result ((text : List ℕ)
+        × PrintsSwept S.State store.old text
         × Appends (K.taken output.old) (K.taken output.new) text)) }
     ensures good { OnOk result (K.failed output.new ≡ K.failed output.old) }
 {

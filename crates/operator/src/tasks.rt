@@ -23,7 +23,7 @@ use names::{Moment, Oid, RepoName, Sink};
 use policy::Policy;
 use std::alloc::Global;
 use std::io::Stderr;
-use tables::{Alter, Store};
+use store::Store;
 use tokens::TokenRequest;
 
 /// A command of an operator, ready to run over an open database.
@@ -73,19 +73,19 @@ impl Task<'_> {
     ///
     /// `Store`, `Token`, `NoCaller`, `NoObject` and `Memory`; `Output` if a line could not be written; and `Reported` if
     /// Git may not begin, a path may not be pushed, or an object is damaged.
-    pub fn run<S: Alter, K: Sink>(
+    pub fn run<S: Store, K: Sink>(
         &self,
         alloc: Global,
-        store: &mut Store<S>,
+        store: &mut S,
         destination: Destination,
         output: &mut K,
     ) -> Result<(), TaskFault>
-        ensures world { From S.Store store.old store.new (λ world.
-            Ran S.Store store.old store.new world self.now result) }
-        ensures printed { From S.Store store.old store.new (λ world. IfWritten result
-            (AppendsOutput S.Store store.old store.new world destination self.now
+        ensures world { From S.State store.old store.new (λ world.
+            Ran S.State store.old store.new world self.now result) }
+        ensures printed { From S.State store.old store.new (λ world. IfWritten result
+            (AppendsOutput S.State store.old store.new world destination self.now
             (K.taken output.old) (K.taken output.new))) }
-        ensures tables { IsQuestion self.now → KeepsTables S.Store store.old store.new }
+        ensures tables { IsQuestion self.now → KeepsTables S.State store.old store.new }
         ensures good { OnOk result (K.failed output.new ≡ K.failed output.old) }
     {
         match self {

@@ -13,7 +13,8 @@ use model::Right;
 use names::{LockPath, RefName, RepoName, UserName};
 use policy::{ApplicableRows, Policy, Question, Verdict};
 use std::alloc::{AllocError, Global};
-use tables::{Alter, Store, StoreFault};
+use store::Store;
+use tables::StoreFault;
 
 /// The push of the user to the ref.
 fn push_by<'a>(
@@ -44,12 +45,12 @@ fn push_by<'a>(
 }
 
 /// The verdict on a path: that of the policy if it denies the push, else that of the lock on the path.
-fn verdict_on<S: Alter>(
-    store: &mut Store<S>,
+fn verdict_on<S: Store>(
+    store: &mut S,
     push: &Push<'_>,
     path: &LockPath,
 ) -> Result<PushVerdict, StoreFault>
-    ensures { Reads S.Store store.old store.new (λ world. IfOk result (λ verdict.
+    ensures { Reads S.State store.old store.new (λ world. IfOk result (λ verdict.
         verdict_view verdict
         ≡ path_verdict (policy_view push.now.rows.policy.now) world (push_view push.now) (path_text path.now))) }
 {
@@ -68,16 +69,16 @@ fn verdict_on<S: Alter>(
 /// # Errors
 ///
 /// `Refused` or `Memory`. The contents of the store are unchanged in any case.
-pub fn check<S: Alter>(
+pub fn check<S: Store>(
     alloc: Global,
-    store: &mut Store<S>,
+    store: &mut S,
     policy: &Policy,
     user: &UserName,
     repo: &RepoName,
     ref_name: &RefName,
     paths: &[LockPath],
 ) -> Result<Vec<PushVerdict>, StoreFault>
-    ensures { Reads S.Store store.old store.new (λ world. IfOk result (λ verdicts.
+    ensures { Reads S.State store.old store.new (λ world. IfOk result (λ verdicts.
         map verdict_view verdicts.items ≡ push_verdicts (policy_view policy.now) world
         (push_by user.now repo.now ref_name.now) (map path_text paths.now))) }
 {

@@ -1,11 +1,11 @@
 -- The world that a store holds after a call.
-use Rattle.refinement.proofs.Prelude.{◌≡◌, ℕ, pos, ◌+◌, sym, subst, ap, ◌∙◌, refl, Ghosts, World, Lock, with_lock, Tables, shown, Moves, outcome_of, created, held, used_up, Outcome, after_outcome, with_new_lock, LockFields, Store, moves_still, Represents, Holds, lock_kept, lock_row}
+use Rattle.refinement.proofs.Prelude.{◌≡◌, ℕ, pos, ◌+◌, sym, subst, ap, ◌∙◌, refl, Ghosts, World, Lock, with_lock, Tables, shown, Moves, outcome_of, created, held, used_up, Outcome, after_outcome, with_new_lock, LockFields, moves_still, Represents, Holds, lock_kept, lock_row}
 use Rattle.model.proofs.Keeping.{IsNewLock, keeps_with_lock}
 use Rattle.tables.specs.Rows as row
 use Rattle.tables.specs.Steps.{after_create}
 use Rattle.refinement.proofs.Changes.{new_lock_represented}
 
-module _ {S : Type 0} (g : Ghosts S) (old new : Store S) where
+module _ {S : Type 0} (g : Ghosts S) (old new : S) where
   -- a call that leaves the tables unchanged leaves the world unchanged
   pub holds_still : (world : World) → Moves g (λ t. t) old new → Holds g old world → Holds g new world
   holds_still world moves h = record {

@@ -6,6 +6,7 @@ pub mod Uploads
 pub mod Staging
 pub mod LastChunk
 pub mod Withdrawn
+pub mod Rearranged
 pub mod Shortened
 pub mod Begun
 pub mod Kept

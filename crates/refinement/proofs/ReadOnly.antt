@@ -1,10 +1,10 @@
 -- Calls that only read, one after another.
-use Rattle.refinement.proofs.Prelude.{Ghosts, World, IsWorld, Store, moves_then, nothing_then, Reads}
+use Rattle.refinement.proofs.Prelude.{Ghosts, World, IsWorld, moves_then, nothing_then, Reads}
 use Rattle.refinement.proofs.Holding.{holds_still}
 
 module _ {S : Type 0} (g : Ghosts S) where
   -- two calls, and what follows from the two claims
-  pub reads_then : (a b c : Store S) (P Q R : World → Type 0) → ((world : World) → IsWorld world → P world → Q world → R world) → Reads g a b P → Reads g b c Q → Reads g a c R
+  pub reads_then : (a b c : S) (P Q R : World → Type 0) → ((world : World) → IsWorld world → P world → Q world → R world) → Reads g a b P → Reads g b c Q → Reads g a c R
   reads_then a b c P Q R both p q = record {
     same = moves_then g a b c p.same q.same;
     adds = nothing_then g a b c p.adds q.adds;
@@ -12,5 +12,5 @@ module _ {S : Type 0} (g : Ghosts S) where
   }
 
   -- a weaker claim
-  pub reads_weaker : (a b : Store S) (P Q : World → Type 0) → ((world : World) → IsWorld world → P world → Q world) → Reads g a b P → Reads g a b Q
+  pub reads_weaker : (a b : S) (P Q : World → Type 0) → ((world : World) → IsWorld world → P world → Q world) → Reads g a b P → Reads g a b Q
   reads_weaker a b P Q f p = record { same = p.same; adds = p.adds; each = λ honest world h. f world h.laws (p.each honest world h) }

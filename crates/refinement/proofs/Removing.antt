@@ -1,5 +1,5 @@
 -- A lock that is removed.
-use Rattle.refinement.proofs.Prelude.{◌≡◌, ◌∙◌, ℕ, pos, Bool, true, false, not, nat_lt, List, [], ◌∷◌, map, find, filter, cond, length, Option, Some, None, is_some, IfSome, ◌==◌, refl, sym, ap, ap₂, subst, IsPermutation, arith, nat_tests, IsPermutation-filter, filter-map, Ghosts, World, IsWorld, Lock, locks_of, found_passes, Tables, has_id, shown, Moves, Store, moves_still, Represents, Holds, lock_kept, lock_row, lock_with}
+use Rattle.refinement.proofs.Prelude.{◌≡◌, ◌∙◌, ℕ, pos, Bool, true, false, not, nat_lt, List, [], ◌∷◌, map, find, filter, cond, length, Option, Some, None, is_some, IfSome, ◌==◌, refl, sym, ap, ap₂, subst, IsPermutation, arith, nat_tests, IsPermutation-filter, filter-map, Ghosts, World, IsWorld, Lock, locks_of, found_passes, Tables, has_id, shown, Moves, moves_still, Represents, Holds, lock_kept, lock_row, lock_with}
 use Rattle.model.specs.World as model
 use Rattle.model.proofs.Keeping.{keeps_without_lock}
 use Rattle.tables.specs.Rows as row
@@ -83,7 +83,7 @@ removed_any t world repo id n s w e =
     ∙ some_alike lock_kept lock_row (find (has_id repo (pos id)) t.locks) (lock_with repo id world) (number_found t world repo id s w)
 
 -- if no row is removed, the tables are as before
-pub still_if_none : {S : Type 0} (g : Ghosts S) (old new : Store S) (repo : List ℕ) (id n : ℕ) → Moves g (without_lock repo (pos id)) old new → n ≡ length (filter (has_id repo (pos id)) (shown g old).locks) → nat_lt 0 n ≡ false
+pub still_if_none : {S : Type 0} (g : Ghosts S) (old new : S) (repo : List ℕ) (id n : ℕ) → Moves g (without_lock repo (pos id)) old new → n ≡ length (filter (has_id repo (pos id)) (shown g old).locks) → nat_lt 0 n ≡ false
     → Moves g (λ t. t) old new
 unfolding without_lock
 still_if_none g old new repo id n moves counted none =
@@ -92,7 +92,7 @@ still_if_none g old new repo id n moves counted none =
     moves_still g old new (without_lock repo (pos id)) moves (λ _. ap (λ (ls : List row.Lock). record t { locks = ls }) (all_stay (has_id repo (pos id)) t.locks free))
 
 -- the lock with the id is removed
-pub holds_removed : {S : Type 0} (g : Ghosts S) (old new : Store S) (world : World) (repo : List ℕ) (id : ℕ) → Moves g (without_lock repo (pos id)) old new → Holds g old world
+pub holds_removed : {S : Type 0} (g : Ghosts S) (old new : S) (world : World) (repo : List ℕ) (id : ℕ) → Moves g (without_lock repo (pos id)) old new → Holds g old world
     → Holds g new (without_found (lock_with repo id world) world)
 holds_removed g old new world repo id moves h = record {
   ready = moves.ready h.ready;

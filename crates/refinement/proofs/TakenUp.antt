@@ -1,5 +1,6 @@
 -- A store that `start` accepted is in a world, and a stop leaves that world.
-use Rattle.refinement.proofs.Prelude.{◌≡◌, ◌⊎◌, inl, inr, IsTrue, [], ◌∷◌, Result, Ok, Err, OnOk, refl, sym, ap, subst, ∥∥₁_map, Ghosts, Trees, over_files, World, IsWorld, nothing, Bound, Tables, tables_of, fresh_on, IsHonest, IsOpen, IsSafe, HasTables, shown, committed, HasNoTable, HasOurs, Rests, Leaves, Store, Represents, IsAmong, IsBoundedBy}
+use Rattle.refinement.proofs.Prelude.{◌≡◌, ◌⊎◌, inl, inr, IsTrue, [], ◌∷◌, Result, Ok, Err, OnOk, refl, sym, ap, subst, ∥∥₁_map, ◌∙◌, Trees, over_files, World, IsWorld, nothing, Bound, Tables, tables_of, normal, Represents, IsAmong, IsBoundedBy}
+use Rattle.sqlite_trees.specs.declared.store.Store.{Ghosts}
 use Rattle.sqlite_disk.specs.declared.Disk as disk
 use Rattle.sqlite_catalog.specs.Listing.{IsSound}
 use Rattle.sqlite_wal.specs.Recovery.{Image}
@@ -14,7 +15,13 @@ use Rattle.tables.specs.Rows.{tables_under}
 use Rattle.std.specs.Prelude.{IfOk}
 use Rattle.tables.specs.declared.rows.Migrated.{Migrated}
 use Rattle.tables.specs.declared.rows.Migrated.TheVariants as result
-use Rattle.tables.specs.Shown.{HasOld, MigratesTo, IsMigrated}
+use Rattle.tables.specs.Shown.{HasOld, MigratesTo, IsMigrated, fresh_on, IsHonest, IsOpen, IsSafe, HasTables, shown, committed, HasNoTable, HasOurs, Rests, Leaves}
+use Rattle.tables.specs.declared.Store.{Store}
+use Rattle.tables.proofs.Marked.{kept_marked}
+use Rattle.store.specs.Shown as store
+use Rattle.store.specs.Database.{alone}
+use Rattle.store.proofs.Alone.{has_tables}
+use Rattle.refinement.proofs.Rearranged.{to_normal, among_normal}
 use Rattle.refinement.specs.Representation.{RepresentedFirst}
 use Rattle.tables.specs.Rows.{meta}
 use Rattle.tables.specs.Layout.{version_one, current}
@@ -33,45 +40,45 @@ module _ {S : Type 0} (g : Ghosts S) (old new : Store S) where
   both_none : HasNoTable g old → HasOurs g old → ⊥
   both_none none ours = kept_some _ none ours.kept
 
-  pub is_new : Accepts g old new → HasNoTable g old → IsAt g new nothing
+  pub is_new : Accepts g old new → HasNoTable g old → IsAt (alone g) new nothing
   is_new a none = record {
     holds = record {
-      ready = a.ready;
+      ready = has_tables g new a.ready;
       laws = makes_world [] nothing refl;
-      shows = λ k o. elim (a.ok k) [
+      shows = λ k o. to_normal (shown g new) nothing (elim (a.ok k) [
         | inl made ↦ subst (λ (t : Tables). Represents t nothing) (sym made.1) (fresh_represented _)
         | inr rests ↦ absurd (kept_some _ none (subst IsKept (rests.now o) (a.ready.ready k o)))
-      ];
+      ]);
     };
     left = record {
       safe = a.safe;
-      among = λ k t left. elim (a.only k t left) [
-        | inl made ↦ inl (makes_world [] nothing refl, subst (λ (u : Tables). Represents u nothing) (sym made.1) (fresh_represented _))
+      among = λ k t left. elim (a.only k left.0.0 left.0.1) [
+        | inl made ↦ inl (makes_world [] nothing refl, subst (λ (u : Tables). Represents u nothing) (sym (left.0.2 ∙ ap normal made.1)) (to_normal _ nothing (fresh_represented _)))
         | inr ours ↦ absurd (both_none none ours.0)
       ];
     };
   }
 
-  pub is_found : Accepts g old new → (world : World) → IsWorld world → (IsHonest g new → HasOurs g old × Represents (shown g old) world) → IsAt g new world
+  pub is_found : Accepts g old new → (world : World) → IsWorld world → (IsHonest g new → HasOurs g old × Represents (shown g old) world) → IsAt (alone g) new world
   is_found a world laws was = record {
     holds = record {
-      ready = a.ready;
+      ready = has_tables g new a.ready;
       laws = laws;
-      shows = λ k o. elim (a.ok k) [
+      shows = λ k o. to_normal (shown g new) world (elim (a.ok k) [
         | inl made ↦ absurd (both_none made.0 (was k).0)
         | inr rests ↦ subst (λ (d : Database). Represents (tables_of d) world) (sym (rests.now o)) (was k).1
-      ];
+      ]);
     };
     left = record {
       safe = a.safe;
-      among = λ k t left. elim (a.only k t left) [
+      among = λ k t left. elim (a.only k left.0.0 left.0.1) [
         | inl made ↦ absurd (both_none made.0 (was k).0)
-        | inr ours ↦ inl (laws, subst (λ (u : Tables). Represents u world) (sym ours.1) (was k).1)
+        | inr ours ↦ inl (laws, subst (λ (u : Tables). Represents u world) (sym (left.0.2 ∙ ap normal ours.1)) (to_normal (shown g old) world (was k).1))
       ];
     };
   }
 
-  pub is_one : Accepts g old new → HasOurs g old → (bound : Bound) → IsAmong (shown g old) bound → IsAtOne g new bound
+  pub is_one : Accepts g old new → HasOurs g old → (bound : Bound) → IsAmong (shown g old) bound → IsAtOne (alone g) new bound
   is_one a ours [] among = among
   is_one a ours (world ∷ bound) (inl here) = inl (is_found a world here.0 (λ _. (ours, here.1)))
   is_one a ours (world ∷ bound) (inr rest) = inr (is_one a ours bound rest)
@@ -90,34 +97,38 @@ module _ {S : Type 0} (g : Ghosts S) (old new : Store S) where
   pub as_accepted : MigratesBy g old new result.Already → Accepts g old new
   as_accepted m = record { ready = m.ready; version = m.version; ok = m.ok; safe = m.safe; only = m.only }
 
-  pub is_migrated : MigratesBy g old new result.From1 → IsHonest g new → (world : World) → IsWorld world → (HasOld g old → RepresentedFirst (shown g old) world) → IsAt g new world
+  pub is_migrated : MigratesBy g old new result.From1 → IsHonest g new → (world : World) → IsWorld world → (HasOld g old → RepresentedFirst (shown g old) world) → IsAt (alone g) new world
   is_migrated m honest world laws was =
       let it = m.ok honest in
       record {
-        holds = record { ready = m.ready; laws = laws; shows = λ k o. subst (λ (t : Tables). Represents t world) (sym it.1) (was it.0) };
-        left = record { safe = m.safe; among = λ k t left. inl (laws, subst (λ (u : Tables). Represents u world) (sym (m.only k t left).1) (was it.0)) };
+        holds = record { ready = has_tables g new m.ready; laws = laws; shows = λ k o. to_normal _ world (subst (λ (t : Tables). Represents t world) (sym it.1) (was it.0)) };
+        left = record {
+          safe = m.safe;
+          among = λ k t left. inl (laws, subst (λ (u : Tables). Represents u world) (sym (left.0.2 ∙ ap normal (m.only k left.0.0 left.0.1).1)) (to_normal _ world (was it.0)));
+        };
       }
 
   -- a database with nothing of ours is not of version 1
   none_is_old : HasNoTable g old → HasOld g old → ⊥
   none_is_old none was = not_none version_one _ _ none (was.old.schema.all.parts.made meta refl) refl
 
-  pub none_is_new : HasNoTable g old → (m : Migrated) → MigratesBy g old new m → IsAt g new nothing
+  pub none_is_new : HasNoTable g old → (m : Migrated) → MigratesBy g old new m → IsAt (alone g) new nothing
   none_is_new none result.From1 m = record {
-    holds = record { ready = m.ready; laws = makes_world [] nothing refl; shows = λ k o. absurd (none_is_old none (m.ok k).0) };
+    holds = record { ready = has_tables g new m.ready; laws = makes_world [] nothing refl; shows = λ k o. absurd (none_is_old none (m.ok k).0) };
     left = record { safe = m.safe; among = λ k t left. absurd (none_is_old none (m.ok k).0) };
   }
   none_is_new none result.Already m = is_new g old new (as_accepted m) none
 
 -- the next open can read what a stop leaves of a store
-pub left_image : {D : Type 0} {g : disk.Ghosts D} (s : Store (FileStore D g)) (bound : Bound) → IsHonest over_files s → IsBoundedBy over_files s bound → IsTrue (files.view s.conn.store).is_numbered
+pub left_image : {D : Type 0} {g : disk.Ghosts D} (s : Store (FileStore D g)) (bound : Bound) → IsHonest over_files s → IsBoundedBy (alone over_files) s bound → IsTrue (files.view s.conn.store).is_numbered
     → (image : Image) → (files.state s.conn.store).may_leave image → HoldsAmong image bound
 left_image s bound honest b numbered image may =
     let sound : (db : Trees) → files.recovers s.conn.store db → (schema : Schema) × HasAll current schema × IsSound schema db × IsAmong (tables_under schema db) bound =
     λ db found.
     let kept = b.safe honest db found in
-    let left : Leaves over_files s (tables_of kept.0) = (kept.0, kept.1, subst (files.recovers s.conn.store) kept.2 found, refl) in
-    (kept.0.schema, all_of kept.0 kept.1, subst (IsSound kept.0.schema) (sym kept.2) (kept_is_sound kept.0 kept.1), subst (λ (t : Trees). IsAmong (tables_under kept.0.schema t) bound) (sym kept.2) (b.among honest (tables_of kept.0) left)) in
+    let left : store.Leaves (alone over_files) s (normal (tables_of kept.0)) =
+    ((tables_of kept.0, (kept.0, kept.1, subst (files.recovers s.conn.store) kept.2 found, refl), refl), kept_marked kept.0 kept.1) in
+    (kept.0.schema, all_of kept.0 kept.1, subst (IsSound kept.0.schema) (sym kept.2) (kept_is_sound kept.0 kept.1), subst (λ (t : Trees). IsAmong (tables_under kept.0.schema t) bound) (sym kept.2) (among_normal (tables_of kept.0) bound (b.among honest (normal (tables_of kept.0)) left))) in
     ∥∥₁_map (opens_again s.conn.store numbered (λ db found. let it = sound db found in (it.0, it.2)) image may) (λ db. (db.0, db.2, sound db.0 db.1))
 
 -- what a migration did that returned this

@@ -1,5 +1,5 @@
 -- The effect of a change of the tokens on the world.
-use Rattle.refinement.proofs.Prelude.{◌≡◌, ◌∙◌, ℕ, pos, Bool, true, false, not, nat_lt, List, [], ◌∷◌, map, find, filter, cond, Option, Some, None, option_map, is_some, length, refl, sym, ap, subst, IsPermutation, arith, int_le, nat_tests, length-map, length_permutation, IsPermutation-filter, filter-map, Ghosts, sha256, World, IsWorld, Token, IsToken, find_token, with_token, without_expired, Tables, has_digest, has_expired, has_token, shown, Moves, Store, moves_still, token_kept, token_row, Represents, Holds}
+use Rattle.refinement.proofs.Prelude.{◌≡◌, ◌∙◌, ℕ, pos, Bool, true, false, not, nat_lt, List, [], ◌∷◌, map, find, filter, cond, Option, Some, None, option_map, is_some, length, refl, sym, ap, subst, IsPermutation, arith, int_le, nat_tests, length-map, length_permutation, IsPermutation-filter, filter-map, Ghosts, sha256, World, IsWorld, Token, IsToken, find_token, with_token, without_expired, Tables, has_digest, has_expired, has_token, shown, Moves, moves_still, token_kept, token_row, Represents, Holds}
 use Rattle.model.proofs.Keeping.{keeps_with_token, keeps_without_expired}
 use Rattle.tables.specs.Rows as row
 use Rattle.tables.specs.Statements as tables
@@ -98,7 +98,7 @@ expired_counted t world now s =
 
 -- ---- the world that a store holds after a call
 
-module _ {S : Type 0} (g : Ghosts S) (old new : Store S) (world : World) where
+module _ {S : Type 0} (g : Ghosts S) (old new : S) (world : World) where
   added : (k : row.Token) (t : Tables) → has_token k.digest t ≡ false → after_add k t ≡ tables.with_token k t
   unfolding after_add
   added k t e = rw e refl

@@ -2,15 +2,14 @@
 use Rattle.std.specs.Prelude.{◌≡◌, ℕ, pos, true, false, List, [], ◌∷◌, map, IsPermutation}
 use Rattle.std.specs.List.{AllByRecursion}
 use Rattle.sha2.specs.Sha256.{sha256}
-use Rattle.sqlite_trees.specs.declared.store.Store.{Ghosts}
+use Rattle.store.specs.declared.state.State.{Ghosts}
 use Rattle.model.specs.World.{World, IsWorld, Lock, Token, Retired, total, is_retired}
 use Rattle.tables.specs.Rows as row
 use Rattle.tables.specs.Rows.{Tables}
 use Rattle.tables.specs.Runs.{current_meta, migrated}
 use Rattle.tables.specs.Statements.{is_staged}
 use Rattle.tables.specs.Steps.{code_of, made_of, used_of}
-use Rattle.tables.specs.Shown.{IsHonest, IsOpen, HasTables, shown}
-use Rattle.tables.specs.declared.Store.{Store}
+use Rattle.store.specs.Shown.{IsHonest, IsOpen, HasTables, shown}
 use Rattle.refinement.specs.Objects.{RepresentObjects}
 
 -- a row of `locks`, without its place in the table
@@ -58,7 +57,7 @@ abbrev pub RepresentedFirst : Tables → World → Type 0
 RepresentedFirst t = Represents (migrated t)
 
 -- the store holds the world: while the disk is honest and the store open, its tables represent it
-pub record Holds {S : Type 0} (g : Ghosts S) (s : Store S) (world : World) : Type 0 where
+pub record Holds {S : Type 0} (g : Ghosts S) (s : S) (world : World) : Type 0 where
   pub ready : HasTables g s
   pub laws : IsWorld world
   pub shows : IsHonest g s → IsOpen g s → Represents (shown g s) world

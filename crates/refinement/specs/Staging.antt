@@ -1,12 +1,11 @@
 -- Staged uploads.
 use Rattle.std.specs.Prelude.{◌≡◌, ℕ, ℤ, pos, List, [], ◌∷◌, ◌++◌, find, Some, None}
-use Rattle.sqlite_trees.specs.declared.store.Store.{Ghosts}
+use Rattle.store.specs.declared.state.State.{Ghosts}
 use Rattle.tables.specs.Rows as row
 use Rattle.tables.specs.Rows.{Tables}
-use Rattle.tables.specs.Shown.{IsHonest, IsOpen, shown}
+use Rattle.store.specs.Shown.{IsHonest, IsOpen, shown}
 use Rattle.tables.specs.Statements.{is_upload, is_staged_in}
 use Rattle.tables.specs.Staging.{staged_with}
-use Rattle.tables.specs.declared.Store.{Store}
 use Rattle.refinement.specs.Objects.{HasPieces, IsStored}
 
 -- the row of a staged upload
@@ -25,18 +24,18 @@ pieces_with pieces (byte ∷ bytes) = pieces ++ (byte ∷ bytes) ∷ []
 
 module _ {S : Type 0} (g : Ghosts S) where
   -- while the disk is honest and the store open, it shows this staged upload
-  abbrev pub Stages : Store S → ℤ → List ℕ → List ℕ → ℕ → List (List ℕ) → Type 0
+  abbrev pub Stages : S → ℤ → List ℕ → List ℕ → ℕ → List (List ℕ) → Type 0
   Stages s id repo name size pieces =
       IsHonest g s → IsOpen g s → IsStaged id repo name size pieces (shown g s)
 
   -- while the disk is honest and the store open, it shows no staged upload with this id
-  abbrev pub StagesNone : Store S → ℤ → Type 0
+  abbrev pub StagesNone : S → ℤ → Type 0
   StagesNone s id = IsHonest g s → IsOpen g s → staged_with id (shown g s) ≡ None
 
   -- while the disk is honest and the store open, it shows no staged upload of the repository
-  abbrev pub StagesNoneIn : Store S → List ℕ → Type 0
+  abbrev pub StagesNoneIn : S → List ℕ → Type 0
   StagesNoneIn s repo = IsHonest g s → IsOpen g s → find (is_staged_in repo) (shown g s).uploads ≡ None
 
   -- while the disk is honest and the store open, it shows these bytes of the upload
-  abbrev pub Stores : Store S → ℤ → List ℕ → Type 0
+  abbrev pub Stores : S → ℤ → List ℕ → Type 0
   Stores s id bytes = IsHonest g s → IsOpen g s → IsStored id bytes (shown g s).chunks

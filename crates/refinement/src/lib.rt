@@ -3,6 +3,8 @@
 //! when it is opened.
 #![tactic(auto)]
 
+mod laws;
 mod opening;
 
-pub use opening::{bound_law, migrate, open_from, same_law, start, stop_law};
+pub use laws::{bound_law, same_law};
+pub use opening::{migrate, open_from, start, stop_law};

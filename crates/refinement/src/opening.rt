@@ -1,4 +1,4 @@
-//! Opens a store: in the world of a new server, or in the one that its database holds.
+//! Opens a database: in the world of a new server, or in the one that it holds.
 
 ghost use Rattle.std.specs.Prelude.{◌≡◌, [], Ok, Err, IfOk, OnErr, OnOk};
 ghost use Rattle.sqlite_trees.specs.Objects.{catalog_tree};
@@ -9,20 +9,20 @@ ghost use Rattle.sqlite_store.specs.FileStore.{state, view};
 ghost use Rattle.sqlite.specs.Files.{over_files, file_state, IsNothing};
 ghost use Rattle.sqlite.specs.Start.{FindsIn};
 ghost use Rattle.model.specs.World.{World, IsWorld, nothing};
-ghost use Rattle.model.specs.Bounds.{Bound, IsWithin, SameWorld};
-ghost use Rattle.tables.specs.Rows.{Tables};
+ghost use Rattle.model.specs.Bounds.{Bound};
 ghost use Rattle.tables.specs.Shown.{connection, committed, IsHonest, HasNoTable, HasOurs, HasOld, IsForeign, IsUnknown, Rests, AddsFresh, AddsMigrated, shown};
 ghost use Rattle.refinement.specs.Representation.{Represents, RepresentedFirst};
 ghost use Rattle.tables.specs.declared.fault.OpenFault.TheVariants.{UnknownSchema};
 ghost use Rattle.tables.specs.declared.rows.Migrated.TheVariants as Migrated;
-ghost use Rattle.refinement.specs.Left.{IsBoundedBy, IsLeft};
+ghost use Rattle.store.specs.Database.{alone};
+ghost use Rattle.refinement.specs.Left.{IsBoundedBy};
 ghost use Rattle.refinement.specs.Opening.{Accepts, AreAmong, HoldsAmong, IsAt, IsAtOne, MigratesBy};
 
 use sqlite::{FileFrom, FileStore, Start};
 use sqlite_disk::Disk;
 use std::alloc::Global;
 use std::rt::HostRuntime;
-use tables::{Alter, Migrated, OpenFault, Storage, Store};
+use tables::{Migrated, OpenFault, Storage, Store};
 
 /// Creates the tables of a database that has none of ours, and accepts one that has them with their number; any other
 /// one, of version 1 too, is refused. The store then holds the world of a new server, or the one that the tables
@@ -37,16 +37,16 @@ pub fn start<S: Storage>(alloc: Global, store: &mut Store<S>) -> Result<(), Open
     ensures accepts { OnOk result (Accepts S.Store store.old store.new) }
     ensures unknown { IsHonest S.Store store.new → result ≡ Err UnknownSchema
         → IsForeign S.Store store.old }
-    ensures fresh { HasNoTable S.Store store.old → OnOk result (IsAt S.Store store.new nothing) }
+    ensures fresh { HasNoTable S.Store store.old → OnOk result (IsAt (alone S.Store) store.new nothing) }
     ensures empty { IsHonest S.Store store.new → committed S.Store store.old catalog_tree ≡ []
-        → OnOk result (IsAt S.Store store.new nothing) }
+        → OnOk result (IsAt (alone S.Store) store.new nothing) }
     ensures found { (world : World) → IsWorld world
         → (IsHonest S.Store store.new
         → HasOurs S.Store store.old × Represents (shown S.Store store.old) world)
-        → OnOk result (IsAt S.Store store.new world) }
+        → OnOk result (IsAt (alone S.Store) store.new world) }
     ensures again { IsHonest S.Store store.new → (bound : Bound)
         → AreAmong (committed S.Store store.old) bound
-        → OnOk result (IsAtOne S.Store store.new bound) }
+        → OnOk result (IsAtOne (alone S.Store) store.new bound) }
     ensures err { IsHonest S.Store store.new → OnErr result (Rests S.Store store.old store.new) }
     ensures stop { AddsFresh S.Store store.old store.new }
 {
@@ -67,11 +67,11 @@ pub fn migrate<S: Storage>(alloc: Global, store: &mut Store<S>) -> Result<Migrat
         → IsUnknown S.Store store.old }
     ensures migrated { IsHonest S.Store store.new → result ≡ Ok Migrated.From1 → (world : World) → IsWorld world
         → (HasOld S.Store store.old → RepresentedFirst (shown S.Store store.old) world)
-        → IsAt S.Store store.new world }
-    ensures fresh { HasNoTable S.Store store.old → OnOk result (IsAt S.Store store.new nothing) }
+        → IsAt (alone S.Store) store.new world }
+    ensures fresh { HasNoTable S.Store store.old → OnOk result (IsAt (alone S.Store) store.new nothing) }
     ensures found { IsHonest S.Store store.new → result ≡ Ok Migrated.Already → (world : World) → IsWorld world
         → HasOurs S.Store store.old → Represents (shown S.Store store.old) world
-        → IsAt S.Store store.new world }
+        → IsAt (alone S.Store) store.new world }
     ensures err { IsHonest S.Store store.new → OnErr result (Rests S.Store store.old store.new) }
     ensures stop { AddsMigrated S.Store store.old store.new }
 {
@@ -94,11 +94,11 @@ pub fn open_from<S: Start>(
         → (opened : _) × FindsIn (image_at S.Start) (file_state (connection opened))
         × Accepts over_files opened store) }
     ensures blank { IsNothing (image_at S.Start)
-        → IfOk result (λ store. IsHonest over_files store → IsAt over_files store nothing) }
+        → IfOk result (λ store. IsHonest over_files store → IsAt (alone over_files) store nothing) }
     ensures empty { (image_at S.Start).db ≡ []
-        → IfOk result (λ store. IsHonest over_files store → IsAt over_files store nothing) }
+        → IfOk result (λ store. IsHonest over_files store → IsAt (alone over_files) store nothing) }
     ensures again { (bound : Bound) → HoldsAmong (image_at S.Start) bound
-        → IfOk result (λ store. IsHonest over_files store → ∥ IsAtOne over_files store bound ∥₁) }
+        → IfOk result (λ store. IsHonest over_files store → ∥ IsAtOne (alone over_files) store bound ∥₁) }
 {
     let mut store = Store::open_from(rt, path, first)?;
     start(rt.alloc(), &mut store)?;
@@ -109,20 +109,9 @@ pub fn open_from<S: Start>(
 /// store's bound. The call closes the store, and is about a stop before that; the disk has to be honest
 /// to its end.
 pub fn stop_law<D: Disk + Drop>(store: Store<FileStore<D>>) -> FileStore<D>
-    ensures { (bound : Bound) → IsClean (view result) → IsBoundedBy over_files store bound
+    ensures { (bound : Bound) → IsClean (view result) → IsBoundedBy (alone over_files) store bound
         → (image : Image) → (state (connection store).store).may_leave image
         → HoldsAmong image bound }
 {
     store.into_connection().into_store()
 }
-
-/// Each world that a stop may leave of a store is within the store's bound.
-pub fn bound_law<S: Alter>(store: &Store<S>)
-    ensures { (bound : Bound) → IsHonest S.Store store.now → IsBoundedBy S.Store store.now bound
-        → (world : World) → IsLeft S.Store store.now world → IsWithin bound world }
-{}
-
-/// Two worlds that the same tables represent count as the same.
-pub fn same_law()
-    ensures { (t : Tables) (a b : World) → Represents t a → Represents t b → SameWorld a b }
-{}

@@ -2,13 +2,12 @@
 use Rattle.std.proofs.Common.{◌≡◌, ◌⊎◌, inl, inr, ℕ, Option, List, [], ◌∷◌, map, refl, sym, ap, subst}
 use Rattle.std.proofs.KnownBytes.{Consumes-nil}
 use Rattle.std.specs.Io.KnownBytes.{Consumes, IsAtEnd}
-use Rattle.sqlite_trees.specs.declared.store.Store.{Ghosts}
+use Rattle.store.specs.declared.state.State.{Ghosts}
 use Rattle.model.specs.Cases.{Setting}
 use Rattle.model.specs.World.{World}
 use Rattle.model.specs.Sessions.{Session}
 use Rattle.model.specs.Steps.{Event, exchanged, Run}
 use Rattle.model.specs.Bounds.{Bound, next_world, bound_after, bound_of_run}
-use Rattle.tables.specs.declared.Store.{Store}
 use Rattle.refinement.specs.Left.{From, IsBoundedBy}
 use Rattle.refinement.proofs.Leading.{from_weaker}
 use Rattle.service.specs.declared.ends.End.TheVariants.{InputEnded}
@@ -47,7 +46,7 @@ unread left rest same = subst (λ (bytes : Option (List ℕ)). Consumes left byt
 
 module _ {S : Type 0} (g : Ghosts S) where
   -- a connection leads the store by the steps of its exchanges, or by none
-  converses : (setting : Setting) (talk : Talk) (before after : ℕ) (a b : Store S) (world : World) (served : Served) → (served.end ≡ InputEnded → IsAtEnd talk.rest)
+  converses : (setting : Setting) (talk : Talk) (before after : ℕ) (a b : S) (world : World) (served : Served) → (served.end ≡ InputEnded → IsAtEnd talk.rest)
       → Serves g (call_of setting talk before after) world a b served → Converses g setting talk served a b world
   converses setting talk before after a b world served ended (inl (bytes, read, s)) =
       let events = map exchanged s.exchanges in
@@ -92,6 +91,6 @@ module _ {S : Type 0} (g : Ghosts S) where
       }
 
   -- a talk is a session, by the session theorem
-  pub from_conversed : (setting : Setting) (talk : Talk) (before after : ℕ) (a b : Store S) (served : Served) → (served.end ≡ InputEnded → IsAtEnd talk.rest)
+  pub from_conversed : (setting : Setting) (talk : Talk) (before after : ℕ) (a b : S) (served : Served) → (served.end ≡ InputEnded → IsAtEnd talk.rest)
       → From g a b (λ world. Serves g (call_of setting talk before after) world a b served) → From g a b (λ world. Converses g setting talk served a b world)
   from_conversed setting talk before after a b served ended p = from_weaker g a b _ _ (λ world s. converses setting talk before after a b world served ended s) p

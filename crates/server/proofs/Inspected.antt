@@ -2,14 +2,13 @@
 use Rattle.std.specs.Prelude.{Bool, false, is_some, Option, Some, None, ⊤}
 use Rattle.std.proofs.Common.{◌≡◌, ◌≤◌, ◌+◌, ◌∙◌, inl, inr, ℕ, List, [], Result, Ok, Err, IfOk, IfErr, refl, rules, sym, subst}
 use Rattle.outbox.specs.declared.operator_stream.OperatorStream.{OperatorStream}
-use Rattle.sqlite_trees.specs.declared.store.Store.{Ghosts}
+use Rattle.store.specs.declared.state.State.{Ghosts}
 use Rattle.faults.specs.Statuses.{of_task, status_of_end}
 use Rattle.faults.specs.declared.faults.Fault.{Fault}
 use Rattle.faults.specs.declared.faults.Fault.TheVariants as refusal
 use Rattle.policy.specs.declared.policies.Policy.{Policy}
 use Rattle.model.specs.World.{World}
 use Rattle.model.specs.Steps.{Event}
-use Rattle.tables.specs.declared.Store.{Store}
 use Rattle.refinement.specs.Left.{From, Reads}
 use Rattle.refinement.proofs.Leading.{from_weaker}
 use Rattle.command_line.specs.declared.args.OperatorCommand.{OperatorCommand}
@@ -75,19 +74,19 @@ busy_is (Some waiting) = refl
 
 module _ {S : Type 0} (g : Ghosts S) where
   -- the inspection went on, and why its command ended if it did
-  pub advanced : (a b : Store S) (was is : Inspection) (r : Result Bool Fault) → From g a b (λ _. Spares g a b was is) → (is.damaged ≡ 0 → IfErr r IsInspectionFault)
+  pub advanced : (a b : S) (was is : Inspection) (r : Result Bool Fault) → From g a b (λ _. Spares g a b was is) → (is.damaged ≡ 0 → IfErr r IsInspectionFault)
       → From g a b (λ _. Reads g a b (λ _. ⊤) × (was.damaged ≡ 0 → (is.damaged ≡ 0) × IfErr r IsInspectionFault))
   advanced a b was is r p why = from_weaker g a b _ _ (λ world s. (s.reads, λ none. let clean = s.none ∙ none in (clean, why clean))) p
 
 module _ {M : Type 0} (m : machine.Ghosts M) {S : Type 0} (g : Ghosts S) where
   -- an operator's command, while somebody waits or nobody does
-  pub for_operator : (policy : Policy) (was : Option Waiting) (busy : Bool) (operator : OperatorStream) (outcome : Outcome) (a b : Store S) (u v : M) → busy ≡ is_some was
+  pub for_operator : (policy : Policy) (was : Option Waiting) (busy : Bool) (operator : OperatorStream) (outcome : Outcome) (a b : S) (u v : M) → busy ≡ is_some was
       → From g a b (λ world. Helps m g (IsAnswered policy busy operator outcome) a b u v world) → From g a b (λ world. Helps m g (IsFor policy (operator_in was) (for_caller (Operator operator)) outcome) a b u v world)
   for_operator policy was busy operator outcome a b u v is p =
       subst (λ (x : Bool). From g a b (λ world. Helps m g (IsAnswered policy x operator outcome) a b u v world)) (is ∙ busy_is was) p
 
   -- an operator's command, after which the same one waits as before, or nobody
-  pub serves_kept : (policy : Policy) (was : Option Waiting) (busy : Bool) (operator : OperatorStream) (outcome : Outcome) (a b : Store S) (u v w : M) (count : ℕ) → waiting_after (operator_in was) (for_caller (Operator operator)) outcome ≡ operator_in was
+  pub serves_kept : (policy : Policy) (was : Option Waiting) (busy : Bool) (operator : OperatorStream) (outcome : Outcome) (a b : S) (u v w : M) (count : ℕ) → waiting_after (operator_in was) (for_caller (Operator operator)) outcome ≡ operator_in was
       → m.observed u v (called (Operator operator)) → busy ≡ is_some was → From g a b (λ world. Helps m g (IsAnswered policy busy operator outcome) a b v w world)
       → From g a b (λ world. ServesClean m g policy was was a b u w world count count (policy_after policy outcome) (is_stopped outcome))
   serves_kept policy was busy operator outcome a b u v w count same call is p =
@@ -96,13 +95,13 @@ module _ {M : Type 0} (m : machine.Ghosts M) {S : Type 0} (g : Ghosts S) where
       (serves_one m g policy (operator_in was) (Operator operator) outcome a b u v w count count call (search rules) (for_operator policy was busy operator outcome a b v w is p)))
 
   -- a client's turn
-  pub serves_turn : (policy : Policy) (was : Option Waiting) (client : Client) (a b : Store S) (u v w : M) (before after : ℕ) → m.observed u v (called (from.Client client)) → after ≤ before + first_turn (from.Client client)
+  pub serves_turn : (policy : Policy) (was : Option Waiting) (client : Client) (a b : S) (u v w : M) (before after : ℕ) → m.observed u v (called (from.Client client)) → after ≤ before + first_turn (from.Client client)
       → From g a b (λ world. Helps m g (IsTurn policy client) a b v w world) → From g a b (λ world. ServesClean m g policy was was a b u w world before after policy false)
   serves_turn policy was client a b u v w before after call few p =
       clean_still m g policy policy was false a b u w before after (serves_one m g policy (operator_in was) (from.Client client) Unchanged a b u v w before after call few (from_turn m g policy client a b v w p))
 
   -- an operator whose inspection was begun waits
-  pub serves_begun : (policy : Policy) (was : Option Waiting) (busy : Bool) (operator : OperatorStream) (inspection : Inspection) (unsent : Unsent) (a b : Store S) (u v w : M) (count : ℕ) → m.observed u v (called (Operator operator)) → busy ≡ is_some was
+  pub serves_begun : (policy : Policy) (was : Option Waiting) (busy : Bool) (operator : OperatorStream) (inspection : Inspection) (unsent : Unsent) (a b : S) (u v w : M) (count : ℕ) → m.observed u v (called (Operator operator)) → busy ≡ is_some was
       → From g a b (λ world. Helps m g (IsAnswered policy busy operator (Began inspection)) a b v w world)
       → From g a b (λ world. ServesClean m g policy was (Some (record { stream = operator; inspection = inspection; unsent = unsent })) a b u w world count count policy false)
   serves_begun policy was busy operator inspection unsent a b u v w count call is p =
@@ -115,7 +114,7 @@ module _ {M : Type 0} (m : machine.Ghosts M) {S : Type 0} (g : Ghosts S) where
       }
 
   -- it goes on, or its operator has gone
-  pub goes_still : (a b : Store S) (u v : M) (operator : OperatorStream) (was is : Inspection) (r : Result Bool Fault) (left : Option Waiting) (calls : List Call) → Calls m u calls v → IsSentOn operator left (seen_in calls) → (is.damaged ≡ 0 → IsClean left)
+  pub goes_still : (a b : S) (u v : M) (operator : OperatorStream) (was is : Inspection) (r : Result Bool Fault) (left : Option Waiting) (calls : List Call) → Calls m u calls v → IsSentOn operator left (seen_in calls) → (is.damaged ≡ 0 → IsClean left)
       → From g a b (λ _. Reads g a b (λ _. ⊤) × (was.damaged ≡ 0 → (is.damaged ≡ 0) × IfErr r IsInspectionFault)) → From g a b (λ world. was.damaged ≡ 0 → Helps m g (IsGoneOn operator (operator_in left)) a b u v world × IsClean left)
   goes_still a b u v operator was is r None calls made gone clean p = record {
     honest = p.honest;
@@ -131,7 +130,7 @@ module _ {M : Type 0} (m : machine.Ghosts M) {S : Type 0} (g : Ghosts S) where
   }
 
   -- it has ended, and so has the reply
-  pub goes_no_more : (a b : Store S) (u v : M) (operator : OperatorStream) (was is : Inspection) (r : Result Bool Fault) (ended : Result ⊤ Fault) (calls : List Call) → (IfErr r IsInspectionFault → IfErr ended IsInspectionFault)
+  pub goes_no_more : (a b : S) (u v : M) (operator : OperatorStream) (was is : Inspection) (r : Result Bool Fault) (ended : Result ⊤ Fault) (calls : List Call) → (IfErr r IsInspectionFault → IfErr ended IsInspectionFault)
       → Calls m u calls v → IsReplied operator (status_of_end ended) (seen_in calls) → From g a b (λ _. Reads g a b (λ _. ⊤) × (was.damaged ≡ 0 → (is.damaged ≡ 0) × IfErr r IsInspectionFault))
       → From g a b (λ world. was.damaged ≡ 0 → Helps m g (IsGoneOn operator None) a b u v world × ⊤)
   goes_no_more a b u v operator was is r ended calls same made replied p = record {
@@ -142,7 +141,7 @@ module _ {M : Type 0} (m : machine.Ghosts M) {S : Type 0} (g : Ghosts S) where
   }
 
   -- a command that begins an inspection
-  pub inspection_helps : (policy : Policy) (busy : Bool) (operator : OperatorStream) (purpose : Purpose) (command : OperatorCommand) (input : List ℕ) (ended : Result Outcome Fault) (a b : Store S) (u : M)
+  pub inspection_helps : (policy : Policy) (busy : Bool) (operator : OperatorStream) (purpose : Purpose) (command : OperatorCommand) (input : List ℕ) (ended : Result Outcome Fault) (a b : S) (u : M)
       → ((outcome : Outcome) → IsInspection purpose busy outcome → IsObeyed busy operator command (Ok outcome) []) → IfOk ended (IsInspection purpose busy) → Reads g a b (λ _. ⊤)
       → From g a b (λ world. Helps m g (HasEndedSo policy busy operator command input ended) a b u u world)
   inspection_helps policy busy operator purpose command input (Ok outcome) a b u obeys is reads = from_read m g _ a b u u [] _ refl reads (λ world. inl (obeys outcome is, refl))

@@ -4,11 +4,10 @@ use Rattle.std.proofs.Common.{None, Option, Some, Result, Ok, Err, IfOk, OnErr, 
 use Rattle.std.proofs.lemmas.Grind.{flat_map-append}
 use Rattle.std.proofs.lemmas.List.{append-nil}
 use Rattle.std.proofs.lemmas.List.Sums.{sum_by-append}
-use Rattle.sqlite_trees.specs.declared.store.Store.{Ghosts}
+use Rattle.store.specs.declared.state.State.{Ghosts}
 use Rattle.policy.specs.declared.policies.Policy.{Policy}
 use Rattle.model.specs.World.{World}
 use Rattle.model.specs.Steps.{Event}
-use Rattle.tables.specs.declared.Store.{Store}
 use Rattle.refinement.specs.Left.{From, Reads}
 use Rattle.refinement.specs.Representation.{Holds}
 use Rattle.refinement.proofs.Leading.{from_weaker, leads_none, reads_lead}
@@ -97,7 +96,7 @@ module _ {M : Type 0} (m : machine.Ghosts M) where
     -- ---- for one caller
 
     -- no call of the store
-    pub from_idle : (IsOwn : World → List Observation → List Event → World → Type 0) (a : Store S) (u v : M) (calls : List Call) → Calls m u calls v → ((world : World) → IsOwn world (seen_in calls) [] world)
+    pub from_idle : (IsOwn : World → List Observation → List Event → World → Type 0) (a : S) (u v : M) (calls : List Call) → Calls m u calls v → ((world : World) → IsOwn world (seen_in calls) [] world)
         → From g a a (λ world. Helps m g IsOwn a a u v world)
     from_idle IsOwn a u v calls made own = record {
       honest = λ k. k;
@@ -113,7 +112,7 @@ module _ {M : Type 0} (m : machine.Ghosts M) where
     }
 
     -- calls of the store that only read, of one that held this world
-    pub helps_read : (IsOwn : World → List Observation → List Event → World → Type 0) (a b : Store S) (u v : M) (calls : List Call) (P : World → Type 0) (world : World) → Holds g a world → Calls m u calls v → Reads g a b P
+    pub helps_read : (IsOwn : World → List Observation → List Event → World → Type 0) (a b : S) (u v : M) (calls : List Call) (P : World → Type 0) (world : World) → Holds g a world → Calls m u calls v → Reads g a b P
         → IsOwn world (seen_in calls) [] world → Helps m g IsOwn a b u v world
     helps_read IsOwn a b u v calls P world h made reads own =
         let lead = reads_lead g a b P world reads h in
@@ -126,18 +125,18 @@ module _ {M : Type 0} (m : machine.Ghosts M) where
         }
 
     -- calls of the store that only read
-    pub from_read : (IsOwn : World → List Observation → List Event → World → Type 0) (a b : Store S) (u v : M) (calls : List Call) (P : World → Type 0) → Calls m u calls v → Reads g a b P
+    pub from_read : (IsOwn : World → List Observation → List Event → World → Type 0) (a b : S) (u v : M) (calls : List Call) (P : World → Type 0) → Calls m u calls v → Reads g a b P
         → ((world : World) → IsOwn world (seen_in calls) [] world) → From g a b (λ world. Helps m g IsOwn a b u v world)
     from_read IsOwn a b u v calls P made reads own = record { honest = reads.same.was_honest; each = λ honest world h. helps_read IsOwn a b u v calls P world h made reads (own world) }
 
     -- calls of the store, whose steps are the caller's
-    pub from_done : (IsOwn : World → List Observation → List Event → World → Type 0) (a b : Store S) (u v : M) (calls : List Call) (P : World → Type 0) → Calls m u calls v
+    pub from_done : (IsOwn : World → List Observation → List Event → World → Type 0) (a b : S) (u v : M) (calls : List Call) (P : World → Type 0) → Calls m u calls v
         → ((world : World) → P world → (done : Works g a b world) × IsOwn world (seen_in calls) (steps_of done.works) done.kept) → From g a b P → From g a b (λ world. Helps m g IsOwn a b u v world)
     from_done IsOwn a b u v calls P made own p =
         from_weaker g a b P _ (λ world d. let done = own world d in record { calls = calls; made = made; done = done.0; own = done.1 }) p
 
     -- calls of the machine before, whose results are not worked with
-    pub from_before : (IsOwn : World → List Observation → List Event → World → Type 0) (a b : Store S) (u v w : M) (calls : List Call) → Calls m u calls v → seen_in calls ≡ []
+    pub from_before : (IsOwn : World → List Observation → List Event → World → Type 0) (a b : S) (u v w : M) (calls : List Call) → Calls m u calls v → seen_in calls ≡ []
         → From g a b (λ world. Helps m g IsOwn a b v w world) → From g a b (λ world. Helps m g IsOwn a b u w world)
     from_before IsOwn a b u v w calls made none p =
         from_weaker g a b _ _
@@ -149,12 +148,12 @@ module _ {M : Type 0} (m : machine.Ghosts M) where
         })
         p
 
-    pub from_own : (P Q : World → List Observation → List Event → World → Type 0) (a b : Store S) (u v : M) → ((world : World) (l : List Observation) (steps : List Event) (kept : World) → P world l steps kept → Q world l steps kept)
+    pub from_own : (P Q : World → List Observation → List Event → World → Type 0) (a b : S) (u v : M) → ((world : World) (l : List Observation) (steps : List Event) (kept : World) → P world l steps kept → Q world l steps kept)
         → From g a b (λ world. Helps m g P a b u v world) → From g a b (λ world. Helps m g Q a b u v world)
     from_own P Q a b u v f p = from_weaker g a b _ _ (λ world h. record { calls = h.calls; made = h.made; done = h.done; own = f world (seen_in h.calls) (steps_of h.done.works) h.done.kept h.own }) p
 
     -- a request was received, its reply begun, it was done, and its reply perhaps ended
-    pub from_served : (policy : Policy) (busy : Bool) (operator : OperatorStream) (body : List ℕ) (ended : Result Outcome Fault) (a b : Store S) (u v w x y : M) (before begin after : List Call)
+    pub from_served : (policy : Policy) (busy : Bool) (operator : OperatorStream) (body : List ℕ) (ended : Result Outcome Fault) (a b : S) (u v w x y : M) (before begin after : List Call)
         → Calls m u before v → IsRead operator body (seen_in before) → Calls m v begin w → IsBegun operator (seen_in begin) → Calls m x after y → IsEnded operator ended (seen_in after)
         → From g a b (λ world. Helps m g (IsRequestDone policy busy operator body ended) a b w x world) → From g a b (λ world. Helps m g (IsAnswered policy busy operator (made_of ended)) a b u y world)
     from_served policy busy operator body ended a b u v w x y before begin after first read started begun last replied p =
@@ -183,7 +182,7 @@ module _ {M : Type 0} (m : machine.Ghosts M) where
     -- ---- a turn
 
     -- the store was tidied, and then there was a talk with the client at the machine's moment
-    pub turn_served : (policy : Policy) (client : sockets.Client) (now : ℕ) (talk : Talk) (served : Served) (a b c : Store S) (u v : M) (calls : List Call) → From g a b (Tidies g a b) → Calls m u calls v
+    pub turn_served : (policy : Policy) (client : sockets.Client) (now : ℕ) (talk : Talk) (served : Served) (a b c : S) (u v : M) (calls : List Call) → From g a b (Tidies g a b) → Calls m u calls v
         → seen_in calls ≡ timed now ∷ talked client talk served ∷ [] → From g b c (λ world. Converses g (setting_of policy now) talk served b c world) → From g a c (λ world. Helps m g (IsTurn policy client) a c u v world)
     turn_served policy client now talk served a b c u v calls p made seen q = record {
       honest = λ k. p.honest (q.honest k);
@@ -204,12 +203,12 @@ module _ {M : Type 0} (m : machine.Ghosts M) where
     }
 
     -- the store was tidied, and no message served
-    pub turn_unserved : (policy : Policy) (client : sockets.Client) (a b : Store S) (u v : M) (calls : List Call) → From g a b (Tidies g a b) → Calls m u calls v → IsMomentAtMost (seen_in calls)
+    pub turn_unserved : (policy : Policy) (client : sockets.Client) (a b : S) (u v : M) (calls : List Call) → From g a b (Tidies g a b) → Calls m u calls v → IsMomentAtMost (seen_in calls)
         → From g a b (λ world. Helps m g (IsTurn policy client) a b u v world)
     turn_unserved policy client a b u v calls p made few = from_weaker g a b _ _ (λ world t. record { calls = calls; made = made; done = t.0; own = inl (t.1, few) }) p
 
     -- a turn leaves the server as it is
-    pub from_turn : (policy : Policy) (client : sockets.Client) (a b : Store S) (u v : M) → From g a b (λ world. Helps m g (IsTurn policy client) a b u v world)
+    pub from_turn : (policy : Policy) (client : sockets.Client) (a b : S) (u v : M) → From g a b (λ world. Helps m g (IsTurn policy client) a b u v world)
         → From g a b (λ world. Helps m g (λ world seen steps kept. IsTurn policy client world seen steps kept × (Unchanged ≡ Unchanged)) a b u v world)
     from_turn policy client a b u v p = from_own (IsTurn policy client) _ a b u v (λ world l steps kept own. (own, refl)) p
 
@@ -237,7 +236,7 @@ module _ {M : Type 0} (m : machine.Ghosts M) where
     stopped_append stopped (job ∷ next ∷ jobs) more p q = (p.0, stopped_append stopped (next ∷ jobs) more p.1 q)
 
     -- one job, after what was observed before it
-    job_served : (policy : Policy) (waiting : Option OperatorStream) (reason : Reason) (outcome : Outcome) (a b : Store S) (u v w : M) (first : List Call) (before after : ℕ) → Calls m u first v → seen_in first ≡ seen_before reason
+    job_served : (policy : Policy) (waiting : Option OperatorStream) (reason : Reason) (outcome : Outcome) (a b : S) (u v w : M) (first : List Call) (before after : ℕ) → Calls m u first v → seen_in first ≡ seen_before reason
         → after ≤ before + turn_in reason → From g a b (λ world. Helps m g (IsFor policy waiting reason outcome) a b v w world)
         → From g a b (λ world. ServesMore m g policy waiting a b u w world before after (policy_after policy outcome) (waiting_after waiting reason outcome) (is_stopped outcome))
     job_served policy waiting reason outcome a b u v w first before after made seen few p =
@@ -262,14 +261,14 @@ module _ {M : Type 0} (m : machine.Ghosts M) where
         p
 
     -- a caller's job
-    pub serves_one : (policy : Policy) (waiting : Option OperatorStream) (caller : Caller) (outcome : Outcome) (a b : Store S) (u v w : M) (before after : ℕ) → m.observed u v (called caller) → after ≤ before + first_turn caller
+    pub serves_one : (policy : Policy) (waiting : Option OperatorStream) (caller : Caller) (outcome : Outcome) (a b : S) (u v w : M) (before after : ℕ) → m.observed u v (called caller) → after ≤ before + first_turn caller
         → From g a b (λ world. Helps m g (IsFor policy waiting (for_caller caller) outcome) a b v w world)
         → From g a b (λ world. ServesMore m g policy waiting a b u w world before after (policy_after policy outcome) (waiting_after waiting (for_caller caller) outcome) (is_stopped outcome))
     serves_one policy waiting caller outcome a b u v w before after call few p =
         job_served policy waiting (for_caller caller) outcome a b u v w (observes (called caller) ∷ []) before after (one_seen u v (called caller) call) refl few p
 
     -- no job
-    pub serves_none : (policy : Policy) (waiting : Option OperatorStream) (a : Store S) (u v : M) (calls : List Call) (count : ℕ) → Calls m u calls v → seen_in calls ≡ []
+    pub serves_none : (policy : Policy) (waiting : Option OperatorStream) (a : S) (u v : M) (calls : List Call) (count : ℕ) → Calls m u calls v → seen_in calls ≡ []
         → From g a a (λ world. ServesMore m g policy waiting a a u v world count count policy waiting false)
     serves_none policy waiting a u v calls count made none = record {
       honest = λ k. k;
@@ -293,7 +292,7 @@ module _ {M : Type 0} (m : machine.Ghosts M) where
     }
 
     -- jobs, and more jobs
-    serves_then : (policy : Policy) (waiting : Option OperatorStream) (a b c : Store S) (u v w : M) (world : World) (jobs more : List Job) (p : Serves m g policy waiting a b u v world jobs)
+    serves_then : (policy : Policy) (waiting : Option OperatorStream) (a b c : S) (u v w : M) (world : World) (jobs more : List Job) (p : Serves m g policy waiting a b u v world jobs)
         → Serves m g (policy_left policy jobs) (waiting_left waiting jobs) b c v w p.done.kept more → Serves m g policy waiting a c u w world (jobs ++ more)
     serves_then policy waiting a b c u v w world jobs more p q = record {
       calls = p.calls ++ q.calls;
@@ -305,7 +304,7 @@ module _ {M : Type 0} (m : machine.Ghosts M) where
       steps = steps_then g a b c world p.done q.done ∙ rw (p.steps, q.steps) (sym (flat_map-append (λ (job : Job). job.steps) jobs more));
     }
 
-    more_then : (policy mid left : Policy) (one two three : Option OperatorStream) (stopped : Bool) (a b c : Store S) (u v w : M) (world : World) (first begun after : ℕ) (p : ServesMore m g policy one a b u v world first begun mid two false)
+    more_then : (policy mid left : Policy) (one two three : Option OperatorStream) (stopped : Bool) (a b c : S) (u v w : M) (world : World) (first begun after : ℕ) (p : ServesMore m g policy one a b u v world first begun mid two false)
         → ServesMore m g mid two b c v w p.serves.done.kept begun after left three stopped → ServesMore m g policy one a c u w world first after left three stopped
     more_then policy mid left one two three stopped a b c u v w world first begun after p q =
         let sum = sum_by-append (λ (job : Job). turn_in job.reason) p.jobs q.jobs in
@@ -321,7 +320,7 @@ module _ {M : Type 0} (m : machine.Ghosts M) where
         }
 
     -- the job of an operator who waits
-    gone_on : (policy : Policy) (waiting : Option OperatorStream) (reason : Reason) (a b : Store S) (u v : M) (world : World) (count : ℕ) {IsOwn : World → List Observation → List Event → World → Type 0} (h : Helps m g IsOwn a b u v world)
+    gone_on : (policy : Policy) (waiting : Option OperatorStream) (reason : Reason) (a b : S) (u v : M) (world : World) (count : ℕ) {IsOwn : World → List Observation → List Event → World → Type 0} (h : Helps m g IsOwn a b u v world)
         → seen_before reason ≡ [] → turn_in reason ≡ 0 → IsFor policy waiting reason Unchanged world (seen_in h.calls) (steps_of h.done.works) h.done.kept
         → ServesMore m g policy waiting a b u v world count count policy (waiting_after waiting reason Unchanged) false
     gone_on policy waiting reason a b u v world count h none turn own =
@@ -345,12 +344,12 @@ module _ {M : Type 0} (m : machine.Ghosts M) where
     -- ---- jobs, while the inspection that somebody waits for finds nothing damaged
 
     -- jobs after which the same one waits, or nobody
-    pub clean_still : (policy left : Policy) (was : Option Waiting) (stopped : Bool) (a b : Store S) (u v : M) (before after : ℕ)
+    pub clean_still : (policy left : Policy) (was : Option Waiting) (stopped : Bool) (a b : S) (u v : M) (before after : ℕ)
         → From g a b (λ world. ServesMore m g policy (operator_in was) a b u v world before after left (operator_in was) stopped) → From g a b (λ world. ServesClean m g policy was was a b u v world before after left stopped)
     clean_still policy left was stopped a b u v before after p = from_weaker g a b _ _ (λ world s clean. (s, clean)) p
 
     -- jobs, and more jobs
-    pub from_serves : (policy mid left : Policy) (one two three : Option Waiting) (stopped : Bool) (a b c : Store S) (u v w : M) (first begun after : ℕ)
+    pub from_serves : (policy mid left : Policy) (one two three : Option Waiting) (stopped : Bool) (a b c : S) (u v w : M) (first begun after : ℕ)
         → From g a b (λ world. ServesClean m g policy one two a b u v world first begun mid false) → From g b c (λ world. ServesClean m g mid two three b c v w world begun after left stopped)
         → From g a c (λ world. ServesClean m g policy one three a c u w world first after left stopped)
     from_serves policy mid left one two three stopped a b c u v w first begun after p q = record {
@@ -362,7 +361,7 @@ module _ {M : Type 0} (m : machine.Ghosts M) where
     }
 
     -- jobs, and then calls of the machine of which nothing was observed
-    pub from_settled : (policy left : Policy) (one two : Option Waiting) (stopped : Bool) (a b : Store S) (u v w : M) (calls : List Call) (first after : ℕ) → Calls m v calls w → seen_in calls ≡ []
+    pub from_settled : (policy left : Policy) (one two : Option Waiting) (stopped : Bool) (a b : S) (u v w : M) (calls : List Call) (first after : ℕ) → Calls m v calls w → seen_in calls ≡ []
         → From g a b (λ world. ServesClean m g policy one two a b u v world first after left stopped) → From g a b (λ world. ServesClean m g policy one two a b u w world first after left stopped)
     from_settled policy left one two stopped a b u v w calls first after more none p =
         from_weaker g a b _ _
@@ -389,7 +388,7 @@ module _ {M : Type 0} (m : machine.Ghosts M) where
         p
 
     -- an inspection that nobody waits for any more, or that goes on
-    pub from_gone_on : (policy : Policy) (was : Waiting) (is : Option Waiting) (a b : Store S) (u v : M) (count : ℕ)
+    pub from_gone_on : (policy : Policy) (was : Waiting) (is : Option Waiting) (a b : S) (u v : M) (count : ℕ)
         → From g a b (λ world. was.inspection.damaged ≡ 0 → Helps m g (IsGoneOn was.stream (operator_in is)) a b u v world × IsClean is)
         → From g a b (λ world. ServesClean m g policy (Some was) is a b u v world count count policy false)
     from_gone_on policy was None a b u v count p = record {
@@ -410,21 +409,21 @@ module _ {M : Type 0} (m : machine.Ghosts M) where
     -- ---- the end of a server
 
     -- a server that an operator has stopped
-    pub from_stopped : (policy left : Policy) (waits : Option Waiting) (most count : ℕ) (operator : OperatorStream) (a b : Store S) (u v : M) → From g a b (λ world. ServesClean m g policy None waits a b u v world 0 count left true)
+    pub from_stopped : (policy left : Policy) (waits : Option Waiting) (most count : ℕ) (operator : OperatorStream) (a b : S) (u v : M) → From g a b (λ world. ServesClean m g policy None waits a b u v world 0 count left true)
         → From g a b (λ world. (jobs : List Job) × Serves m g policy None a b u v world jobs × HasFinished most jobs (Ok (record { connections = count; stopped_by = Some operator })))
     from_stopped policy left waits most count operator a b u v p =
         from_weaker g a b _ _
         (λ world served. let s : ServesMore m g policy None a b u v world 0 count left (operator_in waits) true = (served tt).0 in (s.jobs, s.serves, ((let few = s.few in omega (arith, few)), s.are_stopped, λ none. absurd (cc)))) p
 
     -- a server that has served as many connections as it was to serve
-    pub from_full : (policy left : Policy) (waits : Option Waiting) (most count : ℕ) (a b : Store S) (u v : M) → most ≤ count → From g a b (λ world. ServesClean m g policy None waits a b u v world 0 count left false)
+    pub from_full : (policy left : Policy) (waits : Option Waiting) (most count : ℕ) (a b : S) (u v : M) → most ≤ count → From g a b (λ world. ServesClean m g policy None waits a b u v world 0 count left false)
         → From g a b (λ world. (jobs : List Job) × Serves m g policy None a b u v world jobs × HasFinished most jobs (Ok (record { connections = most; stopped_by = None })))
     from_full policy left waits most count a b u v full p =
         from_weaker g a b _ _
         (λ world served. let s : ServesMore m g policy None a b u v world 0 count left (operator_in waits) false = (served tt).0 in (s.jobs, s.serves, ((let few = s.few in omega (arith, few, full)), s.are_stopped, λ none. refl))) p
 
     -- a server that failed
-    pub from_failed : (policy left : Policy) (waits : Option Waiting) (most count : ℕ) (fault : Fault) (a b : Store S) (u v : M) → From g a b (λ world. ServesClean m g policy None waits a b u v world 0 count left false)
+    pub from_failed : (policy left : Policy) (waits : Option Waiting) (most count : ℕ) (fault : Fault) (a b : S) (u v : M) → From g a b (λ world. ServesClean m g policy None waits a b u v world 0 count left false)
         → From g a b (λ world. (jobs : List Job) × Serves m g policy None a b u v world jobs × HasFinished most jobs (Err fault))
     from_failed policy left waits most count fault a b u v p =
         from_weaker g a b _ _ (λ world served. let s : ServesMore m g policy None a b u v world 0 count left (operator_in waits) false = (served tt).0 in (s.jobs, s.serves, s.are_stopped)) p

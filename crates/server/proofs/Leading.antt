@@ -1,9 +1,8 @@
 -- To what a server leads its store; for proofs in other crates too.
 use Rattle.std.proofs.Common.{List, [], None}
-use Rattle.sqlite_trees.specs.declared.store.Store.{Ghosts}
+use Rattle.store.specs.declared.state.State.{Ghosts}
 use Rattle.policy.specs.declared.policies.Policy.{Policy}
 use Rattle.model.specs.World.{World}
-use Rattle.tables.specs.declared.Store.{Store}
 use Rattle.refinement.specs.Left.{From}
 use Rattle.refinement.proofs.Leading.{leads_none}
 use Rattle.operator.proofs.Working.{still_kept, still_steps, works_still}
@@ -12,7 +11,7 @@ use Rattle.server.specs.Jobs.{Job, Serves, ServesAll}
 
 module _ {S : Type 0} (g : Ghosts S) where
   -- no job
-  pub all_none : (policy : Policy) (a : Store S) → From g a a (λ world. ServesAll g policy a a world)
+  pub all_none : (policy : Policy) (a : S) → From g a a (λ world. ServesAll g policy a a world)
   all_none policy a = record {
     honest = λ k. k;
     each = λ honest world h.
@@ -21,5 +20,5 @@ module _ {S : Type 0} (g : Ghosts S) where
   }
 
   -- the jobs of a server on a machine
-  pub all_jobs : {M : Type 0} (m : machine.Ghosts M) (policy : Policy) (a b : Store S) (u v : M) (world : World) (jobs : List Job) → Serves m g policy None a b u v world jobs → ServesAll g policy a b world
+  pub all_jobs : {M : Type 0} (m : machine.Ghosts M) (policy : Policy) (a b : S) (u v : M) (world : World) (jobs : List Job) → Serves m g policy None a b u v world jobs → ServesAll g policy a b world
   all_jobs m policy a b u v world jobs s = record { jobs = jobs; done = s.done; are_jobs = s.are_jobs; steps = s.steps }

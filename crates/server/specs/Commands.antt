@@ -1,8 +1,7 @@
 -- What is done for an operator: the task of the command that his request names.
 use Rattle.std.specs.Prelude.{◌≡◌, ◌⊎◌, ◌++◌, ℕ, All, Bool, true, false, List, [], ◌∷◌, flat_map, map, length, option_map, Option, Some, None, Result, Ok, Err, IfErr, ⊤}
 use Rattle.outbox.specs.declared.operator_stream.OperatorStream.{OperatorStream}
-use Rattle.sqlite_trees.specs.declared.store.Store.{Ghosts}
-use Rattle.tables.specs.declared.Store.{Store}
+use Rattle.store.specs.declared.state.State.{Ghosts}
 use Rattle.hex.specs.Hex.{encode_lower}
 use Rattle.names.specs.Names.{path_text, repo_text, user_text}
 use Rattle.policy.specs.Values.{policy_view}
@@ -136,7 +135,7 @@ NeedsMore _ = ⊤
 -- ---- what was done
 
 -- a task ended so, and so did its command
-pub record RunsAs {S : Type 0} (g : Ghosts S) (old new : Store S) (world : World) (task : Task) (ended : Result ⊤ Fault) : Type 0 where
+pub record RunsAs {S : Type 0} (g : Ghosts S) (old new : S) (world : World) (task : Task) (ended : Result ⊤ Fault) : Type 0 where
   pub tried : Result ⊤ TaskFault
   pub is : ended ≡ ended_of tried
   pub works : WorksAs g old new world task tried

@@ -1,7 +1,7 @@
 -- What a server does: a list of jobs, each for somebody who called it.
 use Rattle.std.specs.Prelude.{◌≡◌, ◌⊎◌, ◌++◌, ℕ, ◌≤◌, ◌+◌, Bool, true, false, flat_map, is_none, is_some, sum_by, List, [], ◌∷◌, map, Option, Some, None, MatchOption, Result, Ok, Err, if◌then◌else◌, ⊤}
 use Rattle.outbox.specs.declared.operator_stream.OperatorStream.{OperatorStream}
-use Rattle.sqlite_trees.specs.declared.store.Store.{Ghosts}
+use Rattle.store.specs.declared.state.State.{Ghosts}
 use Rattle.policy.specs.declared.policies.Policy.{Policy}
 use Rattle.model.specs.World.{World}
 use Rattle.std.specs.Io.KnownBytes.{Appends, Consumes, IsAtEnd}
@@ -12,7 +12,6 @@ use Rattle.service.specs.Served.{end_seen}
 use Rattle.service.specs.declared.ends.End.TheVariants.{InputEnded}
 use Rattle.service.specs.declared.ends.Served.{Served}
 use Rattle.desk.specs.Asking.{setting_of}
-use Rattle.tables.specs.declared.Store.{Store}
 use Rattle.sockets.specs.declared.client.Client as sockets
 use Rattle.sockets.specs.declared.queue.Caller.{Caller}
 use Rattle.sockets.specs.declared.queue.Caller.TheVariants.{Client, Operator}
@@ -150,16 +149,16 @@ HasFinished most jobs (Err fault) = AreStopped false jobs
 
 module _ {S : Type 0} (g : Ghosts S) where
   -- the talk led the store by the steps of its exchanges
-  pub record Converses (setting : Setting) (talk : Talk) (served : Served) (old new : Store S) (world : World) : Type 0 where
+  pub record Converses (setting : Setting) (talk : Talk) (served : Served) (old new : S) (world : World) : Type 0 where
     pub done : Works g old new world
     pub is : IsTalk setting talk served world (steps_of done.works) done.kept
 
   -- calls that take no step
-  abbrev pub Tidies : (old new : Store S) → World → Type 0
+  abbrev pub Tidies : (old new : S) → World → Type 0
   Tidies old new world = (done : Works g old new world) × (steps_of done.works ≡ [])
 
   -- jobs, one after the other, whoever the callers are
-  pub record ServesAll (policy : Policy) (old new : Store S) (world : World) : Type 0 where
+  pub record ServesAll (policy : Policy) (old new : S) (world : World) : Type 0 where
     pub jobs : List Job
     pub done : Works g old new world
     pub are_jobs : AreJobs policy None world jobs done.kept
@@ -189,7 +188,7 @@ module _ {M : Type 0} (m : machine.Ghosts M) where
 
   module _ {S : Type 0} (g : Ghosts S) where
     -- for one caller: what was observed of the machine, and the steps by which the store was led
-    pub record Helps (IsOwn : World → List Observation → List Event → World → Type 0) (old new : Store S) (was is : M) (world : World) : Type 0 where
+    pub record Helps (IsOwn : World → List Observation → List Event → World → Type 0) (old new : S) (was is : M) (world : World) : Type 0 where
       pub calls : List Call
       pub made : Calls was calls is
       pub done : Works g old new world
@@ -197,7 +196,7 @@ module _ {M : Type 0} (m : machine.Ghosts M) where
 
     -- jobs, one after the other: what was observed of the machine is what was observed for each of them, in this order, and
     -- the steps by which the store was led are theirs
-    pub record Serves (policy : Policy) (waiting : Option OperatorStream) (old new : Store S) (was is : M) (world : World) (jobs : List Job) : Type 0 where
+    pub record Serves (policy : Policy) (waiting : Option OperatorStream) (old new : S) (was is : M) (world : World) (jobs : List Job) : Type 0 where
       pub calls : List Call
       pub made : Calls was calls is
       pub done : Works g old new world
@@ -207,7 +206,7 @@ module _ {M : Type 0} (m : machine.Ghosts M) where
 
     -- jobs were done, and no more connections had a turn than before, and had their first one in these jobs; this is the policy
     -- that they left, who waits after them, and whether the last one stopped the server
-    pub record ServesMore (policy : Policy) (waiting : Option OperatorStream) (old new : Store S) (was is : M) (world : World) (before after : ℕ) (left : Policy) (waits : Option OperatorStream) (stopped : Bool) : Type 0 where
+    pub record ServesMore (policy : Policy) (waiting : Option OperatorStream) (old new : S) (was is : M) (world : World) (before after : ℕ) (left : Policy) (waits : Option OperatorStream) (stopped : Bool) : Type 0 where
       pub jobs : List Job
       pub serves : Serves policy waiting old new was is world jobs
       pub few : after ≤ before + connections jobs
@@ -216,6 +215,6 @@ module _ {M : Type 0} (m : machine.Ghosts M) where
       pub are_stopped : AreStopped stopped jobs
 
     -- the same, if nothing was found damaged before by the inspection that somebody waits for; and nothing was since
-    abbrev pub ServesClean : Policy → (was is : Option Waiting) → (old new : Store S) → (u v : M) → World → (before after : ℕ) → (left : Policy) → Bool → Type 0
+    abbrev pub ServesClean : Policy → (was is : Option Waiting) → (old new : S) → (u v : M) → World → (before after : ℕ) → (left : Policy) → Bool → Type 0
     ServesClean policy was is old new u v world before after left stopped =
         IsClean was → ServesMore policy (operator_in was) old new u v world before after left (operator_in is) stopped × IsClean is

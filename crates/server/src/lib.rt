@@ -1,7 +1,7 @@
 //! A server over an open store: what it does for the clients and the operators who call it.
 //!
-//! [`Server::run`] serves whoever a [`Machine`](machine::Machine) returns: the message of a client, or the command of an operator. Its
-//! contract says what it does for each of them, and that it does nothing else.
+//! [`Server::run`] serves whoever a [`Machine`](machine::Machine) returns: the message of a client, or the command of an
+//! operator. Its contract says what it does for each of them, and that it does nothing else.
 #![tactic(auto)]
 
 mod foreseeing;

@@ -26,7 +26,8 @@ use policy::{Policy, Repo};
 use std::alloc::Global;
 use std::io::Write;
 use std::time::{Clock, Instant};
-use tables::{Alter, Store, StoreFault};
+use store::Store;
+use tables::StoreFault;
 
 /// What the command of an operator is run with.
 #[derive(Clone, Copy)]
@@ -98,8 +99,8 @@ fn moment_of<M: Machine>(machine: &mut M, given: Option<Moment>) -> Result<Momen
 }
 
 /// What the repository stores.
-fn stored_in<'r, S: Alter>(store: &mut Store<S>, repo: &'r Repo) -> Result<Stored<'r>, StoreFault>
-    ensures { Reads S.Store store.old store.new (λ world.
+fn stored_in<'r, S: Store>(store: &mut S, repo: &'r Repo) -> Result<Stored<'r>, StoreFault>
+    ensures { Reads S.State store.old store.new (λ world.
         IfOk result (IsStored world (repo_view repo.entry.now).name)) }
 {
     let used = uploads::used(store, repo.name())?;
@@ -113,14 +114,14 @@ fn stored_in<'r, S: Alter>(store: &mut Store<S>, repo: &'r Repo) -> Result<Store
 
 impl OperatorContext<'_> {
     /// Runs a task over the server's store. The program that prints the reply escapes what it prints on a terminal.
-    fn work<S: Alter, K: Sink>(
+    fn work<S: Store, K: Sink>(
         &self,
-        store: &mut Store<S>,
+        store: &mut S,
         task: &Task<'_>,
         output: &mut K,
     ) -> Result<(), Fault>
-        ensures done { From S.Store store.old store.new (λ world.
-            RunsAs S.Store store.old store.new world task.now result) }
+        ensures done { From S.State store.old store.new (λ world.
+            RunsAs S.State store.old store.new world task.now result) }
         ensures good { OnOk result (K.failed output.new ≡ K.failed output.old) }
     {
         task.run(self.alloc, store, Destination::Other, output)?;
@@ -128,15 +129,15 @@ impl OperatorContext<'_> {
     }
 
     /// Issues a token by the server's policy.
-    fn issue<S: Alter, M: Machine, K: Sink>(
+    fn issue<S: Store, M: Machine, K: Sink>(
         &self,
-        store: &mut Store<S>,
+        store: &mut S,
         machine: &mut M,
         asked: &TokenArgs<'_>,
         output: &mut K,
     ) -> Result<(), Fault>
-        ensures done { (input : List ℕ) → From S.Store store.old store.new (λ world.
-            Helps M.Machine S.Store (IsDone self.now.policy.now (Authenticate asked.entry.now) input result)
+        ensures done { (input : List ℕ) → From S.State store.old store.new (λ world.
+            Helps M.Machine S.State (IsDone self.now.policy.now (Authenticate asked.entry.now) input result)
             store.old store.new machine.old machine.new world) }
         ensures good { OnOk result (K.failed output.new ≡ K.failed output.old) }
     {
@@ -150,16 +151,16 @@ impl OperatorContext<'_> {
     }
 
     /// Foresees a reply by the server's policy.
-    fn foresee<S: Alter, M: Machine, K: Sink>(
+    fn foresee<S: Store, M: Machine, K: Sink>(
         &self,
-        store: &mut Store<S>,
+        store: &mut S,
         machine: &mut M,
         asked: &ForeseeArgs,
         input: &[u8],
         output: &mut K,
     ) -> Result<(), Fault>
-        ensures done { From S.Store store.old store.new (λ world.
-            Helps M.Machine S.Store (IsDone self.now.policy.now (Foresee asked.entry.now) input.now result)
+        ensures done { From S.State store.old store.new (λ world.
+            Helps M.Machine S.State (IsDone self.now.policy.now (Foresee asked.entry.now) input.now result)
             store.old store.new machine.old machine.new world) }
         ensures good { OnOk result (K.failed output.new ≡ K.failed output.old) }
     {
@@ -169,16 +170,16 @@ impl OperatorContext<'_> {
     }
 
     /// Runs a command over the server's store.
-    fn run<S: Alter, M: Machine, K: Sink>(
+    fn run<S: Store, M: Machine, K: Sink>(
         &self,
-        store: &mut Store<S>,
+        store: &mut S,
         machine: &mut M,
         command: &OperatorCommand<'_>,
         input: &[u8],
         output: &mut K,
     ) -> Result<(), Fault>
-        ensures done { From S.Store store.old store.new (λ world.
-            Helps M.Machine S.Store (IsDone self.now.policy.now command.now input.now result)
+        ensures done { From S.State store.old store.new (λ world.
+            Helps M.Machine S.State (IsDone self.now.policy.now command.now input.now result)
             store.old store.new machine.old machine.new world) }
         ensures good { OnOk result (K.failed output.new ≡ K.failed output.old) }
     {
@@ -259,8 +260,8 @@ impl OperatorContext<'_> {
     }
 
     /// What the repositories of the policy store, in their order.
-    fn stored<S: Alter>(&self, store: &mut Store<S>) -> Result<Vec<Stored<'_>>, Fault>
-        ensures { Reads S.Store store.old store.new (λ world. IfOk result (λ all.
+    fn stored<S: Store>(&self, store: &mut S) -> Result<Vec<Stored<'_>>, Fault>
+        ensures { Reads S.State store.old store.new (λ world. IfOk result (λ all.
             AllStored world (policy_view self.now.policy.now).repos all.items)) }
     {
         let mut all = Vec::new(self.alloc);
@@ -277,14 +278,14 @@ impl OperatorContext<'_> {
     /// # Errors
     ///
     /// `Store`, `Memory` and `Output`.
-    fn print_status<S: Alter, M: Machine, K: Sink>(
+    fn print_status<S: Store, M: Machine, K: Sink>(
         &self,
-        store: &mut Store<S>,
+        store: &mut S,
         machine: &mut M,
         output: &mut K,
     ) -> Result<Outcome, Fault>
-        ensures done { (input : List ℕ) → From S.Store store.old store.new (λ world.
-            Helps M.Machine S.Store (HasEndedSo self.now.policy.now self.now.is_busy
+        ensures done { (input : List ℕ) → From S.State store.old store.new (λ world.
+            Helps M.Machine S.State (HasEndedSo self.now.policy.now self.now.is_busy
             self.now.stream.now GetStatus input result)
             store.old store.new machine.old machine.new world) }
         ensures good { OnOk result (K.failed output.new ≡ K.failed output.old) }
@@ -301,8 +302,8 @@ impl OperatorContext<'_> {
     /// # Errors
     ///
     /// `Busy` if an operator waits for another one; `Store` and `Memory`.
-    fn inspect<S: Alter>(&self, store: &mut Store<S>, purpose: Purpose) -> Result<Outcome, Fault>
-        ensures reads { Reads S.Store store.old store.new (λ _. ⊤) }
+    fn inspect<S: Store>(&self, store: &mut S, purpose: Purpose) -> Result<Outcome, Fault>
+        ensures reads { Reads S.State store.old store.new (λ _. ⊤) }
         ensures ok { IfOk result (λ outcome. IsInspection purpose self.now.is_busy outcome) }
     {
         if self.is_busy {
@@ -313,16 +314,16 @@ impl OperatorContext<'_> {
     }
 
     /// Obeys a command for the server itself, or runs a command over the server's store.
-    fn obey<S: Alter, M: Machine>(
+    fn obey<S: Store, M: Machine>(
         &self,
-        store: &mut Store<S>,
+        store: &mut S,
         machine: &mut M,
         command: &OperatorCommand<'_>,
         input: &[u8],
         output: &mut Pieces,
     ) -> Result<Outcome, Fault>
-        ensures done { From S.Store store.old store.new (λ world.
-            Helps M.Machine S.Store (HasEndedSo self.now.policy.now self.now.is_busy
+        ensures done { From S.State store.old store.new (λ world.
+            Helps M.Machine S.State (HasEndedSo self.now.policy.now self.now.is_busy
             self.now.stream.now command.now input.now result)
             store.old store.new machine.old machine.new world) }
         ensures good { OnOk result (output.new.failures ≡ output.old.failures) }
@@ -342,15 +343,15 @@ impl OperatorContext<'_> {
     }
 
     /// Runs the command of a request.
-    fn answer<S: Alter, M: Machine>(
+    fn answer<S: Store, M: Machine>(
         &self,
-        store: &mut Store<S>,
+        store: &mut S,
         machine: &mut M,
         body: &[u8],
         output: &mut Pieces,
     ) -> Result<Outcome, Fault>
-        ensures done { From S.Store store.old store.new (λ world.
-            Helps M.Machine S.Store (IsRequestDone self.now.policy.now self.now.is_busy
+        ensures done { From S.State store.old store.new (λ world.
+            Helps M.Machine S.State (IsRequestDone self.now.policy.now self.now.is_busy
             self.now.stream.now body.now result)
             store.old store.new machine.old machine.new world) }
         ensures good { OnOk result (output.new.failures ≡ output.old.failures) }
@@ -401,15 +402,15 @@ impl OperatorContext<'_> {
     ///
     /// `Operator` if the request did not arrive in time or is too long, or the reply could not be begun, and `Memory`.
     /// They leave the store. A reply that could not be ended is reported.
-    pub fn serve<S: Alter, M: Machine, C: Clock, E: Write>(
+    pub fn serve<S: Store, M: Machine, C: Clock, E: Write>(
         &self,
-        store: &mut Store<S>,
+        store: &mut S,
         machine: &mut M,
         clock: &C,
         errors: &mut E,
     ) -> Result<Outcome, Fault>
-        ensures { From S.Store store.old store.new (λ world.
-            Helps M.Machine S.Store (IsAnswered self.now.policy.now self.now.is_busy
+        ensures { From S.State store.old store.new (λ world.
+            Helps M.Machine S.State (IsAnswered self.now.policy.now self.now.is_busy
             self.now.stream.now (made_of result))
             store.old store.new machine.old machine.new world) }
     {

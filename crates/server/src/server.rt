@@ -22,7 +22,7 @@ use sockets::{Caller, Client, Ended};
 use std::alloc::Global;
 use std::io::{self, Write};
 use std::time::{Clock, Duration, Instant};
-use tables::{Storage, Store};
+use store::Store;
 
 /// What a server serves with.
 #[derive(Drop)]
@@ -184,9 +184,9 @@ impl<C: Clock> Server<'_, C> {
 
     /// Removes what failed uploads left in the store, if there may be any. Returns whether there still may be: the store
     /// refused.
-    fn sweep_if<S: Storage>(&self, store: &mut Store<S>, unswept: bool) -> bool
-        ensures { From S.Store store.old store.new (λ world.
-            Tidies S.Store store.old store.new world) }
+    fn sweep_if<S: Store>(&self, store: &mut S, unswept: bool) -> bool
+        ensures { From S.State store.old store.new (λ world.
+            Tidies S.State store.old store.new world) }
     {
         unswept && uploads::sweep(self.alloc, store).is_err()
     }
@@ -197,17 +197,17 @@ impl<C: Clock> Server<'_, C> {
     /// # Errors
     ///
     /// `Clock`.
-    fn serve_turn<S: Storage, M: Machine>(
+    fn serve_turn<S: Store, M: Machine>(
         &self,
-        store: &mut Store<S>,
+        store: &mut S,
         machine: &mut M,
         policy: &Policy,
         mut client: Client,
         number: u64,
         tally: &mut Tally,
     ) -> Result<Option<End>, Fault>
-        ensures { From S.Store store.old store.new (λ world.
-            Helps M.Machine S.Store (IsTurn policy.now client)
+        ensures { From S.State store.old store.new (λ world.
+            Helps M.Machine S.State (IsTurn policy.now client)
             store.old store.new machine.old machine.new world) }
     {
         tally.unswept = self.sweep_if(store, tally.unswept);
@@ -236,15 +236,15 @@ impl<C: Clock> Server<'_, C> {
     /// # Errors
     ///
     /// `Clock`.
-    fn serve_client<S: Storage, M: Machine, E: Write>(
+    fn serve_client<S: Store, M: Machine, E: Write>(
         &self,
-        store: &mut Store<S>,
+        store: &mut S,
         machine: &mut M,
         client: Client,
         state: &mut State<'_, E>,
     ) -> Result<(), Fault>
-        ensures world { From S.Store store.old store.new (λ world.
-            Helps M.Machine S.Store (IsTurn state.old.policy client)
+        ensures world { From S.State store.old store.new (λ world.
+            Helps M.Machine S.State (IsTurn state.old.policy client)
             store.old store.new machine.old machine.new world) }
         ensures begun { state.new.begun ≤ state.old.begun + first_turn (Caller.Client client) }
         ensures most { state.new.most ≡ state.old.most }
@@ -260,16 +260,16 @@ impl<C: Clock> Server<'_, C> {
     }
 
     /// Answers an operator, and reports if that failed. Returns what becomes of the server.
-    fn serve_operator<S: Storage, M: Machine, E: Write>(
+    fn serve_operator<S: Store, M: Machine, E: Write>(
         &self,
-        store: &mut Store<S>,
+        store: &mut S,
         machine: &mut M,
         stream: &OperatorStream,
         state: &mut State<'_, E>,
         is_busy: bool,
     ) -> Outcome
-        ensures world { From S.Store store.old store.new (λ world.
-            Helps M.Machine S.Store (IsAnswered state.old.policy is_busy stream.now result)
+        ensures world { From S.State store.old store.new (λ world.
+            Helps M.Machine S.State (IsAnswered state.old.policy is_busy stream.now result)
             store.old store.new machine.old machine.new world) }
         ensures begun { state.new.begun ≡ state.old.begun }
         ensures most { state.new.most ≡ state.old.most }
@@ -300,15 +300,15 @@ impl<C: Clock> Server<'_, C> {
     /// # Errors
     ///
     /// `Network` if no connection could be accepted, and `Clock`.
-    fn serve_next<S: Storage, M: Machine, E: Write>(
+    fn serve_next<S: Store, M: Machine, E: Write>(
         &self,
-        store: &mut Store<S>,
+        store: &mut S,
         machine: &mut M,
         state: &mut State<'_, E>,
         waiting: &mut Option<Waiting>,
     ) -> Result<Option<OperatorStream>, Fault>
-        ensures world { From S.Store store.old store.new (λ world.
-            ServesClean M.Machine S.Store state.old.policy waiting.old waiting.new
+        ensures world { From S.State store.old store.new (λ world.
+            ServesClean M.Machine S.State state.old.policy waiting.old waiting.new
             store.old store.new machine.old machine.new world
             state.old.begun state.new.begun state.new.policy (has_stopped result)) }
         ensures most { state.new.most ≡ state.old.most }
@@ -347,15 +347,15 @@ impl<C: Clock> Server<'_, C> {
     }
 
     /// Goes on with the inspection that an operator waits for, if there is one.
-    fn go_on<S: Storage, M: Machine, E: Write>(
+    fn go_on<S: Store, M: Machine, E: Write>(
         &self,
-        store: &mut Store<S>,
+        store: &mut S,
         machine: &mut M,
         state: &mut State<'_, E>,
         waiting: &mut Option<Waiting>,
     )
-        ensures world { From S.Store store.old store.new (λ world.
-            ServesClean M.Machine S.Store state.old.policy waiting.old waiting.new
+        ensures world { From S.State store.old store.new (λ world.
+            ServesClean M.Machine S.State state.old.policy waiting.old waiting.new
             store.old store.new machine.old machine.new world
             state.old.begun state.new.begun state.new.policy false) }
         ensures most { state.new.most ≡ state.old.most }
@@ -371,15 +371,15 @@ impl<C: Clock> Server<'_, C> {
     /// # Errors
     ///
     /// Those of [`run`](Server::run).
-    fn serve_all<S: Storage, M: Machine, E: Write>(
+    fn serve_all<S: Store, M: Machine, E: Write>(
         &self,
-        store: &mut Store<S>,
+        store: &mut S,
         machine: &mut M,
         state: &mut State<'_, E>,
     ) -> Result<Finish, Fault>
         requires { state.now.begun ≡ 0 }
-        ensures { From S.Store store.old store.new (λ world. (jobs : List Job)
-            × Serves M.Machine S.Store state.old.policy None store.old store.new machine.old machine.new world jobs
+        ensures { From S.State store.old store.new (λ world. (jobs : List Job)
+            × Serves M.Machine S.State state.old.policy None store.old store.new machine.old machine.new world jobs
             × HasFinished state.old.most jobs result) }
     {
         let mut waiting = None;
@@ -412,16 +412,16 @@ impl<C: Clock> Server<'_, C> {
     /// # Errors
     ///
     /// `Network` if no connection could be accepted, and `Clock`: what was answered before remains valid.
-    pub fn run<S: Storage, M: Machine, E: Write>(
+    pub fn run<S: Store, M: Machine, E: Write>(
         &self,
-        store: &mut Store<S>,
+        store: &mut S,
         machine: &mut M,
         policy: Policy,
         most: u64,
         errors: &mut E,
     ) -> Result<Finish, Fault>
-        ensures { From S.Store store.old store.new (λ world. (jobs : List Job)
-            × Serves M.Machine S.Store policy None store.old store.new machine.old machine.new world jobs
+        ensures { From S.State store.old store.new (λ world. (jobs : List Job)
+            × Serves M.Machine S.State policy None store.old store.new machine.old machine.new world jobs
             × HasFinished most jobs result) }
     {
         let mut state = State {

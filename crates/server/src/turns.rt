@@ -8,7 +8,7 @@ use names::{Moment, Sink, Source};
 use policy::Policy;
 use service::{Routes, Served};
 use std::alloc::Global;
-use tables::{Storage, Store};
+use store::Store;
 
 /// Serves the message of a client, by a policy and at a moment.
 #[derive(Clone, Copy)]
@@ -23,9 +23,9 @@ impl Conversation for TurnContext<'_> {
     ghost leads = { λ context g talk served old new world.
         Converses g (setting_of context.policy.now context.now) talk served old new world };
 
-    fn hold<S: Storage, R: Source, K: Sink>(
+    fn hold<S: Store, R: Source, K: Sink>(
         &self,
-        store: &mut Store<S>,
+        store: &mut S,
         source: &mut R,
         sink: &mut K,
     ) -> Served {

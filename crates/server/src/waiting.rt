@@ -13,7 +13,7 @@ use operator::{Advance, Inspection, print};
 use outbox::{OperatorStream, Unsent};
 use std::alloc::Global;
 use std::io::Write;
-use tables::{Alter, Store};
+use store::Store;
 
 /// An operator who waits for the rest of an inspection.
 #[derive(Drop)]
@@ -25,13 +25,13 @@ pub(crate) struct Waiting {
 }
 
 /// Goes on with an inspection, and adds what it prints to the pieces, and how far it is. Returns whether it is done.
-fn advance<S: Alter>(
+fn advance<S: Store>(
     alloc: Global,
-    store: &mut Store<S>,
+    store: &mut S,
     inspection: &mut Inspection,
     pieces: &mut Pieces,
 ) -> Result<bool, Fault>
-    ensures world { From S.Store store.old store.new (λ _. Reads S.Store store.old store.new (λ _. ⊤)
+    ensures world { From S.State store.old store.new (λ _. Reads S.State store.old store.new (λ _. ⊤)
         × (inspection.old.damaged ≡ 0
         → (inspection.new.damaged ≡ 0) × IfErr result IsInspectionFault)) }
     ensures rows { inspection.new.rows ≡ inspection.old.rows }
@@ -78,15 +78,15 @@ fn send_on<M: Machine, E: Write>(
 impl Waiting {
     /// Goes on with the inspection: about 1 MiB, or 64 objects. If it has ended, so does the reply, and nobody waits; and
     /// nobody waits if the operator has gone.
-    pub(crate) fn go_on<S: Alter, M: Machine, E: Write>(
+    pub(crate) fn go_on<S: Store, M: Machine, E: Write>(
         self,
         alloc: Global,
-        store: &mut Store<S>,
+        store: &mut S,
         machine: &mut M,
         errors: &mut E,
     ) -> Option<Waiting>
-        ensures { From S.Store store.old store.new (λ world. self.inspection.damaged ≡ 0
-            → Helps M.Machine S.Store (IsGoneOn self.stream (operator_in result))
+        ensures { From S.State store.old store.new (λ world. self.inspection.damaged ≡ 0
+            → Helps M.Machine S.State (IsGoneOn self.stream (operator_in result))
             store.old store.new machine.old machine.new world × IsClean result) }
     {
         let Waiting {

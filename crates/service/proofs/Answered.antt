@@ -1,6 +1,6 @@
 -- A reply is sent.
-use Rattle.service.proofs.Prelude.{◌≡◌, ◌∙◌, ℕ, Bool, true, false, List, [], ◌++◌, MatchBool, Option, Some, None, is_some, option_map, sym, ap, ap₂, subst, Appends, Ghosts, World, Setting, Answer, is_store_refusal, bound_after, Exchange, exchanged, closes, closes_if, allow, reply_text, text_of, text_if, BeginsWith, IsBeginning, Store, leads_then, leads_still, BreaksOff, IsEarly, IsFirst, IsIncomplete, IsResponse, IsSent, EndsReply, IsTurn, ClosesTurn, EndsTurn, End, Response, is_refused}
-use Rattle.tables.specs.Shown.{Moves, AddsNothing}
+use Rattle.service.proofs.Prelude.{◌≡◌, ◌∙◌, ℕ, Bool, true, false, List, [], ◌++◌, MatchBool, Option, Some, None, is_some, option_map, sym, ap, ap₂, subst, Appends, Ghosts, World, Setting, Answer, is_store_refusal, bound_after, Exchange, exchanged, closes, closes_if, allow, reply_text, text_of, text_if, BeginsWith, IsBeginning, leads_then, leads_still, BreaksOff, IsEarly, IsFirst, IsIncomplete, IsResponse, IsSent, EndsReply, IsTurn, ClosesTurn, EndsTurn, End, Response, is_refused}
+use Rattle.store.specs.Shown.{Moves, AddsNothing}
 use Rattle.service.specs.declared.ends.End.TheVariants.{InputEnded, Closed, StoreRefused, ReadFailed, WriteFailed, StoreFailed}
 use Rattle.desk.proofs.Told.{refused_is}
 use Rattle.service.proofs.Responses.{begins_now}
@@ -14,7 +14,7 @@ text_is e given methods close is named shut =
 
 -- ---- a response that was sent
 
-module _ {S : Type 0} (g : Ghosts S) (setting : Setting) (bytes next : List ℕ) (world : World) (old mid new : Store S) (was is : Option (List ℕ)) where
+module _ {S : Type 0} (g : Ghosts S) (setting : Setting) (bytes next : List ℕ) (world : World) (old mid new : S) (was is : Option (List ℕ)) where
   -- what begins the bytes, after which the connection closes or goes on
   closed_at : (e : Exchange) (close : Bool) → close ≡ true → MatchBool close ((rest : List ℕ) × BeginsWith bytes e.asked rest) (IsFirst bytes e next) → (rest : List ℕ) × BeginsWith bytes e.asked rest
   closed_at e close shut begins = rw shut at begins
@@ -79,7 +79,7 @@ module _ {S : Type 0} (g : Ghosts S) (setting : Setting) (bytes next : List ℕ)
   sent r (Some InputEnded) a same adds shut s = absurd s
   sent r (Some ReadFailed) a same adds shut s = absurd s
 
-module _ {S : Type 0} (g : Ghosts S) (setting : Setting) (bytes next : List ℕ) (world : World) (old new : Store S) (was is : Option (List ℕ)) where
+module _ {S : Type 0} (g : Ghosts S) (setting : Setting) (bytes next : List ℕ) (world : World) (old new : S) (was is : Option (List ℕ)) where
   -- a message that is not whole is not answered
   pub unanswered : (how : End) → IsEarly how → is ≡ was → IsIncomplete g setting bytes world old new → EndsTurn g setting bytes next world old new was is (Some how)
   unanswered InputEnded early same left = (left, same)

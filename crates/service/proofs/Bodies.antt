@@ -1,5 +1,5 @@
 -- A message whose body is read before the answer, or by it.
-use Rattle.service.proofs.Prelude.{◌≡◌, ◌∙◌, ◌+◌, ◌<◌, ◌≤◌, ℕ, Bool, true, false, List, [], ◌++◌, length, Result, Ok, Err, refl, sym, ap, subst, arith, nil_from_length, Consumes, IsAtEnd, Ghosts, RequestHead, last_moment, BodyFault, World, IsPolicy, body_length, content_length, Setting, desk_plan, BeginsWithHead, waiting, source_of, body_left, HandsOut, Hands, by_none, by_read, by_both, Store, is_put, request_seen, IsAnsweredAs, IsSettled, RepoRequest, Asks, IsRequestOf, target_asked, Responds, Asked, Response, ap₂, not, ◌&&◌, ◌||◌, ◌>>=◌, is_err, is_ok, Option, Bor, RepoName, Rule, Request, Reply, Plan, Denial, is_upload_of, IsReadFrom, AnswersBy, verdict_by, OnOk, RespondsWith, leaves_body, is_refused}
+use Rattle.service.proofs.Prelude.{◌≡◌, ◌∙◌, ◌+◌, ◌<◌, ◌≤◌, ℕ, Bool, true, false, List, [], ◌++◌, length, Result, Ok, Err, refl, sym, ap, subst, arith, nil_from_length, Consumes, IsAtEnd, Ghosts, RequestHead, last_moment, BodyFault, World, IsPolicy, body_length, content_length, Setting, desk_plan, BeginsWithHead, waiting, source_of, body_left, HandsOut, Hands, by_none, by_read, by_both, is_put, request_seen, IsAnsweredAs, IsSettled, RepoRequest, Asks, IsRequestOf, target_asked, Responds, Asked, Response, ap₂, not, ◌&&◌, ◌||◌, ◌>>=◌, is_err, is_ok, Option, Bor, RepoName, Rule, Request, Reply, Plan, Denial, is_upload_of, IsReadFrom, AnswersBy, verdict_by, OnOk, RespondsWith, leaves_body, is_refused}
 use Rattle.std.proofs.lemmas.Bool.{true≢false}
 use Rattle.std.specs.Result.{IfErr}
 use Rattle.std.proofs.Common.{IsErrAnd}
@@ -75,7 +75,7 @@ module _ {R : Type 0} {s : source.Ghosts R} (o m n : Conn R s) where
           read_out stays.1 (not_not reply.body_read unread) (reads_upload a body q request has_read made ∙ ap₂ (λ (u : Bool) (y : Result Request Rule). u && is_ok y) put is)
       at false none x is = ap (λ (c : Conn R s). body_left c) (settled (reads_upload a body q request has_read made ∙ ap (λ (u : Bool). u && is_ok q) none)) ∙ whole none
 
-  module _ {S : Type 0} (g : Ghosts S) (setting : Setting) (in_range : IsPolicy setting.policy) (at : setting.now ≤ last_moment) (world : World) (old new : Store S)
+  module _ {S : Type 0} (g : Ghosts S) (setting : Setting) (in_range : IsPolicy setting.policy) (at : setting.now ≤ last_moment) (world : World) (old new : S)
       (a : Asked) (body : List ℕ) (q : Result Request Rule) (request : RepoRequest) (has_read : IsReadFrom a body q) (made : IsRequestOf a q request) (repo : Option (Bor RepoName))
       (part : List ℕ) (hands : HandsOut o m part) (same : part ≡ body) (upload : is_put a.form ≡ true → (body ≡ []) × (m ≡ o)) (whole : is_put a.form ≡ false → body_left m ≡ 0)
       (more : List ℕ) (moves : Hands m n more) (sum : length more + body_left n ≡ body_left m)

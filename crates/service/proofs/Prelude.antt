@@ -41,14 +41,13 @@ pub use Rattle.service.specs.declared.ends.Served.{Served}
 pub use Rattle.service.specs.declared.judging.Denied.{Denied}
 pub use Rattle.service.specs.declared.message.Asked.{Asked}
 pub use Rattle.service.specs.declared.responding.Response.{Response}
-pub use Rattle.sqlite_trees.specs.declared.store.Store.{Ghosts}
+pub use Rattle.store.specs.declared.state.State.{Ghosts}
 pub use Rattle.std.proofs.Common.{All, Bool, Bor, Err, List, MatchBool, None, Ok, OnOk, Option, Result, Some, [], add-zero, ap, append-nil, append_assoc, ap₂, arith, bytes_eq, codes, cond, drop, false, get_or, inl, inr, is_err, is_ok, is_some, length, length-append, lit<, lit≤, map, nat_le, not, option_map, refl, replicate, rules, subst, suc, sym, take, true, ℕ, ◌&&◌, ◌++◌, ◌+◌, ◌<◌, ◌||◌, ◌∙◌, ◌∷◌, ◌≡◌, ◌≤◌, ◌⊎◌}
 pub use Rattle.std.proofs.KnownBytes.{Consumes-nil, Consumes-trans}
 pub use Rattle.std.proofs.lemmas.List.{drop_all, drop_at, length-replicate, length-take-le, map-append, nil_from_length, take-append-drop, take_all, take_at}
 pub use Rattle.std.proofs.lemmas.Result.{IfErr-at_err, err_from_is_err_and}
 pub use Rattle.std.specs.Bool.{⊤}
 pub use Rattle.std.specs.Io.KnownBytes.{Appends, Consumes, IsAtEnd}
-pub use Rattle.tables.specs.declared.Store.{Store}
 pub use Rattle.tables.specs.declared.fault.StoreFault.{StoreFault}
 pub use Rattle.wire.proofs.Appended.{appends_both}
 pub use Rattle.wire.proofs.Streams.{head_more, moves_none}

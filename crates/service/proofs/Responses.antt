@@ -1,5 +1,5 @@
 -- The response to a message, by what the desk answered.
-use Rattle.service.proofs.Prelude.{◌≡◌, ◌∙◌, ◌+◌, ◌<◌, ◌≤◌, ℕ, Bool, true, false, not, ◌&&◌, ◌||◌, nat_le, List, [], ◌++◌, length, take, drop, replicate, codes, MatchBool, Option, Some, None, Result, Ok, Err, is_err, is_ok, refl, sym, ap, ap₂, subst, arith, append-nil, length-append, bytes_eq, length-replicate, length-take-le, IfErr-at_err, ⊤, Ghosts, RequestHead, last_moment, BodyFault, World, Object, name_of, IsPolicy, ◌>>=◌, Form, Target, head_verdict, query_of, asks_close, is_method, body_length, Setting, Answer, Denial, Plan, receives, by_rule, by_row, by_lock, is_rule, is_store_refusal, store_refusal, verdict, desk_plan, desk_request, early_check, early_verdict, Message, Exchange, exchanged, Carries, verdict_on, by_verdict, by_refusal, denial_alone, message, is_early, is_of_head, is_h7, is_denial, is_x2, is_sure, denies_put, closes, closes_after, allow, after, BeginsWith, BeginsWithHead, message_with, unchanged, failed, left_by, answer_ending, bound_after, Store, Leads, Keeps, ends_still, ends_reported, denial_changes_none, is_put, IsAnsweredAs, IsSettled, verdict_by, IsReplyOf, Asks, IsRefused, target_asked, whole_message, IsFirst, IsIncomplete, IsResponse, IsTurn, Responds, exchange, less_than_body, Asked, Response, head_more, Bor, cond, IsThere, AnswersBy, is_refused, RespondsWith, leaves_body, Request, RepoName, Rule, rule_seen, OnOk}
+use Rattle.service.proofs.Prelude.{◌≡◌, ◌∙◌, ◌+◌, ◌<◌, ◌≤◌, ℕ, Bool, true, false, not, ◌&&◌, ◌||◌, nat_le, List, [], ◌++◌, length, take, drop, replicate, codes, MatchBool, Option, Some, None, Result, Ok, Err, is_err, is_ok, refl, sym, ap, ap₂, subst, arith, append-nil, length-append, bytes_eq, length-replicate, length-take-le, IfErr-at_err, ⊤, Ghosts, RequestHead, last_moment, BodyFault, World, Object, name_of, IsPolicy, ◌>>=◌, Form, Target, head_verdict, query_of, asks_close, is_method, body_length, Setting, Answer, Denial, Plan, receives, by_rule, by_row, by_lock, is_rule, is_store_refusal, store_refusal, verdict, desk_plan, desk_request, early_check, early_verdict, Message, Exchange, exchanged, Carries, verdict_on, by_verdict, by_refusal, denial_alone, message, is_early, is_of_head, is_h7, is_denial, is_x2, is_sure, denies_put, closes, closes_after, allow, after, BeginsWith, BeginsWithHead, message_with, unchanged, failed, left_by, answer_ending, bound_after, Leads, Keeps, ends_still, ends_reported, denial_changes_none, is_put, IsAnsweredAs, IsSettled, verdict_by, IsReplyOf, Asks, IsRefused, target_asked, whole_message, IsFirst, IsIncomplete, IsResponse, IsTurn, Responds, exchange, less_than_body, Asked, Response, head_more, Bor, cond, IsThere, AnswersBy, is_refused, RespondsWith, leaves_body, Request, RepoName, Rule, rule_seen, OnOk}
 use Rattle.std.proofs.lemmas.Bool.{leb-false, leb-true, true≢false}
 use Rattle.std.proofs.Math.Seq.{take-append-add}
 use Rattle.std.specs.Result.{IfErr}
@@ -194,7 +194,7 @@ last_true : (v : Bool) → (v || true) ≡ true
 last_true true = refl
 last_true false = refl
 
-module _ {S : Type 0} (g : Ghosts S) (setting : Setting) (in_range : IsPolicy setting.policy) (at : setting.now ≤ last_moment) (world : World) (old new : Store S) where
+module _ {S : Type 0} (g : Ghosts S) (setting : Setting) (in_range : IsPolicy setting.policy) (at : setting.now ≤ last_moment) (world : World) (old new : S) where
   -- the exchange that carries out an answer to a message at the front of some bytes
   turn_by : (bytes rest : List ℕ) (asked : Message) (given : Option Answer) (kept : World) → BeginsWith bytes asked rest → Carries world (exchange setting asked given) kept
       → Leads g old new kept (bound_after world (exchanged (exchange setting asked given))) → IsTurn g setting world old new (exchange setting asked given) kept
@@ -330,7 +330,7 @@ err_of : (plan : Result Plan Denial) → is_err plan ≡ true → (d : Denial) �
 err_of (Ok p) is = absurd (true≢false (sym is))
 err_of (Err d) is = (d, refl)
 
-module _ {S : Type 0} (g : Ghosts S) (setting : Setting) (in_range : IsPolicy setting.policy) (at : setting.now ≤ last_moment) (world : World) (old new : Store S)
+module _ {S : Type 0} (g : Ghosts S) (setting : Setting) (in_range : IsPolicy setting.policy) (at : setting.now ≤ last_moment) (world : World) (old new : S)
     (bytes after_head read part waits : List ℕ) (left : ℕ) (h : RequestHead) (a : Asked) (is : Asks h a) (begins : BeginsWithHead bytes h after_head)
     (order : after_head ++ read ≡ part ++ waits) (size : length part + left ≡ body_length h) (put : is_put a.form ≡ true)
     (plan : Result Plan Denial) (planned : plan ≡ plan_made world setting h a []) where

@@ -1,5 +1,5 @@
 -- The text of a reply, written in two parts: its front, and the content of an object.
-use Rattle.service.proofs.Prelude.{◌≡◌, ◌⊎◌, inl, inr, ◌∙◌, ◌+◌, ◌<◌, ◌≤◌, ℕ, Bool, List, [], ◌++◌, length, take, Option, None, Result, Ok, Err, OnOk, refl, sym, ap, subst, append-nil, arith, Appends, take_all, IsBeginning, Object, Answer, offers, serves, stores, confirms, makes_lock, lists, splits, releases, reply_of, reply_text, head_lines, type_line, body_size, body_text, appends_both, Ghosts, Store, StoreFault, front_text, Writes, EndsContent, BreaksOff, Sends, ap₂, Some, Bor, RepoName, repo_text, World, object_named, IsThere, body_seen}
+use Rattle.service.proofs.Prelude.{◌≡◌, ◌⊎◌, inl, inr, ◌∙◌, ◌+◌, ◌<◌, ◌≤◌, ℕ, Bool, List, [], ◌++◌, length, take, Option, None, Result, Ok, Err, OnOk, refl, sym, ap, subst, append-nil, arith, Appends, take_all, IsBeginning, Object, Answer, offers, serves, stores, confirms, makes_lock, lists, splits, releases, reply_of, reply_text, head_lines, type_line, body_size, body_text, appends_both, Ghosts, StoreFault, front_text, Writes, EndsContent, BreaksOff, Sends, ap₂, Some, Bor, RepoName, repo_text, World, object_named, IsThere, body_seen}
 use Rattle.std.proofs.Common.{IfErr}
 use Rattle.std.proofs.Math.Numerals.{lt_of_le_of_ne}
 use Rattle.model.specs.Replies as model
@@ -111,7 +111,7 @@ content_ended bytes written size was is (Err OfStore) same within took ends = (w
 content_ended bytes written size was is (Err Sink) same within took ends = absurd ends
 
 -- the bytes of the object that was found are the content of the reply
-pub found_sent : {S T : Type 0} (g : Ghosts S) (store : Store S) (world : World) (repo : Bor RepoName) (body : ReplyBody) (name : List ℕ) (size : ℕ) (row : ObjectRow) (given : Answer) (was is : Option (List ℕ)) (r : Result T SendFault)
+pub found_sent : {S T : Type 0} (g : Ghosts S) (store : S) (world : World) (repo : Bor RepoName) (body : ReplyBody) (name : List ℕ) (size : ℕ) (row : ObjectRow) (given : Answer) (was is : Option (List ℕ)) (r : Result T SendFault)
     → body ≡ Content name size → body_seen body ≡ (reply_of given).body → IsThere world (Some repo) given → Finds g world store (repo_text repo.now) name (Some row)
     → ((bytes : List ℕ) → Stores g store (upload_number row.id) bytes → row.size ≡ length bytes → Writes bytes was is r) → Writes (content_of given) was is r
 found_sent g store world repo body name size row given was is r content_is shows there found wrote =

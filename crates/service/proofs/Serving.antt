@@ -1,5 +1,5 @@
 -- A connection, message by message.
-use Rattle.service.proofs.Prelude.{◌≡◌, ◌∙◌, ◌+◌, ◌<◌, ℕ, suc, Bool, true, false, List, [], ◌∷◌, ◌++◌, length, take, drop, get_or, map, Option, Some, None, Ok, is_some, option_map, refl, sym, ap, ap₂, subst, append-nil, append_assoc, add-zero, take-append-drop, map-append, Appends, Consumes, Ghosts, World, Object, Setting, Answer, serves, is_store_refusal, reply_of, head_text, Message, message, bad_head, Exchange, Event, exchanged, Run, allow, closes, closes_if, BeginsWith, IsUnfinished, bound_of_run, Session, IsSession, IsWritten, IsPartOf, BreaksInContent, session_text, text_of, text_if, reply_count, appends_both, Store, Holds, Leads, leads_none, run_takes, IsEarly, IsTurn, IsIncomplete, less_than_head, less_than_body, ClosesTurn, EndsTurn, IsServing, IsServed, IsRefusal, IsUnserved, IsLeftOpen, HasNoBadHead, LastRefused, IsClosedAs, closing, end_seen, End, Served}
+use Rattle.service.proofs.Prelude.{◌≡◌, ◌∙◌, ◌+◌, ◌<◌, ℕ, suc, Bool, true, false, List, [], ◌∷◌, ◌++◌, length, take, drop, get_or, map, Option, Some, None, Ok, is_some, option_map, refl, sym, ap, ap₂, subst, append-nil, append_assoc, add-zero, take-append-drop, map-append, Appends, Consumes, Ghosts, World, Object, Setting, Answer, serves, is_store_refusal, reply_of, head_text, Message, message, bad_head, Exchange, Event, exchanged, Run, allow, closes, closes_if, BeginsWith, IsUnfinished, bound_of_run, Session, IsSession, IsWritten, IsPartOf, BreaksInContent, session_text, text_of, text_if, reply_count, appends_both, Holds, Leads, leads_none, run_takes, IsEarly, IsTurn, IsIncomplete, less_than_head, less_than_body, ClosesTurn, EndsTurn, IsServing, IsServed, IsRefusal, IsUnserved, IsLeftOpen, HasNoBadHead, LastRefused, IsClosedAs, closing, end_seen, End, Served}
 use Rattle.std.proofs.Math.Seq.{drop-cons}
 use Rattle.model.specs.Progress.{IsProgress, fresh, with_exchange}
 use Rattle.model.specs.Views.{SameViews}
@@ -141,7 +141,7 @@ content_breaks before e o n is less bytes written answered whole =
 -- ---- a session so far, and one more turn
 
 module _ {S : Type 0} (g : Ghosts S) (setting : Setting) (world : World) (was : Option (List ℕ)) where
-  pub begins : (waits : List ℕ) (store : Store S) → waits ≡ [] → Holds g store world → IsServing g setting [] waits world store store was was 0
+  pub begins : (waits : List ℕ) (store : S) → waits ≡ [] → Holds g store world → IsServing g setting [] waits world store store was was 0
   begins waits store none holds = record {
     exchanges = [];
     written = [];
@@ -151,7 +151,7 @@ module _ {S : Type 0} (g : Ghosts S) (setting : Setting) (world : World) (was : 
     leads = leads_none g store world holds;
   }
 
-  module _ (bytes waits read next : List ℕ) (old mid new : Store S) (is more_is : Option (List ℕ)) (answered : ℕ) (s : IsServing g setting bytes waits world old mid was is answered) where
+  module _ (bytes waits read next : List ℕ) (old mid new : S) (is more_is : Option (List ℕ)) (answered : ℕ) (s : IsServing g setting bytes waits world old mid was is answered) where
     -- the session so far, if it has read these bytes
     abbrev so_far : List ℕ → List Exchange → List ℕ → ℕ → Session
     so_far all exchanges written answered =
@@ -315,7 +315,7 @@ module _ {S : Type 0} (g : Ghosts S) (setting : Setting) (world : World) (was : 
     ends end.StoreFailed turn = none_more end.StoreFailed (fails turn)
 
 -- there was no memory for the connection
-pub unserved : {S : Type 0} (g : Ghosts S) (setting : Setting) (world : World) (store : Store S) (was is : Option (List ℕ)) (served : Served) → IsRefusal was is served → Holds g store world
+pub unserved : {S : Type 0} (g : Ghosts S) (setting : Setting) (world : World) (store : S) (was is : Option (List ℕ)) (served : Served) → IsRefusal was is served → Holds g store world
     → IsUnserved g setting world store store was is served
 unserved g setting world store was is served r holds = record {
   written = r.written;

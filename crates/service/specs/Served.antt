@@ -2,7 +2,7 @@
 use Rattle.std.specs.Prelude.{◌≡◌, ◌≢◌, ◌⊎◌, ℕ, Bool, true, false, List, [], ◌∷◌, ◌++◌, map, Option, Some, option_map, ⊤}
 use Rattle.std.specs.Io.KnownBytes.{Appends, Consumes}
 use Rattle.httparse.specs.Grammar.{MayBecomeRequest}
-use Rattle.sqlite_trees.specs.declared.store.Store.{Ghosts}
+use Rattle.store.specs.declared.state.State.{Ghosts}
 use Rattle.names.specs.Streams.{HasGrown}
 use Rattle.model.specs.World.{World}
 use Rattle.model.specs.Cases.{Setting}
@@ -14,7 +14,6 @@ use Rattle.model.specs.Progress.{IsProgress, LeadsTo}
 use Rattle.model.specs.Views.{SameViews}
 use Rattle.model.specs.Bounds.{bound_of_run}
 use Rattle.model.specs.Laws.{NoneAsks}
-use Rattle.tables.specs.declared.Store.{Store}
 use Rattle.refinement.specs.Left.{Leads}
 use Rattle.service.specs.declared.ends.End.{End}
 use Rattle.service.specs.declared.ends.End.TheVariants.{InputEnded, Closed, StoreRefused, ReadFailed, WriteFailed, StoreFailed}
@@ -61,7 +60,7 @@ IsClosedAs exchanges StoreFailed = ⊤
 -- any run that ends in the old world can be continued by them, and views of other repositories do not change
 pub record IsServed
     {S : Type 0} (g : Ghosts S) (setting : Setting) (bytes : List ℕ) (world : World)
-    (old new : Store S) (was is : Option (List ℕ)) (served : Served) : Type 0 where
+    (old new : S) (was is : Option (List ℕ)) (served : Served) : Type 0 where
   pub exchanges : List Exchange
   pub written : List ℕ
   pub kept : World
@@ -91,7 +90,7 @@ pub record IsRefusal (was is : Option (List ℕ)) (served : Served) : Type 0 whe
 
 -- a session that wrote only the store refusal and changed nothing; the end does not say that another reply was written
 pub record IsUnserved
-    {S : Type 0} (g : Ghosts S) (setting : Setting) (world : World) (old new : Store S)
+    {S : Type 0} (g : Ghosts S) (setting : Setting) (world : World) (old new : S)
     (was is : Option (List ℕ)) (served : Served) : Type 0 where
   pub written : List ℕ
   pub session : IsUnread (unread_session setting written served.answered) (end_seen served.end) world world
@@ -114,7 +113,7 @@ pub record Call : Type 0 where
 
 -- the connection was served the bytes that the source returned; or nothing was read, and no read failed, the store refusal
 -- was written, and nothing changed, as happens if there is no memory for the connection
-abbrev pub Serves : {S : Type 0} (g : Ghosts S) → Call → World → (old new : Store S) → Served → Type 0
+abbrev pub Serves : {S : Type 0} (g : Ghosts S) → Call → World → (old new : S) → Served → Type 0
 Serves g call world old new served =
     ((bytes : List ℕ) × Consumes call.left call.rest bytes
     × IsServed g call.setting bytes world old new call.was call.is served)
@@ -138,7 +137,7 @@ closing _ = 0
 -- were read
 pub record IsServing
     {S : Type 0} (g : Ghosts S) (setting : Setting) (bytes waits : List ℕ) (world : World)
-    (old new : Store S) (was is : Option (List ℕ)) (answered : ℕ) : Type 0 where
+    (old new : S) (was is : Option (List ℕ)) (answered : ℕ) : Type 0 where
   pub exchanges : List Exchange
   pub written : List ℕ
   pub kept : World

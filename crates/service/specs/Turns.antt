@@ -2,7 +2,7 @@
 use Rattle.std.specs.Prelude.{◌≡◌, ℕ, Bool, true, false, List, [], ◌++◌, Option, Some, None, is_some, option_map, MatchBool, Result, Ok, Err, ⊤}
 use Rattle.std.specs.Io.KnownBytes.{Appends}
 use Rattle.httparse.specs.Grammar.{MayBecomeRequest}
-use Rattle.sqlite_trees.specs.declared.store.Store.{Ghosts}
+use Rattle.store.specs.declared.state.State.{Ghosts}
 use Rattle.names.specs.Streams.{HasGrown, IsBeginning}
 use Rattle.model.specs.World.{World}
 use Rattle.model.specs.Cases.{Setting}
@@ -11,7 +11,6 @@ use Rattle.model.specs.Steps.{Message, Exchange, exchanged, allow, closes}
 use Rattle.model.specs.Stream.{BeginsWith, IsUnfinished}
 use Rattle.model.specs.Replies.{reply_text}
 use Rattle.model.specs.Sessions.{text_of}
-use Rattle.tables.specs.declared.Store.{Store}
 use Rattle.refinement.specs.Left.{Leads, Takes}
 use Rattle.desk.specs.Replies.{IsReplyOf}
 use Rattle.service.specs.Sending.{BreaksOff, IsThere}
@@ -29,7 +28,7 @@ IsFirst bytes e next = (more : List ℕ) → BeginsWith (bytes ++ more) e.asked 
 
 -- an exchange under this setting that led the store from one world to another
 pub record IsTurn
-    {S : Type 0} (g : Ghosts S) (setting : Setting) (world : World) (old new : Store S) (e : Exchange) (kept : World) : Type 0 where
+    {S : Type 0} (g : Ghosts S) (setting : Setting) (world : World) (old new : S) (e : Exchange) (kept : World) : Type 0 where
   pub under : e.setting ≡ setting
   pub takes : Takes g old new world (exchanged e) kept
 
@@ -38,7 +37,7 @@ pub record IsTurn
 -- the bytes begin with the message that the response answers, and an object that the reply sends is there; the next bytes
 -- follow the message if the connection stays open
 pub record IsResponse
-    {S : Type 0} (g : Ghosts S) (setting : Setting) (bytes next : List ℕ) (world : World) (old new : Store S) (r : Response) : Type 0 where
+    {S : Type 0} (g : Ghosts S) (setting : Setting) (bytes next : List ℕ) (world : World) (old new : S) (r : Response) : Type 0 where
   pub e : Exchange
   pub kept : World
   pub turn : IsTurn g setting world old new e kept
@@ -52,7 +51,7 @@ pub record IsResponse
 
 -- the bytes hold no complete message: less than a head, or a head with less than its body, which is not answered
 pub data IsIncomplete
-    {S : Type 0} (g : Ghosts S) (setting : Setting) (bytes : List ℕ) (world : World) (old new : Store S) : Type 0 where
+    {S : Type 0} (g : Ghosts S) (setting : Setting) (bytes : List ℕ) (world : World) (old new : S) : Type 0 where
   less_than_head :
       IsUnfinished bytes → MayBecomeRequest bytes → Leads g old new world (λ bound. bound)
       → IsIncomplete g setting bytes world old new
@@ -62,7 +61,7 @@ pub data IsIncomplete
 
 -- the bytes that were read complete a message, which the response answers; or the input ended or failed within it
 abbrev pub Responds :
-    {S E : Type 0} (g : Ghosts S) → Setting → List ℕ → List ℕ → World → Store S → Store S → Result Response E → Type 0
+    {S E : Type 0} (g : Ghosts S) → Setting → List ℕ → List ℕ → World → S → S → Result Response E → Type 0
 Responds g setting bytes next world old new (Ok r) = IsResponse g setting bytes next world old new r
 Responds g setting bytes next world old new (Err end) = IsIncomplete g setting bytes world old new
 
@@ -99,7 +98,7 @@ IsCounted old new _ = new ≡ old
 
 -- the message at the front of the bytes was answered, by a store refusal or another reply, and the connection closed
 abbrev pub ClosesTurn :
-    {S : Type 0} (g : Ghosts S) → Setting → List ℕ → World → (old new : Store S)
+    {S : Type 0} (g : Ghosts S) → Setting → List ℕ → World → (old new : S)
     → Option (List ℕ) → Option (List ℕ) → (refused : Bool) → Type 0
 ClosesTurn g setting bytes world old new was is refused =
     (e : Exchange) × (kept : World) × IsTurn g setting world old new e kept × ((rest : List ℕ) × BeginsWith bytes e.asked rest)
@@ -109,7 +108,7 @@ ClosesTurn g setting bytes world old new was is refused =
 -- next bytes or ends; or only a part of the reply was written, since a write or the store failed; or the bytes hold no
 -- complete message, and nothing is written
 abbrev pub EndsTurn :
-    {S : Type 0} (g : Ghosts S) → Setting → (bytes next : List ℕ) → World → (old new : Store S)
+    {S : Type 0} (g : Ghosts S) → Setting → (bytes next : List ℕ) → World → (old new : S)
     → Option (List ℕ) → Option (List ℕ) → Option End → Type 0
 EndsTurn g setting bytes next world old new was is None =
     (e : Exchange) × (kept : World) × IsTurn g setting world old new e kept × IsFirst bytes e next

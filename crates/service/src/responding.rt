@@ -32,7 +32,7 @@ use model::Form;
 use names::{ALLOW_LIMIT, BodyFault, RepoName, Rule, Source};
 use policy::Policy;
 use std::alloc::Global;
-use tables::{Alter, Store};
+use store::Store;
 use wire::{Conn, Inflow, Stop, WholeFault};
 
 /// A reply, and how it is sent.
@@ -159,9 +159,9 @@ fn named<'a>(policy: &'a Policy, repo: &str) -> Option<&'a RepoName>
 /// # Errors
 ///
 /// The body's fault, if the input ended or failed within it. Nothing is answered then, and nothing changes.
-fn answer_asked<'a, S: Alter, R: Source + Drop>(
+fn answer_asked<'a, S: Store, R: Source + Drop>(
     alloc: Global,
-    store: &mut Store<S>,
+    store: &mut S,
     setting: &Setting<'a>,
     asked: &Asked,
     inflow: &mut Inflow<'_, R>,
@@ -177,12 +177,12 @@ fn answer_asked<'a, S: Alter, R: Source + Drop>(
     ensures fault { result ≡ Err BodyFault.Device
         → HasGrown (R.failed (source_of inflow.old.conn.now))
         (R.failed (source_of inflow.new.conn.now)) }
-    ensures turn { From S.Store store.old store.new (λ world. (bytes : List ℕ) (h : RequestHead)
+    ensures turn { From S.State store.old store.new (λ world. (bytes : List ℕ) (h : RequestHead)
         → BeginsWithHead bytes h (waiting inflow.old.conn.now)
         → body_left inflow.old.conn.now ≡ content_length h → Asks h asked.entry.now
         → (read : List ℕ)
         × Consumes (R.left (source_of inflow.old.conn.now)) (R.left (source_of inflow.new.conn.now)) read
-        × Responds S.Store (setting_of setting.entry.now.policy.now setting.entry.now.now)
+        × Responds S.State (setting_of setting.entry.now.policy.now setting.entry.now.now)
         (bytes ++ read) (waiting inflow.new.conn.now) world store.old store.new result) }
 {
     let body = match body_before(alloc, asked.form, inflow) {
@@ -205,9 +205,9 @@ fn answer_asked<'a, S: Alter, R: Source + Drop>(
 ///
 /// The body's fault, if the input ended or failed within it. Nothing is answered then, and nothing
 /// changes.
-fn respond<'a, S: Alter, R: Source + Drop>(
+fn respond<'a, S: Store, R: Source + Drop>(
     alloc: Global,
-    store: &mut Store<S>,
+    store: &mut S,
     setting: &Setting<'a>,
     inflow: &mut Inflow<'_, R>,
 ) -> Result<Response<'a>, BodyFault>
@@ -223,12 +223,12 @@ fn respond<'a, S: Alter, R: Source + Drop>(
     ensures fault { result ≡ Err BodyFault.Device
         → HasGrown (R.failed (source_of inflow.old.conn.now))
         (R.failed (source_of inflow.new.conn.now)) }
-    ensures turn { From S.Store store.old store.new (λ world. (bytes : List ℕ) (h : RequestHead)
+    ensures turn { From S.State store.old store.new (λ world. (bytes : List ℕ) (h : RequestHead)
         → IsAt inflow.old.conn.now h → BeginsWithHead bytes h (waiting inflow.old.conn.now)
         → body_left inflow.old.conn.now ≡ content_length h
         → (read : List ℕ)
         × Consumes (R.left (source_of inflow.old.conn.now)) (R.left (source_of inflow.new.conn.now)) read
-        × Responds S.Store (setting_of setting.entry.now.policy.now setting.entry.now.now)
+        × Responds S.State (setting_of setting.entry.now.policy.now setting.entry.now.now)
         (bytes ++ read) (waiting inflow.new.conn.now) world store.old store.new result) }
 {
     match read_head(alloc, setting.routes, &inflow.head()) {
@@ -244,9 +244,9 @@ fn respond<'a, S: Alter, R: Source + Drop>(
 ///
 /// `InputEnded` or `ReadFailed`, if no whole message is left. Nothing is answered then, and nothing
 /// changes.
-pub(crate) fn next_response<'a, S: Alter, R: Source + Drop>(
+pub(crate) fn next_response<'a, S: Store, R: Source + Drop>(
     alloc: Global,
-    store: &mut Store<S>,
+    store: &mut S,
     setting: &Setting<'a>,
     conn: &mut Conn<R>,
 ) -> Result<Response<'a>, End>
@@ -261,9 +261,9 @@ pub(crate) fn next_response<'a, S: Alter, R: Source + Drop>(
         → HasGrown (R.failed (source_of conn.old)) (R.failed (source_of conn.new)) }
     ensures no_fault { result ≢ Err End.ReadFailed
         → R.failed (source_of conn.new) ≡ R.failed (source_of conn.old) }
-    ensures turn { From S.Store store.old store.new (λ world. (read : List ℕ)
+    ensures turn { From S.State store.old store.new (λ world. (read : List ℕ)
         × Consumes (R.left (source_of conn.old)) (R.left (source_of conn.new)) read
-        × Responds S.Store (setting_of setting.entry.now.policy.now setting.entry.now.now)
+        × Responds S.State (setting_of setting.entry.now.policy.now setting.entry.now.now)
         (waiting conn.old ++ read) (waiting conn.new) world store.old store.new result) }
 {
     match conn.next_head() {

@@ -17,7 +17,8 @@ use crate::responding::Response;
 use chunks::{PourCause, pour};
 use desk::{Reply, ReplyBody};
 use names::{ALLOW_LIMIT, RepoName, Sink, WriteFault};
-use tables::{Alter, ObjectRow, Store};
+use store::Store;
+use tables::ObjectRow;
 use uploads::find;
 use wire::{Content, ReplyHead, write_reply};
 
@@ -116,13 +117,13 @@ fn expect_whole(written: u64, size: u64) -> Result<(), SendFault>
 }
 
 /// Writes the content of an object that was found.
-fn send_object<S: Alter, K: Sink>(
-    store: &mut Store<S>,
+fn send_object<S: Store, K: Sink>(
+    store: &mut S,
     sink: &mut K,
     row: &ObjectRow,
 ) -> Result<(), SendFault>
-    ensures content { Reads S.Store store.old store.new (λ _. (bytes : List ℕ)
-        → Stores S.Store store.old (upload_number row.now.id) bytes → row.now.size ≡ length bytes
+    ensures content { Reads S.State store.old store.new (λ _. (bytes : List ℕ)
+        → Stores S.State store.old (upload_number row.now.id) bytes → row.now.size ≡ length bytes
         → Writes bytes (K.taken sink.old) (K.taken sink.new) result) }
     ensures good { result ≢ Err SendFault.Sink → K.failed sink.new ≡ K.failed sink.old }
     ensures fault { result ≡ Err SendFault.Sink → HasGrown (K.failed sink.old) (K.failed sink.new) }
@@ -137,13 +138,13 @@ fn send_object<S: Alter, K: Sink>(
 }
 
 /// Writes the content of an object of the repository, if the body is one.
-fn send_content<S: Alter, K: Sink>(
-    store: &mut Store<S>,
+fn send_content<S: Store, K: Sink>(
+    store: &mut S,
     repo: Option<&RepoName>,
     sink: &mut K,
     body: &ReplyBody,
 ) -> Result<(), SendFault>
-    ensures content { Reads S.Store store.old store.new (λ world. (given : Answer)
+    ensures content { Reads S.State store.old store.new (λ world. (given : Answer)
         → body_seen body.now ≡ (reply_of given).body → IsThere world repo.entry given
         → Writes (content_of given) (K.taken sink.old) (K.taken sink.new) result) }
     ensures good { result ≢ Err SendFault.Sink → K.failed sink.new ≡ K.failed sink.old }
@@ -168,13 +169,13 @@ fn send_content<S: Alter, K: Sink>(
 ///
 /// `Sink` at the first failed write: the sink took a prefix of the text. `Store` if the store failed within
 /// the content of an object: the sink took the head and a prefix of the content, not all of it.
-pub(crate) fn send<S: Alter, K: Sink>(
-    store: &mut Store<S>,
+pub(crate) fn send<S: Store, K: Sink>(
+    store: &mut S,
     sink: &mut K,
     response: &Response<'_>,
 ) -> Result<(), SendFault>
     requires { length response.now.allow.now ≤ ALLOW_LIMIT }
-    ensures sends { Reads S.Store store.old store.new (λ world. (given : Answer)
+    ensures sends { Reads S.State store.old store.new (λ world. (given : Answer)
         → IsReplyOf response.now.reply given → IsThere world response.now.repo given
         → Sends given response.now.allow.now response.now.close (K.taken sink.old) (K.taken sink.new) result) }
     ensures good { result ≢ Err SendFault.Sink → K.failed sink.new ≡ K.failed sink.old }

@@ -19,13 +19,13 @@ use names::{Moment, Sink, Source};
 use policy::Policy;
 use routes::Routes;
 use std::alloc::Global;
-use tables::{Alter, Store};
+use store::Store;
 use wire::Conn;
 
 /// Answers the messages of the connection in order, up to its end or to a reply that closes it.
-fn answer_all<S: Alter, R: Source + Drop, K: Sink>(
+fn answer_all<S: Store, R: Source + Drop, K: Sink>(
     alloc: Global,
-    store: &mut Store<S>,
+    store: &mut S,
     setting: &Setting<'_>,
     conn: &mut Conn<R>,
     sink: &mut K,
@@ -39,9 +39,9 @@ fn answer_all<S: Alter, R: Source + Drop, K: Sink>(
     ensures no_fault { result.end ≢ End.ReadFailed
         → R.failed (source_of conn.new) ≡ R.failed (source_of conn.old) }
     ensures counted { IsCountedAs (K.failed sink.old) (K.failed sink.new) result.end }
-    ensures served { From S.Store store.old store.new (λ world. (bytes : List ℕ)
+    ensures served { From S.State store.old store.new (λ world. (bytes : List ℕ)
         × Consumes (R.left (source_of conn.old)) (R.left (source_of conn.new)) bytes
-        × IsServed S.Store (setting_of setting.entry.now.policy.now setting.entry.now.now) bytes world
+        × IsServed S.State (setting_of setting.entry.now.policy.now setting.entry.now.now) bytes world
         store.old store.new (K.taken sink.old) (K.taken sink.new) result) }
 {
     let mut answered = 0;
@@ -100,16 +100,16 @@ fn refuse_all<K: Sink>(sink: &mut K) -> Served
 /// world with that change is left. A user's view of a repository changes only if a message asks about
 /// that repository. A repository within its quota then has at most its quota and one largest object in the database,
 /// also in what a stop leaves.
-pub fn serve<S: Alter, R: Source, K: Sink>(
+pub fn serve<S: Store, R: Source, K: Sink>(
     alloc: Global,
-    store: &mut Store<S>,
+    store: &mut S,
     policy: &Policy,
     routes: &Routes,
     now: Moment,
     source: &mut R,
     sink: &mut K,
 ) -> Served
-    ensures session { From S.Store store.old store.new (λ world. Serves S.Store
+    ensures session { From S.State store.old store.new (λ world. Serves S.State
         (record {
           setting = setting_of policy.entry.now now;
           left = R.left source.old;
@@ -119,8 +119,8 @@ pub fn serve<S: Alter, R: Source, K: Sink>(
           was = K.taken sink.old;
           is = K.taken sink.new;
         }) world store.old store.new result) }
-    ensures bounded { From S.Store store.old store.new
-        (StaysWithin S.Store store.old store.new (policy_view policy.entry.now)) }
+    ensures bounded { From S.State store.old store.new
+        (StaysWithin S.State store.old store.new (policy_view policy.entry.now)) }
     ensures input_ended { result.end ≡ End.InputEnded → IsAtEnd (R.left source.new) }
     ensures no_fault { result.end ≢ End.ReadFailed → R.failed source.new ≡ R.failed source.old }
     ensures read_failed { result.end ≡ End.ReadFailed

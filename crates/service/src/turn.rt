@@ -20,7 +20,7 @@ use names::{ALLOW_LIMIT, Moment, Sink, Source};
 use policy::Policy;
 use routes::Routes;
 use std::alloc::Global;
-use tables::{Alter, Store};
+use store::Store;
 use wire::Conn;
 
 /// What serves a connection: the policy, the routes, and the moment at which it came.
@@ -33,13 +33,9 @@ pub(crate) struct Setting<'a> {
 }
 
 /// Writes the response. Returns why the connection ends after it; `None` if it goes on.
-fn deliver<S: Alter, K: Sink>(
-    store: &mut Store<S>,
-    sink: &mut K,
-    response: &Response<'_>,
-) -> Option<End>
+fn deliver<S: Store, K: Sink>(store: &mut S, sink: &mut K, response: &Response<'_>) -> Option<End>
     requires { length response.now.allow.now ≤ ALLOW_LIMIT }
-    ensures sent { Reads S.Store store.old store.new (λ world. (given : Answer)
+    ensures sent { Reads S.State store.old store.new (λ world. (given : Answer)
         → IsReplyOf response.now.reply given → IsThere world response.now.repo given
         → IsSent (K.taken sink.old) (K.taken sink.new) given response.now.allow.now
         response.now.close result) }
@@ -57,9 +53,9 @@ fn deliver<S: Alter, K: Sink>(
 
 /// Answers the next message of the connection and writes the reply. Returns why the connection ends
 /// after it; `None` if it goes on.
-pub(crate) fn take_turn<S: Alter, R: Source + Drop, K: Sink>(
+pub(crate) fn take_turn<S: Store, R: Source + Drop, K: Sink>(
     alloc: Global,
-    store: &mut Store<S>,
+    store: &mut S,
     setting: &Setting<'_>,
     conn: &mut Conn<R>,
     sink: &mut K,
@@ -74,9 +70,9 @@ pub(crate) fn take_turn<S: Alter, R: Source + Drop, K: Sink>(
     ensures no_fault { result ≢ Some End.ReadFailed
         → R.failed (source_of conn.new) ≡ R.failed (source_of conn.old) }
     ensures counted { IsCounted (K.failed sink.old) (K.failed sink.new) result }
-    ensures turn { From S.Store store.old store.new (λ world. (read : List ℕ)
+    ensures turn { From S.State store.old store.new (λ world. (read : List ℕ)
         × Consumes (R.left (source_of conn.old)) (R.left (source_of conn.new)) read
-        × EndsTurn S.Store (setting_of setting.entry.now.policy.now setting.entry.now.now)
+        × EndsTurn S.State (setting_of setting.entry.now.policy.now setting.entry.now.now)
         (waiting conn.old ++ read) (waiting conn.new) world
         store.old store.new (K.taken sink.old) (K.taken sink.new) result) }
 {

@@ -1,14 +1,13 @@
 -- A requested token, in the tables and in the definitions.
 use Rattle.tokens.proofs.Prelude.{◌≡◌, ◌∙◌, ◌+◌, ◌≤◌, ℕ, pos, Bool, true, false, not, nat_le, List, length, filter, Option, Some, None, is_some, Result, Ok, Err, refl, sym, ap, subst, IsTrue, IfOk, OnOk, OnErr, IsErrAnd, MatchResult, leb-true, last_moment, is_hex_64, World, Token, IsToken, find_token, with_token, without_expired, token_verdict, already_issued, expires_too_late, after_token, IsTokenRequest, by_success, by_fault, has_expired, has_token, after_add, IsHonest, IsOpen, shown, Makes, Fails, Holds, token_kept, token_row, token_known, none_is, some_is, would_add, holds_token, still_if_known, holds_pruned, expired_counted, expired_gone, Issues, Refuses, denial_of, report_of, token_asked, token_until}
-use Rattle.sqlite_trees.specs.declared.store.Store.{Ghosts}
+use Rattle.store.specs.declared.state.State.{Ghosts}
 use Rattle.model.specs.Reading.{◌>>=◌, check, none_or}
 use Rattle.model.specs.Steps.{IsStep, issues, prunes}
 use Rattle.model.specs.Bounds.{changed, unchanged, failed, is_changed, left_by, ending_of}
 use Rattle.model.proofs.Keeping.{keeps_without_expired}
 use Rattle.tables.specs.Rows as row
 use Rattle.tables.specs.Statements as tables
-use Rattle.tables.specs.declared.Store.{Store}
-use Rattle.tables.proofs.Moved.{moves_then}
+use Rattle.store.proofs.Moved.{moves_then}
 use Rattle.tables.specs.declared.fault.StoreFault.{StoreFault}
 use Rattle.refinement.specs.Left.{Leads, Ends, KeepsTables}
 use Rattle.refinement.proofs.Leading.{still_then, ends_made, ends_failed, takes_made, takes_failed, takes_still}
@@ -22,7 +21,7 @@ use Rattle.tokens.specs.declared.requests.TokenRequest.{TokenRequest}
 
 -- ---- what the tables did
 
-module _ {S : Type 0} (g : Ghosts S) (old new : Store S) (world : World) (h : Holds g old world) (honest : IsHonest g new) where
+module _ {S : Type 0} (g : Ghosts S) (old new : S) (world : World) (h : Holds g old world) (honest : IsHonest g new) where
   -- the case in which they were asked for the row of the token
   pub keeps_by : (asked : TokenRequest) (text : List ℕ) (expires : ℕ) (k : row.Token) (r : Result Bool StoreFault) → token_kept k ≡ token_row (token_until asked text expires)
       → IfOk r (λ added. IsOpen g old × (has_token k.digest (shown g old) ≡ not added)) → OnOk r (Makes g (after_add k) old new) → OnErr r (Fails g (after_add k) old new) → Keeps g world asked text expires old new r
@@ -89,7 +88,7 @@ module _ (world : World) (asked : TokenRequest) where
   refusal_changes_none ExpiresTooLate = refl
   refusal_changes_none (fault.Store f) = refl
 
-  module _ {S : Type 0} (g : Ghosts S) (old mid new : Store S) where
+  module _ {S : Type 0} (g : Ghosts S) (old mid new : S) where
     -- a token that may be issued and was stored is issued
     pub issues_by : (text handed : List ℕ) (expires : ℕ) → handed ≡ (token_asked asked).text → text ≡ (token_asked asked).text → IsTrue (is_hex_64 (token_asked asked).text)
         → token_verdict world (token_asked asked) ≡ Ok (token_until asked handed expires) → Leads g old mid world (λ bound. bound) → Keeps g world asked handed expires mid new (Ok true) → Issues g world old new asked text
@@ -136,7 +135,7 @@ module _ (world : World) (asked : TokenRequest) where
         }
 
   -- a refusal before the store is asked to add the token is passed on
-  pub refused_early : {S T : Type 0} (g : Ghosts S) (old new : Store S) (P : T → Type 0) (r : Result T TokenFault) (f : TokenFault) → IsErrAnd r (λ e. e ≡ f) → IsTrue (is_hex_64 (token_asked asked).text)
+  pub refused_early : {S T : Type 0} (g : Ghosts S) (old new : S) (P : T → Type 0) (r : Result T TokenFault) (f : TokenFault) → IsErrAnd r (λ e. e ≡ f) → IsTrue (is_hex_64 (token_asked asked).text)
       → denial_of f (token_verdict world (token_asked asked)) → Leads g old new world (λ bound. bound) → KeepsTables g old new → MatchResult r P (λ e. Refuses g world old new asked e)
   refused_early g old new P (Ok text) f is hex verdict p same = absurd is
   refused_early g old new P (Err e) f is hex verdict p same =

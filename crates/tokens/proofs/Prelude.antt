@@ -12,7 +12,7 @@ pub use Rattle.std.proofs.Common.{Bool, Err, IfOk, IsErrAnd, IsPermutation, IsTr
 pub use Rattle.std.proofs.lemmas.Bool.{leb-true, true≢false}
 pub use Rattle.std.specs.List.{list_all}
 pub use Rattle.tables.specs.Rows.{Tables}
-pub use Rattle.tables.specs.Shown.{Fails, IsHonest, IsOpen, Makes, shown}
+pub use Rattle.store.specs.Shown.{Fails, IsHonest, IsOpen, Makes, shown}
 pub use Rattle.tables.specs.Statements.{has_digest, has_expired, is_for, is_held_by}
 pub use Rattle.tables.specs.Steps.{AreTokensOf, TokenFields, after_add, code_of, has_token, read_token, token_fields}
 pub use Rattle.tokens.specs.Callers.{IsCalling, IsGoodAt}

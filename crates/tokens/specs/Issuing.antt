@@ -1,6 +1,6 @@
 -- Issuing a token.
 use Rattle.std.specs.Prelude.{◌≡◌, ℕ, Bool, true, false, is_some, List, Option, Some, None, Result, Ok, Err, ⊤}
-use Rattle.sqlite_trees.specs.declared.store.Store.{Ghosts}
+use Rattle.store.specs.declared.state.State.{Ghosts}
 use Rattle.hex.specs.Hex.{encode_lower}
 use Rattle.names.specs.Names.{user_text, repo_text}
 use Rattle.model.specs.World.{World, Token, IsToken, find_token, with_token}
@@ -8,7 +8,6 @@ use Rattle.model.specs.Operator as model
 use Rattle.model.specs.Operator.{TokenDenial, token_verdict, already_issued, expires_too_late}
 use Rattle.model.specs.Steps.{issues}
 use Rattle.model.specs.Bounds.{Ending, changed, unchanged, failed, world_by}
-use Rattle.tables.specs.declared.Store.{Store}
 use Rattle.tables.specs.declared.fault.StoreFault.{StoreFault}
 use Rattle.refinement.specs.Left.{Ends, KeepsTables, Takes}
 use Rattle.tokens.specs.declared.requests.TokenRequest.{TokenRequest}
@@ -55,26 +54,26 @@ report_of (fault.Store f) = None
 
 module _ {S : Type 0} (g : Ghosts S) where
   -- the token with this text is issued, in a step to the world with it
-  pub record Issues (world : World) (old new : Store S) (asked : TokenRequest) (text : List ℕ) : Type 0 where
+  pub record Issues (world : World) (old new : S) (asked : TokenRequest) (text : List ℕ) : Type 0 where
     pub token : Token
     pub verdict : token_verdict world (token_asked asked) ≡ Ok token
     pub text_is : token.text ≡ text
     pub takes : Takes g old new world (issues (token_asked asked) (Some (Ok token))) (with_token token world)
 
   -- no token is issued, for that cause, in a step that leaves the world and the tables as they were
-  pub record Refuses (world : World) (old new : Store S) (asked : TokenRequest) (f : TokenFault) : Type 0 where
+  pub record Refuses (world : World) (old new : S) (asked : TokenRequest) (f : TokenFault) : Type 0 where
     pub verdict : denial_of f (token_verdict world (token_asked asked))
     pub takes : Takes g old new world (issues (token_asked asked) (report_of f)) world
     pub tables : KeepsTables g old new
 
   -- a call to add the token to the world ended this way
-  abbrev pub EndsAdding : Store S → Store S → Ending → World → Token → Type 0
+  abbrev pub EndsAdding : S → S → Ending → World → Token → Type 0
   EndsAdding old new ending world token =
       Ends g old new ending world (with_token token world) (world_by ending world (with_token token world))
 
   -- a token that was stored is issued; one that was not is issued already; or the store refused it. Unless it was stored,
   -- the tables are as before
-  abbrev pub Keeps : World → TokenRequest → List ℕ → ℕ → Store S → Store S → Result Bool StoreFault → Type 0
+  abbrev pub Keeps : World → TokenRequest → List ℕ → ℕ → S → S → Result Bool StoreFault → Type 0
   Keeps world asked text expires old new (Ok true) =
       IsToken (token_until asked text expires)
       → (find_token text world ≡ None) × EndsAdding old new changed world (token_until asked text expires)

@@ -11,7 +11,7 @@ ghost use Rattle.tokens.specs.Callers.{IsCalling};
 use crate::callers::{Caller, CallerFault, good_at};
 use names::{Moment, Rule};
 use sha2::{Digest, Sha256};
-use tables::{Alter, Store};
+use store::Store;
 
 fn is_visible(byte: u8) -> bool
     ensures { result ≡ is_visible byte }
@@ -75,12 +75,12 @@ pub fn digest_of(text: &str) -> [u8; 32]
 ///
 /// `Rule` of A1 if the value has no token, of A2 if the store has no such token, of A3 if the token has expired; `Store`
 /// of `Refused` or `Memory`.
-pub fn caller<'t, S: Alter>(
-    store: &mut Store<S>,
+pub fn caller<'t, S: Store>(
+    store: &mut S,
     authorization: Option<&'t [u8]>,
     now: Moment,
 ) -> Result<Caller<'t>, CallerFault>
-    ensures { Reads S.Store store.old store.new (λ world.
+    ensures { Reads S.State store.old store.new (λ world.
         IsCalling world now (single_value (option_map (λ v. v.now) authorization.entry)) result) }
 {
     let Some(text) = bearer(authorization) else {

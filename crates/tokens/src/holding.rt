@@ -8,7 +8,8 @@ ghost use Rattle.tokens.specs.Holding.{is_of, is_in, fields_of_token};
 
 use names::{RepoName, UserName};
 use std::alloc::Global;
-use tables::{Alter, Store, StoreFault, TokenRow};
+use store::Store;
+use tables::{StoreFault, TokenRow};
 
 /// Returns the stored tokens of the user for the repository, in any order: of each its SHA-256, its
 /// operation, and its expiry. They include expired tokens that have not been pruned yet.
@@ -16,13 +17,13 @@ use tables::{Alter, Store, StoreFault, TokenRow};
 /// # Errors
 ///
 /// `Refused` or `Memory`. In either case, what the store shows is unchanged.
-pub fn of<S: Alter>(
+pub fn of<S: Store>(
     alloc: Global,
-    store: &mut Store<S>,
+    store: &mut S,
     user: &UserName,
     repo: &RepoName,
 ) -> Result<Vec<TokenRow>, StoreFault>
-    ensures { Reads S.Store store.old store.new (λ world.
+    ensures { Reads S.State store.old store.new (λ world.
         IfOk result (λ found. IsPermutation (map read_token found.items)
         (map fields_of_token
         (filter (is_of (user_text user.entry.now) (repo_text repo.entry.now)) world.tokens)))) }
@@ -36,12 +37,12 @@ pub fn of<S: Alter>(
 /// # Errors
 ///
 /// `Refused` or `Memory`. In either case, what the store shows is unchanged.
-pub fn all<S: Alter>(
+pub fn all<S: Store>(
     alloc: Global,
-    store: &mut Store<S>,
+    store: &mut S,
     repo: &RepoName,
 ) -> Result<Vec<TokenRow>, StoreFault>
-    ensures { Reads S.Store store.old store.new (λ world.
+    ensures { Reads S.State store.old store.new (λ world.
         IfOk result (λ found. IsPermutation (map read_token found.items)
         (map fields_of_token (filter (is_in (repo_text repo.entry.now)) world.tokens)))) }
 {

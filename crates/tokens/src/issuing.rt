@@ -13,7 +13,8 @@ use crate::requests::TokenRequest;
 use names::Moment;
 use sha2::{Digest, Sha256};
 use std::alloc::Global;
-use tables::{Alter, NewToken, Store, StoreFault};
+use store::Store;
+use tables::{NewToken, StoreFault};
 use thiserror::Error;
 
 /// Why no token was issued. The tables are unchanged.
@@ -47,8 +48,8 @@ fn text_of(alloc: Global, random: &[u8; 32]) -> Result<String, StoreFault>
 }
 
 /// Whether a token of this text was issued.
-fn is_known<S: Alter>(store: &mut Store<S>, text: &str) -> Result<bool, StoreFault>
-    ensures { Reads S.Store store.old store.new (λ world.
+fn is_known<S: Store>(store: &mut S, text: &str) -> Result<bool, StoreFault>
+    ensures { Reads S.State store.old store.new (λ world.
         IfOk result (λ known. known ≡ is_some (find_token text.now world))) }
 {
     let digest = Sha256::digest(text.as_bytes());
@@ -65,14 +66,14 @@ fn expiry(now: Moment, seconds: u64) -> Option<Moment>
 }
 
 /// Stores the token, unless one with its text is stored; returns whether it was stored.
-fn keep<S: Alter>(
-    store: &mut Store<S>,
+fn keep<S: Store>(
+    store: &mut S,
     asked: &TokenRequest<'_>,
     text: &str,
     expires: Moment,
 ) -> Result<bool, StoreFault>
-    ensures { From S.Store store.old store.new (λ world.
-        Keeps S.Store world asked.entry.now text.now expires store.old store.new result) }
+    ensures { From S.State store.old store.new (λ world.
+        Keeps S.State world asked.entry.now text.now expires store.old store.new result) }
 {
     let digest = Sha256::digest(text.as_bytes());
     store.add_token(&NewToken {
@@ -85,12 +86,12 @@ fn keep<S: Alter>(
 }
 
 /// When a token with this text, that of the random bytes, would expire; or why none may be issued.
-fn judge<S: Alter>(
-    store: &mut Store<S>,
+fn judge<S: Store>(
+    store: &mut S,
     asked: &TokenRequest<'_>,
     text: &str,
 ) -> Result<Moment, TokenFault>
-    ensures { Reads S.Store store.old store.new (λ world.
+    ensures { Reads S.State store.old store.new (λ world.
         text.now ≡ (token_asked asked.entry.now).text → MatchResult result
         (λ expires. token_verdict world (token_asked asked.entry.now)
         ≡ Ok (token_until asked.entry.now text.now expires))
@@ -108,12 +109,12 @@ fn judge<S: Alter>(
 /// # Errors
 ///
 /// Those of [`issue`].
-pub fn offer<S: Alter>(
+pub fn offer<S: Store>(
     alloc: Global,
-    store: &mut Store<S>,
+    store: &mut S,
     asked: &TokenRequest<'_>,
 ) -> Result<String, TokenFault>
-    ensures { Reads S.Store store.old store.new (λ world.
+    ensures { Reads S.State store.old store.new (λ world.
         MatchResult result
         (λ text. Offers world asked.entry.now (string_bytes text))
         (λ fault. denial_of fault (token_verdict world (token_asked asked.entry.now)))) }
@@ -130,15 +131,15 @@ pub fn offer<S: Alter>(
 ///
 /// `AlreadyIssued` (K1) if a token of these random bytes is stored; `ExpiresTooLate` (K2) if it would
 /// expire after the last moment; `Store`. They leave the tables unchanged.
-pub fn issue<S: Alter>(
+pub fn issue<S: Store>(
     alloc: Global,
-    store: &mut Store<S>,
+    store: &mut S,
     asked: &TokenRequest<'_>,
 ) -> Result<String, TokenFault>
-    ensures { From S.Store store.old store.new (λ world.
+    ensures { From S.State store.old store.new (λ world.
         MatchResult result
-        (λ text. Issues S.Store world store.old store.new asked.entry.now (string_bytes text))
-        (λ fault. Refuses S.Store world store.old store.new asked.entry.now fault)) }
+        (λ text. Issues S.State world store.old store.new asked.entry.now (string_bytes text))
+        (λ fault. Refuses S.State world store.old store.new asked.entry.now fault)) }
 {
     let text = text_of(alloc, asked.random)?;
     let expires = judge(store, asked, text.as_str())?;

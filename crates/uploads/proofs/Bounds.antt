@@ -1,5 +1,5 @@
 -- What a repository has in the database is at most the bytes of its objects and one largest object, for proofs in other crates.
-use Rattle.uploads.proofs.Prelude.{◌≡◌, ◌∙◌, inl, inr, ℕ, ◌+◌, ◌≤◌, Bool, true, false, not, List, [], ◌∷◌, map, filter, cond, length, bytes_eq, refl, sym, ap, subst, AllPairs, arith, sum_by, AllByRecursion, IsPermutation-filter, all-filter, filter_none, Ghosts, largest_object, World, Object, Tables, Upload, Chunk, is_complete, is_staged, shown, Store, bytes_of, object_in, HasSize, DiffersInRepo, IsAmong, IsBoundedBy, Represents, Holds}
+use Rattle.uploads.proofs.Prelude.{◌≡◌, ◌∙◌, inl, inr, ℕ, ◌+◌, ◌≤◌, pos, Bool, true, false, not, List, [], ◌∷◌, map, filter, cond, length, bytes_eq, refl, sym, ap, subst, AllPairs, arith, sum_by, AllByRecursion, IsPermutation-filter, all-filter, filter_none, Ghosts, largest_object, World, Object, Tables, Upload, Chunk, is_complete, is_staged, shown, bytes_of, object_in, HasSize, DiffersInRepo, IsAmong, IsBoundedBy, Represents, Holds}
 use Rattle.std.proofs.lemmas.Bool.{true≢false}
 use Rattle.std.proofs.lemmas.List.Sorted.{sum_by-IsPermutation}
 use Rattle.std.proofs.lemmas.List.Sums.{sum_by-cons}
@@ -9,7 +9,10 @@ use Rattle.model.proofs.Lists.{IsOnly, each_weaker}
 use Rattle.model.proofs.Once.{only_of}
 use Rattle.refinement.proofs.Lookups.{same_is}
 use Rattle.uploads.specs.Bounds.{stored_in, AreWithin, StoresWithin, LeavesWithin}
-use Rattle.tables.proofs.Marked.{IsMarked, kept_marked, uploads_marked}
+
+-- the upload is staged or complete
+abbrev IsMarked : Upload → Type 0
+IsMarked u = (u.done ≡ pos 0) ⊎ (u.done ≡ pos 1)
 
 -- ---- sums of filtered lists
 
@@ -85,15 +88,15 @@ stored_bound t world repo r marked =
     omega (arith, split t.chunks repo t.uploads marked, complete_total t world repo r, staged_small t.chunks repo t.uploads r.objects.staged r.objects.sizes)
 
 module _ {S : Type 0} (g : Ghosts S) where
-  pub stores_within : (s : Store S) (world : World) (repo : List ℕ) (most : ℕ) → Holds g s world → total repo world ≤ most → StoresWithin g s repo (most + largest_object)
+  pub stores_within : (s : S) (world : World) (repo : List ℕ) (most : ℕ) → Holds g s world → total repo world ≤ most → StoresWithin g s repo (most + largest_object)
   stores_within s world repo most h within k o =
-      omega (arith, within, stored_bound (shown g s) world repo (h.shows k o) (uploads_marked g s h.ready k o))
+      omega (arith, within, stored_bound (shown g s) world repo (h.shows k o) (h.ready.marked k o))
 
   within_one : (t : Tables) (repo : List ℕ) (most : ℕ) (bound : Bound) → AllByRecursion IsMarked t.uploads → IsAmong t bound → AreWithin repo most bound → stored_in repo t ≤ most + largest_object
   within_one t repo most [] marked among within = absurd among
   within_one t repo most (world ∷ bound) marked (inl is) within = omega (arith, within.0, stored_bound t world repo is.1 marked)
   within_one t repo most (world ∷ bound) marked (inr rest) within = within_one t repo most bound marked rest within.1
 
-  pub leaves_within : (s : Store S) (bound : Bound) (repo : List ℕ) (most : ℕ) → IsBoundedBy g s bound → AreWithin repo most bound → LeavesWithin g s repo (most + largest_object)
+  pub leaves_within : (s : S) (bound : Bound) (repo : List ℕ) (most : ℕ) → IsBoundedBy g s bound → AreWithin repo most bound → LeavesWithin g s repo (most + largest_object)
   leaves_within s bound repo most bounded within k t left =
-      within_one t repo most bound (subst (λ (u : Tables). AllByRecursion IsMarked u.uploads) (sym left.3) (kept_marked left.0 left.1)) (bounded.among k t left) within
+      within_one t repo most bound left.1 (bounded.among k t left) within

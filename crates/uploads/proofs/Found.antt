@@ -1,5 +1,5 @@
 -- The objects that are found are objects of the world.
-use Rattle.uploads.proofs.Prelude.{◌≡◌, ◌∙◌, ℕ, ℤ, pos, List, length, find, Option, Some, None, option_map, refl, sym, ap, subst, Ghosts, World, IsWorld, object_named, Tables, HasTables, Moves, shown, Sized, upload_sized, read_object, IsObjectOf, upload_number, Store, ObjectRow, bytes_of, pieces_of, object_in, IsStored, Represents, same_pos}
+use Rattle.uploads.proofs.Prelude.{◌≡◌, ◌∙◌, ℕ, ℤ, pos, List, length, find, Option, Some, None, option_map, refl, sym, ap, subst, Ghosts, World, IsWorld, object_named, Tables, HasTables, Moves, shown, Sized, upload_sized, read_object, IsObjectOf, upload_number, ObjectRow, bytes_of, pieces_of, object_in, IsStored, Represents, same_pos}
 use Rattle.tables.specs.Rows as row
 use Rattle.tables.specs.Statements.{is_object}
 use Rattle.refinement.proofs.Kept.{object_found, found_size}
@@ -10,7 +10,7 @@ object_is : (t : Tables) (world : World) (repo name : List ℕ) (o : Option row.
     → option_map (object_in t.chunks) o ≡ object_named repo name world
 object_is t world repo name o e s w = ap (option_map (object_in t.chunks)) (sym e) ∙ object_found t world repo name s w
 
-module _ {S : Type 0} (g : Ghosts S) (old new : Store S) (world : World) (repo name : List ℕ) (ready : HasTables g old) (moves : Moves g (λ t. t) old new) (s : Represents (shown g old) world) (w : IsWorld world) where
+module _ {S : Type 0} (g : Ghosts S) (old new : S) (world : World) (repo name : List ℕ) (ready : HasTables g old) (moves : Moves g (λ t. t) old new) (s : Represents (shown g old) world) (w : IsWorld world) where
   found_by : (found : Option ObjectRow) (o : Option row.Upload) → find (is_object repo name) (shown g old).uploads ≡ o → IsObjectOf found o → Finds g world new repo name found
   found_by None None e is = sym (object_is (shown g old) world repo name None e s w)
   found_by None (Some u) e is = absurd (cc)

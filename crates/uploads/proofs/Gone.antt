@@ -1,5 +1,5 @@
 -- An object that is removed for good.
-use Rattle.uploads.proofs.Prelude.{◌≡◌, ◌∙◌, ℕ, Bool, true, false, cond, List, Option, Some, None, Result, Ok, Err, find, filter, not, is_some, inl, refl, sym, ap, subst, Ghosts, World, IsWorld, object_named, Tables, Upload, IsHonest, IsOpen, HasTables, Makes, Fails, shown, Store, StoreFault, From, Keeps, Holds, Represents, upload_number, without_staged, leads_none, leads_still, keeps_still, keeps_then, holds_made, from_weaker, all-filter}
+use Rattle.uploads.proofs.Prelude.{◌≡◌, ◌∙◌, ℕ, Bool, true, false, cond, List, Option, Some, None, Result, Ok, Err, find, filter, not, is_some, inl, refl, sym, ap, subst, Ghosts, World, IsWorld, object_named, Tables, Upload, IsHonest, IsOpen, HasTables, Makes, Fails, shown, StoreFault, From, Keeps, Holds, Represents, upload_number, without_staged, leads_none, leads_still, keeps_still, keeps_then, holds_made, from_weaker, all-filter}
 use Rattle.names.specs.Texts.{is_hex_64, is_repo}
 use Rattle.std.specs.Prelude.{IsTrue, IfOk}
 use Rattle.model.specs.World.{is_retired, without_object}
@@ -10,8 +10,8 @@ use Rattle.model.proofs.Keeping.{keeps_without_object}
 use Rattle.model.proofs.Lists.{none_where}
 use Rattle.tables.specs.Retiring as removing
 use Rattle.tables.specs.Retiring.{after_retire}
-use Rattle.tables.proofs.Moved.{moves_then}
-use Rattle.tables.specs.Seeking.{Finds}
+use Rattle.store.proofs.Moved.{moves_then}
+use Rattle.store.specs.Shown.{Finds}
 use Rattle.tables.specs.Statements.{is_object, is_staged_in, is_upload, with_retired, without_chunks, without_row}
 use Rattle.tables.specs.Staging.{IsUploadOf, UploadFields, upload_fields, read_upload, with_used, without_upload}
 use Rattle.tables.specs.declared.rows.UploadRow.{UploadRow}
@@ -74,38 +74,38 @@ module _ {S : Type 0} (g : Ghosts S) (repo name : List ℕ) (in_repo : IsTrue (i
   told_step world given is = (in_repo, in_name, by_success (ap Some (sym is)) (ap (after_removal world repo name) (sym is)))
 
   -- the store refused after calls that kept the world
-  refused : (a b : Store S) (world : World) → Keeps g a b world → Takes g a b world (retires repo name None) world
+  refused : (a b : S) (world : World) → Keeps g a b world → Takes g a b world (retires repo name None) world
   refused a b world keeps = record {
     step = refused_step world;
     leads = keeps_ends g a b b failed world (intended_world world (retires repo name None)) world keeps (ends_still g b b failed world (intended_world world (retires repo name None)) refl (leads_none g b world keeps.holds));
   }
 
-  pub refused_from : (a b : Store S) (fault : StoreFault) → From g a b (Keeps g a b) → From g a b (λ world. Retires g world repo name a b (Err fault))
+  pub refused_from : (a b : S) (fault : StoreFault) → From g a b (Keeps g a b) → From g a b (λ world. Retires g world repo name a b (Err fault))
   refused_from a b fault p = from_weaker g a b _ _ (λ world keeps. refused a b world keeps) p
 
   -- ---- there is nothing to remove
 
-  told : (a b : Store S) (world : World) (seen : Retired) → IsSeen world repo name (Some seen) → Holds g a world → Reads g a b (λ w. IsSeen w repo name (Some seen)) → Retires g world repo name a b (Ok seen)
+  told : (a b : S) (world : World) (seen : Retired) → IsSeen world repo name (Some seen) → Holds g a world → Reads g a b (λ w. IsSeen w repo name (Some seen)) → Retires g world repo name a b (Ok seen)
   told a b world Now is h r = absurd is
   told a b world Already is h r = (takes_still g a b world (retires repo name (Some removed_before)) refl (told_step world removed_before is) (reads_lead g a b _ world r h), r.same)
   told a b world Unknown is h r = (takes_still g a b world (retires repo name (Some no_object)) refl (told_step world no_object is) (reads_lead g a b _ world r h), r.same)
 
-  pub told_from : (a b : Store S) (seen : Retired) → Reads g a b (λ w. IsSeen w repo name (Some seen)) → From g a b (λ world. Retires g world repo name a b (Ok seen))
+  pub told_from : (a b : S) (seen : Retired) → Reads g a b (λ w. IsSeen w repo name (Some seen)) → From g a b (λ world. Retires g world repo name a b (Ok seen))
   told_from a b seen r = record { honest = r.same.was_honest; each = λ k world h. told a b world seen (r.each k world h) h r }
 
-  pub unread_from : {P : World → Type 0} (a b : Store S) (fault : StoreFault) → Reads g a b P → From g a b (λ world. Retires g world repo name a b (Err fault))
+  pub unread_from : {P : World → Type 0} (a b : S) (fault : StoreFault) → Reads g a b P → From g a b (λ world. Retires g world repo name a b (Err fault))
   unread_from a b fault r = refused_from a b fault record { honest = r.same.was_honest; each = λ k world h. keeps_still g a b world (reads_lead g a b _ world r h) }
 
-  staged_then : (a b c : Store S) (given : Retired) → KeepsTables g a b → LeavesStaged g repo b c given → LeavesStaged g repo a c given
+  staged_then : (a b c : S) (given : Retired) → KeepsTables g a b → LeavesStaged g repo b c given → LeavesStaged g repo a c given
   staged_then a b c Now same left = left
   staged_then a b c Already same left = moves_then g a b c same left
   staged_then a b c Unknown same left = moves_then g a b c same left
 
-  after_reading : (a b c : Store S) (world : World) (r : Result Retired StoreFault) → Holds g a world → (p : Reads g a b (λ w. IsSeen w repo name None)) → Retires g world repo name b c r → Retires g world repo name a c r
+  after_reading : (a b c : S) (world : World) (r : Result Retired StoreFault) → Holds g a world → (p : Reads g a b (λ w. IsSeen w repo name None)) → Retires g world repo name b c r → Retires g world repo name a c r
   after_reading a b c world (Ok given) h p it = (takes_then g a b c world _ _ (reads_lead g a b _ world p h) it.0, staged_then a b c given p.same it.1)
   after_reading a b c world (Err fault) h p it = takes_then g a b c world _ _ (reads_lead g a b _ world p h) it
 
-  pub then_removed : (a b c : Store S) (r : Result Retired StoreFault) → Reads g a b (λ w. IsSeen w repo name None) → From g b c (λ world. removal_of world repo name ≡ removed_now → Retires g world repo name b c r)
+  pub then_removed : (a b c : S) (r : Result Retired StoreFault) → Reads g a b (λ w. IsSeen w repo name None) → From g b c (λ world. removal_of world repo name ≡ removed_now → Retires g world repo name b c r)
       → From g a c (λ world. Retires g world repo name a c r)
   then_removed a b c r p q = record {
     honest = λ k. p.same.was_honest (q.honest k);
@@ -116,15 +116,15 @@ module _ {S : Type 0} (g : Ghosts S) (repo name : List ℕ) (in_repo : IsTrue (i
 
   -- ---- it is removed
 
-  would : (a : Store S) (world : World) → StagesNoneIn g a repo → removal_of world repo name ≡ removed_now → IsWorld world → IsHonest g a → IsOpen g a → Represents (shown g a) world
+  would : (a : S) (world : World) → StagesNoneIn g a repo → removal_of world repo name ≡ removed_now → IsWorld world → IsHonest g a → IsOpen g a → Represents (shown g a) world
       → IsWorld (without_object repo name world) × Represents (after_retire repo name (shown g a)) (without_object repo name world)
   would a world none now laws k o s = let it = is_now world repo name now in would_retire (shown g a) world repo name s laws in_repo in_name it.0 (none k o) it.1
 
-  none_left : (a b : Store S) → Makes g (after_retire repo name) a b → HasTables g a → StagesNoneIn g a repo → StagesNoneIn g b repo
+  none_left : (a b : S) → Makes g (after_retire repo name) a b → HasTables g a → StagesNoneIn g a repo → StagesNoneIn g b repo
   none_left a b m ready none k o =
       ap (λ (t : Tables). find (is_staged_in repo) t.uploads) (m.moves.shows k ready o) ∙ none_after (shown g a) repo name (none (m.moves.was_honest k) (m.moves.was_open k o))
 
-  pub removed : (a b : Store S) (world : World) (m : Makes g (after_retire repo name) a b) → StagesNoneIn g a repo → removal_of world repo name ≡ removed_now → Holds g a world → Retires g world repo name a b (Ok Now)
+  pub removed : (a b : S) (world : World) (m : Makes g (after_retire repo name) a b) → StagesNoneIn g a repo → removal_of world repo name ≡ removed_now → Holds g a world → Retires g world repo name a b (Ok Now)
   removed a b world m none now h =
       let laws = keeps_without_object repo name world in_repo in_name (is_now world repo name now).0 h.laws in (
         takes_made g a b world (without_object repo name world) (retires repo name (Some removed_now)) (after_retire repo name) h.ready m (told_step world removed_now now)
@@ -132,7 +132,7 @@ module _ {S : Type 0} (g : Ghosts S) (repo name : List ℕ) (in_repo : IsTrue (i
         none_left a b m h.ready none,
       )
 
-  pub removal_failed : (a b : Store S) (world : World) (fault : StoreFault) → Fails g (after_retire repo name) a b → StagesNoneIn g a repo → removal_of world repo name ≡ removed_now → Holds g a world → Retires g world repo name a b (Err fault)
+  pub removal_failed : (a b : S) (world : World) (fault : StoreFault) → Fails g (after_retire repo name) a b → StagesNoneIn g a repo → removal_of world repo name ≡ removed_now → Holds g a world → Retires g world repo name a b (Err fault)
   removal_failed a b world fault miss none now h = record {
     step = refused_step world;
     leads = subst (λ (w : World). Rattle.refinement.specs.Left.Ends g a b failed world w world) (ap (after_removal world repo name) (sym now))
@@ -140,32 +140,32 @@ module _ {S : Type 0} (g : Ghosts S) (repo name : List ℕ) (in_repo : IsTrue (i
   }
 
   -- an object that the world has is found
-  not_lacking : (a : Store S) (world : World) → removal_of world repo name ≡ removed_now → IsWorld world → Represents (shown g a) world → false ≡ is_some (find (is_object repo name) (shown g a).uploads) → ⊥
+  not_lacking : (a : S) (world : World) → removal_of world repo name ≡ removed_now → IsWorld world → Represents (shown g a) world → false ≡ is_some (find (is_object repo name) (shown g a).uploads) → ⊥
   not_lacking a world now laws s lacking =
       let e : false ≡ true = lacking ∙ object_known (shown g a) world repo name s laws ∙ (is_now world repo name now).1 in
       absurd (cc)
 
   -- ---- after what was staged is removed
 
-  abbrev pub Clears : Store S → Store S → Type 0
+  abbrev pub Clears : S → S → Type 0
   Clears a b = From g a b (λ world. Keeps g a b world × StagesNoneIn g b repo)
 
-  then_kept : (a b c : Store S) (world kept : World) (event : Event) → Keeps g a b world → Takes g b c world event kept → Takes g a c world event kept
+  then_kept : (a b c : S) (world kept : World) (event : Event) → Keeps g a b world → Takes g b c world event kept → Takes g a c world event kept
   then_kept a b c world kept event p q = record { step = q.step; leads = keeps_ends g a b c (ending_of world event) world (intended_world world event) kept p q.leads }
 
-  pub removed_from : (a b c : Store S) → Clears a b → Makes g (after_retire repo name) b c → From g a c (λ world. removal_of world repo name ≡ removed_now → Retires g world repo name a c (Ok Now))
+  pub removed_from : (a b c : S) → Clears a b → Makes g (after_retire repo name) b c → From g a c (λ world. removal_of world repo name ≡ removed_now → Retires g world repo name a c (Ok Now))
   removed_from a b c p m = record {
     honest = λ k. p.honest (m.moves.was_honest k);
     each = λ k world h now. let it = p.each (m.moves.was_honest k) world h in let done = removed b c world m it.1 now it.0.holds in (then_kept a b c world _ _ it.0 done.0, done.1);
   }
 
-  pub failed_from : (a b c : Store S) (fault : StoreFault) → Clears a b → Fails g (after_retire repo name) b c → From g a c (λ world. removal_of world repo name ≡ removed_now → Retires g world repo name a c (Err fault))
+  pub failed_from : (a b c : S) (fault : StoreFault) → Clears a b → Fails g (after_retire repo name) b c → From g a c (λ world. removal_of world repo name ≡ removed_now → Retires g world repo name a c (Err fault))
   failed_from a b c fault p miss = record {
     honest = λ k. p.honest (miss.moves.was_honest k);
     each = λ k world h now. let it = p.each (miss.moves.was_honest k) world h in then_kept a b c world _ _ it.0 (removal_failed b c world fault miss it.1 now it.0.holds);
   }
 
-  pub lacking_from : (a b c : Store S) → Clears a b → Makes g (after_retire repo name) b c → (IsHonest g c → HasTables g b → IsOpen g b × (false ≡ is_some (find (is_object repo name) (shown g b).uploads)))
+  pub lacking_from : (a b c : S) → Clears a b → Makes g (after_retire repo name) b c → (IsHonest g c → HasTables g b → IsOpen g b × (false ≡ is_some (find (is_object repo name) (shown g b).uploads)))
       → From g a c (λ world. removal_of world repo name ≡ removed_now → Retires g world repo name a c (Ok Unknown))
   lacking_from a b c p m said = record {
     honest = λ k. p.honest (m.moves.was_honest k);
@@ -184,7 +184,7 @@ module _ {S : Type 0} (g : Ghosts S) (repo : List ℕ) where
   none_of (Some u) h = absurd (let e : None ≡ Some (upload_fields u) = h in cc)
 
   -- nothing was staged
-  pub none_staged : (a b : Store S) (r : Result (Option UploadRow) StoreFault) → r ≡ Ok None → Finds g a b repo r → From g a b (λ world. Keeps g a b world × StagesNoneIn g b repo)
+  pub none_staged : (a b : S) (r : Result (Option UploadRow) StoreFault) → r ≡ Ok None → Finds g a b repo r → From g a b (λ world. Keeps g a b world × StagesNoneIn g b repo)
   none_staged a b r is it = record {
     honest = it.same.was_honest;
     each = λ k world h. (
@@ -198,7 +198,7 @@ module _ {S : Type 0} (g : Ghosts S) (repo : List ℕ) where
   one_of row (Some u) h = (u, refl, let e : read_upload row ≡ upload_fields u = (let e : Some (read_upload row) ≡ Some (upload_fields u) = h in cc) in sym e)
 
   -- what was staged is removed
-  pub cleared : (a b c d : Store S) (row : UploadRow) → Finds g a b repo (Ok (Some row)) → From g b c (Shortens g b c) → Makes g (without_staged (upload_number row.id)) c d → From g a d (λ world. Keeps g a d world × StagesNoneIn g d repo)
+  pub cleared : (a b c d : S) (row : UploadRow) → Finds g a b repo (Ok (Some row)) → From g b c (Shortens g b c) → Makes g (without_staged (upload_number row.id)) c d → From g a d (λ world. Keeps g a d world × StagesNoneIn g d repo)
   cleared a b c d row finds cut m = record {
     honest = λ k. finds.same.was_honest (cut.honest (m.moves.was_honest k));
     each = λ k world h.

@@ -1,5 +1,5 @@
 -- The rows that are listed are the objects of the world.
-use Rattle.uploads.proofs.Prelude.{◌≡◌, ◌∙◌, ℕ, ℤ, pos, Bool, true, false, ◌&&◌, cond, List, [], ◌∷◌, map, filter, length, bytes_eq, Option, Some, None, Ordering, Less, Equal, Greater, is_gt, refl, sym, ap, subst, AllPairs, IsPermutation, AllByRecursion, AllZip, Ghosts, IsPermutation-filter, filter-map, filter_all, World, Object, Tables, HasTables, Moves, shown, UploadFields, upload_fields, read_upload, upload_number, AreUploadsOf, objects_of, is_complete, is_object_in, name_cmp, by_name, Store, UploadRow, HasSize, bytes_of, pieces_of, object_in, IsStored, Represents, same_pos, is_listed, IsNotAfter, IsRowOf, Lists}
+use Rattle.uploads.proofs.Prelude.{◌≡◌, ◌∙◌, ℕ, ℤ, pos, Bool, true, false, ◌&&◌, cond, List, [], ◌∷◌, map, filter, length, bytes_eq, Option, Some, None, Ordering, Less, Equal, Greater, is_gt, refl, sym, ap, subst, AllPairs, IsPermutation, AllByRecursion, AllZip, Ghosts, IsPermutation-filter, filter-map, filter_all, World, Object, Tables, HasTables, Moves, shown, UploadFields, upload_fields, read_upload, upload_number, AreUploadsOf, objects_of, is_complete, is_object_in, name_cmp, by_name, UploadRow, HasSize, bytes_of, pieces_of, object_in, IsStored, Represents, same_pos, is_listed, IsNotAfter, IsRowOf, Lists}
 use Rattle.std.specs.Ordering.{nat_cmp, ordering_then}
 use Rattle.std.specs.Cmp.{IsTotalOrder}
 use Rattle.std.specs.Cmp.Lexicographic.{slice_cmp}
@@ -77,7 +77,7 @@ same_objects repo t world s =
     (subst (λ (os : List Object). IsPermutation os (filter (is_listed repo) world.objects)) (filter-map (is_listed repo) f done)
     (IsPermutation-filter (is_listed repo) (map f done) world.objects s.objects.complete))
 
-module _ {S : Type 0} (g : Ghosts S) (old new : Store S) (world : World) (repo : Option (List ℕ)) (ready : HasTables g old) (moves : Moves g (λ t. t) old new) (s : Represents (shown g old) world) where
+module _ {S : Type 0} (g : Ghosts S) (old new : S) (world : World) (repo : Option (List ℕ)) (ready : HasTables g old) (moves : Moves g (λ t. t) old new) (s : Represents (shown g old) world) where
   row_is : (r : UploadRow) (u : row.Upload) → read_upload r ≡ upload_fields u → IsWhole (shown g old).chunks u → IsRowOf g new r (object_in (shown g old).chunks u)
   row_is r u is whole =
       let chunks = (shown g old).chunks in

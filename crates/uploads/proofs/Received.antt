@@ -1,5 +1,5 @@
 -- A staged upload whose bytes arrived is completed.
-use Rattle.uploads.proofs.Prelude.{◌≡◌, ◌∙◌, ◌⊎◌, inl, inr, ℕ, ◌+◌, ◌≤◌, true, None, add_comm, pos, List, ◌++◌, length, Some, is_some, Ok, Err, refl, sym, ap, subst, concat, Ghosts, largest_object, World, IsWorld, IsObject, name_of, object_named, with_object, Tables, IsHonest, IsOpen, Moves, Makes, Fails, shown, upload_number, completion_by, completion_of, after_complete, Store, StoreFault, UploadId, Represents, Holds, Keeps, holds_made, ends_made, ends_failed_or, ends_reported, keeps_failed}
+use Rattle.uploads.proofs.Prelude.{◌≡◌, ◌∙◌, ◌⊎◌, inl, inr, ℕ, ◌+◌, ◌≤◌, true, None, add_comm, pos, List, ◌++◌, length, Some, is_some, Ok, Err, refl, sym, ap, subst, concat, Ghosts, largest_object, World, IsWorld, IsObject, name_of, object_named, with_object, Tables, IsHonest, IsOpen, Moves, Makes, Fails, shown, upload_number, completion_by, completion_of, after_complete, StoreFault, UploadId, Represents, Holds, Keeps, holds_made, ends_made, ends_failed_or, ends_reported, keeps_failed}
 use Rattle.std.proofs.lemmas.Slice.Eq.{bytes_eq-Decides}
 use Rattle.std.specs.Prelude.{not, false}
 use Rattle.model.specs.World.{IsUnretired, is_retired, total}
@@ -12,19 +12,21 @@ use Rattle.model.proofs.Quota.{total_with}
 use Rattle.tables.specs.declared.rows.Completion.{Completion}
 use Rattle.tables.specs.declared.rows.Completion.TheVariants as completion
 use Rattle.tables.specs.declared.new_rows.LastChunk.{LastChunk}
-use Rattle.tables.proofs.Moved.{moves_still}
+use Rattle.store.proofs.Moved.{moves_still}
 use Rattle.refinement.specs.Staging.{staged_row}
 use Rattle.refinement.proofs.Completing.{staged_in_range, Completed, completed, completed_by}
+use Rattle.store.specs.Normal.{normal}
 use Rattle.refinement.proofs.Holding.{holds_still}
+use Rattle.refinement.proofs.Rearranged.{to_normal}
 use Rattle.refinement.proofs.Tokens.{none_is}
 use Rattle.uploads.specs.Completing.{Staged, bytes_in, object_of, IsAsBegun, Arrives, Completes}
 use Rattle.uploads.specs.declared.completing.Kept.TheVariants.{New}
 use Rattle.uploads.specs.declared.completing.UploadFault.TheVariants.{Differs}
 use Rattle.uploads.specs.declared.completing.UploadFault.TheVariants as fault
 
-module _ {S : Type 0} (g : Ghosts S) (old new : Store S) (world : World) (upload : Staged) (id : UploadId) (chunk : LastChunk) (oid : List ℕ) (size : ℕ) (h : Holds g old world) (a : Arrives g old id upload chunk oid size) where
+module _ {S : Type 0} (g : Ghosts S) (old new : S) (world : World) (upload : Staged) (id : UploadId) (chunk : LastChunk) (oid : List ℕ) (size : ℕ) (h : Holds g old world) (a : Arrives g old id upload chunk oid size) where
   abbrev step : Tables → Tables
-  step = after_complete (upload_number id) chunk oid (pos size)
+  step t = normal (after_complete (upload_number id) chunk oid (pos size) t)
 
   abbrev made : World
   made = with_object (object_of upload) world
@@ -72,8 +74,8 @@ module _ {S : Type 0} (g : Ghosts S) (old new : Store S) (world : World) (upload
   still same makes = ends_made g old new unchanged world made step h.ready makes (holds_still g old new world same h)
 
   -- what the tables represent if the step left them as they were
-  stays : (k : IsHonest g old) (o : IsOpen g old) → step (shown g old) ≡ shown g old → Represents (step (shown g old)) world
-  stays k o same = subst (λ (t : Tables). Represents t world) (sym same) (h.shows k o)
+  stays : (k : IsHonest g old) (o : IsOpen g old) → after_complete (upload_number id) chunk oid (pos size) (shown g old) ≡ shown g old → Represents (step (shown g old)) world
+  stays k o same = to_normal _ world (subst (λ (t : Tables). Represents t world) (sym same) (h.shows k o))
 
   -- the total with a new object
   grown : IsAsBegun upload → object_named upload.repo upload.name world ≡ None → total upload.repo made ≡ total upload.repo world + upload.size
@@ -89,7 +91,7 @@ module _ {S : Type 0} (g : Ghosts S) (old new : Store S) (world : World) (upload
         is_begun it.0 it.1,
         none,
         ends_made g old new changed world made step h.ready makes
-            (holds_made g old new made step h.ready makes (keeps_with_object world (object_of upload) (is_object k o it.1) (is_unretired k o it.0) h.laws) (λ _ _. subst (Represents (step (shown g old))) same_object it.3)),
+            (holds_made g old new made step h.ready makes (keeps_with_object world (object_of upload) (is_object k o it.1) (is_unretired k o it.0) h.laws) (λ _ _. subst (Represents (step (shown g old))) same_object (to_normal _ _ it.3))),
         grown (is_begun it.0 it.1) none,
       )
 
@@ -102,20 +104,20 @@ module _ {S : Type 0} (g : Ghosts S) (old new : Store S) (world : World) (upload
       let it = after k o completion.Already said in (
         is_begun it.0 it.1,
         ap (λ (n : List ℕ). is_some (object_named upload.repo n world)) it.0 ∙ it.2,
-        still (moves_still g old new step makes.moves (λ _. it.3)) makes,
+        still (moves_still g old new step makes.moves (λ _. ap normal it.3 ∙ h.ready.ordered k o)) makes,
       )
 
   differs : IsHonest g old → IsOpen g old → completion_of (upload_number id) oid (pos size) (shown g old) ≡ Some completion.Differs → Makes g step old new → Completes g world id upload old new (Err Differs)
   differs k o said makes =
       let it = after k o completion.Differs said in
-      let same = moves_still g old new step makes.moves (λ _. it.1) in
+      let same = moves_still g old new step makes.moves (λ _. ap normal it.1 ∙ h.ready.ordered k o) in
       ((λ begun. it.0 (sym begun.0 ∙ sym a.name) (sym begun.1 ∙ sym a.length)), still same makes, same)
 
   -- what a stop may leave of a call that failed
   either : (k : IsHonest g old) (o : IsOpen g old) (c : Completion)
       → Completed (shown g old) world (upload_number id) upload.repo upload.name upload.size upload.pieces chunk oid size (h.shows k o) h.laws (a.stages k o) a.next arrived c
       → (IsWorld made × Represents (step (shown g old)) made) ⊎ Represents (step (shown g old)) world
-  either k o completion.New it = inl (keeps_with_object world (object_of upload) (is_object k o it.1) (is_unretired k o it.0) h.laws, subst (Represents (step (shown g old))) same_object it.3)
+  either k o completion.New it = inl (keeps_with_object world (object_of upload) (is_object k o it.1) (is_unretired k o it.0) h.laws, subst (Represents (step (shown g old))) same_object (to_normal _ _ it.3))
   either k o completion.Already it = inr (stays k o it.3)
   either k o completion.Differs it = inr (stays k o it.1)
 
@@ -154,5 +156,5 @@ module _ {S : Type 0} (g : Ghosts S) (old new : Store S) (world : World) (upload
   completes_by completion.Differs honest said makes = differs (makes.moves.was_honest honest) said.0 said.1 makes
 
 -- the repository has the object already, and the store refused to remove the upload; the world is kept
-pub unremoved : {S : Type 0} (g : Ghosts S) (old new : Store S) (world : World) (id : UploadId) (upload : Staged) (f : StoreFault) → Keeps g old new world → Completes g world id upload old new (Err (fault.Store f))
+pub unremoved : {S : Type 0} (g : Ghosts S) (old new : S) (world : World) (id : UploadId) (upload : Staged) (f : StoreFault) → Keeps g old new world → Completes g world id upload old new (Err (fault.Store f))
 unremoved g old new world id upload f kept = (ends_reported g old new world (with_object (object_of upload) world) kept, λ differ. kept)

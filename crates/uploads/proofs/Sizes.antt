@@ -1,5 +1,5 @@
 -- The sizes of a repository's objects, and its room, as its state has them, for proofs in other crates.
-use Rattle.uploads.proofs.Prelude.{◌≡◌, ◌∙◌, ℕ, ◌+◌, nat_le, List, length, Option, Some, None, option_map, refl, sym, ap, Ghosts, World, IsWorld, Object, object_named, Store, ObjectRow}
+use Rattle.uploads.proofs.Prelude.{◌≡◌, ◌∙◌, ℕ, ◌+◌, nat_le, List, length, Option, Some, None, option_map, refl, sym, ap, Ghosts, World, IsWorld, Object, object_named, ObjectRow}
 use Rattle.std.specs.Cmp.{both_ways}
 use Rattle.std.proofs.lemmas.Bool.{leb-true, le-leb}
 use Rattle.model.specs.Policy.{Repo}
@@ -19,7 +19,7 @@ pub size_named : (world : World) (repo : Repo) (name : List ℕ) → IsWorld wor
 size_named world repo name w = size_stored world repo name w ∙ size_twice (object_named repo.name name world)
 
 -- the state has the size of the row that is found
-pub size_found : {S : Type 0} (g : Ghosts S) (world : World) (s : Store S) (repo : Repo) (name : List ℕ) (found : Option ObjectRow) → IsWorld world
+pub size_found : {S : Type 0} (g : Ghosts S) (world : World) (s : S) (repo : Repo) (name : List ℕ) (found : Option ObjectRow) → IsWorld world
     → Finds g world s repo.name name found → size_of name (repo_state repo world) ≡ option_map (λ (r : ObjectRow). r.size) found
 size_found g world s repo name None w is = size_named world repo name w ∙ ap (option_map (λ (o : Object). length o.bytes)) is
 size_found g world s repo name (Some r) w is =

@@ -1,9 +1,9 @@
 -- Staged uploads are removed one after the other.
-use Rattle.uploads.proofs.Prelude.{◌≡◌, ◌∙◌, ℕ, ℤ, pos, List, [], ◌∷◌, map, filter, length, Option, Some, None, Result, Ok, Err, OnOk, OnErr, refl, sym, ap, Ghosts, World, Tables, IsHonest, IsOpen, Moves, Makes, Fails, shown, UploadFields, upload_number, upload_fields, read_upload, AreUploadsOf, staged_with, without_staged, without_found_from, is_staged, Store, StoreFault, UploadId, UploadRow, Holds, From, Keeps, leads_none, leads_still, keeps_still, keeps_then, HasStaged, Shortens, Sweeps}
+use Rattle.uploads.proofs.Prelude.{◌≡◌, ◌∙◌, ℕ, ℤ, pos, List, [], ◌∷◌, map, filter, length, Option, Some, None, Result, Ok, Err, OnOk, OnErr, refl, sym, ap, Ghosts, World, Tables, IsHonest, IsOpen, Moves, Makes, Puts, Fails, shown, UploadFields, upload_number, upload_fields, read_upload, AreUploadsOf, staged_with, without_staged, without_found_from, is_staged, StoreFault, UploadId, UploadRow, Holds, From, Keeps, leads_none, leads_still, keeps_still, keeps_then, HasStaged, Shortens, Sweeps}
 use Rattle.std.proofs.lemmas.List.{length-map}
 use Rattle.sqlite_keyed.proofs.ListLemmas.{map-map}
 use Rattle.tables.specs.Rows as row
-use Rattle.tables.specs.Shown as tables
+use Rattle.store.specs.Shown as tables
 use Rattle.tables.specs.Staging.{without_staged_from}
 use Rattle.tables.specs.Statements.{without_chunks_from}
 use Rattle.tables.specs.declared.fault.StoreFault.TheVariants.{Refused}
@@ -39,13 +39,13 @@ same_uploads t id n = at (staged_with id t)
 
 module _ {S : Type 0} (g : Ghosts S) where
   -- of n staged uploads, these are left; the world is kept
-  pub record IsSwept (world : World) (old now : Store S) (n : ℕ) (left : List UploadRow) : Type 0 where
+  pub record IsSwept (world : World) (old now : S) (n : ℕ) (left : List UploadRow) : Type 0 where
     pub keeps : Keeps g old now world
     pub total : HasStaged g old n
     pub ids : IsHonest g now → IsOpen g now → staged_ids (shown g now) ≡ row_ids left
 
   -- at first all are left
-  pub swept_none : (old now : Store S) (ids : List UploadRow) → Moves g (λ t. t) old now → tables.AddsNothing g old now
+  pub swept_none : (old now : S) (ids : List UploadRow) → Moves g (λ t. t) old now → tables.AddsNothing g old now
       → (IsHonest g now → tables.HasTables g old → IsOpen g old × AreUploadsOf ids (filter is_staged (shown g old).uploads))
       → From g old now (λ world. IsSwept world old now (length ids) ids)
   swept_none old now ids same adds said = record {
@@ -58,7 +58,7 @@ module _ {S : Type 0} (g : Ghosts S) where
   }
 
   -- the store refuses to read them
-  pub unread : (old now : Store S) (fault : StoreFault) → Moves g (λ t. t) old now → tables.AddsNothing g old now → From g old now (λ world. Sweeps g world old now (Err fault))
+  pub unread : (old now : S) (fault : StoreFault) → Moves g (λ t. t) old now → tables.AddsNothing g old now → From g old now (λ world. Sweeps g world old now (Err fault))
   unread old now fault same adds = record {
     honest = same.was_honest;
     each = λ honest world h. keeps_still g old now world (leads_still g old now world same adds h);
@@ -67,15 +67,15 @@ module _ {S : Type 0} (g : Ghosts S) where
   -- ---- the last chunks of an upload are removed
 
   -- none so far
-  pub shortens_none : (a : Store S) → From g a a (Shortens g a a)
+  pub shortens_none : (a : S) → From g a a (Shortens g a a)
   shortens_none a = record {
     honest = λ k. k;
     each = λ k world h. (keeps_still g a a world (leads_none g a world h), λ honest o. (o, refl));
   }
 
-  module _ (a b c : Store S) (id : ℤ) (n : ℕ) (so_far : From g a b (Shortens g a b)) where
+  module _ (a b c : S) (id : ℤ) (n : ℕ) (so_far : From g a b (Shortens g a b)) where
     -- some more
-    pub shortens_more : Makes g (without_staged_from id (pos n)) b c → From g a c (Shortens g a c)
+    pub shortens_more : Puts g (without_staged_from id (pos n)) b c → From g a c (Shortens g a c)
     shortens_more made = record {
       honest = λ k. so_far.honest (made.moves.was_honest k);
       each = λ k world h.
@@ -104,7 +104,7 @@ module _ {S : Type 0} (g : Ghosts S) where
 
   -- ---- an upload is removed
 
-  module _ (a b c : Store S) (id : UploadId) (cut : From g a b (Shortens g a b)) where
+  module _ (a b c : S) (id : UploadId) (cut : From g a b (Shortens g a b)) where
     pub abandons : {T E : Type 0} (r : Result T E) → OnOk r (Makes g (without_staged (upload_number id)) b c) → OnErr r (Fails g (without_staged (upload_number id)) b c)
         → (IsHonest g c → IsHonest g b) → From g a c (λ world. Keeps g a c world × OnOk r (StagesNone g c (upload_number id)))
     abandons r made failed was = record {
@@ -119,7 +119,7 @@ module _ {S : Type 0} (g : Ghosts S) where
         none (Err e) made holds = tt
 
   -- the chunks of the first one are removed but for some
-  pub swept_cut : (old now next : Store S) (n : ℕ) (left : List UploadRow) → From g old now (λ world. IsSwept world old now n left) → From g now next (Shortens g now next) → From g old next (λ world. IsSwept world old next n left)
+  pub swept_cut : (old now next : S) (n : ℕ) (left : List UploadRow) → From g old now (λ world. IsSwept world old now n left) → From g now next (Shortens g now next) → From g old next (λ world. IsSwept world old next n left)
   swept_cut old now next n left so_far cut = record {
     honest = λ k. so_far.honest (cut.honest k);
     each = λ k world h.
@@ -133,7 +133,7 @@ module _ {S : Type 0} (g : Ghosts S) where
   }
 
   -- or the store refuses
-  pub cut_fails : (old now next : Store S) (n : ℕ) (left : List UploadRow) (fault : StoreFault) → From g old now (λ world. IsSwept world old now n left) → From g now next (Shortens g now next) → From g old next (λ world. Sweeps g world old next (Err fault))
+  pub cut_fails : (old now next : S) (n : ℕ) (left : List UploadRow) (fault : StoreFault) → From g old now (λ world. IsSwept world old now n left) → From g now next (Shortens g now next) → From g old next (λ world. Sweeps g world old next (Err fault))
   cut_fails old now next n left fault so_far cut = record {
     honest = λ k. so_far.honest (cut.honest k);
     each = λ k world h.
@@ -141,7 +141,7 @@ module _ {S : Type 0} (g : Ghosts S) where
         keeps_then g old now next world it.keeps (cut.each k world it.keeps.holds).0;
   }
 
-  module _ (old now next : Store S) (n : ℕ) (upload : UploadRow) (left : List UploadRow) where
+  module _ (old now next : S) (n : ℕ) (upload : UploadRow) (left : List UploadRow) where
     -- one upload is removed
     pub swept_more : From g old now (λ world. IsSwept world old now n (upload ∷ left)) → Makes g (without_staged (upload_number upload.id)) now next → From g old next (λ world. IsSwept world old next n left)
     swept_more so_far made = record {
@@ -173,7 +173,7 @@ module _ {S : Type 0} (g : Ghosts S) where
     }
 
   -- at last none is left
-  pub swept_all : (old now : Store S) (n count : ℕ) → n ≡ count → From g old now (λ world. IsSwept world old now n []) → From g old now (λ world. Sweeps g world old now (Ok count))
+  pub swept_all : (old now : S) (n count : ℕ) → n ≡ count → From g old now (λ world. IsSwept world old now n []) → From g old now (λ world. Sweeps g world old now (Ok count))
   swept_all old now n count same so_far = record {
     honest = so_far.honest;
     each = λ k world h.

@@ -1,12 +1,11 @@
 -- Uploads that are completed.
 use Rattle.std.specs.Prelude.{◌≡◌, ◌+◌, ℕ, true, List, ◌++◌, length, None, is_some, IsTrue, Result, Ok, Err}
 use Rattle.std.specs.List.{concat}
-use Rattle.sqlite_trees.specs.declared.store.Store.{Ghosts}
+use Rattle.store.specs.declared.state.State.{Ghosts}
 use Rattle.names.specs.Texts.{is_repo}
 use Rattle.model.specs.World.{World, Object, name_of, object_named, total, with_object}
 use Rattle.model.specs.Bounds.{Ending, changed, unchanged, failed}
 use Rattle.tables.specs.Staging.{upload_number}
-use Rattle.tables.specs.declared.Store.{Store}
 use Rattle.tables.specs.declared.new_rows.LastChunk.{LastChunk}
 use Rattle.tables.specs.declared.rows.UploadId.{UploadId}
 use Rattle.refinement.specs.Left.{Ends, Keeps, KeepsTables}
@@ -40,7 +39,7 @@ IsAsBegun upload = (name_of (bytes_in upload) ≡ upload.name) × (length (bytes
 
 module _ {S : Type 0} (g : Ghosts S) where
   -- this upload is staged under the id, this is its last chunk, and all its bytes have this name and this size
-  pub record Arrives (s : Store S) (id : UploadId) (upload : Staged) (chunk : LastChunk) (oid : List ℕ) (size : ℕ) : Type 0 where
+  pub record Arrives (s : S) (id : UploadId) (upload : Staged) (chunk : LastChunk) (oid : List ℕ) (size : ℕ) : Type 0 where
     pub repo : IsTrue (is_repo upload.repo)
     pub next : chunk.n ≡ length upload.pieces
     pub last : chunk.bytes.items ≡ upload.last
@@ -49,13 +48,13 @@ module _ {S : Type 0} (g : Ghosts S) where
     pub length : size ≡ length (bytes_in upload)
 
   -- a call to add the object of the upload to the world ended this way
-  abbrev pub Adds : Store S → Store S → Ending → World → Staged → World → Type 0
+  abbrev pub Adds : S → S → Ending → World → Staged → World → Type 0
   Adds old new ending world upload kept = Ends g old new ending world (with_object (object_of upload) world) kept
 
   -- the object was added, and its repository's total grew by the size of the upload; or the repository has it already, and
   -- the upload is removed; or the bytes differ from what was begun, and the tables are as before; or the store refused, and
   -- then a stop leaves no object of bytes that differ
-  abbrev pub Completes : World → UploadId → Staged → Store S → Store S → Result Kept UploadFault → Type 0
+  abbrev pub Completes : World → UploadId → Staged → S → S → Result Kept UploadFault → Type 0
   Completes world id upload old new (Ok New) =
       IsAsBegun upload × (object_named upload.repo upload.name world ≡ None)
       × Adds old new changed world upload (with_object (object_of upload) world)

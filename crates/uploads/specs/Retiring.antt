@@ -1,10 +1,9 @@
 -- Objects that are removed for good.
 use Rattle.std.specs.Prelude.{◌≡◌, ℕ, List, Option, Some, None, Result, Ok, Err}
-use Rattle.sqlite_trees.specs.declared.store.Store.{Ghosts}
+use Rattle.store.specs.declared.state.State.{Ghosts}
 use Rattle.model.specs.World.{World}
 use Rattle.model.specs.Operator.{Removal, removed_now, removed_before, no_object, removal_of, after_removal}
 use Rattle.model.specs.Steps.{retires}
-use Rattle.tables.specs.declared.Store.{Store}
 use Rattle.tables.specs.declared.fault.StoreFault.{StoreFault}
 use Rattle.refinement.specs.Left.{Takes, KeepsTables}
 use Rattle.refinement.specs.Staging.{StagesNoneIn}
@@ -26,13 +25,13 @@ IsSeen world repo name (Some Unknown) = removal_of world repo name ≡ no_object
 
 module _ {S : Type 0} (g : Ghosts S) where
   -- of a repository whose object was removed now, nothing is staged; else the tables are as before
-  abbrev pub LeavesStaged : (repo : List ℕ) → Store S → Store S → Retired → Type 0
+  abbrev pub LeavesStaged : (repo : List ℕ) → S → S → Retired → Type 0
   LeavesStaged repo old new Now = StagesNoneIn g new repo
   LeavesStaged repo old new Already = KeepsTables g old new
   LeavesStaged repo old new Unknown = KeepsTables g old new
 
   -- the result is what became of the object, in a step to the world after it; or the store refused, and the world is kept
-  abbrev pub Retires : World → (repo name : List ℕ) → Store S → Store S → Result Retired StoreFault → Type 0
+  abbrev pub Retires : World → (repo name : List ℕ) → S → S → Result Retired StoreFault → Type 0
   Retires world repo name old new (Ok given) =
       Takes g old new world (retires repo name (Some (removal_seen given))) (after_removal world repo name (removal_seen given))
       × LeavesStaged repo old new given

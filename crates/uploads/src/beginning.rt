@@ -7,19 +7,16 @@ use crate::finding::is_retired;
 use crate::removing::shorten;
 use names::{Oid, RepoName, Size};
 use std::alloc::Global;
-use tables::{Alter, NewUpload, Store, StoreFault, UploadId};
+use store::Store;
+use tables::{NewUpload, StoreFault, UploadId};
 
 /// Removes all chunks but the first part of those of the upload that the repository has staged, if it has one.
 ///
 /// # Errors
 ///
 /// `Refused` or `Memory`. Some of the chunks may be removed.
-fn shorten_staged<S: Alter>(
-    alloc: Global,
-    store: &mut Store<S>,
-    repo: &RepoName,
-) -> Result<(), StoreFault>
-    ensures { From S.Store store.old store.new (Keeps S.Store store.old store.new) }
+fn shorten_staged<S: Store>(alloc: Global, store: &mut S, repo: &RepoName) -> Result<(), StoreFault>
+    ensures { From S.State store.old store.new (Keeps S.State store.old store.new) }
 {
     let Some(staged) = store.staged_upload(alloc, repo)? else {
         return Ok(());
@@ -34,15 +31,15 @@ fn shorten_staged<S: Alter>(
 ///
 /// `Refused`, also for a name that the repository has retired, of which nothing is ever staged, or `Memory`. The objects
 /// of the store are unchanged in any case; after a stop, the upload that was staged before may be gone.
-pub fn begin<S: Alter>(
+pub fn begin<S: Store>(
     alloc: Global,
-    store: &mut Store<S>,
+    store: &mut S,
     repo: &RepoName,
     oid: &Oid,
     size: Size,
 ) -> Result<UploadId, StoreFault>
-    ensures { From S.Store store.old store.new (λ world.
-        Begins S.Store world repo.now oid.now size store.old store.new result) }
+    ensures { From S.State store.old store.new (λ world.
+        Begins S.State world repo.now oid.now size store.old store.new result) }
 {
     if is_retired(store, repo, oid)? {
         return Err(StoreFault::Refused);

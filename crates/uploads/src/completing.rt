@@ -7,7 +7,8 @@ ghost use Rattle.uploads.specs.declared.completing.UploadFault.TheVariants.{Stor
 
 use crate::removing::abandon;
 use names::{Oid, Size};
-use tables::{Alter, Completion, LastChunk, Store, StoreFault, UploadId};
+use store::Store;
+use tables::{Completion, LastChunk, StoreFault, UploadId};
 
 /// The result of completing an upload.
 #[derive(Clone, Copy, Debug, PartialEq, Eq)]
@@ -46,16 +47,16 @@ impl From<StoreFault> for UploadFault {
 ///
 /// `Differs` for another name or size, and `Store` of `Refused`, also if no upload is staged under this id, or of
 /// `Memory`. Both leave the objects of the store unchanged, and the upload may still be staged.
-pub fn complete<S: Alter>(
-    store: &mut Store<S>,
+pub fn complete<S: Store>(
+    store: &mut S,
     id: UploadId,
     last: &LastChunk,
     oid: &Oid,
     size: Size,
 ) -> Result<Kept, UploadFault>
-    ensures { From S.Store store.old store.new (λ world.
-        (upload : Staged) → Arrives S.Store store.old id upload last.now oid.now size
-        → Completes S.Store world id upload store.old store.new result) }
+    ensures { From S.State store.old store.new (λ world.
+        (upload : Staged) → Arrives S.State store.old id upload last.now oid.now size
+        → Completes S.State world id upload store.old store.new result) }
 {
     match store.complete_upload(id, last, oid, size)? {
         Completion::New => Ok(Kept::New),

@@ -10,7 +10,8 @@ ghost use Rattle.uploads.specs.Listing.{Lists};
 
 use names::{Oid, RepoName};
 use std::alloc::Global;
-use tables::{Alter, ObjectRow, Store, StoreFault, UploadRow};
+use store::Store;
+use tables::{ObjectRow, StoreFault, UploadRow};
 
 /// Returns the object that the repository has under this name, if there is one: the upload that has its bytes, and
 /// its size.
@@ -18,13 +19,13 @@ use tables::{Alter, ObjectRow, Store, StoreFault, UploadRow};
 /// # Errors
 ///
 /// `Refused` or `Memory`. The contents of the store are unchanged in any case.
-pub fn find<S: Alter>(
-    store: &mut Store<S>,
+pub fn find<S: Store>(
+    store: &mut S,
     repo: &RepoName,
     oid: &Oid,
 ) -> Result<Option<ObjectRow>, StoreFault>
-    ensures { Reads S.Store store.old store.new (λ world.
-        IfOk result (Finds S.Store world store.new (repo_text repo.now) oid.now)) }
+    ensures { Reads S.State store.old store.new (λ world.
+        IfOk result (Finds S.State world store.new (repo_text repo.now) oid.now)) }
 {
     store.object(repo, oid)
 }
@@ -34,8 +35,8 @@ pub fn find<S: Alter>(
 /// # Errors
 ///
 /// `Refused` or `Memory`. The contents of the store are unchanged in any case.
-pub fn used<S: Alter>(store: &mut Store<S>, repo: &RepoName) -> Result<u64, StoreFault>
-    ensures { Reads S.Store store.old store.new (λ world.
+pub fn used<S: Store>(store: &mut S, repo: &RepoName) -> Result<u64, StoreFault>
+    ensures { Reads S.State store.old store.new (λ world.
         IfOk result (λ n. n ≡ total (repo_text repo.now) world)) }
 {
     store.used(repo)
@@ -47,13 +48,13 @@ pub fn used<S: Alter>(store: &mut Store<S>, repo: &RepoName) -> Result<u64, Stor
 /// # Errors
 ///
 /// `Refused` or `Memory`. The contents of the store are unchanged in any case.
-pub fn all<S: Alter>(
+pub fn all<S: Store>(
     alloc: Global,
-    store: &mut Store<S>,
+    store: &mut S,
     repo: Option<&RepoName>,
 ) -> Result<Vec<UploadRow>, StoreFault>
-    ensures { Reads S.Store store.old store.new (λ world.
-        IfOk result (λ found. Lists S.Store world store.new
+    ensures { Reads S.State store.old store.new (λ world.
+        IfOk result (λ found. Lists S.State world store.new
         (option_map (λ r. repo_text r.now) repo.entry) found.items)) }
 {
     store.objects(alloc, repo)
@@ -64,12 +65,8 @@ pub fn all<S: Alter>(
 /// # Errors
 ///
 /// `Refused` or `Memory`. The contents of the store are unchanged in any case.
-pub fn is_retired<S: Alter>(
-    store: &mut Store<S>,
-    repo: &RepoName,
-    oid: &Oid,
-) -> Result<bool, StoreFault>
-    ensures { Reads S.Store store.old store.new (λ world.
+pub fn is_retired<S: Store>(store: &mut S, repo: &RepoName, oid: &Oid) -> Result<bool, StoreFault>
+    ensures { Reads S.State store.old store.new (λ world.
         IfOk result (λ retired. retired ≡ is_retired (repo_text repo.now) oid.now world)) }
 {
     store.is_retired(repo, oid)
@@ -80,12 +77,12 @@ pub fn is_retired<S: Alter>(
 /// # Errors
 ///
 /// `Refused` or `Memory`. The contents of the store are unchanged in any case.
-pub fn retired<S: Alter>(
+pub fn retired<S: Store>(
     alloc: Global,
-    store: &mut Store<S>,
+    store: &mut S,
     repo: &RepoName,
 ) -> Result<Vec<Oid>, StoreFault>
-    ensures { Reads S.Store store.old store.new (λ world.
+    ensures { Reads S.State store.old store.new (λ world.
         IfOk result (λ names. names.items ≡ retired_of (repo_text repo.now) world)) }
 {
     store.retired(alloc, repo)

@@ -8,14 +8,14 @@ ghost use Rattle.refinement.specs.Representation.{Holds};
 ghost use Rattle.refinement.specs.Left.{IsBoundedBy};
 ghost use Rattle.uploads.specs.Bounds.{AreWithin, StoresWithin, LeavesWithin};
 
-use tables::{Alter, Store};
+use store::Store;
 
 /// If the sizes of a repository's objects add up to at most `most`, the repository has at most `most` bytes and
 /// one largest object in the database, those of a staged upload included. If they do in each world that a stop may leave,
 /// it has at most as many in whatever a stop leaves.
-pub fn bound_law<S: Alter>(store: &Store<S>)
-    ensures shown { (world : World) (repo : List ℕ) (most : ℕ) → Holds S.Store store.now world
-        → total repo world ≤ most → StoresWithin S.Store store.now repo (most + largest_object) }
-    ensures left { (bound : Bound) (repo : List ℕ) (most : ℕ) → IsBoundedBy S.Store store.now bound
-        → AreWithin repo most bound → LeavesWithin S.Store store.now repo (most + largest_object) }
+pub fn bound_law<S: Store>(store: &S)
+    ensures shown { (world : World) (repo : List ℕ) (most : ℕ) → Holds S.State store.now world
+        → total repo world ≤ most → StoresWithin S.State store.now repo (most + largest_object) }
+    ensures left { (bound : Bound) (repo : List ℕ) (most : ℕ) → IsBoundedBy S.State store.now bound
+        → AreWithin repo most bound → LeavesWithin S.State store.now repo (most + largest_object) }
 {}

@@ -8,7 +8,8 @@ ghost use Rattle.uploads.specs.Removing.{Shortens, Sweeps};
 
 use names::Size;
 use std::alloc::Global;
-use tables::{Alter, Store, StoreFault, UploadId};
+use store::Store;
+use tables::{StoreFault, UploadId};
 
 /// The number of chunks that are removed in one transaction, so that none takes much memory or room in the log.
 const PART: u64 = 256;
@@ -22,12 +23,8 @@ const PART_BYTES: u64 = 16_777_216;
 /// # Errors
 ///
 /// `Refused` or `Memory`. Some of the chunks may be removed.
-pub(crate) fn shorten<S: Alter>(
-    store: &mut Store<S>,
-    id: UploadId,
-    size: Size,
-) -> Result<(), StoreFault>
-    ensures { From S.Store store.old store.new (Shortens S.Store store.old store.new) }
+pub(crate) fn shorten<S: Store>(store: &mut S, id: UploadId, size: Size) -> Result<(), StoreFault>
+    ensures { From S.State store.old store.new (Shortens S.State store.old store.new) }
 {
     let mut left = size.get() / PART_BYTES;
     'parts: while left > 0 {
@@ -43,10 +40,10 @@ pub(crate) fn shorten<S: Alter>(
 /// # Errors
 ///
 /// `Refused` or `Memory`. The upload may still be staged, without some of its bytes. No object is changed in any case.
-pub fn abandon<S: Alter>(store: &mut Store<S>, id: UploadId, size: Size) -> Result<(), StoreFault>
-    ensures { From S.Store store.old store.new (λ world.
-        Keeps S.Store store.old store.new world
-        × OnOk result (StagesNone S.Store store.new (upload_number id))) }
+pub fn abandon<S: Store>(store: &mut S, id: UploadId, size: Size) -> Result<(), StoreFault>
+    ensures { From S.State store.old store.new (λ world.
+        Keeps S.State store.old store.new world
+        × OnOk result (StagesNone S.State store.new (upload_number id))) }
 {
     shorten(store, id, size)?;
     store.remove_upload(id)?;
@@ -58,9 +55,9 @@ pub fn abandon<S: Alter>(store: &mut Store<S>, id: UploadId, size: Size) -> Resu
 /// # Errors
 ///
 /// `Refused` or `Memory`. Some of the uploads may still be staged. No object is changed in any case.
-pub fn sweep<S: Alter>(alloc: Global, store: &mut Store<S>) -> Result<u64, StoreFault>
-    ensures { From S.Store store.old store.new (λ world.
-        Sweeps S.Store world store.old store.new result) }
+pub fn sweep<S: Store>(alloc: Global, store: &mut S) -> Result<u64, StoreFault>
+    ensures { From S.State store.old store.new (λ world.
+        Sweeps S.State world store.old store.new result) }
 {
     let staged = store.staged_uploads(alloc)?;
     for upload in staged.as_slice() {

@@ -11,7 +11,8 @@ use crate::finding::{find, is_retired};
 use crate::removing::shorten;
 use names::{Oid, RepoName};
 use std::alloc::Global;
-use tables::{Alter, Store, StoreFault};
+use store::Store;
+use tables::StoreFault;
 
 /// What became of an object that is removed for good.
 #[derive(Clone, Copy, Debug, PartialEq, Eq)]
@@ -25,13 +26,9 @@ pub enum Retired {
 }
 
 /// Removes the upload that the repository has staged, if it has one.
-fn clear_staged<S: Alter>(
-    alloc: Global,
-    store: &mut Store<S>,
-    repo: &RepoName,
-) -> Result<(), StoreFault>
-    ensures { From S.Store store.old store.new (λ world. Keeps S.Store store.old store.new world
-        × OnOk result (StagesNoneIn S.Store store.new (repo_text repo.now))) }
+fn clear_staged<S: Store>(alloc: Global, store: &mut S, repo: &RepoName) -> Result<(), StoreFault>
+    ensures { From S.State store.old store.new (λ world. Keeps S.State store.old store.new world
+        × OnOk result (StagesNoneIn S.State store.new (repo_text repo.now))) }
 {
     let Some(staged) = store.staged_upload(alloc, repo)? else {
         return Ok(());
@@ -43,14 +40,14 @@ fn clear_staged<S: Alter>(
 
 /// Removes the object, which the repository has, and retires its name, in one transaction. What the repository has staged
 /// is removed before.
-fn remove<S: Alter>(
+fn remove<S: Store>(
     alloc: Global,
-    store: &mut Store<S>,
+    store: &mut S,
     repo: &RepoName,
     oid: Oid,
 ) -> Result<Retired, StoreFault>
-    ensures { From S.Store store.old store.new (λ world. removal_of world (repo_text repo.now) oid ≡ removed_now
-        → Retires S.Store world (repo_text repo.now) oid store.old store.new result) }
+    ensures { From S.State store.old store.new (λ world. removal_of world (repo_text repo.now) oid ≡ removed_now
+        → Retires S.State world (repo_text repo.now) oid store.old store.new result) }
 {
     clear_staged(alloc, store, repo)?;
     if store.retire_object(repo, &oid)? {
@@ -61,12 +58,12 @@ fn remove<S: Alter>(
 }
 
 /// Why there is no object to remove; `None` if there is one.
-fn nothing_to_remove<S: Alter>(
-    store: &mut Store<S>,
+fn nothing_to_remove<S: Store>(
+    store: &mut S,
     repo: &RepoName,
     oid: &Oid,
 ) -> Result<Option<Retired>, StoreFault>
-    ensures { Reads S.Store store.old store.new (λ world.
+    ensures { Reads S.State store.old store.new (λ world.
         IfOk result (IsSeen world (repo_text repo.now) oid.now)) }
 {
     if is_retired(store, repo, oid)? {
@@ -85,14 +82,14 @@ fn nothing_to_remove<S: Alter>(
 /// # Errors
 ///
 /// `Refused` or `Memory`. The objects of the store are unchanged, but a stop may still leave the removal.
-pub fn retire<S: Alter>(
+pub fn retire<S: Store>(
     alloc: Global,
-    store: &mut Store<S>,
+    store: &mut S,
     repo: &RepoName,
     oid: Oid,
 ) -> Result<Retired, StoreFault>
-    ensures { From S.Store store.old store.new (λ world.
-        Retires S.Store world (repo_text repo.now) oid store.old store.new result) }
+    ensures { From S.State store.old store.new (λ world.
+        Retires S.State world (repo_text repo.now) oid store.old store.new result) }
 {
     match nothing_to_remove(store, repo, &oid)? {
         Some(why) => Ok(why),

@@ -1,5 +1,5 @@
 use Rattle.std.proofs.Common.{◌-◌, List, ℕ}
-use Rattle.tables.specs.Shown.{IsHonest, HasTables, Moves, AddsNothing, shown}
+use Rattle.store.specs.Shown.{IsHonest, HasTables, Moves, AddsNothing, shown}
 use Rattle.tables.specs.Staging.{upload_number}
 use Rattle.refinement.specs.Objects.{HasPieces}
 use Rattle.chunks.proofs.Poured.{HasHashed}
@@ -7,9 +7,9 @@ use Rattle.chunks.proofs.verifying.is_whole.Given as goal
 
 abbrev pub invariant-chunks : goal.invariant-chunks
 invariant-chunks g l = record {
-  same : Moves g.S.Store (λ t. t) l.fn.store l.store;
-  adds : AddsNothing g.S.Store l.fn.store l.store;
-  hashed : IsHonest g.S.Store l.store → HasTables g.S.Store l.fn.store → (pieces : List (List ℕ)) → HasPieces (upload_number l.upload) pieces (shown g.S.Store l.fn.store).chunks
+  same : Moves g.S.State (λ t. t) l.fn.store l.store;
+  adds : AddsNothing g.S.State l.fn.store l.store;
+  hashed : IsHonest g.S.State l.store → HasTables g.S.State l.fn.store → (pieces : List (List ℕ)) → HasPieces (upload_number l.upload) pieces (shown g.S.State l.fn.store).chunks
       → HasHashed l.hasher l.count l.n pieces;
 }
 

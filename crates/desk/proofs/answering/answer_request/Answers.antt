@@ -12,4 +12,4 @@ returns-in-Put g c =
 pub returns-in_default : goal.returns-in_default
 returns-in_default g c =
     replied_before (g.met.B.Body.moves_none c.args.content.now) (uploads_none c.args.request.now c.in_default.not-Put) c.reply_or_denial.result c.reply_or_denial.ensures.read
-    (λ size body. replied g.S.Store c.args.store.now c.answer_whole-done.new.store (c.answer_whole-done.ensures size body) c.reply_or_denial.ensures.shows)
+    (λ size body. replied g.S.State c.args.store.now c.answer_whole-done.new.store (c.answer_whole-done.ensures size body) c.reply_or_denial.ensures.shows)

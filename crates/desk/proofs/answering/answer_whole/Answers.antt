@@ -15,5 +15,5 @@ returns-in-Unlock g c size content =
 pub returns-in_default : goal.returns-in_default
 returns-in_default g c =
     let it = c.in_default in
-    let reads = as_reads g.S.Store (case_repo c.args.case.now) _ c.answer_reading.ensures.reads c.answer_reading.ensures.each in
-    answered_reading g.S.Store c.args.case.now (request_asked c.args.request.now) (reads_only c.args.request.now it.not-Put it.not-Lock it.not-Unlock) c.answer_reading.result reads
+    let reads = as_reads g.S.State (case_repo c.args.case.now) _ c.answer_reading.ensures.reads c.answer_reading.ensures.each in
+    answered_reading g.S.State c.args.case.now (request_asked c.args.request.now) (reads_only c.args.request.now it.not-Put it.not-Lock it.not-Unlock) c.answer_reading.result reads

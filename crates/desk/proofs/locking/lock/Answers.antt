@@ -21,6 +21,6 @@ returns g c =
       honest = c.make_lock.ensures.honest;
       each = λ honest world h who user.
           let allowed = ap (λ (may : Result ⊤ Denial). may >>= λ _. placed_verdict world w) (ap (λ q. permit (case_policy case) q 403) (sym c.question_on.ensures) ∙ c.in_ok-permit.ensures) in
-          subst (λ (v : Answer). AnswersAlone g.S.Store c.args.store.now c.make_lock.new.store world v c.make_lock.result)
+          subst (λ (v : Answer). AnswersAlone g.S.State c.args.store.now c.make_lock.new.store world v c.make_lock.result)
           (sym allowed ∙ verdict_alike world case who c.args.asked.now w user c.wanted_by-wanted.ensures) (c.make_lock.ensures.each honest world h);
     }

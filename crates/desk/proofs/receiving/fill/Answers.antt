@@ -10,7 +10,7 @@ returns-in_err-take_all-clause-bytes g c =
     rw p.1 (
       took.0,
       took.1,
-      fills_failed g.S.Store c.args.store.now c.in_ok-intake.intake c.args.upload c.args.size begun.upload begun.size begun.empty c.take_all.new.store c.take_all.new.intake took.0 (Err c.in_err-take_all.field-0.0) p.0 took.2,
+      fills_failed g.S.State c.args.store.now c.in_ok-intake.intake c.args.upload c.args.size begun.upload begun.size begun.empty c.take_all.new.store c.take_all.new.intake took.0 (Err c.in_err-take_all.field-0.0) p.0 took.2,
     )
 
 pub returns-in_err-end-clause-bytes : goal.returns-in_err-end-clause-bytes
@@ -21,7 +21,7 @@ returns-in_err-end-clause-bytes g c =
     rw p.1 (
       took.0,
       took.1,
-      fills_failed g.S.Store c.args.store.now c.in_ok-intake.intake c.args.upload c.args.size begun.upload begun.size begun.empty c.take_all.new.store c.take_all.new.intake took.0 (Ok tt) p.0 took.2,
+      fills_failed g.S.State c.args.store.now c.in_ok-intake.intake c.args.upload c.args.size begun.upload begun.size begun.empty c.take_all.new.store c.take_all.new.intake took.0 (Ok tt) p.0 took.2,
     )
 
 pub returns-clause-bytes : goal.returns-clause-bytes
@@ -31,6 +31,6 @@ returns-clause-bytes g c =
     let end = c.in_ok-end.ensures in (
       took.0,
       took.1,
-      fills_all g.S.Store c.args.store.now c.in_ok-intake.intake c.args.upload c.args.size begun.upload begun.size begun.empty c.take_all.new.store c.take_all.new.intake took.0 c.in_ok-end.field-0
+      fills_all g.S.State c.args.store.now c.in_ok-intake.intake c.args.upload c.args.size begun.upload begun.size begun.empty c.take_all.new.store c.take_all.new.intake took.0 c.in_ok-end.field-0
           c.in_ok-take_all.ensures.upload took.2 end.named end.whole,
     )

@@ -11,7 +11,7 @@ returns-in_default-clause-bytes g c =
       read_none g.B.Body content content (g.met.B.Body.moves_none content) refl,
       record {
         honest = λ k. k;
-        each = λ k world h. received_none g.S.Store old old world (repo_text c.args.repo.now) c.args.name.now [] (g.B.Body.size content) (fault.Store Refused) (keeps_still g.S.Store old old world (leads_none g.S.Store old world h));
+        each = λ k world h. received_none g.S.State old old world (repo_text c.args.repo.now) c.args.name.now [] (g.B.Body.size content) (fault.Store Refused) (keeps_still g.S.State old old world (leads_none g.S.State old world h));
       },
     )
 
@@ -25,7 +25,7 @@ returns-in_err-upload-clause-bytes g c =
       read_none g.B.Body content content (g.met.B.Body.moves_none content) refl,
       record {
         honest = begun.honest;
-        each = λ k world h. received_none g.S.Store c.args.store.now c.begin.new.store world (repo_text c.args.repo.now) c.args.name.now [] (g.B.Body.size content) p.0 (begun.each k world h);
+        each = λ k world h. received_none g.S.State c.args.store.now c.begin.new.store world (repo_text c.args.repo.now) c.args.name.now [] (g.B.Body.size content) p.0 (begun.each k world h);
       },
     )
 
@@ -34,6 +34,6 @@ returns-clause-bytes g c =
     let came = c.receive_staged-received.ensures.bytes in (
       came.0,
       came.1,
-      received g.S.Store c.args.store.now c.begin.new.store c.receive_staged-received.new.store c.clear.new.store c.in_ok-upload.upload (repo_text c.args.repo.now) c.args.name.now c.in-Some.size came.0 (g.B.Body.size c.receive_staged-received.new.content)
+      received g.S.State c.args.store.now c.begin.new.store c.receive_staged-received.new.store c.clear.new.store c.in_ok-upload.upload (repo_text c.args.repo.now) c.args.name.now c.in-Some.size came.0 (g.B.Body.size c.receive_staged-received.new.content)
           c.receive_staged-received.result c.args.repo.now.in_range (came.1.size ∙ sym c.left.ensures ∙ sym c.in-Some.ensures.value) c.in_ok-upload.ensures came.2 c.clear.ensures,
     )

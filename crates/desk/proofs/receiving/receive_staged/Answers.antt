@@ -9,7 +9,7 @@ returns-in_err-arrival-clause-bytes g c =
     rw p.1 (
       filled.0,
       filled.1,
-      staged_part g.S.Store c.args.store.now c.args.upload c.args.size c.fill.new.store filled.0 (g.B.Body.size c.fill.new.content) (Err c.in_err-arrival.field-0.0) p.0 filled.2,
+      staged_part g.S.State c.args.store.now c.args.upload c.args.size c.fill.new.store filled.0 (g.B.Body.size c.fill.new.content) (Err c.in_err-arrival.field-0.0) p.0 filled.2,
     )
 
 pub returns-in_err-settle-clause-bytes : goal.returns-in_err-settle-clause-bytes
@@ -19,7 +19,7 @@ returns-in_err-settle-clause-bytes g c =
     rw (p.1, p.2) (
       filled.0,
       filled.1,
-      staged_all g.S.Store c.args.store.now c.args.upload c.args.size c.fill.new.store c.settle.new.store filled.0 (g.B.Body.size c.fill.new.content) c.in_ok-arrival.arrival (Err c.in_err-settle.field-0.0)
+      staged_all g.S.State c.args.store.now c.args.upload c.args.size c.fill.new.store c.settle.new.store filled.0 (g.B.Body.size c.fill.new.content) c.in_ok-arrival.arrival (Err c.in_err-settle.field-0.0)
           c.in_ok-arrival.ensures.whole.whole filled.2 c.in_err-settle.ensures,
     )
 
@@ -28,6 +28,6 @@ returns-clause-bytes g c =
     let filled = c.in_ok-arrival.ensures.bytes in (
       filled.0,
       filled.1,
-      staged_all g.S.Store c.args.store.now c.args.upload c.args.size c.fill.new.store c.settle.new.store filled.0 (g.B.Body.size c.fill.new.content) c.in_ok-arrival.arrival (Ok c.in_ok-settle.field-0)
+      staged_all g.S.State c.args.store.now c.args.upload c.args.size c.fill.new.store c.settle.new.store filled.0 (g.B.Body.size c.fill.new.content) c.in_ok-arrival.arrival (Ok c.in_ok-settle.field-0)
           c.in_ok-arrival.ensures.whole.whole filled.2 c.in_ok-settle.ensures,
     )

@@ -9,7 +9,7 @@ pieces-init g c = record {
   good = refl;
   room = search rules;
   upload = refl;
-  takes = takes_none g.S.Store c.args.store.now c.args.intake.now;
+  takes = takes_none g.S.State c.args.store.now c.args.intake.now;
 }
 
 pub pieces-preserved : goal.pieces-preserved
@@ -25,7 +25,7 @@ pieces-preserved g c =
       good = search rules;
       room = search rules;
       upload = push.upload ∙ i.upload;
-      takes = takes_more g.S.Store c.args.store.now c.args.intake.now c.pieces.store c.push.new.store c.pieces.intake c.push.new.self i.bytes i.takes push.kept c.front.result.now piece c.front.ensures push.taken;
+      takes = takes_more g.S.State c.args.store.now c.args.intake.now c.pieces.store c.push.new.store c.pieces.intake c.push.new.self i.bytes i.takes push.kept c.front.result.now piece c.front.ensures push.taken;
     }
 
 pub returns-in_err-count-clause-bytes : goal.returns-in_err-count-clause-bytes
@@ -36,7 +36,7 @@ returns-in_err-count-clause-bytes g c =
     rw p.1 (
       i.bytes ++ [],
       read_more g.B.Body g.met.B.Body.moves_on c.args.content.now c.pieces.content c.piece.new.self i.bytes [] i.read (read_none g.B.Body c.pieces.content c.piece.new.self err.0 err.1),
-      takes_failed g.S.Store c.args.store.now c.args.intake.now c.pieces.store c.pieces.intake i.bytes (i.bytes ++ []) p.0 i.takes,
+      takes_failed g.S.State c.args.store.now c.args.intake.now c.pieces.store c.pieces.intake i.bytes (i.bytes ++ []) p.0 i.takes,
     )
 
 pub returns-in_err-push-clause-bytes : goal.returns-in_err-push-clause-bytes
@@ -49,5 +49,5 @@ returns-in_err-push-clause-bytes g c =
       i.bytes ++ piece,
       read_more g.B.Body g.met.B.Body.moves_on c.args.content.now c.pieces.content c.piece.new.self i.bytes piece i.read
           (read_piece g.B.Body c.pieces.content c.piece.new.self c.in_ok-count.count c.piece.new.piece read.within.0 read.within.1 read.bytes),
-      takes_refused g.S.Store c.args.store.now c.args.intake.now c.pieces.store c.push.new.store c.pieces.intake c.push.new.self i.bytes i.takes c.in_err-push.ensures.kept (i.bytes ++ piece) p.0,
+      takes_refused g.S.State c.args.store.now c.args.intake.now c.pieces.store c.push.new.store c.pieces.intake c.push.new.self i.bytes i.takes c.in_err-push.ensures.kept (i.bytes ++ piece) p.0,
     )

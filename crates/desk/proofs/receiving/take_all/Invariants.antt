@@ -9,7 +9,7 @@ invariant-pieces g l = record {
   good : g.B.Body.failed l.content ≡ g.B.Body.failed l.fn.content;
   room : 0 < length l.buffer;
   upload : l.intake.upload ≡ l.fn.intake.upload;
-  takes : From g.S.Store l.fn.store l.store (Takes g.S.Store l.fn.store l.fn.intake l.store l.intake bytes taken);
+  takes : From g.S.State l.fn.store l.store (Takes g.S.State l.fn.store l.fn.intake l.store l.intake bytes taken);
 }
 
 abbrev pub decreases-pieces : goal.decreases-pieces

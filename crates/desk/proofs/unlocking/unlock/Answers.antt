@@ -20,10 +20,10 @@ returns g c =
           let found = read_alike (lock_seen repo) c.in_ok-found.found c.as_ref.result c.as_ref.ensures.value ∙ seen in
           let there : lock_with repo asked.id world ≡ Some l = sym found ∙ ap (option_map (λ row. lock_seen repo row.now)) c.in_ok-row.ensures.same in
           let given : unlock_verdict (case_seen world case who) asked ≡ Ok (releases l) = verdict_on_found world case who asked user h.laws ∙ ap (found_verdict case asked.force) (sym found) ∙ c.in_ok-row.ensures.verdict in
-          let lead = reads_lead g.S.Store c.args.store.now c.get.new.store _ world get h in
-          subst (λ (v : Answer). AnswersAlone g.S.Store c.args.store.now c.release.new.store world v c.release.result) (sym given)
-          (granted_then g.S.Store c.args.store.now c.get.new.store c.release.new.store world _ c.release.result get h
-          (subst (λ n. lock_with n c.in_ok-row.row.now.id world ≡ Some (lock_seen n c.in_ok-row.row.now) → AnswersAlone g.S.Store c.get.new.store c.release.new.store world (Ok (releases (lock_seen n c.in_ok-row.row.now))) c.release.result)
+          let lead = reads_lead g.S.State c.args.store.now c.get.new.store _ world get h in
+          subst (λ (v : Answer). AnswersAlone g.S.State c.args.store.now c.release.new.store world v c.release.result) (sym given)
+          (granted_then g.S.State c.args.store.now c.get.new.store c.release.new.store world _ c.release.result get h
+          (subst (λ n. lock_with n c.in_ok-row.row.now.id world ≡ Some (lock_seen n c.in_ok-row.row.now) → AnswersAlone g.S.State c.get.new.store c.release.new.store world (Ok (releases (lock_seen n c.in_ok-row.row.now))) c.release.result)
           c.name-2.ensures (c.release.ensures.each honest world lead.holds) (id_found repo asked.id world l there)));
     }
 

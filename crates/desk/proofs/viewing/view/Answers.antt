@@ -12,33 +12,33 @@ use Rattle.desk.proofs.viewing.view.Goals as goal
 
 pub returns-in_err-objects : goal.returns-in_err-objects
 returns-in_err-objects g c =
-    reads_then g.S.Store _ _ _ _ _ _ (λ world laws before failed. none_ok _ _ c.from_residual-in_err-objects.result c.from_residual-in_err-objects.ensures.1) c.in_ok-tokens.ensures c.in_err-objects.ensures
+    reads_then g.S.State _ _ _ _ _ _ (λ world laws before failed. none_ok _ _ c.from_residual-in_err-objects.result c.from_residual-in_err-objects.ensures.1) c.in_ok-tokens.ensures c.in_err-objects.ensures
 
 pub returns-in_err-retired : goal.returns-in_err-retired
 returns-in_err-retired g c =
-    reads_then g.S.Store _ _ _ _ _ _ (λ world laws before failed. none_ok _ _ c.from_residual-in_err-retired.result c.from_residual-in_err-retired.ensures.1)
-    (reads_then g.S.Store _ _ _ _ _ _ (λ world laws tokens objects. objects) c.in_ok-tokens.ensures c.in_ok-objects.ensures) c.in_err-retired.ensures
+    reads_then g.S.State _ _ _ _ _ _ (λ world laws before failed. none_ok _ _ c.from_residual-in_err-retired.result c.from_residual-in_err-retired.ensures.1)
+    (reads_then g.S.State _ _ _ _ _ _ (λ world laws tokens objects. objects) c.in_ok-tokens.ensures c.in_ok-objects.ensures) c.in_err-retired.ensures
 
 pub returns-in_err-locks : goal.returns-in_err-locks
 returns-in_err-locks g c =
-    reads_then g.S.Store _ _ _ _ _ _ (λ world laws before failed. none_ok _ _ c.from_residual-in_err-locks.result c.from_residual-in_err-locks.ensures.1)
-    (reads_then g.S.Store _ _ _ _ _ _ (λ world laws objects names. names)
-    (reads_then g.S.Store _ _ _ _ _ _ (λ world laws tokens objects. objects) c.in_ok-tokens.ensures c.in_ok-objects.ensures) c.in_ok-retired.ensures) c.in_err-locks.ensures
+    reads_then g.S.State _ _ _ _ _ _ (λ world laws before failed. none_ok _ _ c.from_residual-in_err-locks.result c.from_residual-in_err-locks.ensures.1)
+    (reads_then g.S.State _ _ _ _ _ _ (λ world laws objects names. names)
+    (reads_then g.S.State _ _ _ _ _ _ (λ world laws tokens objects. objects) c.in_ok-tokens.ensures c.in_ok-objects.ensures) c.in_ok-retired.ensures) c.in_err-locks.ensures
 
 pub returns-in_err-made : goal.returns-in_err-made
 returns-in_err-made g c =
-    reads_then g.S.Store _ _ _ _ _ _ (λ world laws before failed. none_ok _ _ c.from_residual-in_err-made.result c.from_residual-in_err-made.ensures.1)
-    (reads_then g.S.Store _ _ _ _ _ _ (λ world laws names locks. locks)
-    (reads_then g.S.Store _ _ _ _ _ _ (λ world laws objects names. names)
-    (reads_then g.S.Store _ _ _ _ _ _ (λ world laws tokens objects. objects) c.in_ok-tokens.ensures c.in_ok-objects.ensures) c.in_ok-retired.ensures) c.in_ok-locks.ensures) c.in_err-made.ensures
+    reads_then g.S.State _ _ _ _ _ _ (λ world laws before failed. none_ok _ _ c.from_residual-in_err-made.result c.from_residual-in_err-made.ensures.1)
+    (reads_then g.S.State _ _ _ _ _ _ (λ world laws names locks. locks)
+    (reads_then g.S.State _ _ _ _ _ _ (λ world laws objects names. names)
+    (reads_then g.S.State _ _ _ _ _ _ (λ world laws tokens objects. objects) c.in_ok-tokens.ensures c.in_ok-objects.ensures) c.in_ok-retired.ensures) c.in_ok-locks.ensures) c.in_err-made.ensures
 
 pub returns-in_err-room : goal.returns-in_err-room
 returns-in_err-room g c =
-    reads_then g.S.Store _ _ _ _ _ _ (λ world laws before failed. none_ok _ _ c.from_residual-in_err-room.result c.from_residual-in_err-room.ensures.1)
-    (reads_then g.S.Store _ _ _ _ _ _ (λ world laws locks made. made)
-    (reads_then g.S.Store _ _ _ _ _ _ (λ world laws names locks. locks)
-    (reads_then g.S.Store _ _ _ _ _ _ (λ world laws objects names. names)
-    (reads_then g.S.Store _ _ _ _ _ _ (λ world laws tokens objects. objects) c.in_ok-tokens.ensures c.in_ok-objects.ensures) c.in_ok-retired.ensures) c.in_ok-locks.ensures) c.in_ok-made.ensures) c.in_err-room.ensures
+    reads_then g.S.State _ _ _ _ _ _ (λ world laws before failed. none_ok _ _ c.from_residual-in_err-room.result c.from_residual-in_err-room.ensures.1)
+    (reads_then g.S.State _ _ _ _ _ _ (λ world laws locks made. made)
+    (reads_then g.S.State _ _ _ _ _ _ (λ world laws names locks. locks)
+    (reads_then g.S.State _ _ _ _ _ _ (λ world laws objects names. names)
+    (reads_then g.S.State _ _ _ _ _ _ (λ world laws tokens objects. objects) c.in_ok-tokens.ensures c.in_ok-objects.ensures) c.in_ok-retired.ensures) c.in_ok-locks.ensures) c.in_ok-made.ensures) c.in_err-room.ensures
 
 pub returns : goal.returns
 returns g c =
@@ -51,9 +51,9 @@ returns g c =
     let locks : World → Type 0 = λ world. map (lock_seen repo) c.in_ok-locks.locks.items ≡ filter (sees policy user) (locks_of repo world) in
     let made : World → Type 0 = λ world. c.in_ok-made.made ≡ world.made repo in
     let fits : SFits w128 c.in_ok-room.room = search rules in
-    reads_then g.S.Store _ _ _ (λ world. (((tokens world × objects world) × retired world) × locks world) × made world) _ _
+    reads_then g.S.State _ _ _ (λ world. (((tokens world × objects world) × retired world) × locks world) × made world) _ _
     (λ world laws before room. same_view user repo policy _ _ _ _ _ _ _ _ _ _ _ _ before.0.0.0.0 before.0.0.0.1 before.0.0.1 before.0.1 before.1 (to_z-of_z w128 c.in_ok-room.room fits ∙ room))
-    (reads_then g.S.Store _ _ _ _ _ _ (λ world laws seen count. (seen, count))
-    (reads_then g.S.Store _ _ _ _ _ _ (λ world laws seen rows. (seen, rows))
-    (reads_then g.S.Store _ _ _ _ _ _ (λ world laws seen names. (seen, names))
-    (reads_then g.S.Store _ _ _ _ _ _ (λ world laws own sizes. (own, sizes)) c.in_ok-tokens.ensures c.in_ok-objects.ensures) c.in_ok-retired.ensures) c.in_ok-locks.ensures) c.in_ok-made.ensures) c.in_ok-room.ensures
+    (reads_then g.S.State _ _ _ _ _ _ (λ world laws seen count. (seen, count))
+    (reads_then g.S.State _ _ _ _ _ _ (λ world laws seen rows. (seen, rows))
+    (reads_then g.S.State _ _ _ _ _ _ (λ world laws seen names. (seen, names))
+    (reads_then g.S.State _ _ _ _ _ _ (λ world laws own sizes. (own, sizes)) c.in_ok-tokens.ensures c.in_ok-objects.ensures) c.in_ok-retired.ensures) c.in_ok-locks.ensures) c.in_ok-made.ensures) c.in_ok-room.ensures

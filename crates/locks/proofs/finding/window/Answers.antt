@@ -7,10 +7,10 @@ returns g c = record {
   same = c.locks_from.ensures.same;
   adds = c.locks_from.ensures.adds;
   each = λ honest world h.
-      let t = shown g.S.Store c.args.store.now in
+      let t = shown g.S.State c.args.store.now in
       let repo = repo_text c.args.repo.now in
       IfOk-weaker c.locks_from.result
-      (λ found. IsOpen g.S.Store c.args.store.now × AreLocksOf found.items (take 64 (by_id (filter (is_from repo (pos c.args.id)) t.locks))))
+      (λ found. IsOpen g.S.State c.args.store.now × AreLocksOf found.items (take 64 (by_id (filter (is_from repo (pos c.args.id)) t.locks))))
       (λ found. map (lock_seen repo) found.items ≡ take 64 (filter (λ l. nat_le c.args.id l.id) (locks_of repo world)))
       (λ found is. window_seen t world repo c.args.id found.items (h.shows (c.locks_from.ensures.same.was_honest honest) is.0) h.laws is.1)
       (c.locks_from.ensures.answers honest h.ready);

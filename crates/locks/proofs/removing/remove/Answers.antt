@@ -7,13 +7,13 @@ returns-in_err-remove_lock g c = record {
   honest = λ k. c.in_err-remove_lock.ensures.failed.moves.was_honest k;
   each = λ honest world h.
       let p = err_from_is_err_and c.from_residual.result c.from_residual.ensures.1 in
-      rw p.1 (refused_by g.S.Store c.args.store.now c.remove_lock.new.self world (repo_text c.args.repo.now) c.args.id honest h p.0 c.in_err-remove_lock.ensures.failed);
+      rw p.1 (refused_by g.S.State c.args.store.now c.remove_lock.new.self world (repo_text c.args.repo.now) c.args.id honest h p.0 c.in_err-remove_lock.ensures.failed);
 }
 
 pub returns : goal.returns
 returns g c = record {
   honest = λ k. c.in_ok-remove_lock.ensures.made.moves.was_honest k;
   each = λ honest world h.
-      removed_by g.S.Store c.args.store.now c.remove_lock.new.self world (repo_text c.args.repo.now) c.args.id honest h c.in_ok-remove_lock.field-0
+      removed_by g.S.State c.args.store.now c.remove_lock.new.self world (repo_text c.args.repo.now) c.args.id honest h c.in_ok-remove_lock.field-0
       (c.in_ok-remove_lock.ensures.answers honest h.ready) c.in_ok-remove_lock.ensures.made (nat_lt 0 c.in_ok-remove_lock.field-0) refl;
 }

@@ -7,5 +7,5 @@ pub returns : goal.returns
 returns g c =
     let rows = c.in_ok-all.field-0.items in
     let count : c.len.result ≡ length rows = search rules in
-    reads_weaker g.S.Store c.args.store.now c.all.new.store _ _
+    reads_weaker g.S.State c.args.store.now c.all.new.store _ _
     (λ world laws found. count ∙ sym (length-map rows (lock_seen (repo_text c.args.repo.now))) ∙ ap length found) c.in_ok-all.ensures

@@ -6,5 +6,5 @@ pub returns : goal.returns
 returns g c =
     let rows = c.in_ok-valid_tokens.field-0.items in
     let count : c.len.result ≡ length rows = search rules in
-    reads_weaker g.S.Store c.args.store.now c.valid_tokens.new.store _ _
+    reads_weaker g.S.State c.args.store.now c.valid_tokens.new.store _ _
     (λ world laws valid. count ∙ valid_length (repo_text c.args.repo.now) c.args.now world rows valid) c.in_ok-valid_tokens.ensures

@@ -14,7 +14,7 @@ steps-init g c = record {
   purpose = c.in_ok-inspection.ensures.purpose;
   silent = record {
     honest = c.begin.ensures.reads.same.was_honest;
-    each = λ honest world h. (refl, c.in_ok-inspection.inspection.rows.ok.0 ∙ rows_length g.S.Store world c.begin.new.store c.in_ok-inspection.inspection.rows.items (c.in_ok-inspection.ensures.all.each honest world h));
+    each = λ honest world h. (refl, c.in_ok-inspection.inspection.rows.ok.0 ∙ rows_length g.S.State world c.begin.new.store c.in_ok-inspection.inspection.rows.items (c.in_ok-inspection.ensures.all.each honest world h));
   };
   good = refl;
 }
@@ -22,49 +22,49 @@ steps-init g c = record {
 pub returns-in_err-progress-clause-world : goal.returns-in_err-progress-clause-world
 returns-in_err-progress-clause-world g c =
     let p = err_from_is_err_and c.from_residual-in_err-progress.result c.from_residual-in_err-progress.ensures.1 in
-    inspected_so g.S.Store c.args.store.now c.steps.store c.steps.inspection _ c.steps.invariant.world (λ none. rw p.1 (subst IsPlain (sym p.2) tt))
+    inspected_so g.S.State c.args.store.now c.steps.store c.steps.inspection _ c.steps.invariant.world (λ none. rw p.1 (subst IsPlain (sym p.2) tt))
 
 pub returns-in_err-advance-clause-world : goal.returns-in_err-advance-clause-world
 returns-in_err-advance-clause-world g c =
     let p = err_from_is_err_and c.from_residual-in_err-advance.result c.from_residual-in_err-advance.ensures.1 in
-    inspected_so g.S.Store c.args.store.now c.advance.new.store c.advance.new.self _
-    (inspected_on g.S.Store c.args.store.now c.steps.store c.advance.new.store c.steps.inspection c.advance.new.self c.steps.invariant.world c.advance.ensures.world) (λ none. rw p.1 (subst IsPlain (sym p.2) c.in_err-advance.ensures.err))
+    inspected_so g.S.State c.args.store.now c.advance.new.store c.advance.new.self _
+    (inspected_on g.S.State c.args.store.now c.steps.store c.advance.new.store c.steps.inspection c.advance.new.self c.steps.invariant.world c.advance.ensures.world) (λ none. rw p.1 (subst IsPlain (sym p.2) c.in_err-advance.ensures.err))
 
 pub returns-in_err-advance-clause-reads : goal.returns-in_err-advance-clause-reads
 returns-in_err-advance-clause-reads g c is =
-    reads_then g.S.Store c.args.store.now c.steps.store c.advance.new.store _ _ _ (λ world laws x y. tt) (c.steps.invariant.reads is) (c.advance.ensures.reads (c.steps.invariant.purpose ∙ is))
+    reads_then g.S.State c.args.store.now c.steps.store c.advance.new.store _ _ _ (λ world laws x y. tt) (c.steps.invariant.reads is) (c.advance.ensures.reads (c.steps.invariant.purpose ∙ is))
 
 pub returns-in_err-print-in-Damaged-clause-world : goal.returns-in_err-print-in-Damaged-clause-world
 returns-in_err-print-in-Damaged-clause-world g c =
     let p = err_from_is_err_and c.from_residual-in_err-print-in-Damaged.result c.from_residual-in_err-print-in-Damaged.ensures.1 in
-    inspected_so g.S.Store c.args.store.now c.advance.new.store c.advance.new.self _
-    (inspected_on g.S.Store c.args.store.now c.steps.store c.advance.new.store c.steps.inspection c.advance.new.self c.steps.invariant.world c.advance.ensures.world)
+    inspected_so g.S.State c.args.store.now c.advance.new.store c.advance.new.self _
+    (inspected_on g.S.State c.args.store.now c.steps.store c.advance.new.store c.steps.inspection c.advance.new.self c.steps.invariant.world c.advance.ensures.world)
     (λ none. rw p.1 (is_output _ (p.2 ∙ c.in_err-print-in-Damaged.ensures.err)))
 
 pub returns-in_err-print-in-Damaged-clause-reads : goal.returns-in_err-print-in-Damaged-clause-reads
 returns-in_err-print-in-Damaged-clause-reads g c is =
-    reads_then g.S.Store c.args.store.now c.steps.store c.advance.new.store _ _ _ (λ world laws x y. tt) (c.steps.invariant.reads is) (c.advance.ensures.reads (c.steps.invariant.purpose ∙ is))
+    reads_then g.S.State c.args.store.now c.steps.store c.advance.new.store _ _ _ (λ world laws x y. tt) (c.steps.invariant.reads is) (c.advance.ensures.reads (c.steps.invariant.purpose ∙ is))
 
 pub returns-in-Done-clause-world : goal.returns-in-Done-clause-world
 returns-in-Done-clause-world g c =
-    inspected_so g.S.Store c.args.store.now c.advance.new.store c.advance.new.self _
-    (inspected_on g.S.Store c.args.store.now c.steps.store c.advance.new.store c.steps.inspection c.advance.new.self c.steps.invariant.world c.advance.ensures.world) c.finish.ensures.err
+    inspected_so g.S.State c.args.store.now c.advance.new.store c.advance.new.self _
+    (inspected_on g.S.State c.args.store.now c.steps.store c.advance.new.store c.steps.inspection c.advance.new.self c.steps.invariant.world c.advance.ensures.world) c.finish.ensures.err
 
 pub returns-in-Done-clause-reads : goal.returns-in-Done-clause-reads
 returns-in-Done-clause-reads g c is =
-    reads_then g.S.Store c.args.store.now c.steps.store c.advance.new.store _ _ _ (λ world laws x y. tt) (c.steps.invariant.reads is) (c.advance.ensures.reads (c.steps.invariant.purpose ∙ is))
+    reads_then g.S.State c.args.store.now c.steps.store c.advance.new.store _ _ _ (λ world laws x y. tt) (c.steps.invariant.reads is) (c.advance.ensures.reads (c.steps.invariant.purpose ∙ is))
 
 pub steps-preserved : goal.steps-preserved
 steps-preserved g c = record {
-  world = inspected_on g.S.Store c.args.store.now c.steps.store c.advance.new.store c.steps.inspection c.advance.new.self c.steps.invariant.world c.advance.ensures.world;
-  reads = λ is. reads_then g.S.Store c.args.store.now c.steps.store c.advance.new.store _ _ _ (λ world laws x y. tt) (c.steps.invariant.reads is) (c.advance.ensures.reads (c.steps.invariant.purpose ∙ is));
+  world = inspected_on g.S.State c.args.store.now c.steps.store c.advance.new.store c.steps.inspection c.advance.new.self c.steps.invariant.world c.advance.ensures.world;
+  reads = λ is. reads_then g.S.State c.args.store.now c.steps.store c.advance.new.store _ _ _ (λ world laws x y. tt) (c.steps.invariant.reads is) (c.advance.ensures.reads (c.steps.invariant.purpose ∙ is));
   purpose = c.advance.ensures.purpose ∙ c.steps.invariant.purpose;
   silent = record {
     honest = λ k. c.steps.invariant.silent.honest (c.advance.ensures.quiet.honest k);
     each = λ honest world h.
         let then = c.advance.ensures.quiet.honest honest in
         let before = c.steps.invariant.silent.each then world h in
-        let held = (reads_lead g.S.Store c.args.store.now c.steps.store _ world (c.steps.invariant.world.each then world h).0 h).holds in
+        let held = (reads_lead g.S.State c.args.store.now c.steps.store _ world (c.steps.invariant.world.each then world h).0 h).holds in
         let quiet = c.in_ok-advance.ensures.quiet.each honest world held in
         let rows = ap vec_len c.advance.ensures.rows ∙ before.1 in
         elim c.match-branch-4.branch [
@@ -80,16 +80,16 @@ steps-preserved g c = record {
 }
 
 pub returns-clause-world : goal.returns-clause-world
-returns-clause-world g c = inspected_so g.S.Store {A = ⊤} c.args.store.now c.steps.store c.steps.inspection (Err (refusal.Store store.Refused)) c.steps.invariant.world (λ none. tt)
+returns-clause-world g c = inspected_so g.S.State {A = ⊤} c.args.store.now c.steps.store c.steps.inspection (Err (refusal.Store store.Refused)) c.steps.invariant.world (λ none. tt)
 
 -- ---- what is written
 
 pub returns-in_err-inspection-clause-printed : goal.returns-in_err-inspection-clause-printed
-returns-in_err-inspection-clause-printed g c = printed_none g.S.Store _ c.args.store.now c.begin.new.store _ (λ world. none_on _ _ c.from_residual.result c.from_residual.ensures.1) c.begin.ensures.reads
+returns-in_err-inspection-clause-printed g c = printed_none g.S.State _ c.args.store.now c.begin.new.store _ (λ world. none_on _ _ c.from_residual.result c.from_residual.ensures.1) c.begin.ensures.reads
 
 pub returns-in_err-progress-clause-printed : goal.returns-in_err-progress-clause-printed
 returns-in_err-progress-clause-printed g c =
-    from_weaker g.S.Store c.args.store.now c.steps.store _ _ (λ world d. none_on _ _ c.from_residual-in_err-progress.result c.from_residual-in_err-progress.ensures.1) c.steps.invariant.world
+    from_weaker g.S.State c.args.store.now c.steps.store _ _ (λ world d. none_on _ _ c.from_residual-in_err-progress.result c.from_residual-in_err-progress.ensures.1) c.steps.invariant.world
 
 pub returns-in_err-advance-clause-printed : goal.returns-in_err-advance-clause-printed
 returns-in_err-advance-clause-printed g c = record {
@@ -109,10 +109,10 @@ returns-in-Done-clause-printed g c = record {
   each = λ honest world h.
       let then = c.advance.ensures.quiet.honest honest in
       let silent = c.steps.invariant.silent.each then world h in
-      let none = (inspected_on g.S.Store c.args.store.now c.steps.store c.advance.new.store c.steps.inspection c.advance.new.self c.steps.invariant.world c.advance.ensures.world).each honest world h in
+      let none = (inspected_on g.S.State c.args.store.now c.steps.store c.advance.new.store c.steps.inspection c.advance.new.self c.steps.invariant.world c.advance.ensures.world).each honest world h in
       line_printed (g.K.Sink.taken c.args.output.now) (g.K.Sink.taken c.steps.output) (g.K.Sink.taken c.finish.new.output) _ _ _ _ _ c.finish.result silent.0 (c.advance.ensures.purpose ∙ c.steps.invariant.purpose)
       (ap vec_len c.advance.ensures.rows ∙ silent.1) none.1 c.finish.ensures.text;
 }
 
 pub returns-clause-printed : goal.returns-clause-printed
-returns-clause-printed g c = from_weaker g.S.Store c.args.store.now c.steps.store _ _ (λ world d. tt) c.steps.invariant.world
+returns-clause-printed g c = from_weaker g.S.State c.args.store.now c.steps.store _ _ (λ world d. tt) c.steps.invariant.world

@@ -5,9 +5,9 @@ use Rattle.operator.proofs.inspecting.inspect_all.Given as goal
 
 abbrev pub invariant-steps : goal.invariant-steps
 invariant-steps g l = record {
-  world : From g.S.Store l.fn.store l.store (λ _. Reads g.S.Store l.fn.store l.store (λ _. ⊤) × (l.inspection.damaged ≡ 0));
-  reads : l.fn.purpose ≡ Check → Reads g.S.Store l.fn.store l.store (λ _. ⊤);
+  world : From g.S.State l.fn.store l.store (λ _. Reads g.S.State l.fn.store l.store (λ _. ⊤) × (l.inspection.damaged ≡ 0));
+  reads : l.fn.purpose ≡ Check → Reads g.S.State l.fn.store l.store (λ _. ⊤);
   purpose : l.inspection.purpose ≡ l.fn.purpose;
-  silent : From g.S.Store l.fn.store l.store (IsSilent (g.K.Sink.taken l.fn.output) (g.K.Sink.taken l.output) l.inspection);
+  silent : From g.S.State l.fn.store l.store (IsSilent (g.K.Sink.taken l.fn.output) (g.K.Sink.taken l.output) l.inspection);
   good : g.K.Sink.failed l.output ≡ g.K.Sink.failed l.fn.output;
 }

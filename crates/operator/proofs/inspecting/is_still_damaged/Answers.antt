@@ -4,5 +4,5 @@ use Rattle.operator.proofs.inspecting.is_still_damaged.Goals as goal
 
 pub returns-then-branch : goal.returns-then-branch
 returns-then-branch g c =
-    reads_damaged g.S.Store c.args.store.now c.is_stored.new.store c.is_damaged.new.store c.args.row.now c.is_damaged.result
-    (reads_weaker g.S.Store c.args.store.now c.is_stored.new.store _ _ (λ world laws whole. whole c.if-branch.true) c.in_ok-is_stored.ensures) c.is_damaged.ensures.reads c.is_damaged.ensures.exact
+    reads_damaged g.S.State c.args.store.now c.is_stored.new.store c.is_damaged.new.store c.args.row.now c.is_damaged.result
+    (reads_weaker g.S.State c.args.store.now c.is_stored.new.store _ _ (λ world laws whole. whole c.if-branch.true) c.in_ok-is_stored.ensures) c.is_damaged.ensures.reads c.is_damaged.ensures.exact

@@ -5,16 +5,16 @@ use Rattle.operator.proofs.listing_tokens.list_tokens.Goals as goal
 
 pub returns-in_err-rows-clause-reads : goal.returns-in_err-rows-clause-reads
 returns-in_err-rows-clause-reads g c =
-    reads_weaker g.S.Store c.args.store.now c.listed_tokens.new.store _ _ (λ world laws p. none_on _ _ c.from_residual.result c.from_residual.ensures.1) c.listed_tokens.ensures.valid
+    reads_weaker g.S.State c.args.store.now c.listed_tokens.new.store _ _ (λ world laws p. none_on _ _ c.from_residual.result c.from_residual.ensures.1) c.listed_tokens.ensures.valid
 
 pub returns-in_err-lines_of-clause-reads : goal.returns-in_err-lines_of-clause-reads
 returns-in_err-lines_of-clause-reads g c =
-    reads_weaker g.S.Store c.args.store.now c.listed_tokens.new.store _ _ (λ world laws p. none_on _ _ c.from_residual-in_err-lines_of.result c.from_residual-in_err-lines_of.ensures.1)
+    reads_weaker g.S.State c.args.store.now c.listed_tokens.new.store _ _ (λ world laws p. none_on _ _ c.from_residual-in_err-lines_of.result c.from_residual-in_err-lines_of.ensures.1)
     c.listed_tokens.ensures.valid
 
 pub returns-clause-reads : goal.returns-clause-reads
 returns-clause-reads g c =
-    reads_weaker g.S.Store c.args.store.now c.listed_tokens.new.store _ _
+    reads_weaker g.S.State c.args.store.now c.listed_tokens.new.store _ _
     (λ world laws valid.
     on_ok_weaker c.write.result
     (λ taken. (

@@ -9,15 +9,15 @@ use Rattle.operator.proofs.listing_usage.rows_of.Goals as goal
 
 pub returns-in_err-usage : goal.returns-in_err-usage
 returns-in_err-usage g c =
-    reads_then g.S.Store _ _ _ _ _ _ (λ world laws before failed. none_ok _ _ c.from_residual.result c.from_residual.ensures.1) c.loop-repo.invariant c.usage_of.ensures
+    reads_then g.S.State _ _ _ _ _ _ (λ world laws before failed. none_ok _ _ c.from_residual.result c.from_residual.ensures.1) c.loop-repo.invariant c.usage_of.ensures
 
 pub returns-in_err-cells_of : goal.returns-in_err-cells_of
 returns-in_err-cells_of g c =
-    reads_then g.S.Store _ _ _ _ _ _ (λ world laws before usage. none_ok _ _ c.from_residual-in_err-cells_of.result c.from_residual-in_err-cells_of.ensures.1) c.loop-repo.invariant c.usage_of.ensures
+    reads_then g.S.State _ _ _ _ _ _ (λ world laws before usage. none_ok _ _ c.from_residual-in_err-cells_of.result c.from_residual-in_err-cells_of.ensures.1) c.loop-repo.invariant c.usage_of.ensures
 
 pub returns-in_err-map_err : goal.returns-in_err-map_err
 returns-in_err-map_err g c =
-    reads_then g.S.Store _ _ _ _ _ _ (λ world laws before usage. none_ok _ _ c.from_residual-in_err-map_err.result c.from_residual-in_err-map_err.ensures.1) c.loop-repo.invariant c.usage_of.ensures
+    reads_then g.S.State _ _ _ _ _ _ (λ world laws before usage. none_ok _ _ c.from_residual-in_err-map_err.result c.from_residual-in_err-map_err.ensures.1) c.loop-repo.invariant c.usage_of.ensures
 
 pub loop-repo-preserved : goal.loop-repo-preserved
 loop-repo-preserved g c =
@@ -30,13 +30,13 @@ loop-repo-preserved g c =
     let cells = c.in_ok-cells_of.field-0 in
     let usage = c.in_ok-usage.usage in
     let pushed : c.push.new.self.items ≡ rows ++ cells ∷ [] = search rules in
-    let uses = subst (λ (name : List ℕ). Reads g.S.Store old new (λ world. Uses g.S.Store world new name now usage)) c.name.ensures c.in_ok-usage.ensures in
-    subst (λ (lines : List (List (List ℕ))). Reads g.S.Store c.args.store.now new (λ world. AllZip (IsLineOf g.S.Store world new now) (take (c.loop-repo.repo-index + 1) repos) lines))
+    let uses = subst (λ (name : List ℕ). Reads g.S.State old new (λ world. Uses g.S.State world new name now usage)) c.name.ensures c.in_ok-usage.ensures in
+    subst (λ (lines : List (List (List ℕ))). Reads g.S.State c.args.store.now new (λ world. AllZip (IsLineOf g.S.State world new now) (take (c.loop-repo.repo-index + 1) repos) lines))
     (sym (ap (map (map string_bytes)) pushed ∙ map-append (map string_bytes) rows (cells ∷ [])))
-    (lines_then g.S.Store c.args.store.now old new now repos c.loop-repo.repo-index repo (map (map string_bytes) rows) usage (map string_bytes cells)
+    (lines_then g.S.State c.args.store.now old new now repos c.loop-repo.repo-index repo (map (map string_bytes) rows) usage (map string_bytes cells)
     c.loop-repo-test.true c.repo-item.is c.loop-repo.invariant uses c.in_ok-cells_of.ensures)
 
 pub returns : goal.returns
 returns g c =
-    subst (λ (repos : List Repo). Reads g.S.Store c.args.store.now c.loop-repo.store (λ world. AllZip (IsLineOf g.S.Store world c.loop-repo.store c.args.now) repos (map (map string_bytes) c.loop-repo.rows.items)))
+    subst (λ (repos : List Repo). Reads g.S.State c.args.store.now c.loop-repo.store (λ world. AllZip (IsLineOf g.S.State world c.loop-repo.store c.args.now) repos (map (map string_bytes) c.loop-repo.rows.items)))
     (take_all c.loop-repo.repo-index c.args.repos.now c.loop-repo-test.false) c.loop-repo.invariant

@@ -6,5 +6,5 @@ use Rattle.operator.proofs.listing_usage.rows_of.Given as goal
 
 abbrev pub invariant-loop-repo : goal.invariant-loop-repo
 invariant-loop-repo g l =
-    Reads g.S.Store l.fn.store l.store
-    (λ world. AllZip (IsLineOf g.S.Store world l.store l.now) (take l.repo-index l.repos) (map (map string_bytes) l.rows.items))
+    Reads g.S.State l.fn.store l.store
+    (λ world. AllZip (IsLineOf g.S.State world l.store l.now) (take l.repo-index l.repos) (map (map string_bytes) l.rows.items))

@@ -17,7 +17,7 @@ loop-path-preserved g c =
     let asked = push_by c.args.user.now c.args.repo.now c.args.ref_name.now in
     let push = c.in_ok-push.push in
     let path = path_text c.path-item.result in
-    reads_then g.S.Store c.args.store.now c.loop-path.store c.verdict_on.new.store _
+    reads_then g.S.State c.args.store.now c.loop-path.store c.verdict_on.new.store _
     (λ world. verdict_view c.in_ok-verdict.verdict ≡ path_verdict (policy_view push.rows.policy.now) world (push_view push) path) _
     (λ world laws before one.
     let is = one ∙ ap₂ (λ (p : Policy) (pushed : model.Push). path_verdict (policy_view p) world pushed path) c.in_ok-push.ensures.policy c.in_ok-push.ensures.push in
@@ -27,7 +27,7 @@ loop-path-preserved g c =
 
 pub returns : goal.returns
 returns g c =
-    reads_weaker g.S.Store c.args.store.now c.loop-path.store _ _
+    reads_weaker g.S.State c.args.store.now c.loop-path.store _ _
     (λ world laws all.
     all
     ∙ ap (λ paths. push_verdicts (policy_view c.args.policy.now) world (push_by c.args.user.now c.args.repo.now c.args.ref_name.now) (map path_text paths))
@@ -37,10 +37,10 @@ returns g c =
 pub returns-in_err-verdict : goal.returns-in_err-verdict
 returns-in_err-verdict g c =
     let p = err_from_is_err_and c.from_residual-in_err-verdict.result c.from_residual-in_err-verdict.ensures.1 in
-    reads_then g.S.Store c.args.store.now c.loop-path.store c.verdict_on.new.store _ _ _
+    reads_then g.S.State c.args.store.now c.loop-path.store c.verdict_on.new.store _ _ _
     (λ world laws before one. rw p.1 tt) c.loop-path.invariant c.verdict_on.ensures
 
 pub returns-in_err-map_err : goal.returns-in_err-map_err
 returns-in_err-map_err g c =
-    reads_then g.S.Store c.args.store.now c.loop-path.store c.verdict_on.new.store _ _ _
+    reads_then g.S.State c.args.store.now c.loop-path.store c.verdict_on.new.store _ _ _
     (λ world laws before one. search rules) c.loop-path.invariant c.verdict_on.ensures

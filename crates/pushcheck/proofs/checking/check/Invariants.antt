@@ -8,6 +8,6 @@ use Rattle.pushcheck.proofs.checking.check.Given as goal
 
 abbrev pub invariant-loop-path : goal.invariant-loop-path
 invariant-loop-path g l =
-    Reads g.S.Store l.fn.store l.store (λ world.
+    Reads g.S.State l.fn.store l.store (λ world.
     map verdict_view l.verdicts.items
     ≡ push_verdicts (policy_view l.policy) world (push_by l.user l.repo l.ref_name) (map path_text (take l.path-index l.paths)))

@@ -18,9 +18,9 @@ returns-in-Err-Memory-clause-turn g c = record {
       let out = c.body_before.ensures.part.1 in (
         out.read,
         out.moves.consumes,
-        unread_response g.S.Store (setting_of s.policy.now s.now) (IsPolicy-policy_view s.policy.now) s.in_range world store store
+        unread_response g.S.State (setting_of s.policy.now s.now) (IsPolicy-policy_view s.policy.now) s.in_range world store store
             (bytes ++ out.read) _ (waiting c.body_before.new.inflow.conn.now) h (target_asked c.args.asked.now) _ _ c.store_refused.result asks.target
-            (message_there bytes (waiting old) out.read h begins) (leads_none g.S.Store store world holds)
+            (message_there bytes (waiting old) out.read h begins) (leads_none g.S.State store world holds)
             c.store_refused.ensures.reply c.store_refused.ensures.allow c.store_refused.ensures.close,
       );
 }
@@ -41,9 +41,9 @@ returns-in-Err-Body-clause-turn g c = record {
       omega (arith, ap length out.moves.order, length-append part.0 (waiting c.body_before.new.inflow.conn.now), ap length cut.1, cut.0, out.left, size, long) in (
         out.read,
         out.moves.consumes,
-        unread_incomplete g.S.Store (setting_of s.policy.now s.now) (IsPolicy-policy_view s.policy.now) s.in_range world store store
+        unread_incomplete g.S.State (setting_of s.policy.now s.now) (IsPolicy-policy_view s.policy.now) s.in_range world store store
             (bytes ++ out.read) h c.args.asked.now _ asks short.0
-            (cut_message (bytes ++ out.read) (waiting old ++ out.read) h (head_more bytes h (waiting old) out.read begins) fewer) (leads_none g.S.Store store world holds),
+            (cut_message (bytes ++ out.read) (waiting old ++ out.read) h (head_more bytes h (waiting old) out.read begins) fewer) (leads_none g.S.State store world holds),
       );
 }
 
@@ -57,9 +57,9 @@ returns-in_default-clause-turn g c = record {
       let out = c.in-Ok.ensures.part.1 in (
         out.read,
         out.moves.consumes,
-        unread_response g.S.Store (setting_of s.policy.now s.now) (IsPolicy-policy_view s.policy.now) s.in_range world store store
+        unread_response g.S.State (setting_of s.policy.now s.now) (IsPolicy-policy_view s.policy.now) s.in_range world store store
             (bytes ++ out.read) _ (waiting c.body_before.new.inflow.conn.now) h (target_asked c.args.asked.now) _ _ c.store_refused-in_default.result asks.target
-            (message_there bytes (waiting old) out.read h begins) (leads_none g.S.Store store world holds)
+            (message_there bytes (waiting old) out.read h begins) (leads_none g.S.State store world holds)
             c.store_refused-in_default.ensures.reply c.store_refused-in_default.ensures.allow c.store_refused-in_default.ensures.close,
       );
 }
@@ -87,13 +87,13 @@ returns-in_err-reply-clause-turn g c =
     record {
       honest = done.answered.honest;
       each = λ honest world holds bytes h begins size asks.
-          turned c.args.inflow.now.conn.now c.body_before.new.inflow.conn.now c.answer.new.content.conn.now g.S.Store (setting_of s.policy.now s.now) (IsPolicy-policy_view s.policy.now) s.in_range world
+          turned c.args.inflow.now.conn.now c.body_before.new.inflow.conn.now c.answer.new.content.conn.now g.S.State (setting_of s.policy.now s.now) (IsPolicy-policy_view s.policy.now) s.in_range world
           c.args.store.now c.answer.new.store a c.deref.result.now c.in-Ok-read_request.request wanted c.in-Ok-read_request.ensures made None part.0 part.1 (part.2 ∙ sym c.deref.ensures.value)
           (λ put. let is = c.in-Ok.ensures.upload put in (c.deref.ensures.value ∙ is.0, is.1)) c.in-Ok.ensures.whole
           done.bytes done.read.moves.1 done.read.size (Err c.in_err-reply.field-0.0) c.from_residual.result tt
           (λ none. let is = done.settled none in (is.0, ap (λ i. i.conn.now) is.1))
           (cut_off (content_of g.R.Source) c.body_before.new.inflow c.answer.new.content (Err c.in_err-reply.field-0.0) done.fault) (cut_by a c.in-Ok-read_request.request None c.in_err-reply.field-0.0 c.from_residual.result c.from_residual.ensures.1)
-          (λ size sized. subst (λ n. IsAnsweredAs g.S.Store (is_upload_of wanted) c.args.store.now c.answer.new.store world n (desk_plan world (setting_of s.policy.now s.now) (request_seen wanted size)) done.bytes (body_left c.answer.new.content.conn.now) (Err c.in_err-reply.field-0.0)) made.repo (done.answered.each honest world holds tt tt size sized))
+          (λ size sized. subst (λ n. IsAnsweredAs g.S.State (is_upload_of wanted) c.args.store.now c.answer.new.store world n (desk_plan world (setting_of s.policy.now s.now) (request_seen wanted size)) done.bytes (body_left c.answer.new.content.conn.now) (Err c.in_err-reply.field-0.0)) made.repo (done.answered.each honest world holds tt tt size sized))
           bytes h begins size asks;
     }
 
@@ -108,13 +108,13 @@ returns-clause-turn g c =
     record {
       honest = done.answered.honest;
       each = λ honest world holds bytes h begins size asks.
-          turned c.args.inflow.now.conn.now c.body_before.new.inflow.conn.now c.answer.new.content.conn.now g.S.Store (setting_of s.policy.now s.now) (IsPolicy-policy_view s.policy.now) s.in_range world
+          turned c.args.inflow.now.conn.now c.body_before.new.inflow.conn.now c.answer.new.content.conn.now g.S.State (setting_of s.policy.now s.now) (IsPolicy-policy_view s.policy.now) s.in_range world
           c.args.store.now c.answer.new.store a c.deref.result.now c.in-Ok-read_request.request wanted c.in-Ok-read_request.ensures made c.named-repo.result part.0 part.1 (part.2 ∙ sym c.deref.ensures.value)
           (λ put. let is = c.in-Ok.ensures.upload put in (c.deref.ensures.value ∙ is.0, is.1)) c.in-Ok.ensures.whole
           done.bytes done.read.moves.1 done.read.size (Ok c.in_ok-reply.reply) (Ok c.response_with.result) (c.named-repo.ensures ∙ ap (λ n. option_map (λ (r : Repo). r.name) (repo_named n (policy_view s.policy.now))) c.as_str.ensures.value)
           (λ none. let is = done.settled none in (is.0, ap (λ i. i.conn.now) is.1))
           (cut_off (content_of g.R.Source) c.body_before.new.inflow c.answer.new.content (Ok c.in_ok-reply.reply) done.fault) c.response_with.ensures
-          (λ size sized. subst (λ n. IsAnsweredAs g.S.Store (is_upload_of wanted) c.args.store.now c.answer.new.store world n (desk_plan world (setting_of s.policy.now s.now) (request_seen wanted size)) done.bytes (body_left c.answer.new.content.conn.now) (Ok c.in_ok-reply.reply)) made.repo (done.answered.each honest world holds tt tt size sized))
+          (λ size sized. subst (λ n. IsAnsweredAs g.S.State (is_upload_of wanted) c.args.store.now c.answer.new.store world n (desk_plan world (setting_of s.policy.now s.now) (request_seen wanted size)) done.bytes (body_left c.answer.new.content.conn.now) (Ok c.in_ok-reply.reply)) made.repo (done.answered.each honest world holds tt tt size sized))
           bytes h begins size asks;
     }
 

@@ -6,7 +6,7 @@ use Rattle.service.proofs.responding.respond.Goals as goal
 
 pub returns-in-Ok-clause-turn : goal.returns-in-Ok-clause-turn
 returns-in-Ok-clause-turn g c =
-    from_weaker g.S.Store c.args.store.now c.answer_asked.new.store _ _
+    from_weaker g.S.State c.args.store.now c.answer_asked.new.store _ _
     (λ world done bytes h at begins size. done bytes h begins size (c.in-Ok.ensures h (c.head.ensures h at))) c.answer_asked.ensures.turn
 
 pub returns-in-Err-Denied-clause-turn : goal.returns-in-Err-Denied-clause-turn
@@ -23,8 +23,8 @@ returns-in-Err-Denied-clause-turn g c = record {
       let refused = head_refused (bytes ++ []) (waiting old ++ []) h d (head_more bytes h (waiting old) [] begins) denied in (
         [],
         (moves_none old).consumes,
-        refused_response g.S.Store (setting_of s.policy.now s.now) (IsPolicy-policy_view s.policy.now) s.in_range world store store
-            (bytes ++ []) (waiting old) (message h [] true) d c.refusal.result refused (leads_none g.S.Store store world holds)
+        refused_response g.S.State (setting_of s.policy.now s.now) (IsPolicy-policy_view s.policy.now) s.in_range world store store
+            (bytes ++ []) (waiting old) (message h [] true) d c.refusal.result refused (leads_none g.S.State store world holds)
             reply allow c.refusal.ensures.close,
       );
 }
@@ -45,9 +45,9 @@ returns-in-Err-Memory-clause-turn g c = record {
       let there = rw c.in-Err-Memory.field-0-is at c.in-Err-Memory.ensures h (c.head.ensures h at) in (
         [],
         (moves_none old).consumes,
-        unread_response g.S.Store (setting_of s.policy.now s.now) (IsPolicy-policy_view s.policy.now) s.in_range world store store
+        unread_response g.S.State (setting_of s.policy.now s.now) (IsPolicy-policy_view s.policy.now) s.in_range world store store
             (bytes ++ []) _ (waiting old) h there.0 _ _ c.store_refused.result there.1
-            (message_there bytes (waiting old) [] h begins) (leads_none g.S.Store store world holds)
+            (message_there bytes (waiting old) [] h begins) (leads_none g.S.State store world holds)
             c.store_refused.ensures.reply c.store_refused.ensures.allow c.store_refused.ensures.close,
       );
 }

@@ -17,7 +17,7 @@ returns-in-Ok-clause-sends g c =
 pub returns-in-Err-clause-sends : goal.returns-in-Err-clause-sends
 returns-in-Err-clause-sends g c =
     let r = c.args.response.now in
-    reads_none g.S.Store c.args.store.now _
+    reads_none g.S.State c.args.store.now _
     (λ honest world h given is_reply there. (
       c.in-Err.field-0.written,
       front_fails given r.allow.now r.close (g.K.Sink.taken c.args.sink.now) (g.K.Sink.taken c.send_reply.new.sink) c.in-Err.field-0.written (c.in-Err.ensures.part (reply_of given) is_reply),

@@ -5,9 +5,9 @@ use Rattle.service.proofs.sending.send_content.Goals as goal
 
 pub returns-in-Ok-Some-clause-content : goal.returns-in-Ok-Some-clause-content
 returns-in-Ok-Some-clause-content g c =
-    reads_then g.S.Store c.args.store.now c.find.new.store c.send_object.new.store _ _ _
+    reads_then g.S.State c.args.store.now c.find.new.store c.send_object.new.store _ _ _
     (λ world laws found wrote given shows there.
-    found_sent g.S.Store c.find.new.store world c.in-Some.repo c.args.body.now c.in-Content.name c.in-Content.size c.in-Ok-Some.row given (g.K.Sink.taken c.args.sink.now) (g.K.Sink.taken c.send_object.new.sink) c.send_object.result
+    found_sent g.S.State c.find.new.store world c.in-Some.repo c.args.body.now c.in-Content.name c.in-Content.size c.in-Ok-Some.row given (g.K.Sink.taken c.args.sink.now) (g.K.Sink.taken c.send_object.new.sink) c.send_object.result
     c.in-Content.is shows (subst (λ r. IsThere world r given) c.in-Some.is there) found wrote)
     (rw c.in-Ok-Some.field-0-is at c.in-Ok-Some.ensures) c.send_object.ensures.content
 

@@ -14,7 +14,7 @@ messages-init g c = record {
     each = λ honest world h. (
       [],
       Consumes-nil (g.R.Source.left (source_of c.args.conn.now)),
-      begins g.S.Store (setting_of c.args.setting.now.policy.now c.args.setting.now.now) world (g.K.Sink.taken c.args.sink.now) (waiting c.args.conn.now) c.args.store.now c.requires.fresh h,
+      begins g.S.State (setting_of c.args.setting.now.policy.now c.args.setting.now.now) world (g.K.Sink.taken c.args.sink.now) (waiting c.args.conn.now) c.args.store.now c.requires.fresh h,
     );
   };
 }
@@ -40,7 +40,7 @@ messages-preserved g c =
             let turn = t.turn.each honest s.kept s.leads.holds in (
               it.0 ++ turn.0,
               Consumes-trans (g.R.Source.left (source_of old)) (g.R.Source.left (source_of mid)) (g.R.Source.left (source_of new)) it.0 turn.0 it.1 turn.1,
-              answers g.S.Store (setting_of c.args.setting.now.policy.now c.args.setting.now.now) world (g.K.Sink.taken c.args.sink.now) it.0 (waiting mid) turn.0 (waiting new)
+              answers g.S.State (setting_of c.args.setting.now.policy.now c.args.setting.now.now) world (g.K.Sink.taken c.args.sink.now) it.0 (waiting mid) turn.0 (waiting new)
                   c.args.store.now c.messages.store c.take_turn.new.store (g.K.Sink.taken c.messages.sink) (g.K.Sink.taken c.take_turn.new.sink) c.messages.answered s turn.2,
             );
       };
@@ -62,9 +62,9 @@ returns-in-Some-clause-served g c =
           let turn = t.turn.each honest s.kept s.leads.holds in (
             it.0 ++ turn.0,
             Consumes-trans (g.R.Source.left (source_of old)) (g.R.Source.left (source_of mid)) (g.R.Source.left (source_of new)) it.0 turn.0 it.1 turn.1,
-            subst (λ (k : ℕ). IsServed g.S.Store setting (it.0 ++ turn.0) world c.args.store.now c.take_turn.new.store (g.K.Sink.taken c.args.sink.now) (g.K.Sink.taken c.take_turn.new.sink)
+            subst (λ (k : ℕ). IsServed g.S.State setting (it.0 ++ turn.0) world c.args.store.now c.take_turn.new.store (g.K.Sink.taken c.args.sink.now) (g.K.Sink.taken c.take_turn.new.sink)
                 (record { answered = c.messages.answered + k; end = c.in-Some.end })) (sym c.closing.ensures)
-                (ends g.S.Store setting world (g.K.Sink.taken c.args.sink.now) it.0 (waiting mid) turn.0 (waiting new) c.args.store.now c.messages.store c.take_turn.new.store
+                (ends g.S.State setting world (g.K.Sink.taken c.args.sink.now) it.0 (waiting mid) turn.0 (waiting new) c.args.store.now c.messages.store c.take_turn.new.store
                 (g.K.Sink.taken c.messages.sink) (g.K.Sink.taken c.take_turn.new.sink) c.messages.answered s c.in-Some.end turn.2),
           );
     }

@@ -8,9 +8,9 @@ invariant-messages g l = record {
   count : l.answered + weight l.conn ≤ weight l.fn.conn;
   no_fault : g.R.Source.failed (source_of l.conn) ≡ g.R.Source.failed (source_of l.fn.conn);
   good : g.K.Sink.failed l.sink ≡ g.K.Sink.failed l.fn.sink;
-  serving : From g.S.Store l.fn.store l.store (λ world. (bytes : List ℕ)
+  serving : From g.S.State l.fn.store l.store (λ world. (bytes : List ℕ)
       × Consumes (g.R.Source.left (source_of l.fn.conn)) (g.R.Source.left (source_of l.conn)) bytes
-      × IsServing g.S.Store (setting_of l.setting.policy.now l.setting.now) bytes (waiting l.conn) world l.fn.store l.store
+      × IsServing g.S.State (setting_of l.setting.policy.now l.setting.now) bytes (waiting l.conn) world l.fn.store l.store
       (g.K.Sink.taken l.fn.sink) (g.K.Sink.taken l.sink) l.answered);
 }
 

@@ -14,7 +14,7 @@ returns-in-Ok-clause-turn g c =
           let a = it.2 in (
             it.0,
             it.1,
-            sent g.S.Store (setting_of s.policy.now s.now) (waiting c.args.conn.now ++ it.0) (waiting c.next_response.new.conn) world c.args.store.now c.next_response.new.store c.deliver.new.store
+            sent g.S.State (setting_of s.policy.now s.now) (waiting c.args.conn.now ++ it.0) (waiting c.next_response.new.conn) world c.args.store.now c.next_response.new.store c.deliver.new.store
                 (g.K.Sink.taken c.args.sink.now) (g.K.Sink.taken c.deliver.new.sink) c.in-Ok.response c.deliver.result a read.same read.adds c.deliver.ensures.ends
                 (read.each honest a.kept a.turn.takes.leads.holds a.given a.is_reply a.there),
           );
@@ -22,11 +22,11 @@ returns-in-Ok-clause-turn g c =
 
 pub returns-in-Err-clause-turn : goal.returns-in-Err-clause-turn
 returns-in-Err-clause-turn g c =
-    from_weaker g.S.Store c.args.store.now c.next_response.new.store _ _
+    from_weaker g.S.State c.args.store.now c.next_response.new.store _ _
     (λ world it.
     let s = c.args.setting.now in (
       it.0,
       it.1,
-      unanswered g.S.Store (setting_of s.policy.now s.now) (waiting c.args.conn.now ++ it.0) (waiting c.next_response.new.conn) world c.args.store.now c.next_response.new.store
+      unanswered g.S.State (setting_of s.policy.now s.now) (waiting c.args.conn.now ++ it.0) (waiting c.next_response.new.conn) world c.args.store.now c.next_response.new.store
           (g.K.Sink.taken c.args.sink.now) (g.K.Sink.taken c.args.sink.now) c.in-Err.end c.in-Err.ensures.early refl it.2,
     )) c.in-Err.ensures.turn

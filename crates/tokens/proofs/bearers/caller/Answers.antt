@@ -9,7 +9,7 @@ returns-in_default-2 g c = record {
   adds = c.token.ensures.adds;
   each = λ honest world h.
       let s = h.shows (c.token.ensures.same.was_honest honest) (c.in_ok-token.ensures.answers honest h.ready).0 in
-      unknown_token (shown g.S.Store c.args.store.now) world c.args.now (single_value (option_map (λ v. v.now) c.args.authorization)) c.in-Some.text.now c.digest_of.result s h.laws
+      unknown_token (shown g.S.State c.args.store.now) world c.args.now (single_value (option_map (λ v. v.now) c.args.authorization)) c.in-Some.text.now c.digest_of.result s h.laws
       (sym c.in-Some.ensures) c.digest_of.ensures (ap (option_map read_token) (sym c.in_default-2.is) ∙ (c.in_ok-token.ensures.answers honest h.ready).1);
 }
 
@@ -19,6 +19,6 @@ returns g c = record {
   adds = c.token.ensures.adds;
   each = λ honest world h.
       let s = h.shows (c.token.ensures.same.was_honest honest) (c.in_ok-token.ensures.answers honest h.ready).0 in
-      known_token (shown g.S.Store c.args.store.now) world c.args.now (single_value (option_map (λ v. v.now) c.args.authorization)) c.in-Some.text.now c.digest_of.result c.in-Some-2.token c.good_at.result s h.laws
+      known_token (shown g.S.State c.args.store.now) world c.args.now (single_value (option_map (λ v. v.now) c.args.authorization)) c.in-Some.text.now c.digest_of.result c.in-Some-2.token c.good_at.result s h.laws
       (sym c.in-Some.ensures) c.digest_of.ensures (ap (option_map read_token) (sym c.in-Some-2.is) ∙ (c.in_ok-token.ensures.answers honest h.ready).1) c.good_at.ensures;
 }

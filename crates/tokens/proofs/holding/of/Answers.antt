@@ -8,12 +8,12 @@ returns g c = record {
   same = c.tokens_of.ensures.same;
   adds = c.tokens_of.ensures.adds;
   each = λ honest world h.
-      let t = shown g.S.Store c.args.store.now in
+      let t = shown g.S.State c.args.store.now in
       let user = user_text c.args.user.now in
       let repo = repo_text c.args.repo.now in
       let listed = map fields_of_token (filter (is_of user repo) world.tokens) in
       IfOk-weaker c.tokens_of.result
-      (λ found. IsOpen g.S.Store c.args.store.now × AreTokensOf found.items (filter (is_held_by user repo) t.tokens))
+      (λ found. IsOpen g.S.State c.args.store.now × AreTokensOf found.items (filter (is_held_by user repo) t.tokens))
       (λ found. IsPermutation (map read_token found.items) listed)
       (λ found is. subst (λ (xs : List TokenFields). IsPermutation xs listed) (sym is.1) (held_listed t world user repo (h.shows (c.tokens_of.ensures.same.was_honest honest) is.0)))
       (c.tokens_of.ensures.answers honest h.ready);

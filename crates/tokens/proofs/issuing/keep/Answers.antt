@@ -14,7 +14,7 @@ returns g c =
     let digest = c.digest-digest.ensures ∙ ap sha256 c.as_bytes.ensures.value in
     let row_of : List ℕ → row.Token = λ d. record { rowid = pos 0; digest = d; user = user_text asked.user.now; repo = repo_text asked.repo.now; op = code_of asked.operation; expires = pos c.args.expires } in
     record {
-      honest = was_by g.S.Store _ old new r e.made e.failed;
+      honest = was_by g.S.State _ old new r e.made e.failed;
       each = λ honest world h.
-          keeps_by g.S.Store old new world h honest asked c.args.text.now c.args.expires (row_of c.digest-digest.result) r (ap row_of digest) (e.answers honest h.ready) e.made e.failed;
+          keeps_by g.S.State old new world h honest asked c.args.text.now c.args.expires (row_of c.digest-digest.result) r (ap row_of digest) (e.answers honest h.ready) e.made e.failed;
     }

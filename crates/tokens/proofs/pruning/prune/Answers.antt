@@ -10,7 +10,7 @@ returns-in_err-removed g c =
     let p = err_from_is_err_and c.from_residual.result c.from_residual.ensures.1 in
     record {
       honest = e.failed.moves.was_honest;
-      each = λ honest world h. rw p.1 (prunes_by g.S.Store c.args.store.now c.remove_expired.new.self world h honest c.args.now (Err p.0) in_range tt tt e.failed);
+      each = λ honest world h. rw p.1 (prunes_by g.S.State c.args.store.now c.remove_expired.new.self world h honest c.args.now (Err p.0) in_range tt tt e.failed);
     }
 
 pub returns : goal.returns
@@ -20,5 +20,5 @@ returns g c =
     record {
       honest = e.made.moves.was_honest;
       each = λ honest world h.
-          prunes_by g.S.Store c.args.store.now c.remove_expired.new.self world h honest c.args.now (Ok c.in_ok-removed.removed) in_range (e.answers honest h.ready) e.made tt;
+          prunes_by g.S.State c.args.store.now c.remove_expired.new.self world h honest c.args.now (Ok c.in_ok-removed.removed) in_range (e.answers honest h.ready) e.made tt;
     }

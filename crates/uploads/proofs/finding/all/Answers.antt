@@ -11,8 +11,8 @@ returns g c = record {
       let new = c.objects.new.self in
       let repo = option_map (λ r. repo_text r.now) c.args.repo in
       IfOk-weaker c.objects.result
-      (λ found. IsOpen g.S.Store old × AreUploadsOf found.items (objects_of repo (shown g.S.Store old)))
-      (λ found. Lists g.S.Store world new repo found.items)
-      (λ found is. lists_by g.S.Store old new world repo h.ready c.objects.ensures.same (h.shows (c.objects.ensures.same.was_honest honest) is.0) found.items is.1)
+      (λ found. IsOpen g.S.State old × AreUploadsOf found.items (objects_of repo (shown g.S.State old)))
+      (λ found. Lists g.S.State world new repo found.items)
+      (λ found is. lists_by g.S.State old new world repo h.ready c.objects.ensures.same (h.shows (c.objects.ensures.same.was_honest honest) is.0) found.items is.1)
       (c.objects.ensures.answers honest h.ready);
 }

@@ -13,8 +13,8 @@ returns g c = record {
       let new = c.object.new.self in
       let repo = repo_text c.args.repo.now in
       IfOk-weaker c.object.result
-      (λ found. IsOpen g.S.Store old × IsObjectOf found (find (is_object repo c.args.oid.now) (shown g.S.Store old).uploads))
-      (Finds g.S.Store world new repo c.args.oid.now)
-      (λ found is. finds_by g.S.Store old new world repo c.args.oid.now h.ready c.object.ensures.same (h.shows (c.object.ensures.same.was_honest honest) is.0) h.laws found is.1)
+      (λ found. IsOpen g.S.State old × IsObjectOf found (find (is_object repo c.args.oid.now) (shown g.S.State old).uploads))
+      (Finds g.S.State world new repo c.args.oid.now)
+      (λ found is. finds_by g.S.State old new world repo c.args.oid.now h.ready c.object.ensures.same (h.shows (c.object.ensures.same.was_honest honest) is.0) h.laws found is.1)
       (c.object.ensures.answers honest h.ready);
 }

@@ -3,17 +3,17 @@ use Rattle.uploads.proofs.Swept.{shortens_none, shortens_more, shortens_failed}
 use Rattle.uploads.proofs.removing.shorten.Goals as goal
 
 pub parts-init : goal.parts-init
-parts-init g c = record { most = search rules; so_far = shortens_none g.S.Store c.args.store.now }
+parts-init g c = record { most = search rules; so_far = shortens_none g.S.State c.args.store.now }
 
 pub parts-preserved : goal.parts-preserved
 parts-preserved g c = record {
   most = search rules;
-  so_far = shortens_more g.S.Store c.args.store.now c.parts.store c.shorten_upload.new.self c.args.id.number _ c.parts.invariant.so_far c.in_ok-shorten_upload.ensures.made;
+  so_far = shortens_more g.S.State c.args.store.now c.parts.store c.shorten_upload.new.self c.args.id.number _ c.parts.invariant.so_far c.in_ok-shorten_upload.ensures.made;
 }
 
 pub returns-in_err-shorten_upload : goal.returns-in_err-shorten_upload
 returns-in_err-shorten_upload g c =
-    shortens_failed g.S.Store c.args.store.now c.parts.store c.shorten_upload.new.self c.args.id.number _ c.parts.invariant.so_far c.in_err-shorten_upload.ensures.failed
+    shortens_failed g.S.State c.args.store.now c.parts.store c.shorten_upload.new.self c.args.id.number _ c.parts.invariant.so_far c.in_err-shorten_upload.ensures.failed
 
 pub returns : goal.returns
 returns g c = c.parts.invariant.so_far

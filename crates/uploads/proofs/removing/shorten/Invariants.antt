@@ -4,7 +4,7 @@ use Rattle.uploads.proofs.removing.shorten.Given as goal
 abbrev pub invariant-parts : goal.invariant-parts
 invariant-parts g l = record {
   most : l.left ≤ l.fn.size / 16777216;
-  so_far : From g.S.Store l.fn.store l.store (Shortens g.S.Store l.fn.store l.store);
+  so_far : From g.S.State l.fn.store l.store (Shortens g.S.State l.fn.store l.store);
 }
 
 abbrev pub decreases-parts : goal.decreases-parts

@@ -7,8 +7,8 @@ invariant-pieces g l = record {
   within : l.at ≤ length l.piece;
   short : length l.self.last.items < chunk_size;
   same : KeepsCount l.fn.self l.self;
-  advances : Advances g.S.Store l.fn.store l.fn.self l.store l.self (take l.at l.piece);
-  keeps : KeepsWithin g.S.Store l.fn.store l.fn.self l.store (length l.piece);
+  advances : Advances g.S.State l.fn.store l.fn.self l.store l.self (take l.at l.piece);
+  keeps : KeepsWithin g.S.State l.fn.store l.fn.self l.store (length l.piece);
 }
 
 abbrev pub decreases-pieces : goal.decreases-pieces

@@ -4,23 +4,23 @@ use Rattle.chunks.proofs.Cutting.{from_room, from_nothing}
 use Rattle.chunks.proofs.intake.Intake.push.Goals as goal
 
 pub returns-then-self-clause-kept : goal.returns-then-self-clause-kept
-returns-then-self-clause-kept g c = from_nothing g.S.Store c.args.store.now c.args.self.now
+returns-then-self-clause-kept g c = from_nothing g.S.State c.args.store.now c.args.self.now
 
 pub returns-in_err-taken-clause-kept : goal.returns-in_err-taken-clause-kept
-returns-in_err-taken-clause-kept g c = from_nothing g.S.Store c.args.store.now c.args.self.now
+returns-in_err-taken-clause-kept g c = from_nothing g.S.State c.args.store.now c.args.self.now
 
 pub returns-in_err-fill_all-clause-kept : goal.returns-in_err-fill_all-clause-kept
 returns-in_err-fill_all-clause-kept g c =
     let keeps = c.fill_all.ensures.keeps in
     let value = c.in_ok-taken.ensures in
-    from_room g.S.Store c.args.store.now c.fill_all.new.store c.args.self.now (length c.args.piece.now) keeps.honest keeps.kept
+    from_room g.S.State c.args.store.now c.fill_all.new.store c.args.self.now (length c.args.piece.now) keeps.honest keeps.kept
     (λ repo name size bytes taken. let limit = taken.limit in let count = taken.counted.count in omega (arith, limit, count, value.0, value.1))
 
 pub returns-clause-kept : goal.returns-clause-kept
 returns-clause-kept g c =
     let keeps = c.fill_all.ensures.keeps in
     let value = c.in_ok-taken.ensures in
-    from_room g.S.Store c.args.store.now c.fill_all.new.store c.args.self.now (length c.args.piece.now) keeps.honest keeps.kept
+    from_room g.S.State c.args.store.now c.fill_all.new.store c.args.self.now (length c.args.piece.now) keeps.honest keeps.kept
     (λ repo name size bytes taken. let limit = taken.limit in let count = taken.counted.count in omega (arith, limit, count, value.0, value.1))
 
 pub returns-clause-taken : goal.returns-clause-taken

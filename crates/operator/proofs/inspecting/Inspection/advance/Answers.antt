@@ -5,44 +5,44 @@ use Rattle.operator.proofs.inspecting.Inspection.advance.Goals as goal
 
 pub returns-in_err-verdict_on-clause-world : goal.returns-in_err-verdict_on-clause-world
 returns-in_err-verdict_on-clause-world g c =
-    spares_read g.S.Store c.args.store.now c.objects.store c.verdict_on.new.store _ c.args.self.now c.objects.self _ c.objects.invariant.world c.verdict_on.ensures refl
+    spares_read g.S.State c.args.store.now c.objects.store c.verdict_on.new.store _ c.args.self.now c.objects.self _ c.objects.invariant.world c.verdict_on.ensures refl
 
 pub returns-in_err-verdict_on-clause-reads : goal.returns-in_err-verdict_on-clause-reads
 returns-in_err-verdict_on-clause-reads g c is =
-    reads_then g.S.Store c.args.store.now c.objects.store c.verdict_on.new.store _ _ _ (λ world laws x y. tt) (c.objects.invariant.reads is) c.verdict_on.ensures
+    reads_then g.S.State c.args.store.now c.objects.store c.verdict_on.new.store _ _ _ (λ world laws x y. tt) (c.objects.invariant.reads is) c.verdict_on.ensures
 
 pub returns-in_err-line-in-Some-true-clause-world : goal.returns-in_err-line-in-Some-true-clause-world
 returns-in_err-line-in-Some-true-clause-world g c =
-    spares_damaged g.S.Store c.args.store.now c.objects.store c.verdict_on.new.store c.treat.new.store c.args.self.now c.objects.self _ c.objects.invariant.world
-    (reads_weaker g.S.Store c.objects.store c.verdict_on.new.store _ _ (λ world laws no. rw (c.in-Some-true.is, c.in-Some-true.field-0-test) at no) c.in_ok-verdict_on.ensures) c.treat.ensures.honest
+    spares_damaged g.S.State c.args.store.now c.objects.store c.verdict_on.new.store c.treat.new.store c.args.self.now c.objects.self _ c.objects.invariant.world
+    (reads_weaker g.S.State c.objects.store c.verdict_on.new.store _ _ (λ world laws no. rw (c.in-Some-true.is, c.in-Some-true.field-0-test) at no) c.in_ok-verdict_on.ensures) c.treat.ensures.honest
 
 pub returns-in_err-line-in-Some-true-clause-reads : goal.returns-in_err-line-in-Some-true-clause-reads
 returns-in_err-line-in-Some-true-clause-reads g c is =
-    let before = reads_then g.S.Store c.args.store.now c.objects.store c.verdict_on.new.store _ _ (λ _. ⊤) (λ world laws x y. tt) (c.objects.invariant.reads is) c.verdict_on.ensures in
-    reads_then g.S.Store c.args.store.now c.verdict_on.new.store c.treat.new.store _ _ (λ _. ⊤) (λ world laws x y. tt) before (c.treat.ensures.reads (c.objects.invariant.purpose ∙ is))
+    let before = reads_then g.S.State c.args.store.now c.objects.store c.verdict_on.new.store _ _ (λ _. ⊤) (λ world laws x y. tt) (c.objects.invariant.reads is) c.verdict_on.ensures in
+    reads_then g.S.State c.args.store.now c.verdict_on.new.store c.treat.new.store _ _ (λ _. ⊤) (λ world laws x y. tt) before (c.treat.ensures.reads (c.objects.invariant.purpose ∙ is))
 
 pub returns-in-Some-true-clause-world : goal.returns-in-Some-true-clause-world
 returns-in-Some-true-clause-world g c =
-    spares_damaged g.S.Store c.args.store.now c.objects.store c.verdict_on.new.store c.treat.new.store c.args.self.now c.objects.self _ c.objects.invariant.world
-    (reads_weaker g.S.Store c.objects.store c.verdict_on.new.store _ _ (λ world laws no. rw (c.in-Some-true.is, c.in-Some-true.field-0-test) at no) c.in_ok-verdict_on.ensures) c.treat.ensures.honest
+    spares_damaged g.S.State c.args.store.now c.objects.store c.verdict_on.new.store c.treat.new.store c.args.self.now c.objects.self _ c.objects.invariant.world
+    (reads_weaker g.S.State c.objects.store c.verdict_on.new.store _ _ (λ world laws no. rw (c.in-Some-true.is, c.in-Some-true.field-0-test) at no) c.in_ok-verdict_on.ensures) c.treat.ensures.honest
 
 pub returns-in-Some-true-clause-reads : goal.returns-in-Some-true-clause-reads
 returns-in-Some-true-clause-reads g c is =
-    let before = reads_then g.S.Store c.args.store.now c.objects.store c.verdict_on.new.store _ _ (λ _. ⊤) (λ world laws x y. tt) (c.objects.invariant.reads is) c.verdict_on.ensures in
-    reads_then g.S.Store c.args.store.now c.verdict_on.new.store c.treat.new.store _ _ (λ _. ⊤) (λ world laws x y. tt) before (c.treat.ensures.reads (c.objects.invariant.purpose ∙ is))
+    let before = reads_then g.S.State c.args.store.now c.objects.store c.verdict_on.new.store _ _ (λ _. ⊤) (λ world laws x y. tt) (c.objects.invariant.reads is) c.verdict_on.ensures in
+    reads_then g.S.State c.args.store.now c.verdict_on.new.store c.treat.new.store _ _ (λ _. ⊤) (λ world laws x y. tt) before (c.treat.ensures.reads (c.objects.invariant.purpose ∙ is))
 
 pub returns-in-None-clause-world : goal.returns-in-None-clause-world
 returns-in-None-clause-world g c =
-    spares_read g.S.Store c.args.store.now c.objects.store c.verdict_on.new.store _ c.args.self.now c.objects.self _ c.objects.invariant.world c.verdict_on.ensures refl
+    spares_read g.S.State c.args.store.now c.objects.store c.verdict_on.new.store _ c.args.self.now c.objects.self _ c.objects.invariant.world c.verdict_on.ensures refl
 
 pub returns-in-None-clause-reads : goal.returns-in-None-clause-reads
 returns-in-None-clause-reads g c is =
-    reads_then g.S.Store c.args.store.now c.objects.store c.verdict_on.new.store _ _ _ (λ world laws x y. tt) (c.objects.invariant.reads is) c.verdict_on.ensures
+    reads_then g.S.State c.args.store.now c.objects.store c.verdict_on.new.store _ _ _ (λ world laws x y. tt) (c.objects.invariant.reads is) c.verdict_on.ensures
 
 pub objects-preserved : goal.objects-preserved
 objects-preserved g c = record {
-  world = spares_read g.S.Store c.args.store.now c.objects.store c.verdict_on.new.store _ c.args.self.now c.objects.self _ c.objects.invariant.world c.verdict_on.ensures refl;
-  reads = λ is. reads_then g.S.Store c.args.store.now c.objects.store c.verdict_on.new.store _ _ _ (λ world laws x y. tt) (c.objects.invariant.reads is) c.verdict_on.ensures;
+  world = spares_read g.S.State c.args.store.now c.objects.store c.verdict_on.new.store _ c.args.self.now c.objects.self _ c.objects.invariant.world c.verdict_on.ensures refl;
+  reads = λ is. reads_then g.S.State c.args.store.now c.objects.store c.verdict_on.new.store _ _ _ (λ world laws x y. tt) (c.objects.invariant.reads is) c.verdict_on.ensures;
   purpose = c.objects.invariant.purpose;
   rows = c.objects.invariant.rows;
 }
@@ -57,13 +57,13 @@ returns-in_err-verdict_on-clause-quiet g c = record {
 
 pub returns-in_err-line-in-Some-true-clause-quiet : goal.returns-in_err-line-in-Some-true-clause-quiet
 returns-in_err-line-in-Some-true-clause-quiet g c =
-    never_damaged g.S.Store c.args.store.now c.objects.store c.verdict_on.new.store c.treat.new.store c.args.self.now c.objects.self _ c.objects.invariant.world
-    (reads_weaker g.S.Store c.objects.store c.verdict_on.new.store _ _ (λ world laws no. rw (c.in-Some-true.is, c.in-Some-true.field-0-test) at no) c.in_ok-verdict_on.ensures) c.treat.ensures.honest
+    never_damaged g.S.State c.args.store.now c.objects.store c.verdict_on.new.store c.treat.new.store c.args.self.now c.objects.self _ c.objects.invariant.world
+    (reads_weaker g.S.State c.objects.store c.verdict_on.new.store _ _ (λ world laws no. rw (c.in-Some-true.is, c.in-Some-true.field-0-test) at no) c.in_ok-verdict_on.ensures) c.treat.ensures.honest
 
 pub returns-in-Some-true-clause-quiet : goal.returns-in-Some-true-clause-quiet
 returns-in-Some-true-clause-quiet g c =
-    never_damaged g.S.Store c.args.store.now c.objects.store c.verdict_on.new.store c.treat.new.store c.args.self.now c.objects.self _ c.objects.invariant.world
-    (reads_weaker g.S.Store c.objects.store c.verdict_on.new.store _ _ (λ world laws no. rw (c.in-Some-true.is, c.in-Some-true.field-0-test) at no) c.in_ok-verdict_on.ensures) c.treat.ensures.honest
+    never_damaged g.S.State c.args.store.now c.objects.store c.verdict_on.new.store c.treat.new.store c.args.self.now c.objects.self _ c.objects.invariant.world
+    (reads_weaker g.S.State c.objects.store c.verdict_on.new.store _ _ (λ world laws no. rw (c.in-Some-true.is, c.in-Some-true.field-0-test) at no) c.in_ok-verdict_on.ensures) c.treat.ensures.honest
 
 pub returns-in-None-clause-quiet : goal.returns-in-None-clause-quiet
 returns-in-None-clause-quiet g c = record { honest = λ k. c.objects.invariant.world.honest (c.verdict_on.ensures.same.was_honest k); each = λ honest world h. tt }

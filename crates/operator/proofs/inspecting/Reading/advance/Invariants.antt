@@ -2,4 +2,4 @@ use Rattle.operator.proofs.Prelude.{⊤, Reads}
 use Rattle.operator.proofs.inspecting.Reading.advance.Given as goal
 
 abbrev pub invariant-chunks : goal.invariant-chunks
-invariant-chunks g l = Reads g.S.Store l.fn.store l.store (λ _. ⊤)
+invariant-chunks g l = Reads g.S.State l.fn.store l.store (λ _. ⊤)

@@ -11,7 +11,7 @@ pub returns-in-Prune-clause-world : goal.returns-in-Prune-clause-world
 returns-in-Prune-clause-world g c = rw c.in-Prune.is c.prune.ensures.world
 
 pub returns-in-Sweep-clause-world : goal.returns-in-Sweep-clause-world
-returns-in-Sweep-clause-world g c = rw c.in-Sweep.is (ran_sweep g.S.Store _ c.args.store.now c.sweep.new.store c.sweep.result c.sweep.ensures.world)
+returns-in-Sweep-clause-world g c = rw c.in-Sweep.is (ran_sweep g.S.State _ c.args.store.now c.sweep.new.store c.sweep.result c.sweep.ensures.world)
 
 pub returns-in-Retire-clause-world : goal.returns-in-Retire-clause-world
 returns-in-Retire-clause-world g c = rw c.in-Retire.is c.retire.ensures.world
@@ -19,37 +19,37 @@ returns-in-Retire-clause-world g c = rw c.in-Retire.is c.retire.ensures.world
 pub returns-in-May-clause-world : goal.returns-in-May-clause-world
 returns-in-May-clause-world g c =
     rw c.in-May.is
-    (ran_reads g.S.Store _ c.args.store.now c.args.store.now _ _ c.print_access.result
-    (reads_none g.S.Store c.args.store.now _ (λ honest world h. c.print_access.ensures.may)))
+    (ran_reads g.S.State _ c.args.store.now c.args.store.now _ _ c.print_access.result
+    (reads_none g.S.State c.args.store.now _ (λ honest world h. c.print_access.ensures.may)))
 
 pub returns-in-CheckPush-clause-world : goal.returns-in-CheckPush-clause-world
-returns-in-CheckPush-clause-world g c = rw c.in-CheckPush.is (ran_reads g.S.Store _ c.args.store.now c.check_push.new.store _ _ c.check_push.result c.check_push.ensures.reads)
+returns-in-CheckPush-clause-world g c = rw c.in-CheckPush.is (ran_reads g.S.State _ c.args.store.now c.check_push.new.store _ _ c.check_push.result c.check_push.ensures.reads)
 
 pub returns-in-Foresee-clause-world : goal.returns-in-Foresee-clause-world
-returns-in-Foresee-clause-world g c = rw c.in-Foresee.is (ran_reads g.S.Store _ c.args.store.now c.print_foreseen.new.store _ _ c.print_foreseen.result c.print_foreseen.ensures.reads)
+returns-in-Foresee-clause-world g c = rw c.in-Foresee.is (ran_reads g.S.State _ c.args.store.now c.print_foreseen.new.store _ _ c.print_foreseen.result c.print_foreseen.ensures.reads)
 
 pub returns-in-ListLocks-clause-world : goal.returns-in-ListLocks-clause-world
-returns-in-ListLocks-clause-world g c = rw c.in-ListLocks.is (ran_still g.S.Store _ c.args.store.now c.list_locks.new.store _ c.list_locks.result c.list_locks.ensures.err c.list_locks.ensures.reads)
+returns-in-ListLocks-clause-world g c = rw c.in-ListLocks.is (ran_still g.S.State _ c.args.store.now c.list_locks.new.store _ c.list_locks.result c.list_locks.ensures.err c.list_locks.ensures.reads)
 
 pub returns-in-ListObjects-clause-world : goal.returns-in-ListObjects-clause-world
-returns-in-ListObjects-clause-world g c = rw c.in-ListObjects.is (ran_still g.S.Store _ c.args.store.now c.list_objects.new.store _ c.list_objects.result c.list_objects.ensures.err c.list_objects.ensures.reads)
+returns-in-ListObjects-clause-world g c = rw c.in-ListObjects.is (ran_still g.S.State _ c.args.store.now c.list_objects.new.store _ c.list_objects.result c.list_objects.ensures.err c.list_objects.ensures.reads)
 
 pub returns-in-ListTokens-clause-world : goal.returns-in-ListTokens-clause-world
-returns-in-ListTokens-clause-world g c = rw c.in-ListTokens.is (ran_still g.S.Store _ c.args.store.now c.list_tokens.new.store _ c.list_tokens.result c.list_tokens.ensures.err c.list_tokens.ensures.reads)
+returns-in-ListTokens-clause-world g c = rw c.in-ListTokens.is (ran_still g.S.State _ c.args.store.now c.list_tokens.new.store _ c.list_tokens.result c.list_tokens.ensures.err c.list_tokens.ensures.reads)
 
 pub returns-in-Usage-clause-world : goal.returns-in-Usage-clause-world
-returns-in-Usage-clause-world g c = rw c.in-Usage.is (ran_still g.S.Store _ c.args.store.now c.list_usage.new.store _ c.list_usage.result c.list_usage.ensures.err c.list_usage.ensures.reads)
+returns-in-Usage-clause-world g c = rw c.in-Usage.is (ran_still g.S.State _ c.args.store.now c.list_usage.new.store _ c.list_usage.result c.list_usage.ensures.err c.list_usage.ensures.reads)
 
 pub returns-in-CheckObjects-clause-world : goal.returns-in-CheckObjects-clause-world
-returns-in-CheckObjects-clause-world g c = rw c.in-CheckObjects.is (ran_checked g.S.Store _ c.args.store.now c.inspect_all.new.store c.inspect_all.result c.inspect_all.ensures.world)
+returns-in-CheckObjects-clause-world g c = rw c.in-CheckObjects.is (ran_checked g.S.State _ c.args.store.now c.inspect_all.new.store c.inspect_all.result c.inspect_all.ensures.world)
 
 pub returns-in-Repair-clause-world : goal.returns-in-Repair-clause-world
-returns-in-Repair-clause-world g c = rw c.in-Repair.is (ran_repaired g.S.Store _ c.args.store.now c.inspect_all-in-Repair.new.store c.inspect_all-in-Repair.result c.inspect_all-in-Repair.ensures.world)
+returns-in-Repair-clause-world g c = rw c.in-Repair.is (ran_repaired g.S.State _ c.args.store.now c.inspect_all-in-Repair.new.store c.inspect_all-in-Repair.result c.inspect_all-in-Repair.ensures.world)
 
 -- ---- the tables
 
 pub returns-in-May-clause-tables : goal.returns-in-May-clause-tables
-returns-in-May-clause-tables g c = λ _. (reads_none g.S.Store c.args.store.now (λ _. ⊤) (λ _ _ _. tt)).same
+returns-in-May-clause-tables g c = λ _. (reads_none g.S.State c.args.store.now (λ _. ⊤) (λ _ _ _. tt)).same
 
 pub returns-in-CheckPush-clause-tables : goal.returns-in-CheckPush-clause-tables
 returns-in-CheckPush-clause-tables g c = λ _. c.check_push.ensures.reads.same
@@ -91,60 +91,60 @@ returns-in-Repair-clause-tables g c = λ question. absurd (subst IsQuestion c.in
 
 pub returns-in-Issue-clause-printed : goal.returns-in-Issue-clause-printed
 returns-in-Issue-clause-printed g c =
-    rw c.in-Issue.is (printed_from g.S.Store c.args.store.now c.grant.new.store _ _ _ _ c.grant.result (λ world f. f.1) (λ world taken. taken) c.grant.ensures.world c.grant.ensures.printed)
+    rw c.in-Issue.is (printed_from g.S.State c.args.store.now c.grant.new.store _ _ _ _ c.grant.result (λ world f. f.1) (λ world taken. taken) c.grant.ensures.world c.grant.ensures.printed)
 
 pub returns-in-Prune-clause-printed : goal.returns-in-Prune-clause-printed
 returns-in-Prune-clause-printed g c =
-    rw c.in-Prune.is (printed_from g.S.Store c.args.store.now c.prune.new.store _ _ _ _ c.prune.result (λ world f. f.1) (λ world taken. (_, refl, taken)) c.prune.ensures.world c.prune.ensures.printed)
+    rw c.in-Prune.is (printed_from g.S.State c.args.store.now c.prune.new.store _ _ _ _ c.prune.result (λ world f. f.1) (λ world taken. (_, refl, taken)) c.prune.ensures.world c.prune.ensures.printed)
 
 pub returns-in-Sweep-clause-printed : goal.returns-in-Sweep-clause-printed
 returns-in-Sweep-clause-printed g c =
-    rw c.in-Sweep.is (printed_from g.S.Store c.args.store.now c.sweep.new.store _ _ _ _ c.sweep.result (λ world f. f.1) (λ world taken. taken) c.sweep.ensures.world c.sweep.ensures.printed)
+    rw c.in-Sweep.is (printed_from g.S.State c.args.store.now c.sweep.new.store _ _ _ _ c.sweep.result (λ world f. f.1) (λ world taken. taken) c.sweep.ensures.world c.sweep.ensures.printed)
 
 pub returns-in-Retire-clause-printed : goal.returns-in-Retire-clause-printed
 returns-in-Retire-clause-printed g c =
-    rw c.in-Retire.is (printed_from g.S.Store c.args.store.now c.retire.new.store _ _ _ _ c.retire.result (λ world f. f.1) (λ world taken. (_, refl, taken)) c.retire.ensures.world c.retire.ensures.printed)
+    rw c.in-Retire.is (printed_from g.S.State c.args.store.now c.retire.new.store _ _ _ _ c.retire.result (λ world f. f.1) (λ world taken. (_, refl, taken)) c.retire.ensures.world c.retire.ensures.printed)
 
 pub returns-in-May-clause-printed : goal.returns-in-May-clause-printed
 returns-in-May-clause-printed g c =
     rw c.in-May.is
-    (printed_reads g.S.Store c.args.store.now c.args.store.now _ _ c.print_access.result (λ world taken. (_, refl, taken))
-    (reads_none g.S.Store c.args.store.now _ (λ honest world h. c.print_access.ensures.text)))
+    (printed_reads g.S.State c.args.store.now c.args.store.now _ _ c.print_access.result (λ world taken. (_, refl, taken))
+    (reads_none g.S.State c.args.store.now _ (λ honest world h. c.print_access.ensures.text)))
 
 pub returns-in-CheckPush-clause-printed : goal.returns-in-CheckPush-clause-printed
 returns-in-CheckPush-clause-printed g c =
-    rw c.in-CheckPush.is (printed_reads g.S.Store c.args.store.now c.check_push.new.store _ _ c.check_push.result (λ world taken. (_, refl, taken)) c.check_push.ensures.printed)
+    rw c.in-CheckPush.is (printed_reads g.S.State c.args.store.now c.check_push.new.store _ _ c.check_push.result (λ world taken. (_, refl, taken)) c.check_push.ensures.printed)
 
 pub returns-in-Foresee-clause-printed : goal.returns-in-Foresee-clause-printed
 returns-in-Foresee-clause-printed g c =
     rw c.in-Foresee.is
-    (printed_from g.S.Store c.args.store.now c.print_foreseen.new.store _ _ _ _ c.print_foreseen.result (λ world f. f.1) (λ world taken. taken)
-    (ran_reads g.S.Store (λ event. ⊥) c.args.store.now c.print_foreseen.new.store _ _ c.print_foreseen.result c.print_foreseen.ensures.reads) (from_reads g.S.Store _ _ _ c.print_foreseen.ensures.printed))
+    (printed_from g.S.State c.args.store.now c.print_foreseen.new.store _ _ _ _ c.print_foreseen.result (λ world f. f.1) (λ world taken. taken)
+    (ran_reads g.S.State (λ event. ⊥) c.args.store.now c.print_foreseen.new.store _ _ c.print_foreseen.result c.print_foreseen.ensures.reads) (from_reads g.S.State _ _ _ c.print_foreseen.ensures.printed))
 
 pub returns-in-ListLocks-clause-printed : goal.returns-in-ListLocks-clause-printed
 returns-in-ListLocks-clause-printed g c =
-    rw c.in-ListLocks.is (printed_plain g.S.Store c.args.store.now c.list_locks.new.store _ _ c.list_locks.result c.list_locks.ensures.err (λ world taken. (_, refl, taken)) c.list_locks.ensures.reads)
+    rw c.in-ListLocks.is (printed_plain g.S.State c.args.store.now c.list_locks.new.store _ _ c.list_locks.result c.list_locks.ensures.err (λ world taken. (_, refl, taken)) c.list_locks.ensures.reads)
 
 pub returns-in-ListObjects-clause-printed : goal.returns-in-ListObjects-clause-printed
 returns-in-ListObjects-clause-printed g c =
-    rw c.in-ListObjects.is (printed_plain g.S.Store c.args.store.now c.list_objects.new.store _ _ c.list_objects.result c.list_objects.ensures.err (λ world taken. (_, refl, taken)) c.list_objects.ensures.reads)
+    rw c.in-ListObjects.is (printed_plain g.S.State c.args.store.now c.list_objects.new.store _ _ c.list_objects.result c.list_objects.ensures.err (λ world taken. (_, refl, taken)) c.list_objects.ensures.reads)
 
 pub returns-in-ListTokens-clause-printed : goal.returns-in-ListTokens-clause-printed
 returns-in-ListTokens-clause-printed g c =
-    rw c.in-ListTokens.is (printed_plain g.S.Store c.args.store.now c.list_tokens.new.store _ _ c.list_tokens.result c.list_tokens.ensures.err (λ world taken. taken) c.list_tokens.ensures.reads)
+    rw c.in-ListTokens.is (printed_plain g.S.State c.args.store.now c.list_tokens.new.store _ _ c.list_tokens.result c.list_tokens.ensures.err (λ world taken. taken) c.list_tokens.ensures.reads)
 
 pub returns-in-Usage-clause-printed : goal.returns-in-Usage-clause-printed
 returns-in-Usage-clause-printed g c =
-    rw c.in-Usage.is (printed_plain g.S.Store c.args.store.now c.list_usage.new.store _ _ c.list_usage.result c.list_usage.ensures.err (λ world taken. taken) c.list_usage.ensures.reads)
+    rw c.in-Usage.is (printed_plain g.S.State c.args.store.now c.list_usage.new.store _ _ c.list_usage.result c.list_usage.ensures.err (λ world taken. taken) c.list_usage.ensures.reads)
 
 pub returns-in-CheckObjects-clause-printed : goal.returns-in-CheckObjects-clause-printed
 returns-in-CheckObjects-clause-printed g c =
     rw c.in-CheckObjects.is
-    (printed_from g.S.Store c.args.store.now c.inspect_all.new.store _ _ _ _ c.inspect_all.result (λ world f. f.1) (λ world taken. (_, refl, taken))
-    (ran_checked g.S.Store (λ event. ⊥) c.args.store.now c.inspect_all.new.store c.inspect_all.result c.inspect_all.ensures.world) c.inspect_all.ensures.printed)
+    (printed_from g.S.State c.args.store.now c.inspect_all.new.store _ _ _ _ c.inspect_all.result (λ world f. f.1) (λ world taken. (_, refl, taken))
+    (ran_checked g.S.State (λ event. ⊥) c.args.store.now c.inspect_all.new.store c.inspect_all.result c.inspect_all.ensures.world) c.inspect_all.ensures.printed)
 
 pub returns-in-Repair-clause-printed : goal.returns-in-Repair-clause-printed
 returns-in-Repair-clause-printed g c =
     rw c.in-Repair.is
-    (printed_from g.S.Store c.args.store.now c.inspect_all-in-Repair.new.store _ _ _ _ c.inspect_all-in-Repair.result (λ world f. f.1) (λ world taken. (_, refl, taken))
-    (ran_checked g.S.Store (λ event. ⊥) c.args.store.now c.inspect_all-in-Repair.new.store c.inspect_all-in-Repair.result c.inspect_all-in-Repair.ensures.world) c.inspect_all-in-Repair.ensures.printed)
+    (printed_from g.S.State c.args.store.now c.inspect_all-in-Repair.new.store _ _ _ _ c.inspect_all-in-Repair.result (λ world f. f.1) (λ world taken. (_, refl, taken))
+    (ran_checked g.S.State (λ event. ⊥) c.args.store.now c.inspect_all-in-Repair.new.store c.inspect_all-in-Repair.result c.inspect_all-in-Repair.ensures.world) c.inspect_all-in-Repair.ensures.printed)

@@ -6,4 +6,4 @@ use Rattle.server.proofs.operators.OperatorContext.stored.Given as goal
 
 -- so far the store was only read, and these are the numbers of the repositories so far
 abbrev pub invariant-loop-repo : goal.invariant-loop-repo
-invariant-loop-repo g l = Reads g.S.Store l.fn.store l.store (λ world. AllStored world (map repo_view (take l.repo-index l.repo-items)) l.all.items)
+invariant-loop-repo g l = Reads g.S.State l.fn.store l.store (λ world. AllStored world (map repo_view (take l.repo-index l.repo-items)) l.all.items)

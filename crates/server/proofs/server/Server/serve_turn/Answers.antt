@@ -6,14 +6,14 @@ use Rattle.server.proofs.server.Server.serve_turn.Goals as goal
 
 pub returns-in_err-now : goal.returns-in_err-now
 returns-in_err-now g c =
-    turn_unserved g.M.Machine g.S.Store c.args.policy.now c.args.client c.args.store.now c.sweep_if-tally.new.store c.args.machine.now c.moment.new.self (idles ∷ []) c.sweep_if-tally.ensures
+    turn_unserved g.M.Machine g.S.State c.args.policy.now c.args.client c.args.store.now c.sweep_if-tally.new.store c.args.machine.now c.moment.new.self (idles ∷ []) c.sweep_if-tally.ensures
     (one_idle g.M.Machine c.args.machine.now c.moment.new.self c.in_err-now.ensures.err) tt
 
 pub returns-in_default : goal.returns-in_default
 returns-in_default g c =
     let none = rw c.in_default.is at c.converse.ensures.none in
     rw none.0
-    (turn_unserved g.M.Machine g.S.Store c.args.policy.now c.args.client c.args.store.now c.sweep_if-tally.new.store c.args.machine.now c.close.new.self (observes (timed c.in_ok-now.now) ∷ idles ∷ idles ∷ []) c.sweep_if-tally.ensures
+    (turn_unserved g.M.Machine g.S.State c.args.policy.now c.args.client c.args.store.now c.sweep_if-tally.new.store c.args.machine.now c.close.new.self (observes (timed c.in_ok-now.now) ∷ idles ∷ idles ∷ []) c.sweep_if-tally.ensures
     (calls_append g.M.Machine c.args.machine.now c.moment.new.self c.close.new.self (observes (timed c.in_ok-now.now) ∷ []) (idles ∷ idles ∷ [])
     (one_seen g.M.Machine c.args.machine.now c.moment.new.self (timed c.in_ok-now.now) c.in_ok-now.ensures.ok)
     (calls_append g.M.Machine c.moment.new.self c.converse.new.self c.close.new.self (idles ∷ []) (idles ∷ [])
@@ -24,7 +24,7 @@ pub returns : goal.returns
 returns g c =
     let held = rw c.in-Some.is at c.converse.ensures.some in
     let talks = talked c.args.client held.0 c.in-Some.field-0.turn.served in
-    turn_served g.M.Machine g.S.Store c.args.policy.now c.args.client c.in_ok-now.now held.0 c.in-Some.field-0.turn.served c.args.store.now c.sweep_if-tally.new.store c.converse.new.store c.args.machine.now c.end_turn.new.self
+    turn_served g.M.Machine g.S.State c.args.policy.now c.args.client c.in_ok-now.now held.0 c.in-Some.field-0.turn.served c.args.store.now c.sweep_if-tally.new.store c.converse.new.store c.args.machine.now c.end_turn.new.self
     (observes (timed c.in_ok-now.now) ∷ observes talks ∷ idles ∷ []) c.sweep_if-tally.ensures
     (calls_append g.M.Machine c.args.machine.now c.moment.new.self c.end_turn.new.self (observes (timed c.in_ok-now.now) ∷ []) (observes talks ∷ idles ∷ [])
     (one_seen g.M.Machine c.args.machine.now c.moment.new.self (timed c.in_ok-now.now) c.in_ok-now.ensures.ok)

@@ -7,8 +7,8 @@ pub returns-else-unswept : goal.returns-else-unswept
 returns-else-unswept g c = record {
   honest = λ k. k;
   each = λ honest world h.
-      let lead = leads_none g.S.Store c.args.store.now world h in (works_still g.S.Store _ _ world lead, still_steps g.S.Store _ _ world lead);
+      let lead = leads_none g.S.State c.args.store.now world h in (works_still g.S.State _ _ world lead, still_steps g.S.State _ _ world lead);
 }
 
 pub returns-then-unswept : goal.returns-then-unswept
-returns-then-unswept g c = from_swept g.S.Store c.args.store.now c.sweep.new.store c.sweep.result c.sweep.ensures
+returns-then-unswept g c = from_swept g.S.State c.args.store.now c.sweep.new.store c.sweep.result c.sweep.ensures

@@ -1,5 +1,5 @@
 use Rattle.refinement.proofs.Same.{same_world}
-use Rattle.refinement.proofs.opening.same_law.Goals as goal
+use Rattle.refinement.proofs.laws.same_law.Goals as goal
 
 pub returns : goal.returns
 returns c t a b p q = same_world t a b p q

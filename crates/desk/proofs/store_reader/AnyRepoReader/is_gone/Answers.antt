@@ -1,5 +1,5 @@
 use Rattle.desk.proofs.Prelude.{◌≡◌, ◌∙◌, List, ℕ, sym, ap, subst, IfOk-weaker, is_gone, is_retired, gone_is, repo_view}
-use Rattle.desk.proofs.store_reader.StoreRepoReader.is_gone.Goals as goal
+use Rattle.desk.proofs.store_reader.AnyRepoReader.is_gone.Goals as goal
 
 pub returns-clause-gone : goal.returns-clause-gone
 returns-clause-gone g c honest state shown =

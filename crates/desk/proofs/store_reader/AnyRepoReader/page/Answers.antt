@@ -1,6 +1,6 @@
 use Rattle.desk.proofs.Prelude.{rules, ◌≡◌, ◌∙◌, ap, sym, subst, page_of, cursor_or_first, page_seen, wanted_locks, repo_view, is_wanted, RepoState, filter, lock_seen, IfOk-weaker}
 use Rattle.desk.specs.Visible.{is_visible}
-use Rattle.desk.proofs.store_reader.StoreRepoReader.page.Goals as goal
+use Rattle.desk.proofs.store_reader.AnyRepoReader.page.Goals as goal
 
 pub returns-clause-page : goal.returns-clause-page
 returns-clause-page g c honest state shown sees tests =

@@ -1,0 +1,4 @@
+pub mod Sorted
+pub mod Moved
+pub mod Steps
+pub mod Alone

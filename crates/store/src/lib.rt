@@ -1,0 +1,10 @@
+//! The calls on the tables, whatever form the files of a store have: what each returns, which step of the tables it
+//! makes, and what a stop leaves. Everything above works on a [`Store`]; [`tables::Store`] is one, over a database alone.
+#![tactic(auto)]
+
+mod database;
+mod state;
+mod store;
+
+pub use state::State;
+pub use store::Store;
