@@ -93,7 +93,7 @@ fn dispatch<S: Start, R: Read, K: Sink, E: Write>(
 
 /// How a command ended, and what it has printed.
 #[derive(Drop)]
-struct Kept {
+struct KeptOutput {
     ended: Result<(), Fault>,
     text: Vec<u8>,
 }
@@ -106,16 +106,16 @@ fn dispatch_kept<S: Start, R: Read, E: Write>(
     manner: Manner,
     errors: &mut E,
     start: S,
-) -> Kept {
+) -> KeptOutput {
     let mut output = Counted::new(Vec::new(rt.alloc()));
     let ended = dispatch(rt, command, input, manner, &mut output, errors, start);
-    Kept {
+    KeptOutput {
         ended,
         text: output.into_inner(),
     }
 }
 
-impl Kept {
+impl KeptOutput {
     /// Prints what was kept, but for its last line if the command succeeded and is to be quiet. Returns how the command ended.
     ///
     /// # Errors

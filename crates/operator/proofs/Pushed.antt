@@ -10,7 +10,7 @@ use Rattle.pushcheck.specs.Verdicts.{push_by, verdict_view}
 use Rattle.pushcheck.specs.declared.verdicts.PushVerdict.{PushVerdict}
 use Rattle.operator.specs.Lines.{verdict_line}
 use Rattle.operator.specs.Printed.{verdict_lines}
-use Rattle.operator.specs.Tasks.{IsPushFault, is_free, may_push}
+use Rattle.operator.specs.Tasks.{IsPushFault, is_free, may_push_all}
 use Rattle.operator.specs.declared.escapes.Destination.{Destination}
 use Rattle.operator.specs.declared.faults.TaskFault.TheVariants.{Store, Token, NoCaller, NoObject, Memory, Output, Reported}
 use Rattle.operator.specs.declared.pushing.Push.{Push}
@@ -28,7 +28,7 @@ plain_push world push Reported plain = absurd plain
 -- the push may be made if each verdict is good
 pub may_push_is : (world : World) (push : Push) (verdicts : List PushVerdict)
     → map verdict_view verdicts ≡ push_verdicts (policy_view push.policy.now) world (push_by push.user.now push.repo.now push.ref_name.now) (map path_text push.paths.items)
-    → may_push world push ≡ list_all (λ verdict. is_free (verdict_view verdict)) verdicts
+    → may_push_all world push ≡ list_all (λ verdict. is_free (verdict_view verdict)) verdicts
 may_push_is world push verdicts are = ap (list_all is_free) (sym are) ∙ list_all-map is_free verdict_view verdicts
 
 -- the line with the verdict on a path

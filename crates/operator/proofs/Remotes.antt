@@ -6,11 +6,11 @@ use Rattle.std.proofs.lemmas.Slice.Eq.{bytes_eq-Decides}
 use Rattle.std.specs.Borrow.{Bor}
 use Rattle.std.specs.Str.Pattern.{FindsTextSuffix, StripsSuffix}
 use Rattle.model.specs.Policy.{Repo}
-use Rattle.operator.specs.Paths.{IsAfter, IsBefore}
+use Rattle.operator.specs.Paths.{IsRestAfter, IsBefore}
 
 -- the path without a slash before it
 pub after_slash : (path : List ℕ) (r : Option (Bor (List ℕ))) (whole : Bor (List ℕ)) → whole.now ≡ path → MatchOption r ((rest : List ℕ) → path ≢ 47 ∷ rest) (λ x. path ≡ 47 ∷ x.now)
-    → IsAfter (codes "/") path (unwrap_or r whole).now
+    → IsRestAfter (codes "/") path (unwrap_or r whole).now
 after_slash path None whole is none = inr (none, is)
 after_slash path (Some x) whole is some = inl some
 

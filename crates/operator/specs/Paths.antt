@@ -3,8 +3,8 @@ use Rattle.std.specs.Prelude.{◌≡◌, ◌≢◌, ◌⊎◌, ◌++◌, ℕ, Li
 use Rattle.model.specs.Policy.{Policy, Repo, repo_named}
 
 -- the text after this beginning, or the whole text if it does not begin so
-abbrev pub IsAfter : (beginning text rest : List ℕ) → Type 0
-IsAfter beginning text rest = (text ≡ beginning ++ rest) ⊎ (((after : List ℕ) → text ≢ beginning ++ after) × (rest ≡ text))
+abbrev pub IsRestAfter : (beginning text rest : List ℕ) → Type 0
+IsRestAfter beginning text rest = (text ≡ beginning ++ rest) ⊎ (((after : List ℕ) → text ≢ beginning ++ after) × (rest ≡ text))
 
 -- the text before this ending, or the whole text if it does not end so
 abbrev pub IsBefore : (ending text rest : List ℕ) → Type 0
@@ -12,7 +12,7 @@ IsBefore ending text rest = (text ≡ rest ++ ending) ⊎ (((before : List ℕ) 
 
 -- the repository's name, perhaps with a slash before it and .git after it
 abbrev pub IsRepoAt : (path repo : List ℕ) → Type 0
-IsRepoAt path repo = (rest : List ℕ) × IsAfter (codes "/") path rest × IsBefore (codes ".git") rest repo
+IsRepoAt path repo = (rest : List ℕ) × IsRestAfter (codes "/") path rest × IsBefore (codes ".git") rest repo
 
 -- the policy has a repository of the name
 abbrev pub HasRepo : Policy → (name : List ℕ) → Type 0

@@ -38,8 +38,8 @@ is_free free = true
 is_free _ = false
 
 -- each path of the push may be pushed
-abbrev pub may_push : World → Push → Bool
-may_push world push =
+abbrev pub may_push_all : World → Push → Bool
+may_push_all world push =
     list_all is_free (push_verdicts (policy_view push.policy.now) world (push_by push.user.now push.repo.now push.ref_name.now) (map path_text push.paths.items))
 
 -- the token is issued, the expired ones are removed, no upload is left staged, or the object is removed, now or before; the
@@ -51,7 +51,7 @@ Does g old new world (Prune now) = (n : ℕ) × Prunes g world now old new (Ok n
 Does g old new world Sweep = (n : ℕ) × Sweeps g world old new (Ok n)
 Does g old new world (Retire repo oid) = IsRemoved g old new world (repo_text repo.now) oid.now
 Does g old new world (May asked) = Leads g old new world (λ bound. bound) × (may_begin asked ≡ true)
-Does g old new world (CheckPush push) = Leads g old new world (λ bound. bound) × (may_push world push ≡ true)
+Does g old new world (CheckPush push) = Leads g old new world (λ bound. bound) × (may_push_all world push ≡ true)
 Does g old new world (Foresee asked) = Leads g old new world (λ bound. bound) × HasForetold world asked
 Does g old new world (ListLocks repo) = Leads g old new world (λ bound. bound)
 Does g old new world (ListObjects repo) = Leads g old new world (λ bound. bound)
@@ -82,7 +82,7 @@ IsAccessFault asked fault = IsPlain fault
 
 -- not each path of the push may be pushed
 abbrev pub IsPushFault : World → Push → TaskFault → Type 0
-IsPushFault world push Reported = may_push world push ≡ false
+IsPushFault world push Reported = may_push_all world push ≡ false
 IsPushFault world push fault = IsPlain fault
 
 -- no reply is foreseen, as the definitions say, or for a plain reason
@@ -92,17 +92,17 @@ IsForesightFault world asked fault = IsPlain fault
 
 -- the fault is the task's own, as the definitions say: Git may not begin, a path may not be pushed, a token may not be issued,
 -- no reply is foreseen, or there is no object; no object of a world is damaged
-abbrev pub IsFaultOf : World → Task → TaskFault → Type 0
-IsFaultOf world (May asked) fault = IsAccessFault asked fault
-IsFaultOf world (CheckPush push) fault = IsPushFault world push fault
-IsFaultOf world (Issue policy asked) fault = IsTokenFault world asked fault
-IsFaultOf world (Foresee asked) fault = IsForesightFault world asked fault
-IsFaultOf world (Retire repo oid) fault = IsRemovalFault (removal_of world (repo_text repo.now) oid.now) fault
-IsFaultOf world _ fault = IsPlain fault
+abbrev pub IsTaskFault : World → Task → TaskFault → Type 0
+IsTaskFault world (May asked) fault = IsAccessFault asked fault
+IsTaskFault world (CheckPush push) fault = IsPushFault world push fault
+IsTaskFault world (Issue policy asked) fault = IsTokenFault world asked fault
+IsTaskFault world (Foresee asked) fault = IsForesightFault world asked fault
+IsTaskFault world (Retire repo oid) fault = IsRemovalFault (removal_of world (repo_text repo.now) oid.now) fault
+IsTaskFault world _ fault = IsPlain fault
 
 -- the task fails for a reason of its own, and takes no step but its own
 abbrev pub FailsAs : {S : Type 0} (g : Ghosts S) → S → S → World → Task → TaskFault → Type 0
-FailsAs g old new world task fault = Fails g (IsStepOf task) (MayFollow task fault) old new world × IsFaultOf world task fault
+FailsAs g old new world task fault = Fails g (IsStepOf task) (MayFollow task fault) old new world × IsTaskFault world task fault
 
 -- ---- the tables
 
@@ -135,7 +135,7 @@ HasDone world (Prune now) steps = (n : ℕ) × (steps ≡ prunes now (Some n) �
 HasDone world (Retire repo oid) steps =
     (given : Removal) × IsGone given × (steps ≡ retires (repo_text repo.now) oid.now (Some given) ∷ [])
 HasDone world (May asked) steps = (may_begin asked ≡ true) × (steps ≡ [])
-HasDone world (CheckPush push) steps = (may_push world push ≡ true) × (steps ≡ [])
+HasDone world (CheckPush push) steps = (may_push_all world push ≡ true) × (steps ≡ [])
 HasDone world (Foresee asked) steps = HasForetold world asked × (steps ≡ [])
 HasDone world _ steps = steps ≡ []
 
@@ -148,7 +148,7 @@ HasTried task steps = (steps ≡ []) ⊎ ((event : Event) × IsStepOf task event
 abbrev pub HasEnded : World → Task → List Event → (kept : World) → Result ⊤ TaskFault → Type 0
 HasEnded world task steps kept (Ok done) = HasDone world task steps
 HasEnded world task steps kept (Err fault) =
-    HasTried task steps × ((kept ≡ world) ⊎ MayFollow task fault) × IsFaultOf world task fault
+    HasTried task steps × ((kept ≡ world) ⊎ MayFollow task fault) × IsTaskFault world task fault
 
 -- a task ended so: the store was led by its steps
 pub record WorksAs {S : Type 0} (g : Ghosts S) (old new : S) (world : World) (task : Task) (ended : Result ⊤ TaskFault) : Type 0 where

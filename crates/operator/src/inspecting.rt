@@ -57,7 +57,7 @@ pub enum Advance {
 #[derive(Drop)]
 enum Pass {
     /// A part.
-    Part(Reading),
+    Part(ObjectReading),
     /// All of it: it has the bytes of its name.
     Whole,
     /// All that there is: other bytes, or another number of them.
@@ -66,7 +66,7 @@ enum Pass {
 
 /// The part of an object that was read.
 #[derive(Drop)]
-struct Reading {
+struct ObjectReading {
     hasher: Sha256,
     /// How many bytes were hashed.
     count: u64,
@@ -74,10 +74,10 @@ struct Reading {
     next: u32,
 }
 
-impl Reading {
+impl ObjectReading {
     /// Nothing was read yet.
-    fn new() -> Reading {
-        Reading {
+    fn new() -> ObjectReading {
+        ObjectReading {
             hasher: Sha256::new(),
             count: 0,
             next: 0,
@@ -150,12 +150,12 @@ fn is_still_damaged<S: Store>(store: &mut S, row: &Stored) -> Result<bool, Store
 fn verdict_by_slices<S: Store>(
     store: &mut S,
     row: &Stored,
-    reading: &mut Option<Reading>,
+    reading: &mut Option<ObjectReading>,
 ) -> Result<Option<bool>, StoreFault>
     ensures { Reads S.State store.old store.new (λ world. IfOk result
         (λ found. IfSome found (λ damaged. damaged ≡ false))) }
 {
-    let begun = reading.take().unwrap_or(Reading::new());
+    let begun = reading.take().unwrap_or(ObjectReading::new());
     match begun.advance(store, row)? {
         Pass::Part(begun) => {
             *reading = Some(begun);
@@ -170,7 +170,7 @@ fn verdict_by_slices<S: Store>(
 fn verdict_on<S: Store>(
     store: &mut S,
     row: &Stored,
-    reading: &mut Option<Reading>,
+    reading: &mut Option<ObjectReading>,
     pauses: bool,
 ) -> Result<Option<bool>, StoreFault>
     ensures { Reads S.State store.old store.new (λ world. IfOk result
@@ -217,7 +217,7 @@ pub struct Inspection {
     /// How many of them were inspected.
     next: usize,
     /// What was read of the next one, if that is larger than a slice.
-    reading: Option<Reading>,
+    reading: Option<ObjectReading>,
     /// How many were damaged.
     damaged: u64,
 }

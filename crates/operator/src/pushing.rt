@@ -10,7 +10,7 @@ ghost use Rattle.operator.specs.Escapes.{shown};
 ghost use Rattle.operator.specs.Lines.{verdict_line};
 ghost use Rattle.operator.specs.Listed.{line};
 ghost use Rattle.operator.specs.Printed.{IfWritten, verdict_lines};
-ghost use Rattle.operator.specs.Tasks.{IsPushFault, is_free, may_push};
+ghost use Rattle.operator.specs.Tasks.{IsPushFault, is_free, may_push_all};
 ghost use Rattle.operator.specs.Texts.{text_of};
 
 use crate::escapes::Destination;
@@ -86,7 +86,7 @@ pub(crate) fn check_push<S: Store, K: Sink>(
     output: &mut K,
 ) -> Result<(), TaskFault>
     ensures reads { Reads S.State store.old store.new (λ world. MatchResult result
-        (λ _. may_push world push.now ≡ true) (IsPushFault world push.now)) }
+        (λ _. may_push_all world push.now ≡ true) (IsPushFault world push.now)) }
     ensures printed { Reads S.State store.old store.new (λ world. IfWritten result
         (Appends (K.taken output.old) (K.taken output.new) (verdict_lines destination world push.now))) }
     ensures good { OnOk result (K.failed output.new ≡ K.failed output.old) }

@@ -37,7 +37,8 @@ pub fn start<S: Storage>(alloc: Global, store: &mut Store<S>) -> Result<(), Open
     ensures accepts { OnOk result (Accepts S.Store store.old store.new) }
     ensures unknown { IsHonest S.Store store.new → result ≡ Err UnknownSchema
         → IsForeign S.Store store.old }
-    ensures fresh { HasNoTable S.Store store.old → OnOk result (IsAt (alone S.Store) store.new nothing) }
+    ensures fresh { HasNoTable S.Store store.old
+        → OnOk result (IsAt (alone S.Store) store.new nothing) }
     ensures empty { IsHonest S.Store store.new → committed S.Store store.old catalog_tree ≡ []
         → OnOk result (IsAt (alone S.Store) store.new nothing) }
     ensures found { (world : World) → IsWorld world
@@ -65,11 +66,14 @@ pub fn migrate<S: Storage>(alloc: Global, store: &mut Store<S>) -> Result<Migrat
     ensures migrates { IfOk result (MigratesBy S.Store store.old store.new) }
     ensures unknown { IsHonest S.Store store.new → result ≡ Err UnknownSchema
         → IsUnknown S.Store store.old }
-    ensures migrated { IsHonest S.Store store.new → result ≡ Ok Migrated.From1 → (world : World) → IsWorld world
+    ensures migrated { IsHonest S.Store store.new → result ≡ Ok Migrated.From1
+        → (world : World) → IsWorld world
         → (HasOld S.Store store.old → RepresentedFirst (shown S.Store store.old) world)
         → IsAt (alone S.Store) store.new world }
-    ensures fresh { HasNoTable S.Store store.old → OnOk result (IsAt (alone S.Store) store.new nothing) }
-    ensures found { IsHonest S.Store store.new → result ≡ Ok Migrated.Already → (world : World) → IsWorld world
+    ensures fresh { HasNoTable S.Store store.old
+        → OnOk result (IsAt (alone S.Store) store.new nothing) }
+    ensures found { IsHonest S.Store store.new → result ≡ Ok Migrated.Already
+        → (world : World) → IsWorld world
         → HasOurs S.Store store.old → Represents (shown S.Store store.old) world
         → IsAt (alone S.Store) store.new world }
     ensures err { IsHonest S.Store store.new → OnErr result (Rests S.Store store.old store.new) }
@@ -98,7 +102,8 @@ pub fn open_from<S: Start>(
     ensures empty { (image_at S.Start).db ≡ []
         → IfOk result (λ store. IsHonest over_files store → IsAt (alone over_files) store nothing) }
     ensures again { (bound : Bound) → HoldsAmong (image_at S.Start) bound
-        → IfOk result (λ store. IsHonest over_files store → ∥ IsAtOne (alone over_files) store bound ∥₁) }
+        → IfOk result (λ store. IsHonest over_files store
+        → ∥ IsAtOne (alone over_files) store bound ∥₁) }
 {
     let mut store = Store::open_from(rt, path, first)?;
     start(rt.alloc(), &mut store)?;

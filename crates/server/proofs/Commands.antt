@@ -10,7 +10,7 @@ use Rattle.operator.specs.declared.tasks.Task.{Task}
 use Rattle.faults.specs.declared.faults.Fault.{Fault}
 use Rattle.machine.specs.declared.machine.Machine as machine
 use Rattle.server.specs.declared.outcomes.Outcome.{Outcome}
-use Rattle.server.specs.Commands.{AreReadings, HasEndedSo, IsDone, IsTaskOf, Obeys, RunsAs, outcome_of}
+use Rattle.server.specs.Commands.{AreReadings, HasEndedSo, IsDone, IsTaskOf, Obeys, RunsAs, ended_as}
 use Rattle.server.specs.Jobs.{seen_in, Call, Calls, Helps}
 use Rattle.server.proofs.Jobs.{from_done, from_idle, from_own}
 
@@ -28,7 +28,7 @@ module _ {M : Type 0} (m : machine.Ghosts M) {S : Type 0} (g : Ghosts S) where
 
   -- a command with a task ended as that did
   pub outcome_helps : (policy : Policy) (busy : Bool) (operator : OperatorStream) (command : OperatorCommand) (input : List ℕ) (done : Result ⊤ Fault) (a b : S) (u v : M)
-      → From g a b (λ world. Helps m g (IsDone policy command input done) a b u v world) → From g a b (λ world. Helps m g (HasEndedSo policy busy operator command input (outcome_of done)) a b u v world)
+      → From g a b (λ world. Helps m g (IsDone policy command input done) a b u v world) → From g a b (λ world. Helps m g (HasEndedSo policy busy operator command input (ended_as done)) a b u v world)
   outcome_helps policy busy operator command input done a b u v p = from_own m g (IsDone policy command input done) _ a b u v (λ world l steps kept own. inr (done, refl, own)) p
 
   -- a command for the server itself, whether it was obeyed or not

@@ -25,7 +25,7 @@ use Rattle.machine.specs.Observations.{Observation, called}
 use Rattle.server.specs.declared.outcomes.Outcome.{Outcome}
 use Rattle.server.specs.declared.outcomes.Outcome.TheVariants.{Unchanged, Stopped, Reloaded, Began}
 use Rattle.server.specs.declared.waiting.Waiting.{Waiting}
-use Rattle.server.specs.Commands.{HasEndedSo, IsAnswered, IsClean, IsGoneOn, IsInspection, IsInspectionFault, IsObeyed, IsReplied, IsRequestDone, IsSentOn, is_stopped, made_of, operator_in, policy_after}
+use Rattle.server.specs.Commands.{HasEndedSo, IsAnswered, IsClean, IsGoneOn, IsInspection, IsInspectionFault, IsObeyed, IsReplied, IsRequestDone, IsSentOn, is_stopped, became_of, operator_in, policy_after}
 use Rattle.server.specs.Jobs.{Call, Calls, Helps, IsFor, IsTurn, ServesClean, ServesMore, first_turn, for_caller, seen_in, waiting_after}
 use Rattle.server.proofs.Jobs.{clean_still, from_read, from_turn, helps_read, serves_one}
 use Rattle.outbox.specs.declared.unsent.Unsent.{Unsent}
@@ -55,7 +55,7 @@ done_clean policy busy operator command input inspection world kept seen steps (
 done_clean policy busy operator command input inspection world kept seen steps (inr (Err fault, is, own)) = absurd (cc)
 
 request_clean : (policy : Policy) (busy : Bool) (operator : OperatorStream) (body : List ℕ) (ended : Result Outcome Fault) (inspection : Inspection) (world kept : World) (seen : List Observation) (steps : List Event)
-    → Began inspection ≡ made_of ended → IsRequestDone policy busy operator body ended world seen steps kept → inspection.damaged ≡ 0
+    → Began inspection ≡ became_of ended → IsRequestDone policy busy operator body ended world seen steps kept → inspection.damaged ≡ 0
 request_clean policy busy operator body (Err fault) inspection world kept seen steps made done = absurd (cc)
 request_clean policy busy operator body (Ok outcome) inspection world kept seen steps made (inl (fault, is, none, silent)) = absurd (cc)
 request_clean policy busy operator body (Ok outcome) inspection world kept seen steps made (inr (command, input, read, so)) =

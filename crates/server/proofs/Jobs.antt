@@ -26,7 +26,7 @@ use Rattle.service.specs.declared.ends.Served.{Served}
 use Rattle.sockets.specs.declared.client.Client as sockets
 use Rattle.faults.specs.declared.faults.Fault.{Fault}
 use Rattle.outbox.specs.declared.operator_stream.OperatorStream.{OperatorStream}
-use Rattle.server.specs.Commands.{AreReadings, AreSent, IsAnswered, IsBegun, IsMomentOf, IsRead, IsClean, IsEnded, IsGoneOn, IsHeld, IsReplied, IsRequestDone, is_stopped, made_of, operator_in, policy_after}
+use Rattle.server.specs.Commands.{AreReadings, AreSent, IsAnswered, IsReplyBegun, IsMomentOf, IsReceived, IsClean, IsEnded, IsGoneOn, IsHeld, IsReplied, IsRequestDone, is_stopped, became_of, operator_in, policy_after}
 use Rattle.server.specs.declared.waiting.Waiting.{Waiting}
 use Rattle.server.specs.Jobs.{Reason, for_caller, goes_on, ends, Job, seen_before, seen_for, IsMomentAtMost, IsTalk, IsTurn, IsFor, AreJobs, AreStopped, HasFinished, first_turn, turn_in, policy_left, waiting_after, waiting_left, Call, idles, observes, seen_in, Calls, Converses, Tidies, Helps, Serves, ServesMore, ServesClean}
 
@@ -154,8 +154,8 @@ module _ {M : Type 0} (m : machine.Ghosts M) where
 
     -- a request was received, its reply begun, it was done, and its reply perhaps ended
     pub from_served : (policy : Policy) (busy : Bool) (operator : OperatorStream) (body : List ℕ) (ended : Result Outcome Fault) (a b : S) (u v w x y : M) (before begin after : List Call)
-        → Calls m u before v → IsRead operator body (seen_in before) → Calls m v begin w → IsBegun operator (seen_in begin) → Calls m x after y → IsEnded operator ended (seen_in after)
-        → From g a b (λ world. Helps m g (IsRequestDone policy busy operator body ended) a b w x world) → From g a b (λ world. Helps m g (IsAnswered policy busy operator (made_of ended)) a b u y world)
+        → Calls m u before v → IsReceived operator body (seen_in before) → Calls m v begin w → IsReplyBegun operator (seen_in begin) → Calls m x after y → IsEnded operator ended (seen_in after)
+        → From g a b (λ world. Helps m g (IsRequestDone policy busy operator body ended) a b w x world) → From g a b (λ world. Helps m g (IsAnswered policy busy operator (became_of ended)) a b u y world)
     from_served policy busy operator body ended a b u v w x y before begin after first read started begun last replied p =
         from_weaker g a b _ _
         (λ (world : World) (h : Helps m g (IsRequestDone policy busy operator body ended) a b w x world). record {

@@ -55,8 +55,8 @@ IsMomentOf (Some named) now seen = (now ≡ named) × (seen ≡ [])
 IsMomentOf None now seen = seen ≡ timed now ∷ []
 
 -- the token that the arguments ask for, of these random bytes
-abbrev pub token_of : TokenArgs → (repo : List ℕ) → (now seconds : ℕ) → (random : List ℕ) → model.TokenRequest
-token_of asked repo now seconds random = record {
+abbrev pub token_for : TokenArgs → (repo : List ℕ) → (now seconds : ℕ) → (random : List ℕ) → model.TokenRequest
+token_for asked repo now seconds random = record {
   text = encode_lower random;
   user = user_text asked.user;
   repo = repo;
@@ -67,12 +67,12 @@ token_of asked repo now seconds random = record {
 
 -- a token of the machine's random bytes, for the user, the operation and the policy's repository that are asked for, valid for
 -- as long as the policy says from its moment on
-abbrev pub IsTokenOf : Policy → TokenArgs → List Observation → TokenRequest → Type 0
-IsTokenOf policy asked seen request =
+abbrev pub IsAskedToken : Policy → TokenArgs → List Observation → TokenRequest → Type 0
+IsAskedToken policy asked seen request =
     (now : ℕ) × (before : List Observation) × IsMomentOf asked.now now before
     × (random : List ℕ) × (seen ≡ before ++ drawn random ∷ [])
     × (repo : List ℕ) × IsRepoAt asked.path.now repo × HasRepo (policy_view policy) repo
-    × (token_asked request ≡ token_of asked repo now (policy_view policy).token_seconds random)
+    × (token_asked request ≡ token_for asked repo now (policy_view policy).token_seconds random)
 
 -- what Git asks of the policy's repository for the user
 abbrev pub IsAccessOf : Policy → MayArgs → AccessQuestion → Type 0
@@ -98,7 +98,7 @@ IsForesightOf policy asked now message f =
 -- the task of a command: under the policy, on the input, with what was observed of the machine
 abbrev pub IsTaskOf : Policy → OperatorCommand → (input : List ℕ) → List Observation → Task → Type 0
 IsTaskOf policy (command.Authenticate asked) input seen (task.Issue by request) =
-    (by.now ≡ policy) × IsTokenOf policy asked seen request
+    (by.now ≡ policy) × IsAskedToken policy asked seen request
 IsTaskOf policy (command.Prune named) input seen (task.Prune now) = IsMomentOf named now seen
 IsTaskOf policy (command.May asked) input seen (task.May question) = IsAccessOf policy asked question × (seen ≡ [])
 IsTaskOf policy (command.PushCheck asked) input seen (task.CheckPush push) =
@@ -206,15 +206,15 @@ Obeys busy operator command ended seen =
     IsObeyed busy operator command ended seen ⊎ ((fault : Fault) × (ended ≡ Err fault) × AreReadings seen)
 
 -- how a command ended that has a task, which ended so
-abbrev pub outcome_of : Result ⊤ Fault → Result Outcome Fault
-outcome_of (Ok done) = Ok Unchanged
-outcome_of (Err fault) = Err fault
+abbrev pub ended_as : Result ⊤ Fault → Result Outcome Fault
+ended_as (Ok done) = Ok Unchanged
+ended_as (Err fault) = Err fault
 
 -- a command ended so: it was obeyed, and no step was taken; or as its task did
 abbrev pub HasEndedSo : Policy → (busy : Bool) → OperatorStream → OperatorCommand → (input : List ℕ) → Result Outcome Fault → World → List Observation → List Event → (kept : World) → Type 0
 HasEndedSo policy busy operator command input ended world seen steps kept =
     (IsObeyed busy operator command ended seen × (steps ≡ []))
-    ⊎ ((done : Result ⊤ Fault) × (ended ≡ outcome_of done) × IsDone policy command input done world seen steps kept)
+    ⊎ ((done : Result ⊤ Fault) × (ended ≡ ended_as done) × IsDone policy command input done world seen steps kept)
 
 -- the policy of a server after a command with this outcome
 abbrev pub policy_after : Policy → Outcome → Policy
@@ -240,8 +240,8 @@ IsRequestDone policy busy operator body ended world seen steps kept =
     × HasEndedSo policy busy operator command input ended world seen steps kept)
 
 -- the bytes of a request were received from the operator: the version and their number, and then these
-abbrev pub IsRead : OperatorStream → (body : List ℕ) → List Observation → Type 0
-IsRead operator body seen = seen ≡ received operator (prefix_bytes (length body)) ∷ received operator body ∷ []
+abbrev pub IsReceived : OperatorStream → (body : List ℕ) → List Observation → Type 0
+IsReceived operator body seen = seen ≡ received operator (prefix_bytes (length body)) ∷ received operator body ∷ []
 
 -- nothing was observed but bytes that were received, and at most the refusal of another version that was sent
 abbrev pub IsSilent : List Observation → Type 0
@@ -253,8 +253,8 @@ IsSilent (_ ∷ seen) = ⊥
 -- ---- replies
 
 -- the beginning of a reply was sent to the operator
-abbrev pub IsBegun : OperatorStream → List Observation → Type 0
-IsBegun operator seen = seen ≡ sent operator (version ∷ []) ∷ []
+abbrev pub IsReplyBegun : OperatorStream → List Observation → Type 0
+IsReplyBegun operator seen = seen ≡ sent operator (version ∷ []) ∷ []
 
 -- pieces of a reply were sent to the operator, and then its end with this status; or no end, or nothing
 abbrev pub IsReplied : OperatorStream → Status → List Observation → Type 0
@@ -274,9 +274,9 @@ IsEnded operator (Ok outcome) seen =
 IsEnded operator (Err fault) seen = IsReplied operator (status_of fault) seen
 
 -- what became of the server after a request that ended so
-abbrev pub made_of : Result Outcome Fault → Outcome
-made_of (Ok outcome) = outcome
-made_of (Err fault) = Unchanged
+abbrev pub became_of : Result Outcome Fault → Outcome
+became_of (Ok outcome) = outcome
+became_of (Err fault) = Unchanged
 
 -- a request was received from the operator and done, and the reply has pieces and ends with the status with which it ended; or an
 -- inspection was begun, and the reply goes on
@@ -288,11 +288,11 @@ pub record IsRequestServed (policy : Policy) (busy : Bool) (operator : OperatorS
   pub own : List Observation
   pub end : List Observation
   pub are : seen ≡ asked ++ begin ++ own ++ end
-  pub read : IsRead operator body asked
-  pub begun : IsBegun operator begin
+  pub read : IsReceived operator body asked
+  pub begun : IsReplyBegun operator begin
   pub done : IsRequestDone policy busy operator body ended world own steps kept
   pub replied : IsEnded operator ended end
-  pub made : outcome ≡ made_of ended
+  pub made : outcome ≡ became_of ended
 
 -- an operator's request was served; or nothing was done
 abbrev pub IsAnswered : Policy → (busy : Bool) → OperatorStream → Outcome → World → List Observation → List Event → (kept : World) → Type 0

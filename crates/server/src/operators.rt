@@ -3,7 +3,7 @@
 ghost use Rattle.std.specs.Prelude.{◌≡◌, [], ℕ, List, IfOk, OnErr, OnOk, ⊤};
 ghost use Rattle.command_line.specs.declared.args.OperatorCommand.TheVariants.{Authenticate, Foresee, Hold, Reload, Status as GetStatus};
 ghost use Rattle.refinement.specs.Left.{From, Reads};
-ghost use Rattle.server.specs.Commands.{AreReadings, HasEndedSo, IsAnswered, IsDone, IsMomentOf, IsRead, IsEnded, IsInspection, IsRequestDone, IsSilent, Obeys, RunsAs, made_of};
+ghost use Rattle.server.specs.Commands.{AreReadings, HasEndedSo, IsAnswered, IsDone, IsMomentOf, IsReceived, IsEnded, IsInspection, IsRequestDone, IsSilent, Obeys, RunsAs, became_of};
 ghost use Rattle.server.specs.Jobs.{Call, Calls, Helps, seen_in};
 ghost use Rattle.metrics.specs.Stored.{IsStored};
 ghost use Rattle.policy.specs.Values.{policy_view, repo_view};
@@ -62,7 +62,7 @@ fn read_body<M: Machine>(
     start: Instant,
 ) -> Result<Vec<u8>, Fault>
     ensures ok { IfOk result (λ body. (calls : List Call)
-        × Calls M.Machine machine.old calls machine.new × IsRead stream.now body.items (seen_in calls)) }
+        × Calls M.Machine machine.old calls machine.new × IsReceived stream.now body.items (seen_in calls)) }
     ensures err { OnErr result ((calls : List Call)
         × Calls M.Machine machine.old calls machine.new × IsSilent (seen_in calls)) }
 {
@@ -373,7 +373,7 @@ impl OperatorContext<'_> {
         pieces: Pieces,
         errors: &mut E,
     ) -> Outcome
-        ensures made { result ≡ made_of ended }
+        ensures made { result ≡ became_of ended }
         ensures ended { (calls : List Call) × Calls M.Machine machine.old calls machine.new
             × IsEnded self.now.stream.now ended (seen_in calls) }
     {
@@ -411,7 +411,7 @@ impl OperatorContext<'_> {
     ) -> Result<Outcome, Fault>
         ensures { From S.State store.old store.new (λ world.
             Helps M.Machine S.State (IsAnswered self.now.policy.now self.now.is_busy
-            self.now.stream.now (made_of result))
+            self.now.stream.now (became_of result))
             store.old store.new machine.old machine.new world) }
     {
         let start = Instant::now(clock).map_err(|_| Fault::Operator)?;

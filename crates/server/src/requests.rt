@@ -3,7 +3,7 @@
 ghost use Rattle.std.specs.Prelude.{◌≡◌, IfNone, IfOk, IfSome};
 ghost use Rattle.names.specs.Names.{repo_text};
 ghost use Rattle.tokens.specs.Issuing.{token_asked};
-ghost use Rattle.server.specs.Commands.{IsAccessOf, IsPlainTask, IsPushOf, NeedsMore, token_of};
+ghost use Rattle.server.specs.Commands.{IsAccessOf, IsPlainTask, IsPushOf, NeedsMore, token_for};
 
 use command_line::{MayArgs, OperatorCommand, PushArgs, TokenArgs};
 use faults::Fault;
@@ -23,7 +23,7 @@ pub fn token_request<'a>(
     random: &'a [u8; 32],
 ) -> TokenRequest<'a>
     ensures { token_asked result
-        ≡ token_of asked.entry.now (repo_text repo.now) now seconds random.now }
+        ≡ token_for asked.entry.now (repo_text repo.now) now seconds random.now }
 {
     TokenRequest {
         user: &asked.user,

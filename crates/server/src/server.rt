@@ -55,7 +55,7 @@ struct Tally {
 
 /// What a server goes by, and what it counts.
 #[derive(Drop)]
-struct State<'a, E> {
+struct Serving<'a, E> {
     /// The policy by which all are served.
     policy: Policy,
     /// After how many connections it ends.
@@ -68,7 +68,7 @@ struct State<'a, E> {
     errors: &'a mut E,
 }
 
-impl<E: Write> State<'_, E> {
+impl<E: Write> Serving<'_, E> {
     /// The number of a connection, which it gets for its first turn.
     fn number_of(&mut self, client: &Client) -> u64
         ensures begun { self.new.begun ≤ self.old.begun + first_turn (Caller.Client client.now) }
@@ -139,7 +139,7 @@ fn shut_if<M: Machine>(machine: &mut M, is_full: bool)
 }
 
 /// Counts a connection that ended between two turns.
-fn note_ended<M: Machine, E: Write>(machine: &mut M, state: &mut State<'_, E>)
+fn note_ended<M: Machine, E: Write>(machine: &mut M, state: &mut Serving<'_, E>)
     ensures machine { M.Machine.idled machine.old machine.new }
     ensures begun { state.new.begun ≡ state.old.begun }
     ensures most { state.new.most ≡ state.old.most }
@@ -241,7 +241,7 @@ impl<C: Clock> Server<'_, C> {
         store: &mut S,
         machine: &mut M,
         client: Client,
-        state: &mut State<'_, E>,
+        state: &mut Serving<'_, E>,
     ) -> Result<(), Fault>
         ensures world { From S.State store.old store.new (λ world.
             Helps M.Machine S.State (IsTurn state.old.policy client)
@@ -265,7 +265,7 @@ impl<C: Clock> Server<'_, C> {
         store: &mut S,
         machine: &mut M,
         stream: &OperatorStream,
-        state: &mut State<'_, E>,
+        state: &mut Serving<'_, E>,
         is_busy: bool,
     ) -> Outcome
         ensures world { From S.State store.old store.new (λ world.
@@ -304,7 +304,7 @@ impl<C: Clock> Server<'_, C> {
         &self,
         store: &mut S,
         machine: &mut M,
-        state: &mut State<'_, E>,
+        state: &mut Serving<'_, E>,
         waiting: &mut Option<Waiting>,
     ) -> Result<Option<OperatorStream>, Fault>
         ensures world { From S.State store.old store.new (λ world.
@@ -351,7 +351,7 @@ impl<C: Clock> Server<'_, C> {
         &self,
         store: &mut S,
         machine: &mut M,
-        state: &mut State<'_, E>,
+        state: &mut Serving<'_, E>,
         waiting: &mut Option<Waiting>,
     )
         ensures world { From S.State store.old store.new (λ world.
@@ -375,7 +375,7 @@ impl<C: Clock> Server<'_, C> {
         &self,
         store: &mut S,
         machine: &mut M,
-        state: &mut State<'_, E>,
+        state: &mut Serving<'_, E>,
     ) -> Result<Finish, Fault>
         requires { state.now.begun ≡ 0 }
         ensures { From S.State store.old store.new (λ world. (jobs : List Job)
@@ -424,7 +424,7 @@ impl<C: Clock> Server<'_, C> {
             × Serves M.Machine S.State policy None store.old store.new machine.old machine.new world jobs
             × HasFinished most jobs result) }
     {
-        let mut state = State {
+        let mut state = Serving {
             policy,
             most,
             begun: 0,

@@ -1,4 +1,4 @@
--- A database alone is a store: what its calls say of its tables, they say of the same ones with their chunks arranged.
+-- A database alone is a store, which shows its chunks in order, for proofs in other crates.
 use Rattle.std.proofs.Common.{◌≡◌, inl, inr, ℕ, List, Option, Result, Ok, Err, OnOk, OnErr, refl, ap, ◌∙◌}
 use Rattle.std.specs.Prelude.{IfOk}
 use Rattle.sqlite_trees.specs.declared.store.Store as trees

@@ -1,4 +1,4 @@
--- The steps of the calls lead to the same tables, whatever the order of the chunks.
+-- The steps of the calls lead to the same tables, whatever the order of the chunks, for proofs in other crates.
 use Rattle.std.proofs.Common.{◌≡◌, ℕ, ℤ, ◌-ℤ◌, Bool, true, false, not, cond, ◌&&◌, List, [], ◌∷◌, ◌++◌, map, filter, find, Option, Some, None, option_map, refl, sym, ap, ◌∙◌, is_gt, true≢false, arith, append-nil}
 use Rattle.std.proofs.lemmas.List.{map-append}
 use Rattle.std.specs.Cmp.{IsTotalOrder}

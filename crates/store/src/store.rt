@@ -156,7 +156,8 @@ pub trait Store: State {
     /// `Refused` or `Memory`. The tables are unchanged in any case.
     fn object(&mut self, repo: &RepoName, oid: &Oid) -> Result<Option<ObjectRow>, StoreFault>
         ensures { Reads Self.State self.old self.new result
-            (λ t found. IsObjectOf found (find (is_object (repo_text repo.now) oid.now) t.uploads)) };
+            (λ t found. IsObjectOf found
+            (find (is_object (repo_text repo.now) oid.now) t.uploads)) };
 
     /// Returns the objects of the repository, or of all repositories, in the order of repositories and names.
     ///
@@ -169,7 +170,8 @@ pub trait Store: State {
         repo: Option<&RepoName>,
     ) -> Result<Vec<UploadRow>, StoreFault>
         ensures { Reads Self.State self.old self.new result
-            (λ t found. AreUploadsOf found.items (objects_of (option_map (λ r. repo_text r.now) repo.entry) t)) };
+            (λ t found. AreUploadsOf found.items
+            (objects_of (option_map (λ r. repo_text r.now) repo.entry) t)) };
 
     /// Returns the number of bytes that the repository stores: the sizes of its objects, added up.
     ///
@@ -241,7 +243,8 @@ pub trait Store: State {
     /// `Refused` or `Memory`. The tables are unchanged in any case.
     fn chunk(&mut self, upload: UploadId, n: u32) -> Result<Option<ChunkRow>, StoreFault>
         ensures { Reads Self.State self.old self.new result
-            (λ t found. IsChunkOf found (find (is_chunk (upload_number upload) (pos n)) t.chunks)) };
+            (λ t found. IsChunkOf found
+            (find (is_chunk (upload_number upload) (pos n)) t.chunks)) };
 
     /// Adds a chunk to the upload, under this number. The numbers of an upload's chunks count from 0 up. Until the
     /// upload is complete, a stop may leave none of its chunks.
@@ -252,7 +255,8 @@ pub trait Store: State {
     /// may still leave the change.
     fn add_chunk(&mut self, upload: UploadId, n: u32, bytes: &[u8]) -> Result<(), StoreFault>
         ensures { PutsOr Self.State self.old self.new result
-            (λ t. normal (with_chunk (asked_chunk (upload_number upload) n bytes.now) t)) (λ _ _. ⊤) };
+            (λ t. normal (with_chunk (asked_chunk (upload_number upload) n bytes.now) t))
+            (λ _ _. ⊤) };
 
     /// Returns the upload that the repository has staged, if there is one.
     ///
@@ -284,7 +288,8 @@ pub trait Store: State {
     fn retire_object(&mut self, repo: &RepoName, oid: &Oid) -> Result<bool, StoreFault>
         ensures { Changes Self.State self.old self.new result
             (after_retire (repo_text repo.now) oid.now)
-            (λ t removed. removed ≡ is_some (find (is_object (repo_text repo.now) oid.now) t.uploads)) };
+            (λ t removed. removed
+            ≡ is_some (find (is_object (repo_text repo.now) oid.now) t.uploads)) };
 
     /// Returns whether the repository has retired this name.
     ///
@@ -293,7 +298,8 @@ pub trait Store: State {
     /// `Refused` or `Memory`. The tables are unchanged in any case.
     fn is_retired(&mut self, repo: &RepoName, oid: &Oid) -> Result<bool, StoreFault>
         ensures { Reads Self.State self.old self.new result
-            (λ t retired. is_some (find (is_retired_as (repo_text repo.now) oid.now) t.retired) ≡ retired) };
+            (λ t retired. is_some
+            (find (is_retired_as (repo_text repo.now) oid.now) t.retired) ≡ retired) };
 
     /// Returns the names that the repository has retired, in rising order.
     ///
@@ -302,7 +308,8 @@ pub trait Store: State {
     /// `Refused` or `Memory`. The tables are unchanged in any case.
     fn retired(&mut self, alloc: Global, repo: &RepoName) -> Result<Vec<Oid>, StoreFault>
         ensures { Reads Self.State self.old self.new result
-            (λ t names. AreNamesOf names.items (by_oid (filter (is_retired_in (repo_text repo.now)) t.retired))) };
+            (λ t names. AreNamesOf names.items
+            (by_oid (filter (is_retired_in (repo_text repo.now)) t.retired))) };
 
     /// Removes the object that the repository has under this name with its chunks, and sets the number of bytes that the
     /// repository stores to the sizes of its other objects, added up, all or nothing. Returns whether there was one. For
@@ -314,5 +321,6 @@ pub trait Store: State {
     fn discard_object(&mut self, repo: &RepoName, oid: &Oid) -> Result<bool, StoreFault>
         ensures { Changes Self.State self.old self.new result
             (after_discard (repo_text repo.now) oid.now)
-            (λ t removed. removed ≡ is_some (find (is_object (repo_text repo.now) oid.now) t.uploads)) };
+            (λ t removed. removed
+            ≡ is_some (find (is_object (repo_text repo.now) oid.now) t.uploads)) };
 }

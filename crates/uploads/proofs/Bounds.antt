@@ -1,5 +1,5 @@
 -- What a repository has in the database is at most the bytes of its objects and one largest object, for proofs in other crates.
-use Rattle.uploads.proofs.Prelude.{◌≡◌, ◌∙◌, inl, inr, ℕ, ◌+◌, ◌≤◌, pos, Bool, true, false, not, List, [], ◌∷◌, map, filter, cond, length, bytes_eq, refl, sym, ap, subst, AllPairs, arith, sum_by, AllByRecursion, IsPermutation-filter, all-filter, filter_none, Ghosts, largest_object, World, Object, Tables, Upload, Chunk, is_complete, is_staged, shown, bytes_of, object_in, HasSize, DiffersInRepo, IsAmong, IsBoundedBy, Represents, Holds}
+use Rattle.uploads.proofs.Prelude.{◌≡◌, ◌⊎◌, ◌∙◌, inl, inr, ℕ, ◌+◌, ◌≤◌, pos, Bool, true, false, not, List, [], ◌∷◌, map, filter, cond, length, bytes_eq, refl, sym, ap, AllPairs, arith, sum_by, AllByRecursion, IsPermutation-filter, all-filter, filter_none, Ghosts, largest_object, World, Object, Tables, Upload, Chunk, is_complete, is_staged, shown, bytes_of, object_in, HasSize, DiffersInRepo, IsAmong, IsBoundedBy, Represents, Holds}
 use Rattle.std.proofs.lemmas.Bool.{true≢false}
 use Rattle.std.proofs.lemmas.List.Sorted.{sum_by-IsPermutation}
 use Rattle.std.proofs.lemmas.List.Sums.{sum_by-cons}

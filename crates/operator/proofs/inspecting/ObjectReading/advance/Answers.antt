@@ -1,5 +1,5 @@
 use Rattle.operator.proofs.Damaged.{reads_on}
-use Rattle.operator.proofs.inspecting.Reading.advance.Goals as goal
+use Rattle.operator.proofs.inspecting.ObjectReading.advance.Goals as goal
 
 pub returns-in_err-chunk : goal.returns-in_err-chunk
 returns-in_err-chunk g c = reads_on g.S.State c.args.store.now c.chunks.store c.chunk.new.self c.chunks.invariant c.chunk.ensures.same c.chunk.ensures.adds
