@@ -3,7 +3,7 @@ use Rattle.desk.proofs.Prelude.{◌&&◌, bytes_eq, found_passes, case_repo, cas
 use Rattle.std.specs.Prelude.{⊤}
 use Rattle.std.proofs.lemmas.Bool.{true≢false}
 use Rattle.std.proofs.lemmas.Option.{none-some, same_Some}
-use Rattle.sqlite_trees.specs.declared.store.Store as store
+use Rattle.store.specs.declared.state.State as store
 use Rattle.std.proofs.lemmas.Slice.Eq.{bytes_eq-Decides}
 use Rattle.model.proofs.Tests.{both_true}
 use Rattle.model.proofs.Checks.{passed, then_any}
