@@ -18,7 +18,7 @@ use std::os::unix::net::UnixStream;
 use std::rt::HostRuntime;
 use std::str;
 use std::time::{Duration, Instant};
-use tables::{Alter, LastChunk, NewUpload, Storage, Store};
+use tables::{Alter, LastChunk, NewUpload, Store};
 
 /// Where nobody calls.
 const ANY: &str = "127.0.0.1:0";
@@ -131,10 +131,10 @@ impl Machine for Script<'_> {
         None
     }
 
-    fn converse<S: Storage, T: Conversation>(
+    fn converse<S: store::Store, T: Conversation>(
         &mut self,
         _: &mut Client,
-        _: &mut Store<S>,
+        _: &mut S,
         _: &T,
     ) -> Option<Talked> {
         None
