@@ -17,7 +17,7 @@ import time
 
 from tests.studio.checks import Failed, arguments, beside, judge_on_server, require, within
 from tests.studio.policy import policy, row, WORK
-from tests.studio.program import LOCKS, Server, lock, message, put
+from tests.studio.program import LOCKS, Server, content, lock, message, name_of, put
 
 
 def check_pipelined(server, _):
@@ -264,24 +264,27 @@ def check_early_reply(server, _):
 
 
 def check_short_first(server, _):
-    """A lock that arrives after eight uploads, while another message is served, is made before them."""
-    served = put(bytes(200_000))
+    """A lock that arrives after four uploads and four downloads, while another message is served, is made before them."""
+    served, stored = put(bytes(200_000)), b"s" * 300_000
+    with server.client() as client:
+        require(client.ask(put(stored))[0] == 200, "an object was not stored")
+    pull = message("GET", content(name_of(stored)))
     with contextlib.ExitStack() as stack:
-        slow, *clients = [stack.enter_context(server.client()) for _ in range(10)]
+        slow, last, *clients = [stack.enter_context(server.client()) for _ in range(10)]
         slow.send(served[:-1])
         time.sleep(0.3)
-        for number, client in enumerate(clients[1:]):
-            client.send(put(bytes([number]) * 300_000))
+        for number, client in enumerate(clients):
+            client.send(put(bytes([number]) * 300_000) if number % 2 else pull)
         time.sleep(0.3)
-        clients[0].send(lock("art/hero"))
+        last.send(lock("art/hero"))
         time.sleep(0.3)
         slow.send(served[-1:])
-        order, waiting = [], {client.socket: client for client in clients}
+        order, waiting = [], {client.socket: client for client in [last, *clients]}
         while waiting:
             for found in select.select(list(waiting), [], [], 60)[0]:
                 order.append(waiting.pop(found).reply()[0])
     require(order == [201] + 8 * [200], f"the replies came in the order {order}")
-    return "a lock was made before eight uploads that had arrived before it"
+    return "a lock was made before four uploads and four downloads that had arrived before it"
 
 
 def load(server, number, answered, is_over):
