@@ -115,15 +115,9 @@ fn complete<S: Alter>(alloc: Global, store: &mut Store<S>, hands: &Hands) -> Res
     Ok(line.to_owned(alloc)?)
 }
 
-/// Removes the last upload, which has this size.
-fn abandon<S: Alter>(
-    alloc: Global,
-    store: &mut Store<S>,
-    hands: &Hands,
-    words: &[&str],
-) -> Result<String, Fault> {
-    let size = size(word(words, 0)?)?;
-    uploads::abandon(store, hands.last()?, size)?;
+/// Removes the last upload.
+fn abandon<S: Alter>(alloc: Global, store: &mut Store<S>, hands: &Hands) -> Result<String, Fault> {
+    uploads::abandon(store, hands.last()?)?;
     Ok(String::new(alloc))
 }
 
@@ -168,7 +162,7 @@ pub(crate) fn call<S: Alter>(
         "take" => take(alloc, store, hands, words)?,
         "close" => close(alloc, hands)?,
         "complete" => complete(alloc, store, hands)?,
-        "abandon" => abandon(alloc, store, hands, words)?,
+        "abandon" => abandon(alloc, store, hands)?,
         "sweep" => count(alloc, uploads::sweep(alloc, store)?)?,
         "shorten" => shorten(alloc, store, hands, words)?,
         "chunk" => chunk(alloc, store, hands, words)?,

@@ -178,7 +178,6 @@ fn clear<S: Store>(
     alloc: Global,
     store: &mut S,
     upload: UploadId,
-    size: Size,
     received: &Result<Receipt, ReceiveFault>,
 )
     ensures { From S.State store.old store.new (λ world.
@@ -187,7 +186,7 @@ fn clear<S: Store>(
     match received {
         Ok(Receipt::Stored) | Err(ReceiveFault::Body(_)) => {}
         Ok(Receipt::Differs) => {
-            let _ = uploads::abandon(store, upload, size);
+            let _ = uploads::abandon(store, upload);
         }
         Err(ReceiveFault::Store(_)) => {
             let _ = uploads::sweep(alloc, store);
@@ -224,6 +223,6 @@ pub(crate) fn receive<S: Store, B: Body>(
     };
     let upload = uploads::begin(alloc, store, repo, name, size)?;
     let received = receive_staged(alloc, store, upload, size, content);
-    clear(alloc, store, upload, size, &received);
+    clear(alloc, store, upload, &received);
     received
 }

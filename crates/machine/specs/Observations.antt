@@ -15,8 +15,8 @@ pub record Talk : Type 0 where
   pub is : Option (List ℕ)
 
 -- somebody called; there was this talk with a client, which ended so; it is this moment; these bytes are random; these were
--- received from an operator; these were sent to one; the policy file has this policy; an operator was waited for, at most this
--- many seconds, and closed his side or not
+-- received from an operator; these of a reply were sent to one, and its last ones; the policy file has this policy; an operator
+-- was waited for, at most this many seconds, and closed his side or not
 pub data Observation : Type 0 where
   called : Caller → Observation
   talked : Client → Talk → Served → Observation
@@ -24,5 +24,6 @@ pub data Observation : Type 0 where
   drawn : List ℕ → Observation
   received : (operator : OperatorStream) → List ℕ → Observation
   sent : (operator : OperatorStream) → List ℕ → Observation
+  finished : (operator : OperatorStream) → List ℕ → Observation
   loaded : Policy → Observation
   waited : (operator : OperatorStream) → (seconds : ℕ) → (closed : Bool) → Observation

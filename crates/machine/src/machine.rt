@@ -2,7 +2,7 @@
 
 ghost use Rattle.std.specs.Prelude.{◌≡◌, ⊤, IfNone, IfOk, IfSome, OnErr, OnOk};
 ghost use Rattle.refinement.specs.Left.{From};
-ghost use Rattle.machine.specs.Observations.{Observation, Talk, called, drawn, loaded, received, sent, talked, timed, waited};
+ghost use Rattle.machine.specs.Observations.{Observation, Talk, called, drawn, finished, loaded, received, sent, talked, timed, waited};
 
 use crate::conversation::{Conversation, Talked};
 use crate::framing::Messages;
@@ -15,19 +15,19 @@ use command_line::RANDOM;
 use faults::Fault;
 use metrics::{Gauges, Turn};
 use names::{Counted, Moment};
-use outbox::{OperatorStream, Unsent};
+use outbox::OperatorStream;
 use policy::Policy;
 use service::End;
 use sockets::{Caller, Client, Course, Ended, Front, Queue};
 use std::cell::Cell;
 use std::fs;
-use std::io::{self, ErrorKind, Read, Write};
+use std::io::{self, ErrorKind, Read};
 use std::os::unix::net::UnixStream;
 use std::rt::HostRuntime;
 use std::time::{Clock, Duration, Instant};
 use store::Store;
 
-/// How long an operator may take to send a command, and to take the beginning of a reply, in seconds.
+/// How long an operator may take to send a command, in seconds.
 const PATIENCE: u64 = 2;
 
 /// How long an operator pauses whose request has arrived, in milliseconds.
@@ -105,43 +105,24 @@ pub trait Machine {
         ensures ok { OnOk result (observed self.old self.new (received operator.now piece.new)) }
         ensures err { OnErr result (idled self.old self.new) };
 
-    /// Sends bytes to an operator, the first ones of a reply, or one that refuses a request.
-    ///
-    /// # Errors
-    ///
-    /// `Operator` if not all were sent.
-    fn send(&mut self, operator: &OperatorStream, bytes: &[u8]) -> Result<(), Fault>
-        ensures ok { OnOk result (observed self.old self.new (sent operator.now bytes.now)) }
-        ensures err { OnErr result (idled self.old self.new) };
-
-    /// Sends pieces of a reply to an operator, after what his socket has not taken yet of it. Does not wait for him: what the
-    /// socket does not take at once is kept.
+    /// Sends bytes of a reply to its operator, after what his socket has not taken yet of it. Does not wait for him: what the
+    /// socket does not take at once is kept with him.
     ///
     /// # Errors
     ///
     /// `Operator` if he has gone, and `Memory`.
-    fn send_pieces(
-        &mut self,
-        operator: &OperatorStream,
-        unsent: &mut Unsent,
-        pieces: &[u8],
-    ) -> Result<(), Fault>
-        ensures ok { OnOk result (observed self.old self.new (sent operator.now pieces.now)) }
+    fn send(&mut self, operator: &OperatorStream, bytes: &[u8]) -> Result<(), Fault>
+        ensures ok { OnOk result (observed self.old self.new (sent operator.now bytes.now)) }
         ensures err { OnErr result (idled self.old self.new) };
 
-    /// Sends the end of a reply to an operator, after what his socket has not taken yet of it. Does not wait for him: what
-    /// the socket does not take at once is sent later, while others are served.
+    /// Sends the last bytes of a reply to its operator, after what his socket has not taken yet of it. Does not wait for him:
+    /// what the socket does not take at once is sent later, while others are served.
     ///
     /// # Errors
     ///
     /// `Operator` if he has gone, or if the system has no room for what is left. The reply has no end then.
-    fn end_reply(
-        &mut self,
-        operator: &OperatorStream,
-        unsent: Unsent,
-        end: &[u8],
-    ) -> Result<(), Fault>
-        ensures ok { OnOk result (observed self.old self.new (sent operator.now end.now)) }
+    fn end_reply(&mut self, operator: &OperatorStream, end: &[u8]) -> Result<(), Fault>
+        ensures ok { OnOk result (observed self.old self.new (finished operator.now end.now)) }
         ensures err { OnErr result (idled self.old self.new) };
 
     /// Drops what an operator still sends, for a moment: a close with unread bytes would reset the connection, and the
@@ -259,6 +240,7 @@ impl<C: Clock> TimedReader<'_, C> {
 
 /// Reads and drops what an operator has sent, until he pauses.
 fn drop_rest(stream: &UnixStream) -> io::Result<()> {
+    stream.set_nonblocking(false)?;
     stream.set_read_timeout(Some(Duration::from_millis(PAUSE)))?;
     let mut stream = stream;
     let mut piece = [0; 16_384];
@@ -270,11 +252,12 @@ fn drop_rest(stream: &UnixStream) -> io::Result<()> {
     Ok(())
 }
 
-/// Writes all bytes to an operator.
-fn write_to(stream: &UnixStream, bytes: &[u8]) -> io::Result<()> {
-    stream.set_write_timeout(Some(Duration::from_secs(PATIENCE)))?;
-    let mut stream = stream;
-    stream.write_all(bytes)
+/// The fault of a reply whose bytes could not be sent or kept.
+fn reply_fault(error: &io::Error) -> Fault {
+    match error.kind() {
+        ErrorKind::OutOfMemory => Fault::Memory,
+        _ => Fault::Operator,
+    }
 }
 
 /// The size of a file, in bytes; 0 if there is none.
@@ -397,28 +380,14 @@ impl<C: Clock> Machine for Sockets<'_, C> {
     }
 
     fn send(&mut self, operator: &OperatorStream, bytes: &[u8]) -> Result<(), Fault> {
-        write_to(self.queue.stream_of(operator), bytes).map_err(|_| Fault::Operator)
-    }
-
-    fn send_pieces(
-        &mut self,
-        operator: &OperatorStream,
-        unsent: &mut Unsent,
-        pieces: &[u8],
-    ) -> Result<(), Fault> {
-        unsent.push(pieces)?;
-        let sent = unsent.send(self.queue.stream_of(operator));
-        sent.map(|_| ()).map_err(|_| Fault::Operator)
-    }
-
-    fn end_reply(
-        &mut self,
-        operator: &OperatorStream,
-        unsent: Unsent,
-        end: &[u8],
-    ) -> Result<(), Fault> {
         self.queue
-            .end_reply(operator, unsent, end, self.clock)
+            .send(operator, bytes)
+            .map_err(|error| reply_fault(&error))
+    }
+
+    fn end_reply(&mut self, operator: &OperatorStream, end: &[u8]) -> Result<(), Fault> {
+        self.queue
+            .end_reply(operator, end, self.clock)
             .map_err(|_| Fault::Operator)
     }
 

@@ -47,9 +47,17 @@ impl Reply {
     }
 }
 
+/// Adds bytes to what a socket has not taken yet, and sends what it takes at once. Returns whether nothing is left.
+fn send_after(unsent: &mut Unsent, stream: &UnixStream, bytes: &[u8]) -> io::Result<bool> {
+    unsent.push(bytes)?;
+    unsent.send(stream)?;
+    Ok(unsent.as_slice().is_empty())
+}
+
 /// The replies that are sent while others are served.
 #[derive(Drop)]
 pub struct Outbox {
+    alloc: Global,
     /// By which a poll names the operators' sockets.
     token: Token,
     replies: Vec<Reply>,
@@ -61,6 +69,7 @@ impl Outbox {
     /// No replies. A poll names the sockets of operators by this token.
     pub fn new(alloc: Global, token: Token) -> Outbox {
         Outbox {
+            alloc,
             token,
             replies: Vec::new(alloc),
             may_send: false,
@@ -70,6 +79,20 @@ impl Outbox {
     /// The stream of an operator who called.
     pub fn stream_of<'o>(&self, operator: &'o OperatorStream) -> &'o UnixStream {
         &operator.stream
+    }
+
+    /// Sends bytes of a reply to its operator, after what his socket has not taken yet of it. What it does not take at once is
+    /// kept with him. Returns whether nothing is left.
+    ///
+    /// # Errors
+    ///
+    /// Fails if the operator has closed the connection, and if there is no memory. What was kept still is.
+    pub fn send(&self, operator: &OperatorStream, bytes: &[u8]) -> io::Result<bool> {
+        let kept = operator.unsent.take();
+        let mut unsent = kept.unwrap_or(Unsent::new(self.alloc));
+        let sent = send_after(&mut unsent, &operator.stream, bytes);
+        operator.unsent.set(Some(unsent));
+        sent
     }
 
     /// Whether there are none.
@@ -112,8 +135,8 @@ impl Outbox {
         self.replies.retain(|reply| !reply.is_closed);
     }
 
-    /// Keeps the rest of a reply. The caller may close the operator's connection. If there are as many replies as may be,
-    /// the operator gives way who has taken nothing for the longest time.
+    /// Keeps the rest of a reply, which is sent as its operator reads. The caller may close his connection. If there are as
+    /// many replies as may be, the operator gives way who has taken nothing for the longest time.
     ///
     /// # Errors
     ///
@@ -122,9 +145,11 @@ impl Outbox {
         &mut self,
         poll: &Poll,
         operator: &OperatorStream,
-        unsent: Unsent,
         now: Instant,
     ) -> io::Result<()> {
+        let Some(unsent) = operator.unsent.take() else {
+            return Ok(());
+        };
         self.make_room();
         let operator = operator.stream.try_clone()?;
         let handle = operator.as_raw_fd();

@@ -1,13 +1,14 @@
 //! A server on a machine that a test makes: who calls, and which policies the file has, one after the other.
 
 use crate::harness::{Tester, unwrap};
+use crate::queues::read_on;
 use crate::transcript::POLICY;
 use control::request_bytes;
 use faults::Fault;
 use machine::{Conversation, Machine, Talked};
 use metrics::Gauges;
 use names::{Moment, Oid, RepoName, Size};
-use outbox::{OperatorStream, Unsent};
+use outbox::OperatorStream;
 use policy::Policy;
 use server::{Finish, Server};
 use service::{End, Routes};
@@ -30,8 +31,7 @@ struct Script<'a> {
     queue: Queue<'a>,
     operators: Vec<OperatorStream>,
     policies: Vec<Result<Policy, Fault>>,
-    /// What is to be sent later, of all replies.
-    late: Vec<u8>,
+    host: &'a HostRuntime,
 }
 
 impl Machine for Script<'_> {
@@ -74,33 +74,13 @@ impl Machine for Script<'_> {
     }
 
     fn send(&mut self, operator: &OperatorStream, bytes: &[u8]) -> Result<(), Fault> {
-        let mut stream = self.queue.stream_of(operator);
-        stream.write_all(bytes).map_err(|_| Fault::Operator)
+        let sent = self.queue.send(operator, bytes);
+        sent.map_err(|_| Fault::Operator)
     }
 
-    fn send_pieces(
-        &mut self,
-        operator: &OperatorStream,
-        unsent: &mut Unsent,
-        pieces: &[u8],
-    ) -> Result<(), Fault> {
-        unsent.push(pieces)?;
-        let sent = unsent.send(self.queue.stream_of(operator));
-        sent.map(|_| ()).map_err(|_| Fault::Operator)
-    }
-
-    fn end_reply(
-        &mut self,
-        operator: &OperatorStream,
-        unsent: Unsent,
-        end: &[u8],
-    ) -> Result<(), Fault> {
-        if unsent.as_slice().is_empty() {
-            return self.send(operator, end);
-        }
-        let kept = self.late.extend_from_slice(unsent.as_slice());
-        kept.and_then(|()| self.late.extend_from_slice(end))
-            .map_err(|_| Fault::Memory)
+    fn end_reply(&mut self, operator: &OperatorStream, end: &[u8]) -> Result<(), Fault> {
+        let ended = self.queue.end_reply(operator, end, self.host);
+        ended.map_err(|_| Fault::Operator)
     }
 
     fn policy(&mut self) -> Result<Policy, Fault> {
@@ -246,7 +226,7 @@ fn reply_to(rt: &impl Tester, reader: &mut UnixStream) -> Vec<u8> {
 /// A machine with these operators, and with these policies.
 fn script_of<'a>(
     rt: &impl Tester,
-    host: &HostRuntime,
+    host: &'a HostRuntime,
     listener: &'a TcpListener,
     operators: Vec<OperatorStream>,
     policies: Vec<Result<Policy, Fault>>,
@@ -259,7 +239,7 @@ fn script_of<'a>(
         queue: unwrap(rt, Queue::new(host, listener, None, limits)),
         operators,
         policies,
-        late: Vec::new(rt.alloc()),
+        host,
     }
 }
 
@@ -396,9 +376,7 @@ fn what_a_socket_does_not_take_is_sent_before_the_end(rt: HostRuntime) {
     let Some(reader) = readers.first_mut() else {
         panic!(&rt; "there is no operator");
     };
-    let mut reply = reply_to(&rt, reader);
-    assert!(rt; reply.len() > 1 && !script.late.is_empty());
-    unwrap(&rt, reply.extend_from_slice(script.late.as_slice()));
+    let reply = read_on(&rt, &rt, &mut script.queue, reader);
     let (output, end) = output_in(&rt, reply.as_slice());
     assert!(rt; output.as_slice() == times(&rt, DENIED, 10_000).as_bytes());
     assert!(rt; end == b"\x01".as_slice());

@@ -1,7 +1,7 @@
 //! The order in which the callers of a server are answered: operators and clients in turn, clients as their messages arrive.
 
 use crate::harness::{Tester, unwrap};
-use outbox::{OperatorStream, Unsent};
+use outbox::OperatorStream;
 use sockets::{Caller, Client, Course, Extent, Framing, Limits, Queue, listen};
 use std::cell::Cell;
 use std::fs;
@@ -358,19 +358,16 @@ fn reply_late(
     reply: &[u8],
 ) -> UnixStream {
     let (operator, reader) = unwrap(rt, UnixStream::pair(host));
-    let mut unsent = Unsent::new(rt.alloc());
-    for piece in reply.chunks(10_000) {
-        unwrap(rt, unsent.push(piece));
-        unwrap(rt, unsent.send(&operator));
-    }
-    assert!(rt; !unsent.as_slice().is_empty());
     let operator = OperatorStream::new(operator);
-    unwrap(rt, queue.end_reply(&operator, unsent, b"end", host));
+    for piece in reply.chunks(10_000) {
+        unwrap(rt, queue.send(&operator, piece));
+    }
+    unwrap(rt, queue.end_reply(&operator, b"end", host));
     reader
 }
 
 /// Reads all of a reply, and has the queue look after each read. Nobody calls meanwhile.
-fn read_on(
+pub(crate) fn read_on(
     rt: &impl Tester,
     host: &HostRuntime,
     queue: &mut Queue<'_>,

@@ -28,7 +28,6 @@ use Rattle.server.specs.declared.waiting.Waiting.{Waiting}
 use Rattle.server.specs.Commands.{HasEndedSo, IsAnswered, IsClean, IsGoneOn, IsInspection, IsInspectionFault, IsObeyed, IsReplied, IsRequestDone, IsSentOn, is_stopped, became_of, operator_in, policy_after}
 use Rattle.server.specs.Jobs.{Call, Calls, Helps, IsFor, IsTurn, ServesClean, ServesMore, first_turn, for_caller, seen_in, waiting_after}
 use Rattle.server.proofs.Jobs.{clean_still, from_read, from_turn, helps_read, serves_one}
-use Rattle.outbox.specs.declared.unsent.Unsent.{Unsent}
 use Rattle.sockets.specs.declared.client.Client.{Client}
 use Rattle.sockets.specs.declared.queue.Caller.TheVariants.{Operator}
 use Rattle.sockets.specs.declared.queue.Caller.TheVariants as from
@@ -101,10 +100,10 @@ module _ {M : Type 0} (m : machine.Ghosts M) {S : Type 0} (g : Ghosts S) where
       clean_still m g policy policy was false a b u w before after (serves_one m g policy (operator_in was) (from.Client client) Unchanged a b u v w before after call few (from_turn m g policy client a b v w p))
 
   -- an operator whose inspection was begun waits
-  pub serves_begun : (policy : Policy) (was : Option Waiting) (busy : Bool) (operator : OperatorStream) (inspection : Inspection) (unsent : Unsent) (a b : S) (u v w : M) (count : ℕ) → m.observed u v (called (Operator operator)) → busy ≡ is_some was
+  pub serves_begun : (policy : Policy) (was : Option Waiting) (busy : Bool) (operator : OperatorStream) (inspection : Inspection) (a b : S) (u v w : M) (count : ℕ) → m.observed u v (called (Operator operator)) → busy ≡ is_some was
       → From g a b (λ world. Helps m g (IsAnswered policy busy operator (Began inspection)) a b v w world)
-      → From g a b (λ world. ServesClean m g policy was (Some (record { stream = operator; inspection = inspection; unsent = unsent })) a b u w world count count policy false)
-  serves_begun policy was busy operator inspection unsent a b u v w count call is p =
+      → From g a b (λ world. ServesClean m g policy was (Some (record { stream = operator; inspection = inspection })) a b u w world count count policy false)
+  serves_begun policy was busy operator inspection a b u v w count call is p =
       let one = serves_one m g policy (operator_in was) (Operator operator) (Began inspection) a b u v w count count call (search rules) (for_operator policy was busy operator (Began inspection) a b v w is p) in
       record {
         honest = p.honest;

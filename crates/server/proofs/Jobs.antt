@@ -17,7 +17,7 @@ use Rattle.operator.proofs.Working.{still_kept, steps_then, still_steps, then_ke
 use Rattle.machine.specs.declared.machine.Machine as machine
 use Rattle.server.specs.declared.outcomes.Outcome.{Outcome}
 use Rattle.server.specs.declared.outcomes.Outcome.TheVariants.{Unchanged}
-use Rattle.machine.specs.Observations.{Observation, Talk, called, sent, talked, timed, waited}
+use Rattle.machine.specs.Observations.{Observation, Talk, called, finished, sent, talked, timed, waited}
 use Rattle.control.specs.Replies.{status_code}
 use Rattle.control.specs.declared.status.Status.{Status}
 use Rattle.desk.specs.Asking.{setting_of}
@@ -83,9 +83,9 @@ module _ {M : Type 0} (m : machine.Ghosts M) where
 
   -- pieces were sent to an operator, and then the end of his reply, or not
   pub ended_or_not : (u v w : M) (r : Result ⊤ Fault) (operator : OperatorStream) (status : Status) (calls : List Call) → Calls m u calls v → AreSent operator (seen_in calls)
-      → OnOk r (m.observed v w (sent operator (status_code status ∷ []))) → OnErr r (m.idled v w) → (all : List Call) × Calls m u all w × IsReplied operator status (seen_in all)
+      → OnOk r (m.observed v w (finished operator (status_code status ∷ []))) → OnErr r (m.idled v w) → (all : List Call) × Calls m u all w × IsReplied operator status (seen_in all)
   ended_or_not u v w (Ok done) operator status calls made pieces a i =
-      let end = sent operator (status_code status ∷ []) in
+      let end = finished operator (status_code status ∷ []) in
       let seen = seen_append calls (observes end ∷ []) ∙ ap (λ (l : List Observation). l ++ end ∷ []) pieces.2 in
       (calls ++ observes end ∷ [], calls_append u v w calls (observes end ∷ []) made (one_seen v w end a), inr (inr (pieces.0, pieces.1, seen)))
   ended_or_not u v w (Err e) operator status calls made pieces a i =

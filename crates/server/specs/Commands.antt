@@ -36,7 +36,7 @@ use Rattle.operator.specs.declared.permitting.AccessQuestion.{AccessQuestion}
 use Rattle.operator.specs.declared.pushing.Push.{Push}
 use Rattle.operator.specs.declared.tasks.Task.{Task}
 use Rattle.operator.specs.declared.tasks.Task.TheVariants as task
-use Rattle.machine.specs.Observations.{Observation, timed, drawn, received, sent, loaded, waited}
+use Rattle.machine.specs.Observations.{Observation, timed, drawn, finished, received, sent, loaded, waited}
 use Rattle.server.specs.Given.{IsGiven}
 use Rattle.faults.specs.Statuses.{ended_of, status_of, status_of_end}
 use Rattle.faults.specs.declared.faults.Fault.{Fault}
@@ -260,7 +260,7 @@ IsReplyBegun operator seen = seen ≡ sent operator (version ∷ []) ∷ []
 abbrev pub IsReplied : OperatorStream → Status → List Observation → Type 0
 IsReplied operator status seen =
     (seen ≡ []) ⊎ AreSent operator seen
-    ⊎ ((bytes : List ℕ) × ArePieces bytes × (seen ≡ sent operator bytes ∷ sent operator (status_code status ∷ []) ∷ []))
+    ⊎ ((bytes : List ℕ) × ArePieces bytes × (seen ≡ sent operator bytes ∷ finished operator (status_code status ∷ []) ∷ []))
 
 -- an inspection was begun
 abbrev pub is_begun : Outcome → Bool

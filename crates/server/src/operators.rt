@@ -21,7 +21,7 @@ use machine::{Machine, policy_line};
 use metrics::{Counts, Stored, status_text};
 use names::{Moment, Sink};
 use operator::{Destination, Inspection, Purpose, Task, print, repo_at};
-use outbox::{OperatorStream, Unsent};
+use outbox::OperatorStream;
 use policy::{Policy, Repo};
 use std::alloc::Global;
 use std::io::Write;
@@ -417,7 +417,7 @@ impl OperatorContext<'_> {
         let start = Instant::now(clock).map_err(|_| Fault::Operator)?;
         let body = read_body(self.alloc, machine, self.stream, start)?;
         machine.send(self.stream, &[VERSION])?;
-        let mut pieces = Pieces::new(self.alloc, Unsent::new(self.alloc));
+        let mut pieces = Pieces::new(self.alloc);
         let ended = self.answer(store, machine, body.as_slice(), &mut pieces);
         Ok(self.end(machine, ended, pieces, errors))
     }

@@ -10,7 +10,7 @@ use faults::Fault;
 use machine::Machine;
 use memchr::memrchr;
 use names::{DeviceFault, Sink};
-use outbox::{OperatorStream, Unsent};
+use outbox::OperatorStream;
 use std::alloc::{AllocError, Global};
 
 /// What a command prints: the pieces of its reply, which are kept until they are sent. Each write is a piece; a longer write
@@ -20,8 +20,6 @@ pub(crate) struct Pieces {
     alloc: Global,
     /// The pieces that were not sent.
     bytes: Vec<u8>,
-    /// What the operator's socket has not taken of those that were.
-    unsent: Unsent,
     failures: u64,
     pub ghost are_pieces: { ArePieces bytes.items },
 }
@@ -42,12 +40,11 @@ fn size_of_piece(text: &[u8]) -> usize
 }
 
 impl Pieces {
-    /// No pieces yet, after what the operator's socket has not taken before.
-    pub(crate) fn new(alloc: Global, unsent: Unsent) -> Pieces {
+    /// No pieces yet.
+    pub(crate) fn new(alloc: Global) -> Pieces {
         Pieces {
             alloc,
             bytes: Vec::new(alloc),
-            unsent,
             failures: 0,
         }
     }
@@ -94,11 +91,11 @@ impl Pieces {
         self.push(Stream::Progress, &text[..text.len().min(LONGEST_PIECE)])
     }
 
-    /// Sends the pieces to the operator, who holds nobody up: what his socket does not take is kept.
+    /// Sends the pieces to the operator.
     ///
     /// # Errors
     ///
-    /// `Operator` if he has gone, or if there is no memory.
+    /// `Operator` if he has gone, and `Memory`. None is dropped then.
     pub(crate) fn send<M: Machine>(
         &mut self,
         machine: &mut M,
@@ -110,15 +107,9 @@ impl Pieces {
             × (seen_in calls ≡ [])) }
         ensures failures { self.new.failures ≡ self.old.failures }
     {
-        machine.send_pieces(operator, &mut self.unsent, self.bytes.as_slice())?;
+        machine.send(operator, self.bytes.as_slice())?;
         self.bytes.clear();
         Ok(())
-    }
-
-    /// Returns what the operator's socket has not taken.
-    pub(crate) fn into_unsent(self) -> Unsent {
-        let Pieces { unsent, .. } = self;
-        unsent
     }
 }
 

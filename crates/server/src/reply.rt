@@ -49,7 +49,7 @@ impl Reply<'_> {
     {
         pieces.push_errors(text)?;
         pieces.send(machine, self.stream)?;
-        machine.end_reply(self.stream, pieces.into_unsent(), &[status.code()])
+        machine.end_reply(self.stream, &[status.code()])
     }
 
     /// Ends the reply to a request that ended so, and reports if that failed.

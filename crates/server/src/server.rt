@@ -15,7 +15,7 @@ use crate::waiting::Waiting;
 use faults::{Fault, is_good, print_fault};
 use machine::{Machine, Talked};
 use metrics::Counts;
-use outbox::{OperatorStream, Unsent};
+use outbox::OperatorStream;
 use policy::Policy;
 use service::{End, Routes};
 use sockets::{Caller, Client, Ended};
@@ -328,13 +328,7 @@ impl<C: Clock> Server<'_, C> {
                         Ok(None)
                     }
                     Outcome::Began(inspection) => {
-                        // Nothing was printed yet.
-                        let unsent = Unsent::new(self.alloc);
-                        *waiting = Some(Waiting {
-                            stream,
-                            inspection,
-                            unsent,
-                        });
+                        *waiting = Some(Waiting { stream, inspection });
                         Ok(None)
                     }
                 }

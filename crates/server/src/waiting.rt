@@ -10,7 +10,7 @@ use crate::reply::Reply;
 use faults::{Fault, print_fault};
 use machine::Machine;
 use operator::{Advance, Inspection, print};
-use outbox::{OperatorStream, Unsent};
+use outbox::OperatorStream;
 use std::alloc::Global;
 use std::io::Write;
 use store::Store;
@@ -20,8 +20,6 @@ use store::Store;
 pub(crate) struct Waiting {
     pub stream: OperatorStream,
     pub inspection: Inspection,
-    /// What his socket has not taken yet of the reply.
-    pub unsent: Unsent,
 }
 
 /// Goes on with an inspection, and adds what it prints to the pieces, and how far it is. Returns whether it is done.
@@ -67,12 +65,7 @@ fn send_on<M: Machine, E: Write>(
         let _ = print_fault(&fault, errors);
         return None;
     }
-    let unsent = pieces.into_unsent();
-    Some(Waiting {
-        stream,
-        inspection,
-        unsent,
-    })
+    Some(Waiting { stream, inspection })
 }
 
 impl Waiting {
@@ -92,9 +85,8 @@ impl Waiting {
         let Waiting {
             stream,
             mut inspection,
-            unsent,
         } = self;
-        let mut pieces = Pieces::new(alloc, unsent);
+        let mut pieces = Pieces::new(alloc);
         let advanced = advance(alloc, store, &mut inspection, &mut pieces);
         let ended = match advanced {
             Ok(false) => return send_on(machine, stream, inspection, pieces, errors),

@@ -9,7 +9,7 @@ use crate::room::{Ended, LONGEST_LEAVING, Limits, ROUND, Room};
 use mio::event::Events;
 use mio::unix::SourceFd;
 use mio::{Interest, Poll, Token};
-use outbox::{OperatorStream, Outbox, Unsent};
+use outbox::{OperatorStream, Outbox};
 use std::cell::Cell;
 use std::io::{self, ErrorKind};
 use std::net::{TcpListener, TcpStream};
@@ -391,9 +391,20 @@ impl<'a> Queue<'a> {
         Ok(())
     }
 
-    /// Sends the end of a reply to an operator, after what his socket has not taken yet of it. What it does not take at once
-    /// is sent while others are served: nobody waits for him. His connection is closed if he takes nothing for ten minutes,
-    /// and if there are more than eight such operators, and he has taken nothing for longer than the others.
+    /// Sends bytes of a reply to its operator, after what his socket has not taken yet of it. Nobody waits for him: what the
+    /// socket does not take at once is kept.
+    ///
+    /// # Errors
+    ///
+    /// Fails if the operator has closed the connection, and if there is no memory.
+    pub fn send(&self, operator: &OperatorStream, bytes: &[u8]) -> io::Result<()> {
+        self.outbox.send(operator, bytes)?;
+        Ok(())
+    }
+
+    /// Sends the end of a reply to its operator, after what his socket has not taken yet of it. What it does not take at once
+    /// is sent while others are served. His connection is closed if he takes nothing for ten minutes, and if there are more
+    /// than eight such operators, and he has taken nothing for longer than the others.
     ///
     /// # Errors
     ///
@@ -402,17 +413,14 @@ impl<'a> Queue<'a> {
     pub fn end_reply(
         &mut self,
         operator: &OperatorStream,
-        mut unsent: Unsent,
         end: &[u8],
         clock: &impl Clock,
     ) -> io::Result<()> {
-        unsent.push(end)?;
-        unsent.send(self.stream_of(operator))?;
-        if unsent.as_slice().is_empty() {
+        if self.outbox.send(operator, end)? {
             return Ok(());
         }
         let now = Instant::now(clock)?;
-        self.outbox.push(&self.poll, operator, unsent, now)
+        self.outbox.push(&self.poll, operator, now)
     }
 
     /// The stream of an operator who called.

@@ -1,4 +1,4 @@
--- The objects that are found are objects of the world.
+-- The objects that are found are objects of the world, for proofs in other crates.
 use Rattle.uploads.proofs.Prelude.{◌≡◌, ◌∙◌, ℕ, ℤ, pos, List, length, find, Option, Some, None, option_map, refl, sym, ap, subst, Ghosts, World, IsWorld, object_named, Tables, HasTables, Moves, shown, Sized, upload_sized, read_object, IsObjectOf, upload_number, ObjectRow, bytes_of, pieces_of, object_in, IsStored, Represents, same_pos}
 use Rattle.tables.specs.Rows as row
 use Rattle.tables.specs.Statements.{is_object}

@@ -1,4 +1,4 @@
--- The rows that are listed are the objects of the world.
+-- The rows that are listed are the objects of the world, for proofs in other crates.
 use Rattle.uploads.proofs.Prelude.{◌≡◌, ◌∙◌, ℕ, ℤ, pos, Bool, true, false, ◌&&◌, cond, List, [], ◌∷◌, map, filter, length, bytes_eq, Option, Some, None, Ordering, Less, Equal, Greater, is_gt, refl, sym, ap, subst, AllPairs, IsPermutation, AllByRecursion, AllZip, Ghosts, IsPermutation-filter, filter-map, filter_all, World, Object, Tables, HasTables, Moves, shown, UploadFields, upload_fields, read_upload, upload_number, AreUploadsOf, objects_of, is_complete, is_object_in, name_cmp, by_name, UploadRow, HasSize, bytes_of, pieces_of, object_in, IsStored, Represents, same_pos, is_listed, IsNotAfter, IsRowOf, Lists}
 use Rattle.std.specs.Ordering.{nat_cmp, ordering_then}
 use Rattle.std.specs.Cmp.{IsTotalOrder}
@@ -15,7 +15,7 @@ use Rattle.refinement.proofs.Sorting.{NotAfter, each_sorted, sorted_rises, into_
 
 -- ---- the order of the rows is that of the objects
 
-name_total : IsTotalOrder name_cmp
+pub name_total : IsTotalOrder name_cmp
 name_total =
     then_total (on_total (λ (u : row.Upload). u.repo) nat_list_cmp_total)
     (then_total (on_total (λ (u : row.Upload). u.oid) nat_list_cmp_total) (on_total (λ (u : row.Upload). u.id) int_cmp_total))

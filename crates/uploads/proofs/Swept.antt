@@ -1,5 +1,5 @@
 -- Staged uploads are removed one after the other.
-use Rattle.uploads.proofs.Prelude.{◌≡◌, ◌∙◌, ℕ, ℤ, pos, List, [], ◌∷◌, map, filter, length, Option, Some, None, Result, Ok, Err, OnOk, OnErr, refl, sym, ap, Ghosts, World, Tables, IsHonest, IsOpen, Moves, Makes, Puts, Fails, shown, UploadFields, upload_number, upload_fields, read_upload, AreUploadsOf, staged_with, without_staged, without_found_from, is_staged, StoreFault, UploadId, UploadRow, Holds, From, Keeps, leads_none, leads_still, keeps_still, keeps_then, HasStaged, Shortens, Sweeps}
+use Rattle.uploads.proofs.Prelude.{◌≡◌, ◌∙◌, ℕ, ℤ, pos, List, [], ◌∷◌, map, filter, length, Option, Some, None, Result, Ok, Err, OnOk, OnErr, ⊤, refl, sym, ap, Ghosts, World, Tables, IsHonest, IsOpen, Moves, Makes, Puts, Fails, shown, UploadFields, upload_number, upload_fields, read_upload, AreUploadsOf, staged_with, without_staged, without_found_from, is_staged, StoreFault, UploadId, UploadRow, Holds, From, Keeps, Reads, leads_still, keeps_still, keeps_then, HasStaged, Shortens, Sweeps}
 use Rattle.std.proofs.lemmas.List.{length-map}
 use Rattle.sqlite_keyed.proofs.ListLemmas.{map-map}
 use Rattle.tables.specs.Rows as row
@@ -67,10 +67,13 @@ module _ {S : Type 0} (g : Ghosts S) where
   -- ---- the last chunks of an upload are removed
 
   -- none so far
-  pub shortens_none : (a : S) → From g a a (Shortens g a a)
-  shortens_none a = record {
-    honest = λ k. k;
-    each = λ k world h. (keeps_still g a a world (leads_none g a world h), λ honest o. (o, refl));
+  pub shortens_read : (a b : S) → Reads g a b (λ _. ⊤) → From g a b (Shortens g a b)
+  shortens_read a b reads = record {
+    honest = reads.same.was_honest;
+    each = λ k world h. (
+      keeps_still g a b world (leads_still g a b world reads.same reads.adds h),
+      λ honest o. (reads.same.was_open honest o, ap (λ (t : Tables). t.uploads) (reads.same.shows honest h.ready o)),
+    );
   }
 
   module _ (a b c : S) (id : ℤ) (n : ℕ) (so_far : From g a b (Shortens g a b)) where

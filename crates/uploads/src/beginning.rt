@@ -21,7 +21,7 @@ fn shorten_staged<S: Store>(alloc: Global, store: &mut S, repo: &RepoName) -> Re
     let Some(staged) = store.staged_upload(alloc, repo)? else {
         return Ok(());
     };
-    shorten(store, staged.id, staged.size)
+    shorten(store, staged.id)
 }
 
 /// Begins an upload of an object of this name and this size, and returns its id. It is staged, with no bytes yet, and

@@ -61,7 +61,7 @@ pub fn complete<S: Store>(
     match store.complete_upload(id, last, oid, size)? {
         Completion::New => Ok(Kept::New),
         Completion::Already => {
-            abandon(store, id, size)?;
+            abandon(store, id)?;
             Ok(Kept::Already)
         }
         Completion::Differs => Err(UploadFault::Differs),

@@ -1,51 +1,67 @@
 //! Removes uploads that are not completed.
 
-ghost use Rattle.std.specs.Prelude.{OnOk};
+ghost use Rattle.std.specs.Prelude.{◌≤◌, IfOk, OnOk, ⊤};
 ghost use Rattle.tables.specs.Staging.{upload_number};
-ghost use Rattle.refinement.specs.Left.{From, Keeps};
+ghost use Rattle.refinement.specs.Left.{From, Keeps, Reads};
 ghost use Rattle.refinement.specs.Staging.{StagesNone};
 ghost use Rattle.uploads.specs.Removing.{Shortens, Sweeps};
 
-use names::Size;
 use std::alloc::Global;
 use store::Store;
 use tables::{StoreFault, UploadId};
 
 /// The number of chunks that are removed in one transaction, so that none takes much memory or room in the log.
-const PART: u64 = 256;
+const PART: u32 = 256;
 
-/// The number of bytes of these chunks.
-const PART_BYTES: u64 = 16_777_216;
+/// The most parts that an upload may have after the first one, since the number of a chunk is below 2^32.
+const MOST: u32 = 16_777_215;
 
-/// Removes the chunks of a staged upload of this size, the last ones first, in transactions of [`PART`] chunks. The first
-/// [`PART`] chunks are left.
+/// Returns how many parts of chunks the upload has after the first one.
+///
+/// # Errors
+///
+/// `Refused` or `Memory`. The contents of the store are unchanged in any case.
+fn later_parts<S: Store>(store: &mut S, id: UploadId) -> Result<u32, StoreFault>
+    ensures reads { Reads S.State store.old store.new (λ _. ⊤) }
+    ensures few { IfOk result (λ count. count ≤ 16777215) }
+{
+    for part in 0..MOST {
+        if store.chunk(id, (part + 1) * PART)?.is_none() {
+            return Ok(part);
+        }
+    }
+    Ok(MOST)
+}
+
+/// Removes the chunks of a staged upload, the last ones first, in transactions of [`PART`] chunks. The first [`PART`] chunks
+/// are left.
 ///
 /// # Errors
 ///
 /// `Refused` or `Memory`. Some of the chunks may be removed.
-pub(crate) fn shorten<S: Store>(store: &mut S, id: UploadId, size: Size) -> Result<(), StoreFault>
+pub(crate) fn shorten<S: Store>(store: &mut S, id: UploadId) -> Result<(), StoreFault>
     ensures { From S.State store.old store.new (Shortens S.State store.old store.new) }
 {
-    let mut left = size.get() / PART_BYTES;
+    let mut left = later_parts(store, id)?;
     'parts: while left > 0 {
-        store.shorten_upload(id, (left * PART) as u32)?;
+        store.shorten_upload(id, left * PART)?;
         left -= 1;
     }
     Ok(())
 }
 
-/// Removes an upload of this size with its bytes, if it is staged. An object is never removed. One with many bytes is
-/// removed in several transactions.
+/// Removes an upload with its bytes, if it is staged. An object is never removed. One with many bytes is removed in several
+/// transactions.
 ///
 /// # Errors
 ///
 /// `Refused` or `Memory`. The upload may still be staged, without some of its bytes. No object is changed in any case.
-pub fn abandon<S: Store>(store: &mut S, id: UploadId, size: Size) -> Result<(), StoreFault>
+pub fn abandon<S: Store>(store: &mut S, id: UploadId) -> Result<(), StoreFault>
     ensures { From S.State store.old store.new (λ world.
         Keeps S.State store.old store.new world
         × OnOk result (StagesNone S.State store.new (upload_number id))) }
 {
-    shorten(store, id, size)?;
+    shorten(store, id)?;
     store.remove_upload(id)?;
     Ok(())
 }
@@ -61,7 +77,7 @@ pub fn sweep<S: Store>(alloc: Global, store: &mut S) -> Result<u64, StoreFault>
 {
     let staged = store.staged_uploads(alloc)?;
     for upload in staged.as_slice() {
-        shorten(store, upload.id, upload.size)?;
+        shorten(store, upload.id)?;
         store.remove_upload(upload.id)?;
     }
     Ok(staged.len() as u64)

@@ -33,7 +33,7 @@ fn clear_staged<S: Store>(alloc: Global, store: &mut S, repo: &RepoName) -> Resu
     let Some(staged) = store.staged_upload(alloc, repo)? else {
         return Ok(());
     };
-    shorten(store, staged.id, staged.size)?;
+    shorten(store, staged.id)?;
     store.remove_upload(staged.id)?;
     Ok(())
 }

@@ -1,9 +1,9 @@
 use Rattle.uploads.proofs.Prelude.{rules}
-use Rattle.uploads.proofs.Swept.{shortens_none, shortens_more, shortens_failed}
+use Rattle.uploads.proofs.Swept.{shortens_read, shortens_more, shortens_failed}
 use Rattle.uploads.proofs.removing.shorten.Goals as goal
 
 pub parts-init : goal.parts-init
-parts-init g c = record { most = search rules; so_far = shortens_none g.S.State c.args.store.now }
+parts-init g c = record { most = c.in_ok-left.ensures.few; so_far = shortens_read g.S.State c.args.store.now c.later_parts.new.store c.in_ok-left.ensures.reads }
 
 pub parts-preserved : goal.parts-preserved
 parts-preserved g c = record {

@@ -1,9 +1,9 @@
-use Rattle.uploads.proofs.Prelude.{◌≤◌, ◌/◌, From, Shortens}
+use Rattle.uploads.proofs.Prelude.{◌≤◌, From, Shortens}
 use Rattle.uploads.proofs.removing.shorten.Given as goal
 
 abbrev pub invariant-parts : goal.invariant-parts
 invariant-parts g l = record {
-  most : l.left ≤ l.fn.size / 16777216;
+  most : l.left ≤ 16777215;
   so_far : From g.S.State l.fn.store l.store (Shortens g.S.State l.fn.store l.store);
 }
 

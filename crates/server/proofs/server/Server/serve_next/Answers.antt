@@ -49,7 +49,7 @@ returns-in-Reloaded-clause-world g c =
 pub returns-in-Began-clause-world : goal.returns-in-Began-clause-world
 returns-in-Began-clause-world g c =
     rw (c.serve_operator.ensures.policy, c.serve_operator.ensures.begun)
-    (serves_begun g.M.Machine g.S.State c.args.state.now.policy c.args.waiting.now c.is_some-in-Some-Operator.result c.in-Some-Operator.stream c.in-Began.inspection c.new-unsent.result c.args.store.now c.serve_operator.new.store c.args.machine.now c.next_of.new.machine c.serve_operator.new.machine
+    (serves_begun g.M.Machine g.S.State c.args.state.now.policy c.args.waiting.now c.is_some-in-Some-Operator.result c.in-Some-Operator.stream c.in-Began.inspection c.args.store.now c.serve_operator.new.store c.args.machine.now c.next_of.new.machine c.serve_operator.new.machine
     c.args.state.now.begun (rw (c.in-Some-Operator.is, c.in-Some-Operator.field-0-is) at c.in_ok-client.ensures.some) c.is_some-in-Some-Operator.ensures (rw c.in-Began.is at c.serve_operator.ensures.world))
 
 pub returns-in-None-clause-world : goal.returns-in-None-clause-world
