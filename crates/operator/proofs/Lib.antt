@@ -16,3 +16,4 @@ mod Valid
 mod Counted
 mod Printed
 mod Widths
+mod Sound

@@ -1,7 +1,9 @@
 -- Tasks that take no step, by the calls that they make.
-use Rattle.operator.proofs.Prelude.{⊤, ℕ, Result, Ok, Err, IfErr, MatchResult, World, Event, From, Reads, Keeps, Leads, reads_lead, from_weaker, Sweeps, Ghosts, TaskFault}
+use Rattle.operator.proofs.Prelude.{⊤, ℕ, Result, Ok, Err, IfErr, OnOk, MatchResult, World, Event, From, Reads, Keeps, Leads, reads_lead, from_weaker, Sweeps, Ghosts, TaskFault}
 use Rattle.refinement.specs.Left.{KeepsTables}
 use Rattle.operator.specs.Failing.{Fails, IsPlain}
+use Rattle.operator.specs.Tasks.{IsCheck}
+use Rattle.operator.specs.declared.tasks.Task.{Task}
 use Rattle.operator.proofs.Failing.{fails_keeps, fails_still}
 
 module _ {S : Type 0} (g : Ghosts S) where
@@ -35,3 +37,8 @@ module _ {S : Type 0} (g : Ghosts S) where
       → From g a b (λ world. MatchResult r (λ _. (n : ℕ) × Sweeps g world a b (Ok n)) (λ e. Fails g IsOwn ⊥ a b world × IsPlain e))
   ran_sweep IsOwn a b (Ok u) p = p
   ran_sweep IsOwn a b (Err e) p = from_weaker g a b _ _ (λ world d. (fails_keeps g IsOwn ⊥ a b world d.0, d.1)) p
+
+-- a task that is no check
+pub no_check : (r : Result ⊤ TaskFault) (task : Task) (P : Type 0) → (IsCheck task → ⊥) → OnOk r (IsCheck task → P)
+no_check (Ok u) task P never = λ check. absurd (never check)
+no_check (Err e) task P never = tt

@@ -1,7 +1,10 @@
 -- What an inspection of objects leaves, and how it shows how far it is.
-use Rattle.std.specs.Prelude.{◌≡◌, ◌≤◌, ◌++◌, ℕ, List, vec_len, codes, decimal, ⊤}
+use Rattle.std.specs.Prelude.{◌≡◌, ◌≤◌, ◌++◌, ℕ, List, take, vec_len, codes, decimal, ⊤}
+use Rattle.std.specs.List.{All}
 use Rattle.store.specs.declared.state.State.{Ghosts}
+use Rattle.store.specs.Shown.{IsHonest, IsOpen, shown}
 use Rattle.refinement.specs.Left.{Reads}
+use Rattle.operator.specs.Damage.{IsRowSound}
 use Rattle.operator.specs.Lines.{count_line}
 use Rattle.operator.specs.declared.inspecting.Advance.{Advance}
 use Rattle.operator.specs.declared.inspecting.Advance.TheVariants.{Damaged, Done}
@@ -32,3 +35,8 @@ IsQuiet _ = ⊤
 abbrev pub IsDoneAtEnd : Inspection → Advance → Type 0
 IsDoneAtEnd is Done = vec_len is.rows ≤ is.next
 IsDoneAtEnd is _ = ⊤
+
+-- if an inspection has found none damaged, those that it has gone over are sound, whatever the tables hold
+abbrev pub IsChecked : {S : Type 0} → Ghosts S → S → Inspection → Type 0
+IsChecked g s is =
+    IsHonest g s → IsOpen g s → is.damaged ≡ 0 → All (IsRowSound (shown g s)) (take is.next is.rows.items)

@@ -117,6 +117,11 @@ IsQuestion (ListTokens repo now) = ⊤
 IsQuestion (Usage policy now) = ⊤
 IsQuestion _ = ⊥
 
+-- the task is a check of all objects
+abbrev pub IsCheck : Task → Type 0
+IsCheck (CheckObjects terminal) = ⊤
+IsCheck _ = ⊥
+
 -- ---- both
 
 -- the task did what it is to do, or failed

@@ -1,12 +1,13 @@
 //! Hashes every stored object again, some of them at a time.
 
-ghost use Rattle.std.specs.Prelude.{◌≡◌, ⊤, false, length, true, string_bytes, vec_len, IfErr, IfOk, IfSome, OnOk};
+ghost use Rattle.std.specs.Prelude.{◌≡◌, ⊤, false, length, true, string_bytes, vec_len, IfErr, IfOk, IfSome, None, OnOk, Some};
 ghost use Rattle.std.specs.Io.KnownBytes.{Appends};
-ghost use Rattle.store.specs.Shown.{IsHonest};
+ghost use Rattle.store.specs.Shown.{Answers, HasTables, IsHonest, shown};
+ghost use Rattle.tables.specs.Staging.{AreUploadsOf, objects_of};
 ghost use Rattle.refinement.specs.Left.{From, Reads};
-ghost use Rattle.operator.specs.Damage.{IsWhole};
+ghost use Rattle.operator.specs.Damage.{FindsSound, HasRow, IsRowSound, IsWhole};
 ghost use Rattle.operator.specs.Failing.{IsPlain};
-ghost use Rattle.operator.specs.Inspections.{IsDoneAtEnd, IsQuiet, Spares, inspected_line, progress_text};
+ghost use Rattle.operator.specs.Inspections.{IsChecked, IsDoneAtEnd, IsQuiet, Spares, inspected_line, progress_text};
 ghost use Rattle.operator.specs.Listed.{line};
 ghost use Rattle.operator.specs.Printed.{IfWritten};
 ghost use Rattle.uploads.specs.Listing.{Lists};
@@ -118,16 +119,19 @@ impl ObjectReading {
 fn is_same(found: ObjectRow, row: &Stored) -> bool
     ensures id { result ≡ true → found.id ≡ row.now.id }
     ensures size { result ≡ true → found.size ≡ row.now.size }
+    ensures both { found.id ≡ row.now.id → found.size ≡ row.now.size → result ≡ true }
 {
     found.id == row.id && found.size == row.size
 }
 
 /// Whether the object is still stored as it was listed.
 fn is_stored<S: Store>(store: &mut S, row: &Stored) -> Result<bool, StoreFault>
-    ensures { Reads S.State store.old store.new (λ world. IfOk result
+    ensures world { Reads S.State store.old store.new (λ world. IfOk result
         (λ stored. stored ≡ true → IsWhole S.State store.new row.now)) }
+    ensures exact { Answers S.State store.old store.new result (λ t stored.
+        HasRow t row.now → stored ≡ true) }
 {
-    match uploads::find(store, &row.repo, &row.oid)? {
+    match store.object(&row.repo, &row.oid)? {
         Some(found) => Ok(is_same(found, row)),
         None => Ok(false),
     }
@@ -135,8 +139,10 @@ fn is_stored<S: Store>(store: &mut S, row: &Stored) -> Result<bool, StoreFault>
 
 /// Whether the object is still stored, and is damaged. No object of a world is.
 fn is_still_damaged<S: Store>(store: &mut S, row: &Stored) -> Result<bool, StoreFault>
-    ensures { Reads S.State store.old store.new (λ world. IfOk result
+    ensures world { Reads S.State store.old store.new (λ world. IfOk result
         (λ damaged. damaged ≡ false)) }
+    ensures exact { Answers S.State store.old store.new result (λ t damaged.
+        damaged ≡ false → IsRowSound t row.now) }
 {
     if is_stored(store, row)? {
         is_damaged(store, row)
@@ -173,8 +179,10 @@ fn verdict_on<S: Store>(
     reading: &mut Option<ObjectReading>,
     pauses: bool,
 ) -> Result<Option<bool>, StoreFault>
-    ensures { Reads S.State store.old store.new (λ world. IfOk result
+    ensures world { Reads S.State store.old store.new (λ world. IfOk result
         (λ found. IfSome found (λ damaged. damaged ≡ false))) }
+    ensures exact { pauses ≡ false → Answers S.State store.old store.new result (λ t found.
+        found ≡ Some false → IsRowSound t row.now) }
 {
     if pauses && row.size.get() > SLICE {
         return verdict_by_slices(store, row, reading);
@@ -237,12 +245,17 @@ impl Inspection {
     ) -> Result<Inspection, TaskFault>
         ensures reads { Reads S.State store.old store.new (λ _. ⊤) }
         ensures purpose { IfOk result (λ inspection. inspection.purpose ≡ purpose) }
+        ensures pauses { IfOk result (λ inspection. inspection.pauses ≡ pauses) }
+        ensures start { IfOk result (λ inspection. inspection.next ≡ 0) }
         ensures none { IfOk result (λ inspection. inspection.damaged ≡ 0) }
+        ensures rows { IsHonest S.State store.new → HasTables S.State store.old → IfOk result
+            (λ inspection. AreUploadsOf inspection.rows.items
+            (objects_of None (shown S.State store.old))) }
         ensures all { Reads S.State store.old store.new (λ world. IfOk result
             (λ inspection. Lists S.State world store.new None inspection.rows.items)) }
         ensures err { IfErr result IsPlain }
     {
-        let rows = uploads::all(alloc, store, None)?;
+        let rows = store.objects(alloc, None)?;
         Ok(Inspection {
             purpose,
             pauses,
@@ -256,7 +269,8 @@ impl Inspection {
     /// Inspects the next objects, or a slice of one: about 1 MiB, and at most 64 objects. It ends with a damaged one. An
     /// object that was removed since the inspection began is passed over, and one that was stored since is not inspected.
     ///
-    /// Of a store that holds a world, nothing is changed, and no object is damaged.
+    /// Of a store that holds a world, nothing is changed, and no object is damaged. Whatever the tables hold, an inspection
+    /// without pauses that finds none damaged has gone over objects that have the bytes of their names.
     ///
     /// # Errors
     ///
@@ -266,7 +280,10 @@ impl Inspection {
             Spares S.State store.old store.new self.old self.new) }
         ensures reads { self.old.purpose ≡ Purpose.Check → Reads S.State store.old store.new (λ _. ⊤) }
         ensures purpose { self.new.purpose ≡ self.old.purpose }
+        ensures pauses { self.new.pauses ≡ self.old.pauses }
         ensures rows { self.new.rows ≡ self.old.rows }
+        ensures checked { OnOk result (self.old.pauses ≡ false → HasTables S.State store.old
+            → IsChecked S.State store.old self.old → IsChecked S.State store.new self.new) }
         ensures quiet { From S.State store.old store.new (λ _. IfOk result IsQuiet) }
         ensures done { IfOk result (IsDoneAtEnd self.new) }
         ensures err { IfErr result IsPlain }
@@ -318,6 +335,7 @@ impl Inspection {
         ensures text { IfWritten result (Appends (K.taken output.old) (K.taken output.new)
             (line (inspected_line self.now.purpose (vec_len self.now.rows) self.now.damaged))) }
         ensures good { OnOk result (K.failed output.new ≡ K.failed output.old) }
+        ensures none { OnOk result (self.now.purpose ≡ Purpose.Check → self.now.damaged ≡ 0) }
         ensures err { self.now.damaged ≡ 0 → IfErr result IsPlain }
     {
         match self.purpose {
@@ -353,6 +371,8 @@ pub(crate) fn inspect_all<S: Store, K: Sink>(
         (Appends (K.taken output.old) (K.taken output.new)
         (line (inspected_line purpose (length world.objects) 0)))) }
     ensures good { OnOk result (K.failed output.new ≡ K.failed output.old) }
+    ensures sound { OnOk result (purpose ≡ Purpose.Check
+        → FindsSound S.State store.old store.new) }
 {
     let mut inspection = Inspection::begin(alloc, store, purpose, false)?;
     let progress = Progress { terminal };

@@ -2,8 +2,9 @@
 
 ghost use Rattle.std.specs.Prelude.{◌≡◌, OnOk};
 ghost use Rattle.refinement.specs.Left.{From, KeepsTables};
+ghost use Rattle.operator.specs.Damage.{FindsSound};
 ghost use Rattle.operator.specs.Printed.{AppendsOutput, IfWritten};
-ghost use Rattle.operator.specs.Tasks.{IsQuestion, Ran};
+ghost use Rattle.operator.specs.Tasks.{IsCheck, IsQuestion, Ran};
 
 use crate::escapes::Destination;
 use crate::faults::TaskFault;
@@ -66,7 +67,8 @@ impl Task<'_> {
     /// or one object is. It succeeds or fails as the definitions say: if Git may begin, each path may be pushed, or a reply
     /// is foreseen. A repair leaves the tables as they are: each object of a world has the bytes of its name. After an error
     /// the world is the same, but for an `Output` after tokens or an object were removed. A question or a list leaves the
-    /// tables as they are, whatever becomes of it. `Ok` means that all output was written: the text that the definitions
+    /// tables as they are, whatever becomes of it. After a check that succeeds, each object has the bytes of its name,
+    /// whatever the tables hold. `Ok` means that all output was written: the text that the definitions
     /// have for the command, of the world before it. After a `Reported` of a world the same was written.
     ///
     /// # Errors
@@ -86,6 +88,7 @@ impl Task<'_> {
             (AppendsOutput S.State store.old store.new world destination self.now
             (K.taken output.old) (K.taken output.new))) }
         ensures tables { IsQuestion self.now → KeepsTables S.State store.old store.new }
+        ensures sound { OnOk result (IsCheck self.now → FindsSound S.State store.old store.new) }
         ensures good { OnOk result (K.failed output.new ≡ K.failed output.old) }
     {
         match self {

@@ -141,12 +141,7 @@ impl Outbox {
     /// # Errors
     ///
     /// Fails if the system has no descriptor or refuses to watch the socket, and if there is no memory.
-    pub fn push(
-        &mut self,
-        poll: &Poll,
-        operator: &OperatorStream,
-        now: Instant,
-    ) -> io::Result<()> {
+    pub fn push(&mut self, poll: &Poll, operator: &OperatorStream, now: Instant) -> io::Result<()> {
         let Some(unsent) = operator.unsent.take() else {
             return Ok(());
         };

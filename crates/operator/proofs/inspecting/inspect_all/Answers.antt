@@ -1,7 +1,8 @@
-use Rattle.operator.proofs.Prelude.{Err, ⊤, ◌∙◌, ap, err_from_is_err_and, from_weaker, refl, reads_lead, reads_then, subst, sym, IsPlain, vec_len}
+use Rattle.operator.proofs.Prelude.{Err, ⊤, ◌∙◌, ap, err_from_is_err_and, from_weaker, on_ok_weaker, refl, reads_lead, reads_then, subst, sym, IsPlain, vec_len}
 use Rattle.operator.proofs.Damaged.{inspected_on, inspected_so, line_printed, rows_length}
 use Rattle.operator.proofs.Failing.{is_output}
 use Rattle.operator.proofs.Printed.{none_on, printed_none}
+use Rattle.operator.proofs.Sound.{checked_none, inspected_sound}
 use Rattle.operator.specs.declared.faults.TaskFault.TheVariants as refusal
 use Rattle.tables.specs.declared.fault.StoreFault.TheVariants as store
 use Rattle.operator.proofs.inspecting.inspect_all.Goals.{in-More, in-Damaged+in_ok-print-in-Damaged}
@@ -16,6 +17,9 @@ steps-init g c = record {
     honest = c.begin.ensures.reads.same.was_honest;
     each = λ honest world h. (refl, c.in_ok-inspection.inspection.rows.ok.0 ∙ rows_length g.S.State world c.begin.new.store c.in_ok-inspection.inspection.rows.items (c.in_ok-inspection.ensures.all.each honest world h));
   };
+  pauses = c.in_ok-inspection.ensures.pauses;
+  listed = λ honest ready. c.in_ok-inspection.ensures.rows honest ready;
+  checked = λ is ready. checked_none g.S.State c.begin.new.store c.in_ok-inspection.inspection c.in_ok-inspection.ensures.start;
   good = refl;
 }
 
@@ -72,6 +76,9 @@ steps-preserved g c = record {
           | in-Damaged+in_ok-print-in-Damaged w ↦ absurd (rw w.in-Damaged.is at quiet)
         ];
   };
+  pauses = c.advance.ensures.pauses ∙ c.steps.invariant.pauses;
+  listed = λ honest ready. rw c.advance.ensures.rows (c.steps.invariant.listed (c.advance.ensures.world.honest honest) ready);
+  checked = λ is ready. c.in_ok-advance.ensures.checked c.steps.invariant.pauses ((c.steps.invariant.reads is).same.ready ready) (c.steps.invariant.checked is ready);
   good =
       elim c.match-branch-4.branch [
         | in-More w ↦ rw w.output-is c.steps.invariant.good
@@ -116,3 +123,17 @@ returns-in-Done-clause-printed g c = record {
 
 pub returns-clause-printed : goal.returns-clause-printed
 returns-clause-printed g c = from_weaker g.S.State c.args.store.now c.steps.store _ _ (λ world d. tt) c.steps.invariant.world
+
+-- ---- what is said of the tables
+
+pub returns-in-Done-clause-sound : goal.returns-in-Done-clause-sound
+returns-in-Done-clause-sound g c =
+    on_ok_weaker c.finish.result
+    (λ none is ready.
+    let before = c.steps.invariant.reads is in
+    let reads = reads_then g.S.State c.args.store.now c.steps.store c.advance.new.store _ _ (λ _. ⊤) (λ world laws x y. tt) before (c.advance.ensures.reads (c.steps.invariant.purpose ∙ is)) in
+    inspected_sound g.S.State c.args.store.now c.advance.new.store c.advance.new.self reads.same
+    (c.in_ok-advance.ensures.checked c.steps.invariant.pauses (before.same.ready ready) (c.steps.invariant.checked is ready)) (rw c.in-Done.is at c.in_ok-advance.ensures.done)
+    (none (c.advance.ensures.purpose ∙ c.steps.invariant.purpose ∙ is))
+    (λ honest had. rw c.advance.ensures.rows (c.steps.invariant.listed (c.advance.ensures.world.honest honest) had)) ready)
+    c.finish.ensures.none

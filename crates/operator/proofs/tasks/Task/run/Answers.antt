@@ -1,7 +1,7 @@
-use Rattle.operator.proofs.Ran.{ran_checked, ran_reads, ran_repaired, ran_still, ran_sweep}
+use Rattle.operator.proofs.Ran.{no_check, ran_checked, ran_reads, ran_repaired, ran_still, ran_sweep}
 use Rattle.operator.proofs.Printed.{from_reads, printed_from, printed_plain, printed_reads}
-use Rattle.operator.proofs.Prelude.{⊤, refl, reads_none, subst}
-use Rattle.operator.specs.Tasks.{IsQuestion}
+use Rattle.operator.proofs.Prelude.{⊤, on_ok_weaker, refl, reads_none, subst}
+use Rattle.operator.specs.Tasks.{IsCheck, IsQuestion}
 use Rattle.operator.proofs.tasks.Task.run.Goals as goal
 
 pub returns-in-Issue-clause-world : goal.returns-in-Issue-clause-world
@@ -86,6 +86,47 @@ returns-in-CheckObjects-clause-tables g c = λ question. absurd (subst IsQuestio
 
 pub returns-in-Repair-clause-tables : goal.returns-in-Repair-clause-tables
 returns-in-Repair-clause-tables g c = λ question. absurd (subst IsQuestion c.in-Repair.is question)
+
+-- ---- a check
+
+pub returns-in-Issue-clause-sound : goal.returns-in-Issue-clause-sound
+returns-in-Issue-clause-sound g c = no_check c.grant.result _ _ (λ check. subst IsCheck c.in-Issue.is check)
+
+pub returns-in-Prune-clause-sound : goal.returns-in-Prune-clause-sound
+returns-in-Prune-clause-sound g c = no_check c.prune.result _ _ (λ check. subst IsCheck c.in-Prune.is check)
+
+pub returns-in-May-clause-sound : goal.returns-in-May-clause-sound
+returns-in-May-clause-sound g c = no_check c.print_access.result _ _ (λ check. subst IsCheck c.in-May.is check)
+
+pub returns-in-CheckPush-clause-sound : goal.returns-in-CheckPush-clause-sound
+returns-in-CheckPush-clause-sound g c = no_check c.check_push.result _ _ (λ check. subst IsCheck c.in-CheckPush.is check)
+
+pub returns-in-Foresee-clause-sound : goal.returns-in-Foresee-clause-sound
+returns-in-Foresee-clause-sound g c = no_check c.print_foreseen.result _ _ (λ check. subst IsCheck c.in-Foresee.is check)
+
+pub returns-in-ListLocks-clause-sound : goal.returns-in-ListLocks-clause-sound
+returns-in-ListLocks-clause-sound g c = no_check c.list_locks.result _ _ (λ check. subst IsCheck c.in-ListLocks.is check)
+
+pub returns-in-ListObjects-clause-sound : goal.returns-in-ListObjects-clause-sound
+returns-in-ListObjects-clause-sound g c = no_check c.list_objects.result _ _ (λ check. subst IsCheck c.in-ListObjects.is check)
+
+pub returns-in-ListTokens-clause-sound : goal.returns-in-ListTokens-clause-sound
+returns-in-ListTokens-clause-sound g c = no_check c.list_tokens.result _ _ (λ check. subst IsCheck c.in-ListTokens.is check)
+
+pub returns-in-Usage-clause-sound : goal.returns-in-Usage-clause-sound
+returns-in-Usage-clause-sound g c = no_check c.list_usage.result _ _ (λ check. subst IsCheck c.in-Usage.is check)
+
+pub returns-in-Repair-clause-sound : goal.returns-in-Repair-clause-sound
+returns-in-Repair-clause-sound g c = no_check c.inspect_all-in-Repair.result _ _ (λ check. subst IsCheck c.in-Repair.is check)
+
+pub returns-in-Sweep-clause-sound : goal.returns-in-Sweep-clause-sound
+returns-in-Sweep-clause-sound g c = no_check c.sweep.result _ _ (λ check. subst IsCheck c.in-Sweep.is check)
+
+pub returns-in-Retire-clause-sound : goal.returns-in-Retire-clause-sound
+returns-in-Retire-clause-sound g c = no_check c.retire.result _ _ (λ check. subst IsCheck c.in-Retire.is check)
+
+pub returns-in-CheckObjects-clause-sound : goal.returns-in-CheckObjects-clause-sound
+returns-in-CheckObjects-clause-sound g c = on_ok_weaker c.inspect_all.result (λ sound _. sound refl) c.inspect_all.ensures.sound
 
 -- ---- what is written
 
