@@ -36,7 +36,7 @@ pub struct Server<'a, C> {
 }
 
 /// How a server ended.
-#[derive(Debug, Drop)]
+#[derive(Drop)]
 pub struct Finish {
     /// How many connections were served.
     pub connections: u64,
