@@ -12,11 +12,11 @@ use Rattle.sha2.specs.Hashers.{Holds256}
 use Rattle.sha2.specs.declared.Sha256.{Sha256}
 use Rattle.store.specs.declared.state.State.{Ghosts}
 use Rattle.tables.specs.Rows.{Chunk, Tables}
-use Rattle.tables.specs.declared.chunks.ChunkRow.{ChunkRow}
 use Rattle.tables.specs.declared.fault.StoreFault.{StoreFault}
+use Rattle.store.specs.Content.{content_bytes, IsContentOf}
+use Rattle.store.specs.declared.content.ChunkContent.{ChunkContent}
 use Rattle.store.specs.Shown.{IsHonest, IsOpen, HasTables, shown, Moves}
 use Rattle.tables.specs.Statements.{is_chunk}
-use Rattle.tables.specs.Staging.{chunk_bytes, IsChunkOf}
 use Rattle.refinement.specs.Objects.{chunk_kept, piece_rows, HasPieces}
 use Rattle.refinement.specs.Staging.{Stores}
 use Rattle.refinement.proofs.Pieces.{chunk_found}
@@ -181,14 +181,14 @@ poured_part cause old mid new written n k pieces bytes h at t =
 -- ---- the chunk that was read
 
 module _ {S : Type 0} (g : Ghosts S) (a b c : S) (id : ℤ) (n : ℕ) where
-  pub piece_read : (found : Option ChunkRow) → Moves g (λ t. t) a b → (IsHonest g c → IsHonest g b) → (IsHonest g c → HasTables g b → IsOpen g b × IsChunkOf found (find (is_chunk id (pos n)) (shown g b).chunks))
-      → IsHonest g c → HasTables g a → (pieces : List (List ℕ)) → HasPieces id pieces (shown g a).chunks → option_map chunk_bytes found ≡ slice_get pieces n
+  pub piece_read : (found : Option ChunkContent) → Moves g (λ t. t) a b → (IsHonest g c → IsHonest g b) → (IsHonest g c → HasTables g b → IsOpen g b × IsContentOf found (find (is_chunk id (pos n)) (shown g b).chunks))
+      → IsHonest g c → HasTables g a → (pieces : List (List ℕ)) → HasPieces id pieces (shown g a).chunks → option_map content_bytes found ≡ slice_get pieces n
   piece_read found moves honest answers k h pieces has =
       let it = answers k (moves.ready h) in
       it.1 ∙ ap (λ (t : Tables). option_map (λ (x : Chunk). x.bytes) (find (is_chunk id (pos n)) t.chunks)) (moves.shows (honest k) h it.0) ∙ piece_at id pieces (shown g a).chunks n has
 
   -- a chunk is read only while the store is open
-  pub was_open : (found : Option ChunkRow) → Moves g (λ t. t) a b → (IsHonest g c → IsHonest g b) → (IsHonest g c → HasTables g b → IsOpen g b × IsChunkOf found (find (is_chunk id (pos n)) (shown g b).chunks))
+  pub was_open : (found : Option ChunkContent) → Moves g (λ t. t) a b → (IsHonest g c → IsHonest g b) → (IsHonest g c → HasTables g b → IsOpen g b × IsContentOf found (find (is_chunk id (pos n)) (shown g b).chunks))
       → IsHonest g c → HasTables g a → IsOpen g a
   was_open found moves honest answers k h = moves.was_open (honest k) (answers k (moves.ready h)).0
 

@@ -5,13 +5,14 @@ ghost use Rattle.std.specs.Io.KnownBytes.{Appends};
 ghost use Rattle.names.specs.Streams.{HasGrown};
 ghost use Rattle.tables.specs.Rows.{Chunk};
 ghost use Rattle.tables.specs.Statements.{is_chunk};
-ghost use Rattle.tables.specs.Staging.{upload_number, chunk_bytes, IsChunkOf};
+ghost use Rattle.tables.specs.Staging.{upload_number};
+ghost use Rattle.store.specs.Content.{IsContentOf};
 ghost use Rattle.store.specs.Shown.{IsHonest, IsOpen, HasTables, shown, Moves, AddsNothing};
 ghost use Rattle.chunks.specs.Pouring.{TookFront, TookAll, IsCause, OfBytes};
 
 use names::{Sink, write_whole};
-use store::Store;
-use tables::{ChunkRow, StoreFault, UploadId};
+use store::{ChunkContent, Store};
+use tables::{StoreFault, UploadId};
 use thiserror::Error;
 
 /// Why the bytes of an upload were not written to their end.
@@ -40,9 +41,9 @@ fn read_chunk<S: Store>(
     upload: UploadId,
     n: u32,
     written: u64,
-) -> Result<Option<ChunkRow>, PourFault>
+) -> Result<Option<ChunkContent>, PourFault>
     ensures answers { IsHonest S.State store.new → HasTables S.State store.old → IfOk result
-        (λ found. IsOpen S.State store.old × IsChunkOf found
+        (λ found. IsOpen S.State store.old × IsContentOf found
         (find (is_chunk (upload_number upload) (pos n)) (shown S.State store.old).chunks)) }
     ensures same { Moves S.State (λ t. t) store.old store.new }
     ensures adds { AddsNothing S.State store.old store.new }

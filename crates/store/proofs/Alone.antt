@@ -43,6 +43,18 @@ module _ {S : Type 0} (g : trees.Ghosts S) (old new : tables.Store S) where
       answered (Ok x) it = (it.0, says (database.shown g old) x it.1)
       answered (Err f) it = tt
 
+  -- the same, if its value is made into another one
+  module _ {T U : Type 0} (P : Tables → T → Type 0) (Q : Tables → U → Type 0) where
+    pub reads_ok : (x : T) (y : U) → ((t : Tables) → P t x → Q (normal t) y) → database.Reads g old new (Ok x) P → Reads (alone g) old new (Ok y) Q
+    reads_ok x y says e = record {
+      answers = λ k h. let it = e.answers k h.kept in (it.0, says (database.shown g old) it.1);
+      same = still_moves e.same;
+      adds = adds_nothing e.adds;
+    }
+
+    pub reads_err : (fault : StoreFault) → database.Reads g old new (Err fault) P → Reads (alone g) old new (Err fault) Q
+    reads_err fault e = record { answers = λ k h. tt; same = still_moves e.same; adds = adds_nothing e.adds }
+
   module _ (step after : Tables → Tables) (agree : (t : Tables) → normal (step t) ≡ after (normal t)) where
     moves : database.Moves g step old new → Moves (alone g) after old new
     moves m = record {

@@ -1,5 +1,5 @@
--- Sorted lists: filtered, with more elements at the end, and searched.
-use Rattle.std.proofs.Common.{◌≡◌, Bool, true, false, cond, List, [], ◌∷◌, ◌++◌, filter, find, Some, refl, sym, ap, ◌∙◌, Ordering, Less, Equal, Greater, is_gt, true≢false}
+-- Sorted lists: filtered, with more elements at the end, in another order, and searched, for proofs in other crates.
+use Rattle.std.proofs.Common.{◌≡◌, ◌⊎◌, inl, inr, Bool, true, false, cond, List, [], ◌∷◌, ◌++◌, filter, find, Some, refl, sym, ap, ◌∙◌, Ordering, Less, Equal, Greater, is_gt, true≢false}
 use Rattle.std.specs.List.{AllByRecursion}
 use Rattle.std.specs.Cmp.{IsTotalOrder}
 use Rattle.std.specs.Ordering.{ordering_reverse}
@@ -111,6 +111,33 @@ module _ {X : Type 0} (cmp : X → X → Ordering) (total : IsTotalOrder cmp) wh
   -- a list that was sorted before more was added is sorted as one that was not
   pub sort-sorted : (xs ys : List X) → sort_by cmp (sort_by cmp xs ++ ys) ≡ sort_by cmp (xs ++ ys)
   sort-sorted xs ys = sort-append (sort_by cmp xs) ys ∙ inserted-sort xs (sort_by cmp ys) ∙ sym (sort-append xs ys)
+
+  -- ---- in another order
+
+  -- the two do not come at one place in the order
+  abbrev pub Differ : X → X → Type 0
+  Differ x y = (is_gt (cmp x y) ≡ true) ⊎ (is_gt (cmp y x) ≡ true)
+
+  either_first : (x y : X) (l : List X) → Differ x y → insert_sorted cmp x (insert_sorted cmp y l) ≡ insert_sorted cmp y (insert_sorted cmp x l)
+  either_first x y l (inl gt) = sym (swapped x y l gt)
+  either_first x y l (inr gt) = swapped y x l gt
+
+  insert-inserted : (x : X) (ys l : List X) → AllByRecursion (Differ x) ys → insert_sorted cmp x (inserted ys l) ≡ inserted ys (insert_sorted cmp x l)
+  insert-inserted x [] l apart = refl
+  insert-inserted x (y ∷ ys) l apart = either_first x y (inserted ys l) apart.0 ∙ ap (insert_sorted cmp y) (insert-inserted x ys l apart.1)
+
+  inserted-swap : (xs ys l : List X) → AllByRecursion (λ x. AllByRecursion (Differ x) ys) xs → inserted xs (inserted ys l) ≡ inserted ys (inserted xs l)
+  inserted-swap [] ys l apart = refl
+  inserted-swap (x ∷ xs) ys l apart = ap (insert_sorted cmp x) (inserted-swap xs ys l apart.1) ∙ insert-inserted x ys (inserted xs l) apart.0
+
+  -- elements that come at other places in the order than some others may be listed before or after them
+  pub sort-swap : (xs ys zs : List X) → AllByRecursion (λ x. AllByRecursion (Differ x) ys) xs → sort_by cmp (xs ++ (ys ++ zs)) ≡ sort_by cmp (ys ++ (xs ++ zs))
+  sort-swap xs ys zs apart =
+      sort-append xs (ys ++ zs)
+      ∙ ap (inserted xs) (sort-append ys zs)
+      ∙ inserted-swap xs ys (sort_by cmp zs) apart
+      ∙ ap (inserted ys) (sym (sort-append xs zs))
+      ∙ sym (sort-append ys (xs ++ zs))
 
   -- ---- searched
 

@@ -13,7 +13,7 @@ use Rattle.sqlite_keyed.proofs.SortLemmas.{sort_by-map}
 use Rattle.tables.specs.Rows.{Chunk, Upload, Lock, Token, Tables}
 use Rattle.tables.specs.Statements.{is_of, is_of_from, is_chunk, is_staged_in, is_object, with_lock, with_chunk, with_upload, with_done, with_token, with_retired, without_lock, without_expired, without_row, without_chunks, without_chunks_from}
 use Rattle.tables.specs.Steps.{Outcome, held, used_up, created, used_of, after_outcome, outcome_of, after_create, with_new_lock, with_made, has_token, after_add}
-use Rattle.tables.specs.Staging.{AreUploadsOf, IsChunkOf, objects_of, staged_with, without_upload, without_found, without_found_from, without_staged, without_staged_from, without_staged_in, after_begin, with_used, with_bytes, with_last, with_kept, completion_by, after_completion, after_found, after_complete}
+use Rattle.tables.specs.Staging.{AreUploadsOf, chunk_bytes, IsChunkOf, objects_of, staged_with, without_upload, without_found, without_found_from, without_staged, without_staged_from, without_staged_in, after_begin, with_used, with_bytes, with_last, with_kept, completion_by, after_completion, after_found, after_complete}
 use Rattle.tables.specs.Retiring.{without_object, without_found_object, after_retire}
 use Rattle.tables.specs.Discarding.{recounted, without_discarded, after_discard}
 use Rattle.tables.specs.declared.chunks.ChunkRow.{ChunkRow}
@@ -21,7 +21,10 @@ use Rattle.tables.specs.declared.new_rows.LastChunk.{LastChunk}
 use Rattle.tables.specs.declared.rows.Completion.{Completion}
 use Rattle.tables.specs.declared.rows.UploadRow.{UploadRow}
 use Rattle.tables.specs.declared.rows.Completion.TheVariants as completion
+use Rattle.store.specs.Content.{content_bytes, IsContentOf}
 use Rattle.store.specs.Normal.{placeless, chunk_cmp, arranged, normal}
+use Rattle.store.specs.declared.content.ChunkContent.{ChunkContent}
+use Rattle.store.specs.declared.content.ChunkContent.TheVariants as content
 use Rattle.store.proofs.Sorted.{filter-sort, sort-sorted, find-sort}
 
 pub chunk_total : IsTotalOrder chunk_cmp
@@ -87,10 +90,18 @@ find_placeless p same (c ∷ cs) =
     at true rest = refl
     at false rest = rest
 
-pub chunk-found : (id n : ℤ) (t : Tables) (found : Option ChunkRow) → IsChunkOf found (find (is_chunk id n) t.chunks) → IsChunkOf found (find (is_chunk id n) (arranged t.chunks))
+chunk-found : (id n : ℤ) (t : Tables) (found : Option ChunkRow) → IsChunkOf found (find (is_chunk id n) t.chunks) → IsChunkOf found (find (is_chunk id n) (arranged t.chunks))
 chunk-found id n t found is =
     is ∙ sym (ap (option_map (λ (k : Chunk). k.bytes)) (find-sort chunk_cmp chunk_total (is_chunk id n) (one_place id n) (map placeless t.chunks))
     ∙ find_placeless (is_chunk id n) refl t.chunks)
+
+read_row : (row : Option ChunkRow) → option_map content_bytes (option_map content.Row row) ≡ option_map chunk_bytes row
+read_row None = refl
+read_row (Some row) = refl
+
+pub content-found : (id n : ℤ) (t : Tables) (row : Option ChunkRow) (found : Option ChunkContent) → found ≡ option_map content.Row row
+    → IsChunkOf row (find (is_chunk id n) t.chunks) → IsContentOf found (find (is_chunk id n) (arranged t.chunks))
+content-found id n t row found same is = ap (option_map content_bytes) same ∙ read_row row ∙ chunk-found id n t row is
 
 -- objects are found whatever the order of the chunks
 pub objects-found : (repo : Option (List ℕ)) (t : Tables) (rows : List UploadRow) → AreUploadsOf rows (objects_of repo t) → AreUploadsOf rows (objects_of repo (normal t))

@@ -1,3 +1,4 @@
 pub mod Normal
 pub mod Shown
+pub mod Content
 pub mod Database

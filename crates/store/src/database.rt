@@ -2,13 +2,14 @@
 
 ghost use Rattle.store.specs.Database.{alone};
 
+use crate::content::{ChunkContent, content_in};
 use crate::state::State;
 use crate::store::Store;
 use names::{LockId, LockPath, Moment, Oid, RefName, RepoName, Size, UserName};
 use std::alloc::Global;
 use tables::{
-    Alter, ChunkRow, Completion, Creation, LastChunk, LockRow, NewLock, NewToken, NewUpload,
-    ObjectRow, StoreFault, TokenRow, UploadId, UploadRow,
+    Alter, Completion, Creation, LastChunk, LockRow, NewLock, NewToken, NewUpload, ObjectRow,
+    StoreFault, TokenRow, UploadId, UploadRow,
 };
 
 impl<S: Alter> State for tables::Store<S> {
@@ -131,8 +132,11 @@ impl<S: Alter> Store for tables::Store<S> {
         tables::Store::begin_upload(self, alloc, upload)
     }
 
-    fn chunk(&mut self, upload: UploadId, n: u32) -> Result<Option<ChunkRow>, StoreFault> {
-        tables::Store::chunk(self, upload, n)
+    fn chunk(&mut self, upload: UploadId, n: u32) -> Result<Option<ChunkContent>, StoreFault> {
+        match tables::Store::chunk(self, upload, n) {
+            Ok(row) => Ok(content_in(row)),
+            Err(fault) => Err(fault),
+        }
     }
 
     fn add_chunk(&mut self, upload: UploadId, n: u32, bytes: &[u8]) -> Result<(), StoreFault> {

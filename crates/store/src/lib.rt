@@ -2,9 +2,11 @@
 //! makes, and what a stop leaves. Everything above works on a [`Store`]; [`tables::Store`] is one, over a database alone.
 #![tactic(auto)]
 
+mod content;
 mod database;
 mod state;
 mod store;
 
+pub use content::ChunkContent;
 pub use state::State;
 pub use store::Store;

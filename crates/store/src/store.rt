@@ -4,18 +4,20 @@ ghost use Rattle.std.specs.Prelude.{◌≡◌, ⊤, length, pos, not, find, filt
 ghost use Rattle.names.specs.Names.{repo_text, ref_text, path_text, user_text};
 ghost use Rattle.tables.specs.Statements.{is_at, has_id, is_in, is_from, by_id, has_digest, is_held_by, is_for, has_expired, is_object, is_staged, is_chunk, is_retired_as, is_retired_in, by_oid, with_chunk, without_lock, without_expired};
 ghost use Rattle.tables.specs.Steps.{IsLockOf, AreLocksOf, made_of, used_of, asked_lock, outcome_of, read_creation, after_create, IsTokenOf, AreTokensOf, asked_token, has_token, after_add};
-ghost use Rattle.tables.specs.Staging.{upload_number, asked_chunk, IsChunkOf, staged_with, IsObjectOf, AreUploadsOf, objects_of, without_staged, without_staged_from, completion_of, after_complete};
+ghost use Rattle.tables.specs.Staging.{upload_number, asked_chunk, staged_with, IsObjectOf, AreUploadsOf, objects_of, without_staged, without_staged_from, completion_of, after_complete};
 ghost use Rattle.tables.specs.Retiring.{after_retire, AreNamesOf};
 ghost use Rattle.tables.specs.Discarding.{after_discard};
+ghost use Rattle.store.specs.Content.{IsContentOf};
 ghost use Rattle.store.specs.Normal.{normal};
 ghost use Rattle.store.specs.Shown.{Reads, Changes, PutsOr, Begins, Finds};
 
+use crate::content::ChunkContent;
 use crate::state::State;
 use names::{LockId, LockPath, Moment, Oid, RefName, RepoName, Size, UserName};
 use std::alloc::Global;
 use tables::{
-    ChunkRow, Completion, Creation, LastChunk, LockRow, NewLock, NewToken, NewUpload, ObjectRow,
-    StoreFault, TokenRow, UploadId, UploadRow,
+    Completion, Creation, LastChunk, LockRow, NewLock, NewToken, NewUpload, ObjectRow, StoreFault,
+    TokenRow, UploadId, UploadRow,
 };
 
 /// A store of the tables. Each change is one transaction.
@@ -241,9 +243,9 @@ pub trait Store: State {
     /// # Errors
     ///
     /// `Refused` or `Memory`. The tables are unchanged in any case.
-    fn chunk(&mut self, upload: UploadId, n: u32) -> Result<Option<ChunkRow>, StoreFault>
+    fn chunk(&mut self, upload: UploadId, n: u32) -> Result<Option<ChunkContent>, StoreFault>
         ensures { Reads Self.State self.old self.new result
-            (λ t found. IsChunkOf found
+            (λ t found. IsContentOf found
             (find (is_chunk (upload_number upload) (pos n)) t.chunks)) };
 
     /// Adds a chunk to the upload, under this number. The numbers of an upload's chunks count from 0 up. Until the

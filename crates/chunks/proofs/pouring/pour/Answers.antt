@@ -1,6 +1,6 @@
 use Rattle.std.proofs.Common.{◌≡◌, ◌+◌, inl, inr, subst, List, ℕ, Some, slice_get, option_map, arith, refl, sym, ap, ◌∙◌}
 use Rattle.std.proofs.KnownBytes.{Appends-nil}
-use Rattle.tables.specs.Staging.{chunk_bytes}
+use Rattle.store.specs.Content.{content_bytes}
 use Rattle.tables.specs.declared.fault.StoreFault.TheVariants.{Refused}
 use Rattle.store.proofs.Moved.{moves_none, nothing_none, moves_then, nothing_then}
 use Rattle.chunks.specs.Pouring.{TookFront, TookAll}
@@ -31,7 +31,7 @@ chunks-preserved g c =
       begun = λ clean ready. inr (was_open g.S.State a b d c.args.upload.number c.chunks.n c.in-Ok-Some.field-0 inv.same read.same.was_honest read.answers clean ready);
       poured = λ clean ready pieces has.
           let at = piece_read g.S.State a b d c.args.upload.number c.chunks.n c.in-Ok-Some.field-0 inv.same read.same.was_honest read.answers clean ready pieces has in
-          let here : slice_get pieces c.chunks.n ≡ Some c.bytes.result.now = sym at ∙ ap (option_map chunk_bytes) c.in-Ok-Some.field-0-is ∙ ap Some (sym c.bytes.ensures) in
+          let here : slice_get pieces c.chunks.n ≡ Some c.bytes.result.now = sym at ∙ ap (option_map content_bytes) c.in-Ok-Some.field-0-is ∙ ap Some (sym c.bytes.ensures) in
           poured_more (g.K.Sink.taken c.args.sink.now) (g.K.Sink.taken c.chunks.sink) (g.K.Sink.taken c.write_bytes.new.sink) c.chunks.written c.in-Ok.total c.chunks.n pieces c.bytes.result.now (inv.poured (read.same.was_honest clean) ready pieces has) here wrote.all.0 wrote.all.1;
     }
 
@@ -45,7 +45,7 @@ returns-in-Err-write_bytes-clause-part g c clean ready bytes stores =
     let has = st.1 in
     let part = c.in-Err-write_bytes.ensures.part in
     let at = piece_read g.S.State c.args.store.now c.chunks.store c.read_chunk.new.store c.args.upload.number c.chunks.n c.in-Ok-Some.field-0 inv.same read.same.was_honest read.answers clean ready pieces has in
-    let here : slice_get pieces c.chunks.n ≡ Some c.bytes.result.now = sym at ∙ ap (option_map chunk_bytes) c.in-Ok-Some.field-0-is ∙ ap Some (sym c.bytes.ensures) in
+    let here : slice_get pieces c.chunks.n ≡ Some c.bytes.result.now = sym at ∙ ap (option_map content_bytes) c.in-Ok-Some.field-0-is ∙ ap Some (sym c.bytes.ensures) in
     rw part.1 (subst (λ (bs : List ℕ). TookFront c.in-Err-write_bytes.fault.cause (g.K.Sink.taken c.args.sink.now) (g.K.Sink.taken c.write_bytes.new.sink) bs (c.chunks.written + part.0)) st.2 (poured_part c.in-Err-write_bytes.fault.cause (g.K.Sink.taken c.args.sink.now) (g.K.Sink.taken c.chunks.sink) (g.K.Sink.taken c.write_bytes.new.sink) c.chunks.written c.chunks.n part.0 pieces c.bytes.result.now (inv.poured (read.same.was_honest clean) ready pieces has) here part.2))
 
 pub returns-in-Err-write_bytes-clause-fault : goal.returns-in-Err-write_bytes-clause-fault
@@ -66,7 +66,7 @@ returns-in-Ok-None-clause-all g c clean ready bytes stores =
     let pieces = st.0 in
     let has = st.1 in
     let at = piece_read g.S.State c.args.store.now c.chunks.store c.read_chunk.new.store c.args.upload.number c.chunks.n c.in-Ok-None.field-0 inv.same read.same.was_honest read.answers clean ready pieces has in
-    subst (λ (bs : List ℕ). TookAll (g.K.Sink.taken c.args.sink.now) (g.K.Sink.taken c.chunks.sink) c.chunks.written bs) st.2 (poured_all (g.K.Sink.taken c.args.sink.now) (g.K.Sink.taken c.chunks.sink) c.chunks.written c.chunks.n pieces (inv.poured (read.same.was_honest clean) ready pieces has) (sym at ∙ ap (option_map chunk_bytes) c.in-Ok-None.field-0-is))
+    subst (λ (bs : List ℕ). TookAll (g.K.Sink.taken c.args.sink.now) (g.K.Sink.taken c.chunks.sink) c.chunks.written bs) st.2 (poured_all (g.K.Sink.taken c.args.sink.now) (g.K.Sink.taken c.chunks.sink) c.chunks.written c.chunks.n pieces (inv.poured (read.same.was_honest clean) ready pieces has) (sym at ∙ ap (option_map content_bytes) c.in-Ok-None.field-0-is))
 
 pub returns-in-Ok-None-clause-same : goal.returns-in-Ok-None-clause-same
 returns-in-Ok-None-clause-same g c = moves_then g.S.State c.args.store.now c.chunks.store c.read_chunk.new.store c.chunks.invariant.same c.read_chunk.ensures.same
