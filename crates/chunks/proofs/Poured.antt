@@ -192,6 +192,17 @@ module _ {S : Type 0} (g : Ghosts S) (a b c : S) (id : ℤ) (n : ℕ) where
       → IsHonest g c → HasTables g a → IsOpen g a
   was_open found moves honest answers k h = moves.was_open (honest k) (answers k (moves.ready h)).0
 
+  -- the chunk that was read is hashed after those before it
+  pub hashed_next : (found : Option ChunkContent) (chunk : ChunkContent) (old new : Sha256) (count total : ℕ) → found ≡ Some chunk → Moves g (λ t. t) a b → (IsHonest g c → IsHonest g b)
+      → (IsHonest g c → HasTables g b → IsOpen g b × IsContentOf found (find (is_chunk id (pos n)) (shown g b).chunks))
+      → (IsHonest g b → HasTables g a → (pieces : List (List ℕ)) → HasPieces id pieces (shown g a).chunks → HasHashed old count n pieces)
+      → total ≡ count + length (content_bytes chunk) → ((front : List ℕ) → Holds256 old front → Holds256 new (front ++ content_bytes chunk))
+      → IsHonest g c → HasTables g a → (pieces : List (List ℕ)) → HasPieces id pieces (shown g a).chunks → HasHashed new total (n + 1) pieces
+  hashed_next found chunk old new count total is moves honest answers hashed sum holds k h pieces has =
+      let at = sym (piece_read found moves honest answers k h pieces has) ∙ ap (option_map content_bytes) is in
+      let before = hashed (honest k) h pieces has in
+      hashed_more old new count total n pieces (content_bytes chunk) before at sum (holds (concat (take n pieces)) before.counted.hashed)
+
 -- ---- of the bytes that the store has
 
 module _ {S : Type 0} (g : Ghosts S) (fault : StoreFault) (a : S) (id : ℤ) (old new : Option (List ℕ)) (written n : ℕ) where
