@@ -133,7 +133,8 @@ module _ {S : Type 0} (g : Ghosts S) where
       laws = h.laws;
       shows = λ k o.
           let honest = p.moves.was_honest k in
-          subst (λ (t : Tables). Represents t world) (sym (p.moves.shows k h.ready o)) (would honest (p.was_open k) (h.shows honest (p.was_open k)));
+          let opened = p.moves.was_open k o in
+          subst (λ (t : Tables). Represents t world) (sym (p.moves.shows k h.ready o)) (would honest opened (h.shows honest opened));
     };
     left = λ bound was. record {
       safe = λ k. (p.adds h.ready).safe k (was.safe (p.moves.was_honest k));
