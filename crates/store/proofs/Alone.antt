@@ -73,7 +73,6 @@ module _ {S : Type 0} (g : trees.Ghosts S) (old new : tables.Store S) where
     puts : database.Makes g step old new → Puts (alone g) after old new
     puts m = record {
       moves = moves m.moves;
-      is_open = λ k h. m.is_open k;
       adds = λ h. record {
         was_honest = m.moves.was_honest;
         outcomes = λ k t left. inr (

@@ -78,7 +78,6 @@ module _ {S : Type 0} (g : Ghosts S) where
   -- a call made this step, of which a stop may still leave nothing
   pub record Puts (step : Tables → Tables) (old new : S) : Type 0 where
     pub moves : Moves step old new
-    pub is_open : IsHonest new → HasTables old → IsOpen new
     pub adds : HasTables old → Adds step old new
 
   -- a call changed nothing, but a stop now may still leave tables so related to those before
