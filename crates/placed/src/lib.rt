@@ -1,0 +1,13 @@
+//! A store whose contents are in a file beside its database.
+#![tactic(auto)]
+
+mod beginning;
+mod calls;
+mod completing;
+mod place;
+mod placed;
+mod reading;
+mod receiving;
+mod staged;
+
+pub use placed::Placed;
