@@ -4,7 +4,6 @@
 //! |---|---|
 //! | `schema_compare` | `schema_compare_tests` |
 //! | `tables` | `tables_tests` |
-//! | `placed` | `placed_tests` |
 //! | `desk` | `desk_tests` |
 //! | `service` | `service_tests` |
 //!
@@ -17,8 +16,6 @@
 mod desk_tests;
 #[cfg(test)]
 mod harness;
-#[cfg(test)]
-mod placed_tests;
 #[cfg(test)]
 mod schema_compare_tests;
 #[cfg(test)]
