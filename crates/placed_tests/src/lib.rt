@@ -1,0 +1,7 @@
+//! Tests of `placed`, through its public items, over a database and a file in memory.
+#![tactic(auto)]
+
+#[cfg(test)]
+mod beside_rows;
+#[cfg(test)]
+mod harness;
