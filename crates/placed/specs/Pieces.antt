@@ -7,7 +7,7 @@ use Rattle.tables.specs.Staging.{asked_chunk}
 abbrev pub piece_size : ℕ
 piece_size = 65536
 
--- these bytes in pieces of this size, at most so many, as chunks with the numbers from n on
+-- these bytes as chunks of the upload: no more than `most` pieces, each of `size` bytes or the rest, numbered from n
 abbrev pub cut_into : (most size : ℕ) → ℤ → ℕ → List ℕ → List Chunk
 cut_into zero size upload n bytes = []
 cut_into (suc most) size upload n [] = []

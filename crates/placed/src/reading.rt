@@ -12,7 +12,7 @@ use tables::StoreFault;
 /// How many bytes a piece has; the last one of a content may have fewer.
 pub(crate) const PIECE: u64 = 65_536;
 
-/// Reads the piece with this number of the content in a region, if it has so many.
+/// Returns piece `n` of the content in a region; `None` if the content ends before it.
 ///
 /// # Errors
 ///

@@ -20,14 +20,14 @@ fn size(rt: &impl Tester, n: u64) -> Size {
     unwrap(rt, Size::read(n).ok_or(()))
 }
 
-/// So many bytes of this value.
+/// Returns `len` bytes of this value.
 fn bytes_of(rt: &impl Tester, byte: u8, len: usize) -> Vec<u8> {
     let mut bytes = Vec::new(rt.alloc());
     unwrap(rt, bytes.resize(len, byte));
     bytes
 }
 
-/// Begins an upload of so many bytes.
+/// Begins an upload of `len` bytes, and returns its id.
 fn begun(rt: &impl Tester, store: &mut impl Store, name: &str, len: u64) -> UploadId {
     let (repo, oid) = (repo(rt, name), oid(rt, HERO));
     let upload = NewUpload {
@@ -38,7 +38,7 @@ fn begun(rt: &impl Tester, store: &mut impl Store, name: &str, len: u64) -> Uplo
     unwrap(rt, store.begin_upload(rt.alloc(), &upload))
 }
 
-/// Completes an upload of so many bytes, of which these are the last.
+/// Completes an upload of `len` bytes whose last chunk is `last`.
 fn completed(
     rt: &impl Tester,
     store: &mut impl Store,
@@ -68,7 +68,7 @@ fn stored(rt: &impl Tester, store: &mut impl Store, name: &str, byte: u8) -> Upl
     id
 }
 
-/// Whether the piece with this number has so many bytes of this value.
+/// Whether piece `n` exists and has `piece.1` bytes, each of the value `piece.0`.
 fn has(rt: &impl Tester, store: &mut impl Store, id: UploadId, n: u32, piece: (u8, usize)) -> bool {
     match unwrap(rt, store.chunk(id, n)) {
         Some(found) => found.bytes() == bytes_of(rt, piece.0, piece.1).as_slice(),
