@@ -2,7 +2,7 @@
 
 use crate::fault::Fault;
 use std::alloc::Global;
-use tables::{Migrated, OpenFault, Storage, Store};
+use tables::{Layout, Migrated, OpenFault, Storage, Store};
 
 /// The line of a schema that is not ours.
 fn line(alloc: Global, fault: OpenFault) -> Result<String, Fault> {
@@ -14,7 +14,7 @@ fn line(alloc: Global, fault: OpenFault) -> Result<String, Fault> {
 
 /// Creates or checks the tables.
 fn create<S: Storage>(alloc: Global, store: &mut Store<S>) -> Result<String, Fault> {
-    match store.create_or_check(alloc) {
+    match store.create_or_check(alloc, Layout::Rows) {
         Ok(()) => Ok(String::new(alloc)),
         Err(fault) => line(alloc, fault),
     }

@@ -5,3 +5,5 @@
 mod beside_rows;
 #[cfg(test)]
 mod harness;
+#[cfg(test)]
+mod layouts;

@@ -19,7 +19,7 @@ use std::os::unix::net::UnixStream;
 use std::rt::HostRuntime;
 use std::str;
 use std::time::{Duration, Instant};
-use tables::{Alter, LastChunk, NewUpload, Store};
+use tables::{Alter, LastChunk, Layout, NewUpload, Store};
 
 /// Where nobody calls.
 const ANY: &str = "127.0.0.1:0";
@@ -200,7 +200,7 @@ fn serve(
     damaged: &[&[u8; 64]],
 ) -> Result<Finish, Fault> {
     let mut store = unwrap(rt, Store::open_memory(rt.alloc()));
-    unwrap(rt, store.create_or_check(rt.alloc()));
+    unwrap(rt, store.create_or_check(rt.alloc(), Layout::Rows));
     store_damaged(rt, &mut store, damaged);
     let routes = unwrap(rt, Routes::new(rt.alloc()));
     let server = Server {

@@ -1,6 +1,7 @@
 -- The effect of a change of the tables on the world.
 use Rattle.refinement.proofs.Prelude.{◌≡◌, ℕ, ◌+◌, ℤ, pos, Bool, true, false, List, [], ◌∷◌, ◌++◌, map, find, cond, bytes_eq, refl, sym, ap, ◌∙◌, subst, IsPermutation, map-append, IsPermutation-refl, IsPermutation-trans, IsPermutation-cons, IsPermutation-to_front, bytes_eq-Decides, next_key, World, Lock, with_lock, one_more, nothing, Tables, made_in, made_of, set_made, fresh, DiffersInRepo, lock_kept, lock_row, Represents}
 use Rattle.sqlite.specs.Schema.{Schema}
+use Rattle.tables.specs.Layout.{current}
 use Rattle.tables.specs.Rows as row
 use Rattle.tables.specs.Statements.{is_named, with_lock as with_lock_row}
 use Rattle.tables.specs.Steps.{with_made, with_new_lock}
@@ -9,7 +10,7 @@ use Rattle.refinement.proofs.Sorting.{into_pairs}
 
 -- ---- the tables of a new database
 
-pub fresh_represented : (schema : Schema) → Represents (fresh schema) nothing
+pub fresh_represented : (schema : Schema) → Represents (fresh current schema) nothing
 fresh_represented schema = record {
   meta = refl;
   locks = IsPermutation-refl [];

@@ -24,20 +24,22 @@ use Rattle.store.proofs.Alone.{has_tables}
 use Rattle.refinement.proofs.Rearranged.{to_normal, among_normal}
 use Rattle.refinement.specs.Representation.{RepresentedFirst}
 use Rattle.tables.specs.Rows.{meta}
+use Rattle.tables.specs.declared.layout.Layout.TheVariants.{Rows}
 use Rattle.tables.specs.Layout.{version_one, current}
 use Rattle.tables.specs.Schemas.{HasAll}
-use Rattle.tables.proofs.Opened.{kept_is_sound, kept_some, all_of, shown_once, not_none}
+use Rattle.tables.proofs.Numbers.{all_with_number}
+use Rattle.tables.proofs.Opened.{kept_is_sound, kept_some, shown_once, not_none}
 use Rattle.refinement.specs.Opening.{Accepts, HoldsAmong, IsAt, IsAtOne, MigratesBy}
 use Rattle.refinement.proofs.Changes.{fresh_represented}
 
 module _ {S : Type 0} (g : Ghosts S) (old new : Store S) where
   -- the contract of `create_or_check` on a store that it accepted
-  pub accepts : {T E : Type 0} (r : Result T E) → OnOk r (HasTables g new) → (IsHonest g new → OnOk r (IsOpen g new → (shown g new).meta ≡ current_meta ∷ [])) → (IsHonest g new → OnOk r ((HasNoTable g old × (shown g new ≡ fresh_on g old)) ⊎ Rests g old new)) → (IsHonest g new → OnOk r (IsSafe g new))
-      → (IsHonest g new → OnOk r ((t : Tables) → Leaves g new t → (HasNoTable g old × (t ≡ fresh_on g old)) ⊎ (HasOurs g old × (t ≡ shown g old)))) → OnOk r (Accepts g old new)
+  pub accepts : {T E : Type 0} (r : Result T E) → OnOk r (HasTables g new) → (IsHonest g new → OnOk r (IsOpen g new → (shown g new).meta ≡ current_meta ∷ [])) → (IsHonest g new → OnOk r ((HasNoTable g old × (shown g new ≡ fresh_on g current old)) ⊎ Rests g old new)) → (IsHonest g new → OnOk r (IsSafe g new))
+      → (IsHonest g new → OnOk r ((t : Tables) → Leaves g new t → (HasNoTable g old × (t ≡ fresh_on g current old)) ⊎ (HasOurs g current old × (t ≡ shown g old)))) → OnOk r (Accepts g old new)
   accepts (Ok x) ready version ok safe only = record { ready = ready; version = version; ok = ok; safe = safe; only = only }
   accepts (Err e) ready version ok safe only = tt
 
-  both_none : HasNoTable g old → HasOurs g old → ⊥
+  both_none : HasNoTable g old → HasOurs g current old → ⊥
   both_none none ours = kept_some _ none ours.kept
 
   pub is_new : Accepts g old new → HasNoTable g old → IsAt (alone g) new nothing
@@ -59,7 +61,7 @@ module _ {S : Type 0} (g : Ghosts S) (old new : Store S) where
     };
   }
 
-  pub is_found : Accepts g old new → (world : World) → IsWorld world → (IsHonest g new → HasOurs g old × Represents (shown g old) world) → IsAt (alone g) new world
+  pub is_found : Accepts g old new → (world : World) → IsWorld world → (IsHonest g new → HasOurs g current old × Represents (shown g old) world) → IsAt (alone g) new world
   is_found a world laws was = record {
     holds = record {
       ready = has_tables g new a.ready;
@@ -78,13 +80,13 @@ module _ {S : Type 0} (g : Ghosts S) (old new : Store S) where
     };
   }
 
-  pub is_one : Accepts g old new → HasOurs g old → (bound : Bound) → IsAmong (shown g old) bound → IsAtOne (alone g) new bound
+  pub is_one : Accepts g old new → HasOurs g current old → (bound : Bound) → IsAmong (shown g old) bound → IsAtOne (alone g) new bound
   is_one a ours [] among = among
   is_one a ours (world ∷ bound) (inl here) = inl (is_found a world here.0 (λ _. (ours, here.1)))
   is_one a ours (world ∷ bound) (inr rest) = inr (is_one a ours bound rest)
 
   -- what the committed trees show is what the store shows
-  pub committed_among : (schema : Schema) (bound : Bound) → HasOurs g old → IsSound schema (committed g old) → IsAmong (tables_under schema (committed g old)) bound → IsAmong (shown g old) bound
+  pub committed_among : (schema : Schema) (bound : Bound) → HasOurs g current old → IsSound schema (committed g old) → IsAmong (tables_under schema (committed g old)) bound → IsAmong (shown g old) bound
   committed_among schema bound ours sound = subst (λ (t : Tables). IsAmong t bound) (shown_once schema (committed g old) _ sound ours.kept (ap (λ (d : Database). d.trees) (sym ours.settled)))
 
 -- a migration that succeeded
@@ -119,6 +121,12 @@ module _ {S : Type 0} (g : Ghosts S) (old new : Store S) where
   }
   none_is_new none result.Already m = is_new g old new (as_accepted m) none
 
+-- tables that represent one of these worlds have the number of version 2
+among_number : (t : Tables) (bound : Bound) → IsAmong t bound → t.meta ≡ current_meta ∷ []
+among_number t [] none = absurd none
+among_number t (world ∷ bound) (inl here) = here.1.meta
+among_number t (world ∷ bound) (inr rest) = among_number t bound rest
+
 -- the next open can read what a stop leaves of a store
 pub left_image : {D : Type 0} {g : disk.Ghosts D} (s : Store (FileStore D g)) (bound : Bound) → IsHonest over_files s → IsBoundedBy (alone over_files) s bound → IsTrue (files.view s.conn.store).is_numbered
     → (image : Image) → (files.state s.conn.store).may_leave image → HoldsAmong image bound
@@ -128,7 +136,8 @@ left_image s bound honest b numbered image may =
     let kept = b.safe honest db found in
     let left : store.Leaves (alone over_files) s (normal (tables_of kept.0)) =
     ((tables_of kept.0, (kept.0, kept.1, subst (files.recovers s.conn.store) kept.2 found, refl), refl), kept_marked kept.0 kept.1) in
-    (kept.0.schema, all_of kept.0 kept.1, subst (IsSound kept.0.schema) (sym kept.2) (kept_is_sound kept.0 kept.1), subst (λ (t : Trees). IsAmong (tables_under kept.0.schema t) bound) (sym kept.2) (among_normal (tables_of kept.0) bound (b.among honest (normal (tables_of kept.0)) left))) in
+    let among : IsAmong (tables_of kept.0) bound = among_normal (tables_of kept.0) bound (b.among honest (normal (tables_of kept.0)) left) in
+    (kept.0.schema, all_with_number Rows kept.0 kept.1 (among_number (tables_of kept.0) bound among), subst (IsSound kept.0.schema) (sym kept.2) (kept_is_sound kept.0 kept.1), subst (λ (t : Trees). IsAmong (tables_under kept.0.schema t) bound) (sym kept.2) among) in
     ∥∥₁_map (opens_again s.conn.store numbered (λ db found. let it = sound db found in (it.0, it.2)) image may) (λ db. (db.0, db.2, sound db.0 db.1))
 
 -- what a migration did that returned this

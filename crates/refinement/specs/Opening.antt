@@ -33,10 +33,10 @@ module _ {S : Type 0} (g : trees.Ghosts S) where
   pub record Accepts (old new : tables.Store S) : Type 0 where
     pub ready : HasTables g new
     pub version : IsHonest g new → IsOpen g new → (shown g new).meta ≡ current_meta ∷ []
-    pub ok : IsHonest g new → (HasNoTable g old × (shown g new ≡ fresh_on g old)) ⊎ Rests g old new
+    pub ok : IsHonest g new → (HasNoTable g old × (shown g new ≡ fresh_on g current old)) ⊎ Rests g old new
     pub safe : IsHonest g new → IsSafe g new
     pub only : IsHonest g new → (t : Tables) → Leaves g new t
-        → (HasNoTable g old × (t ≡ fresh_on g old)) ⊎ (HasOurs g old × (t ≡ shown g old))
+        → (HasNoTable g old × (t ≡ fresh_on g current old)) ⊎ (HasOurs g current old × (t ≡ shown g old))
 
   -- the same of a migration with this result: if it migrated, the database was of version 1
   pub record MigratesBy (old new : tables.Store S) (m : Migrated) : Type 0 where

@@ -10,6 +10,7 @@ ghost use Rattle.sqlite.specs.Files.{over_files, file_state, IsNothing};
 ghost use Rattle.sqlite.specs.Start.{FindsIn};
 ghost use Rattle.model.specs.World.{World, IsWorld, nothing};
 ghost use Rattle.model.specs.Bounds.{Bound};
+ghost use Rattle.tables.specs.Layout.{current};
 ghost use Rattle.tables.specs.Shown.{connection, committed, IsHonest, HasNoTable, HasOurs, HasOld, IsForeign, IsUnknown, Rests, AddsFresh, AddsMigrated, shown};
 ghost use Rattle.refinement.specs.Representation.{Represents, RepresentedFirst};
 ghost use Rattle.tables.specs.declared.fault.OpenFault.TheVariants.{UnknownSchema};
@@ -22,10 +23,10 @@ use sqlite::{FileFrom, FileStore, Start};
 use sqlite_disk::Disk;
 use std::alloc::Global;
 use std::rt::HostRuntime;
-use tables::{Migrated, OpenFault, Storage, Store};
+use tables::{Layout, Migrated, OpenFault, Storage, Store};
 
 /// Creates the tables of a database that has none of ours, and accepts one that has them with their number; any other
-/// one, of version 1 too, is refused. The store then holds the world of a new server, or the one that the tables
+/// one, of version 1 or 3 too, is refused. The store then holds the world of a new server, or the one that the tables
 /// represent, and a stop leaves only that world.
 ///
 /// # Errors
@@ -36,22 +37,22 @@ pub fn start<S: Storage>(alloc: Global, store: &mut Store<S>) -> Result<(), Open
     ensures honest { IsHonest S.Store store.new → IsHonest S.Store store.old }
     ensures accepts { OnOk result (Accepts S.Store store.old store.new) }
     ensures unknown { IsHonest S.Store store.new → result ≡ Err UnknownSchema
-        → IsForeign S.Store store.old }
+        → IsForeign S.Store current store.old }
     ensures fresh { HasNoTable S.Store store.old
         → OnOk result (IsAt (alone S.Store) store.new nothing) }
     ensures empty { IsHonest S.Store store.new → committed S.Store store.old catalog_tree ≡ []
         → OnOk result (IsAt (alone S.Store) store.new nothing) }
     ensures found { (world : World) → IsWorld world
         → (IsHonest S.Store store.new
-        → HasOurs S.Store store.old × Represents (shown S.Store store.old) world)
+        → HasOurs S.Store current store.old × Represents (shown S.Store store.old) world)
         → OnOk result (IsAt (alone S.Store) store.new world) }
     ensures again { IsHonest S.Store store.new → (bound : Bound)
         → AreAmong (committed S.Store store.old) bound
         → OnOk result (IsAtOne (alone S.Store) store.new bound) }
     ensures err { IsHonest S.Store store.new → OnErr result (Rests S.Store store.old store.new) }
-    ensures stop { AddsFresh S.Store store.old store.new }
+    ensures stop { AddsFresh S.Store current store.old store.new }
 {
-    store.create_or_check(alloc)
+    store.create_or_check(alloc, Layout::Rows)
 }
 
 /// Migrates a database of version 1, and treats any other as [`start`] does. The rows of version 1 represent the world
@@ -74,7 +75,7 @@ pub fn migrate<S: Storage>(alloc: Global, store: &mut Store<S>) -> Result<Migrat
         → OnOk result (IsAt (alone S.Store) store.new nothing) }
     ensures found { IsHonest S.Store store.new → result ≡ Ok Migrated.Already
         → (world : World) → IsWorld world
-        → HasOurs S.Store store.old → Represents (shown S.Store store.old) world
+        → HasOurs S.Store current store.old → Represents (shown S.Store store.old) world
         → IsAt (alone S.Store) store.new world }
     ensures err { IsHonest S.Store store.new → OnErr result (Rests S.Store store.old store.new) }
     ensures stop { AddsMigrated S.Store store.old store.new }

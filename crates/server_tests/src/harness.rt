@@ -4,7 +4,7 @@ use names::{LockPath, Moment, Oid, RefName, RepoName, UserName};
 use sqlite::MemStore;
 use std::alloc::{Alloc, Global};
 use std::process::Abort;
-use tables::Store;
+use tables::{Layout, Store};
 
 /// What a test needs of its runtime: memory, and a way to abort.
 pub(crate) trait Tester: Abort + Alloc<A = Global> {}
@@ -57,6 +57,6 @@ pub(crate) fn moment(rt: &impl Tester, second: u64) -> Moment {
 /// A new store in memory, with its tables.
 pub(crate) fn in_memory(rt: &impl Tester) -> Store<MemStore> {
     let mut store = unwrap(rt, Store::open_memory(rt.alloc()));
-    unwrap(rt, store.create_or_check(rt.alloc()));
+    unwrap(rt, store.create_or_check(rt.alloc(), Layout::Rows));
     store
 }

@@ -1,6 +1,8 @@
 -- The steps of the calls lead to the same tables, whatever the order of the chunks, for proofs in other crates.
-use Rattle.std.proofs.Common.{◌≡◌, ℕ, ℤ, ◌-ℤ◌, Bool, true, false, not, cond, ◌&&◌, List, [], ◌∷◌, ◌++◌, map, filter, find, Option, Some, None, option_map, refl, sym, ap, ◌∙◌, is_gt, true≢false, arith, append-nil}
+use Rattle.std.proofs.Common.{◌≡◌, subst, ℕ, ℤ, ◌-ℤ◌, Bool, true, false, not, cond, ◌&&◌, List, [], ◌∷◌, ◌++◌, map, filter, find, Option, Some, None, option_map, refl, sym, ap, ◌∙◌, is_gt, true≢false, arith, append-nil}
+use Rattle.std.specs.Prelude.{pos, IsPermutation}
 use Rattle.std.proofs.lemmas.List.{map-append}
+use Rattle.std.proofs.lemmas.List.Sorted.{IsPermutation-map, IsPermutation-sym}
 use Rattle.std.specs.Cmp.{IsTotalOrder}
 use Rattle.std.specs.Ordering.{int_cmp, int_eq}
 use Rattle.std.proofs.lemmas.Cmp.{int_cmp_total, on_total, then_total, tied_itself}
@@ -9,19 +11,20 @@ use Rattle.sqlite_trees.proofs.ListLemmas.{filter-map}
 use Rattle.sqlite_keyed.specs.Keyed.{next_key}
 use Rattle.sqlite_keyed.specs.Lists.{sort_by}
 use Rattle.sqlite_keyed.proofs.ListLemmas.{map-map}
-use Rattle.sqlite_keyed.proofs.SortLemmas.{sort_by-map}
+use Rattle.sqlite_keyed.proofs.SortLemmas.{sort_by-map, IsPermutation-sort_by}
 use Rattle.tables.specs.Rows.{Chunk, Upload, Lock, Token, Tables}
-use Rattle.tables.specs.Statements.{is_of, is_of_from, is_chunk, is_staged_in, is_object, with_lock, with_chunk, with_upload, with_done, with_token, with_retired, without_lock, without_expired, without_row, without_chunks, without_chunks_from}
+use Rattle.tables.specs.Statements.{has_number, is_of, is_of_from, is_chunk, is_staged_in, is_object, with_lock, with_chunk, with_upload, with_done, with_token, with_retired, without_lock, without_expired, without_row, without_chunks, without_chunks_from}
 use Rattle.tables.specs.Steps.{Outcome, held, used_up, created, used_of, after_outcome, outcome_of, after_create, with_new_lock, with_made, has_token, after_add}
-use Rattle.tables.specs.Staging.{AreUploadsOf, chunk_bytes, IsChunkOf, objects_of, staged_with, without_upload, without_found, without_found_from, without_staged, without_staged_from, without_staged_in, after_begin, with_used, with_bytes, with_last, with_kept, completion_by, after_completion, after_found, after_complete}
+use Rattle.tables.specs.Staging.{NumberedFields, numbered_fields, read_numbered, AreNumbered, AreUploadsOf, chunk_bytes, IsChunkOf, objects_of, staged_with, without_upload, without_found, without_found_from, without_staged, without_staged_from, without_staged_in, after_begin, with_used, with_bytes, with_last, with_kept, completion_by, after_completion, after_found, after_complete}
 use Rattle.tables.specs.Retiring.{without_object, without_found_object, after_retire}
 use Rattle.tables.specs.Discarding.{recounted, without_discarded, after_discard}
 use Rattle.tables.specs.declared.chunks.ChunkRow.{ChunkRow}
 use Rattle.tables.specs.declared.new_rows.LastChunk.{LastChunk}
 use Rattle.tables.specs.declared.rows.Completion.{Completion}
 use Rattle.tables.specs.declared.rows.UploadRow.{UploadRow}
+use Rattle.tables.specs.declared.rows.NumberedChunk.{NumberedChunk}
 use Rattle.tables.specs.declared.rows.Completion.TheVariants as completion
-use Rattle.store.specs.Content.{content_bytes, IsContentOf}
+use Rattle.store.specs.Content.{content_bytes, IsContentOf, AreAllNumbered}
 use Rattle.store.specs.Normal.{placeless, chunk_cmp, arranged, normal}
 use Rattle.store.specs.declared.content.ChunkContent.{ChunkContent}
 use Rattle.store.specs.declared.content.ChunkContent.TheVariants as content
@@ -201,3 +204,18 @@ unlock-agrees repo id t = refl
 pub expire-agrees : (moment : ℤ) (t : Tables) → normal (without_expired moment t) ≡ without_expired moment (normal t)
 unfolding without_expired
 expire-agrees moment t = refl
+
+-- the chunks with a number are found whatever their order
+pub numbered-found : (n : ℕ) (found : List NumberedChunk) (t : Tables) → AreNumbered found (filter (has_number (pos n)) t.chunks)
+    → AreAllNumbered n found (normal t)
+numbered-found n found t is =
+    let own = filter (has_number (pos n)) t.chunks in
+    let fields : map numbered_fields (map placeless own) ≡ map read_numbered found =
+    map-map numbered_fields placeless own ∙ sym is in
+    let mixed : IsPermutation (map numbered_fields (arranged own)) (map numbered_fields (map placeless own)) =
+    IsPermutation-map numbered_fields (arranged own) (map placeless own)
+    (IsPermutation-sort_by chunk_cmp chunk_total (map placeless own)) in
+    subst (λ (cs : List Chunk). IsPermutation (map read_numbered found) (map numbered_fields cs))
+    (arranged-filter (has_number (pos n)) refl t.chunks)
+    (IsPermutation-sym (map numbered_fields (arranged own)) (map read_numbered found)
+    (subst (IsPermutation (map numbered_fields (arranged own))) fields mixed))

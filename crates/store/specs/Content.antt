@@ -1,7 +1,9 @@
--- The bytes of a chunk that a store read.
-use Rattle.std.specs.Prelude.{◌≡◌, ℕ, List, Option, option_map}
-use Rattle.tables.specs.Rows.{Chunk}
-use Rattle.tables.specs.Staging.{chunk_bytes}
+-- The chunks that a store read.
+use Rattle.std.specs.Prelude.{◌≡◌, ℕ, pos, List, Option, option_map, map, filter, IsPermutation}
+use Rattle.tables.specs.Rows.{Chunk, Tables}
+use Rattle.tables.specs.Statements.{has_number}
+use Rattle.tables.specs.Staging.{chunk_bytes, numbered_fields, read_numbered}
+use Rattle.tables.specs.declared.rows.NumberedChunk.{NumberedChunk}
 use Rattle.store.specs.declared.content.ChunkContent.{ChunkContent}
 use Rattle.store.specs.declared.content.ChunkContent.TheVariants as content
 
@@ -13,3 +15,8 @@ content_bytes (content.Bytes bytes) = bytes.items
 -- the result has the bytes of this chunk, or there is none
 abbrev pub IsContentOf : Option ChunkContent → Option Chunk → Type 0
 IsContentOf found c = option_map content_bytes found ≡ option_map (λ (k : Chunk). k.bytes) c
+
+-- the results are the chunks with this number, in any order
+abbrev pub AreAllNumbered : ℕ → List NumberedChunk → Tables → Type 0
+AreAllNumbered n found t =
+    IsPermutation (map read_numbered found) (map numbered_fields (filter (has_number (pos n)) t.chunks))

@@ -4,9 +4,11 @@
 
 mod content;
 mod database;
+mod numbered;
 mod state;
 mod store;
 
 pub use content::ChunkContent;
+pub use numbered::Numbered;
 pub use state::State;
 pub use store::Store;

@@ -4,7 +4,7 @@ use Rattle.sqlite.specs.Order.{Row}
 use Rattle.sqlite_rules.specs.Calls.{ids_of}
 use Rattle.sqlite_rules.specs.declared.error.Rowids.TheVariants.{Given}
 use Rattle.sqlite_keyed.proofs.RuleLemmas.{at_most_one}
-use Rattle.tables.specs.Layout.{current}
+use Rattle.tables.specs.Layout.{current, version_of}
 use Rattle.tables.specs.Rows.{Retired, retired, id_of, tables_under}
 use Rattle.tables.specs.Statements.{with_lock, with_repo, with_made_at, without_lock, with_token, without_expired, with_chunk, without_row, without_chunks, without_chunks_from, with_done, with_used_row, with_used_at, with_retired, add_retired, has_id, writing}
 use Rattle.tables.proofs.Meanings.{IsCommand, add_lock_is, lock_terms, add_repo_is, repo_terms, set_made_is, remove_lock_is, add_token_is, token_terms, remove_expired_is, add_chunk_is, chunk_terms, remove_row_is, remove_chunks_is, remove_chunks_from_is, set_done_is, add_used_is, used_terms, set_used_is, add_retired_is, retired_terms}
@@ -48,7 +48,7 @@ module _ (old new : State) (kept : IsKept old.now) (inside : old.in_transaction 
       → new.now.trees (part schema (whole_of old.now kept) p).tree ≡ put_row (encode p (at (next_rowid (old.now.trees (part schema (whole_of old.now kept) p).tree)))) (old.now.trees (part schema (whole_of old.now kept) p).tree)
       → Steps (λ t. with_rows p (rows_of p t ++ at (next_key (id_of p) (rows_of p t)) ∷ []) t) old new
   added same sound stay shown at keyed_at row =
-      let here = tree_is current p tree in
+      let here = tree_is (version_of (whole_of old.now kept).layout) p tree in
       let put = subst (λ n. new.now.trees n ≡ put_row (encode p (at (next_rowid (old.now.trees n)))) (old.now.trees n)) here row in
       let last = appended (id_of p) (encode p) (decode p) (keyed p) (back p) (old.now.trees tree) (new.now.trees tree) at keyed_at (typed_at p schema old.now.trees kept.typed) put in
       stepped same sound (subst (λ n. StayBut schema n old.now.trees new.now.trees) here stay) shown last.typed (λ t. with_rows p (rows_of p t ++ at (next_key (id_of p) (rows_of p t)) ∷ []) t)
@@ -63,7 +63,7 @@ module _ (old new : State) (kept : IsKept old.now) (inside : old.in_transaction 
       let xs = rows_in p schema db in
       let rows = typed_at p schema db kept.typed in
       let it = removes sql params old new schema refl (place_of schema p) (part schema (whole_of old.now kept) p) ((whole_of old.now kept).parts p).found m.plain (alone_at schema (whole_of old.now kept) p) _ m.is count h in
-      let here = tree_is current p tree in
+      let here = tree_is (version_of (whole_of old.now kept).layout) p tree in
       let row : new.now.trees tree ≡ map (encode p) (delete_where passes xs) =
       subst (λ n. new.now.trees n ≡ without_all (db n) (ids_of it.0)) here it.2.applies.rows ∙ gone (id_of p) (encode p) (decode p) (keyed p) (back p) params db tests tree rows (own schema (whole_of old.now kept) p db) passes tested it.0 it.1 in
       let up = ascending-filter _ (λ x. not (passes x)) xs (keys_rise (id_of p) (encode p) (decode p) (keyed p) (back p) (db tree) rows) in
@@ -86,7 +86,7 @@ module _ (old new : State) (kept : IsKept old.now) (inside : old.in_transaction 
       let rows = typed_at p schema db kept.typed in
       let rises = keys_rise (id_of p) (encode p) (decode p) (keyed p) (back p) (db tree) rows in
       let it = replaces sql params old new schema refl (place_of schema p) (part schema (whole_of old.now kept) p) ((whole_of old.now kept).parts p).found m.plain (alone_at schema (whole_of old.now kept) p) _ m.is count h in
-      let here = tree_is current p tree in
+      let here = tree_is (version_of (whole_of old.now kept).layout) p tree in
       let row : new.now.trees tree ≡ map (encode p) (update_where passes f xs) =
       subst (λ n. new.now.trees n ≡ put_all (without_all (db n) (ids_of it.0)) (numbered Given (without_all (db n) (ids_of it.0)) (map (λ s. cast_row (part schema (whole_of old.now kept) p) (drop 1 s)) it.0))) here it.2.applies.rows ∙ changed (id_of p) (encode p) (decode p) (keyed p) (back p) params db (is_given 0 0 ∷ []) tree rows (own schema (whole_of old.now kept) p db) passes tested (part schema (whole_of old.now kept) p) columns f keeps named made (one_at (id_of p) id xs rises) it.0 it.1 in
       let typed = typed_by (id_of p) (encode p) (decode p) (keyed p) (back p) (new.now.trees tree) (update_where passes f xs) (updated_rise (id_of p) passes f keeps xs rises) row in

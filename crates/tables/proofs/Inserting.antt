@@ -6,7 +6,7 @@ use Rattle.sqlite_tied.specs.Compute.{everything}
 use Rattle.sqlite_trees.specs.Tree.{Trees}
 use Rattle.sqlite_rules.specs.Edit.{at_least}
 use Rattle.sqlite_rules.specs.declared.error.Rowids.TheVariants.{Above}
-use Rattle.tables.specs.Layout.{current}
+use Rattle.tables.specs.Layout.{version_of}
 use Rattle.tables.specs.Rows.{meta, retired, tables_under, AreTyped}
 use Rattle.tables.specs.Statements.{with_upload}
 use Rattle.tables.specs.Inserting.{insert_text, insert_params, IsInserted}
@@ -18,7 +18,7 @@ use Rattle.typed_rows.proofs.Counted.{inserts_counted, given_above, appended_abo
 
 module _ (schema : Schema) (whole : HasWhole schema) (mid new : Trees) (rest : StayBut schema (counters schema whole).tree mid new) where
   stays : (p : Part) → new (tree_of schema p) ≡ mid (tree_of schema p)
-  stays p = let here = tree_is current p (tree_of schema p) in
+  stays p = let here = tree_is (version_of whole.layout) p (tree_of schema p) in
       subst (λ n. new n ≡ mid n) here (each schema whole (λ (t : Table). t.tree ≢ (counters schema whole).tree → new t.tree ≡ mid t.tree) rest p (λ e. counters_apart schema whole p (sym here ∙ e)))
 
   still_typed : AreTyped schema mid → AreTyped schema new

@@ -7,9 +7,9 @@ use Rattle.sqlite.specs.Collation.TheVariants.{Binary}
 use Rattle.sqlite_tied.specs.Compute.{everything}
 use Rattle.tables.specs.Rows as part
 use Rattle.tables.proofs.Parts.{low_in, by_tree_in}
-use Rattle.tables.specs.Layout.{Version, current}
+use Rattle.tables.specs.Layout.{Version, version_of}
 use Rattle.tables.specs.Schemas.{HasPart, IsLaid}
-use Rattle.tables.specs.Statements.{staged_with, meta_query_text, retired_as, retired_in, add_retired, reading, writing}
+use Rattle.tables.specs.Statements.{staged_with, numbered, meta_query_text, retired_as, retired_in, add_retired, reading, writing}
 
 abbrev pub lock_columns : List Term
 lock_columns = col 1 2 ∷ col 1 3 ∷ col 1 4 ∷ col 1 5 ∷ col 1 6 ∷ []
@@ -89,10 +89,10 @@ meta_is v schema laid has =
 
 module _ (schema : Schema) (whole : HasWhole schema) where
   abbrev pub Says : Part → List ℕ → Command → Type 0
-  Says = SaysIn current schema
+  Says = SaysIn (version_of whole.layout) schema
 
   meant : (p : Part) (sql : List ℕ) (command : Command) → Says p sql command → Means schema sql command
-  meant p = meant_in current schema whole.laid p (whole.parts p)
+  meant p = meant_in (version_of whole.layout) schema whole.laid p (whole.parts p)
 
   asks : (p : Part) (sql : List ℕ) (q : Query) (names : List (List ℕ)) → Says p sql (Select (record { lets = []; body = q }) names) → IsQuery schema sql q
   asks p sql q names says = let it = meant p sql (Select (record { lets = []; body = q }) names) says in record { names = names; plain = it.plain; unlisted = it.unlisted; command = it.command }
@@ -159,6 +159,10 @@ module _ (schema : Schema) (whole : HasWhole schema) where
   pub chunk_at_is : (upload : ℤ) (n : ℕ) → IsQuery schema (read_text (chunk_at upload n)) (query_of (is_given 1 0 ∷ is_given 2 1 ∷ []) (col 1 3 ∷ []) (tree_of schema part.chunks))
   unfolding reading everything
   chunk_at_is upload n = asks part.chunks _ _ (codes "bytes" ∷ []) (refl, (record { alone = refl; single = refl; source = (refl, refl, refl, refl, refl); ungrouped = refl; whole = refl; shown = refl; filter = refl; order = refl }, (refl, refl)))
+
+  pub numbered_is : (n : ℕ) → IsQuery schema (read_text (numbered n)) (query_of (is_given 2 0 ∷ []) (col 1 1 ∷ col 1 3 ∷ []) (tree_of schema part.chunks))
+  unfolding reading everything
+  numbered_is n = asks part.chunks _ _ (codes "upload" ∷ codes "bytes" ∷ []) (refl, (record { alone = refl; single = refl; source = (refl, refl, refl, refl, refl); ungrouped = refl; whole = refl; shown = refl; filter = refl; order = refl }, (refl, refl)))
 
   pub add_lock_is : (l : Lock) → IsCommand schema (write_text (add_lock l)) (Insert (place_of schema part.locks) (Values lock_terms 7))
   unfolding writing everything

@@ -8,7 +8,7 @@ use Rattle.sqlite_rules.proofs.RuleLemmas.{same_table}
 use Rattle.typed_rows.proofs.Alone.{IsAlone, alone_if}
 use Rattle.tables.specs.Schemas.{HasPart, HasCounts, IsLaid}
 use Rattle.tables.specs.Rows.{meta, retired, code_of, id_of, tables_under, AreTyped}
-use Rattle.tables.specs.Layout.{Version, current}
+use Rattle.tables.specs.Layout.{Version, version_of}
 use Rattle.tables.specs.Runs.{IsOurs, IsWhole}
 
 pub keyed : (p : Part) (x : RowOf p) → rowid (encode p x) ≡ Int (id_of p x)
@@ -92,19 +92,19 @@ module _ (v : Version) (schema : Schema) (laid : IsLaid schema) (p : Part) (has 
 
 module _ (schema : Schema) (whole : HasWhole schema) (p : Part) where
   abbrev pub part : Table
-  part = table_for current p (tree_of schema p)
+  part = table_for (version_of whole.layout) p (tree_of schema p)
 
   pub listed : Has schema.tables part
-  listed = listed_in current schema whole.laid p (whole.parts p)
+  listed = listed_in (version_of whole.layout) schema whole.laid p (whole.parts p)
 
   pub own : (db : Trees) → overlay db [] (tree_of schema p) ≡ db (tree_of schema p)
-  own = own_in current schema whole.laid p (whole.parts p)
+  own = own_in (version_of whole.layout) schema whole.laid p (whole.parts p)
 
   pub alone_at : IsAlone schema part.tree
-  alone_at = alone_in current schema whole.laid p (whole.parts p)
+  alone_at = alone_in (version_of whole.layout) schema whole.laid p (whole.parts p)
 
   pub alone : IsAlone schema (tree_of schema p)
-  alone = subst (IsAlone schema) (tree_is current p (tree_of schema p)) alone_at
+  alone = subst (IsAlone schema) (tree_is (version_of whole.layout) p (tree_of schema p)) alone_at
 
 -- the table that counts the ids
 module _ (schema : Schema) (counts : HasCounts schema) where
@@ -145,11 +145,11 @@ module _ (schema : Schema) (whole : HasWhole schema) where
       (ap (λ (p : Table → Bool). list_any p schema.tables) (λ i (t : Table). list_any (λ (r : Reference). same_named counters.name counts_name r.parent found.1 i) t.references) ∙ whole.counts.unreferred)
 
   pub counters_apart : (p : Part) → tree_of schema p ≢ counters.tree
-  counters_apart p = counts_apart current schema whole.laid whole.counts p (whole.parts p)
+  counters_apart p = counts_apart (version_of whole.layout) schema whole.laid whole.counts p (whole.parts p)
 
 -- a property of all tables of the schema, as one of each of them
-pub each : (schema : Schema) → HasWhole schema → (P : Table → Type 0) → AllByRecursion P schema.tables → (p : Part) → P (table_for current p (tree_of schema p))
-each schema whole P all p = all_has P schema.tables (table_for current p (tree_of schema p)) all (listed schema whole p)
+pub each : (schema : Schema) (whole : HasWhole schema) (P : Table → Type 0) → AllByRecursion P schema.tables → (p : Part) → P (table_for (version_of whole.layout) p (tree_of schema p))
+each schema whole P all p = all_has P schema.tables (table_for (version_of whole.layout) p (tree_of schema p)) all (listed schema whole p)
 
 pub rows_are : (p : Part) (schema : Schema) (db : Trees) → rows_of p (tables_under schema db) ≡ rows_in p schema db
 unfolding tables_under
@@ -169,7 +169,7 @@ same_tree v schema laid p q one other e =
     sym (by_name_is p) ∙ ap by_name (sym (name_is v p (tree_of schema p)) ∙ ap (λ (t : Table). t.name) same ∙ name_is v q (tree_of schema q)) ∙ by_name_is q
 
 same_part : (schema : Schema) → HasWhole schema → (p q : Part) → tree_of schema p ≡ tree_of schema q → p ≡ q
-same_part schema whole p q = same_tree current schema whole.laid p q (whole.parts p) (whole.parts q)
+same_part schema whole p q = same_tree (version_of whole.layout) schema whole.laid p q (whole.parts p) (whole.parts q)
 
 pub typed_at : (p : Part) (schema : Schema) (db : Trees) → AreTyped schema db → IsTyped p schema db
 unfolding AreTyped
@@ -179,7 +179,7 @@ typed_at p schema db typed = typed p
 
 module _ (schema : Schema) (whole : HasWhole schema) (p : Part) (old new : Trees) (stay : StayBut schema (tree_of schema p) old new) where
   stays : (q : Part) → tree_of schema q ≢ tree_of schema p → new (tree_of schema q) ≡ old (tree_of schema q)
-  stays q apart = let same = tree_is current q (tree_of schema q) in
+  stays q apart = let same = tree_is (version_of whole.layout) q (tree_of schema q) in
       subst (λ n. new n ≡ old n) same (each schema whole (λ (t : Table). t.tree ≢ tree_of schema p → new t.tree ≡ old t.tree) stay q (λ e. apart (sym same ∙ e)))
 
   pub typed_after : AreTyped schema old → IsTyped p schema new → AreTyped schema new

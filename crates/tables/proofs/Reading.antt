@@ -7,8 +7,8 @@ use Rattle.tables.specs.Rows.{id_of, tables_under}
 use Rattle.tables.specs.Rows as part
 use Rattle.tables.specs.Layout.{Version}
 use Rattle.tables.specs.Runs.{HasMeta}
-use Rattle.tables.specs.Statements.{staged_with, has_id, is_in, meta_query_text, retired_as, retired_in, is_retired_as, is_retired_in, show_retired, reading}
-use Rattle.tables.proofs.Meanings.{IsQuery, meta_is, made_is, lock_at_is, lock_with_id_is, locks_in_is, locks_from_is, token_is, tokens_of_is, tokens_in_is, used_is, staged_with_is, object_is, objects_in_is, objects_is, staged_is, chunk_at_is, retired_as_is, retired_in_is}
+use Rattle.tables.specs.Statements.{staged_with, has_id, is_in, meta_query_text, retired_as, retired_in, is_retired_as, is_retired_in, show_retired, reading, numbered, has_number, show_numbered}
+use Rattle.tables.proofs.Meanings.{IsQuery, meta_is, made_is, lock_at_is, lock_with_id_is, locks_in_is, locks_from_is, token_is, tokens_of_is, tokens_in_is, used_is, staged_with_is, object_is, objects_in_is, objects_is, staged_is, chunk_at_is, numbered_is, retired_as_is, retired_in_is}
 use Rattle.tables.proofs.Parts.{whole_of, keyed, back, own, own_in, typed_at}
 use Rattle.typed_rows.proofs.Selects.{selected}
 use Rattle.tables.proofs.Selects.{sorted, named, by_names}
@@ -45,6 +45,7 @@ module _ (old new : State) (rows : List Row) (kept : IsKept old.now) where
   answers staged h = part_read part.uploads _ _ _ _ (staged_is old.now.schema (whole_of old.now kept)) is_staged (λ u. last_term (at_ints false Eq u.done (pos 0))) show_upload (λ _. refl) h
   answers (retired_as repo oid) h = part_read part.retired _ _ _ _ (retired_as_is old.now.schema (whole_of old.now kept) repo oid) (is_retired_as repo oid) (λ r. then_term (at_texts false Eq r.repo repo) (last_term (at_texts false Eq r.oid oid))) show_retired (λ _. refl) h
   answers (retired_in repo) h = by_names old new rows kept _ _ _ (retired_in_is old.now.schema (whole_of old.now kept) repo) (is_retired_in repo) (λ r. last_term (at_texts false Eq r.repo repo)) h
+  answers (numbered n) h = part_read part.chunks _ _ _ _ (numbered_is old.now.schema (whole_of old.now kept) n) (has_number (pos n)) (λ c. last_term (at_ints false Eq c.n (pos n))) show_numbered (λ _. refl) h
   answers (chunk_at upload n) h =
       part_read part.chunks _ _ _ _ (chunk_at_is old.now.schema (whole_of old.now kept) upload n) (is_chunk upload (pos n)) (λ c. then_term (at_ints false Eq c.upload upload) (last_term (at_ints false Eq c.n (pos n)))) show_bytes (λ _. refl) h
 
@@ -64,6 +65,7 @@ plain_read schema whole (objects_in repo) = (objects_in_is schema whole repo).pl
 plain_read schema whole objects = (objects_is schema whole).plain
 plain_read schema whole staged = (staged_is schema whole).plain
 plain_read schema whole (chunk_at upload n) = (chunk_at_is schema whole upload n).plain
+plain_read schema whole (numbered n) = (numbered_is schema whole n).plain
 plain_read schema whole (retired_as repo oid) = (retired_as_is schema whole repo oid).plain
 plain_read schema whole (retired_in repo) = (retired_in_is schema whole repo).plain
 

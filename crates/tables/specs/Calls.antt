@@ -9,7 +9,7 @@ use Rattle.tables.specs.declared.fault.StoreFault.{StoreFault}
 use Rattle.tables.specs.Layout.{Version, version_one}
 use Rattle.tables.specs.Rows.{Part, Meta, Tables, parts_of}
 use Rattle.tables.specs.Making.{IsBlank}
-use Rattle.tables.specs.Runs.{IsReady, IsOld, HasMeta, IsAfter, Blanks, Leads, Steps, tables_in, with_fresh, migrated}
+use Rattle.tables.specs.Runs.{IsReady, IsOld, HasMeta, IsAfter, Blanks, Leads, Steps, tables_in, with_fresh, raised}
 
 module _ {S : Type 0} (g : Ghosts S) where
   -- ---- inside a transaction
@@ -43,16 +43,16 @@ module _ {S : Type 0} (g : Ghosts S) where
   MakesFirst old new result = MakesBlank old new result [] (parts_of version_one)
 
   -- if the result is Ok, a database with none of our tables got the fresh ones
-  abbrev pub MakesFresh : {T E : Type 0} → Held S → Held S → Result T E → Type 0
-  MakesFresh old new result =
+  abbrev pub MakesFresh : {T E : Type 0} → Version → Held S → Held S → Result T E → Type 0
+  MakesFresh v old new result =
       HasCleanDisk (state g new) → IsTrue old.in_transaction → (IsTrue (state g old).is_open → IsBlank [] (state g old).now)
-      → OnOk result (Steps (with_fresh (state g old).now.schema) (state g old) (state g new))
+      → OnOk result (Steps (with_fresh v (state g old).now.schema) (state g old) (state g new))
 
-  -- if the result is Ok, a database of version 1 became one of version 2
-  abbrev pub Upgrades : {T E : Type 0} → Held S → Held S → Result T E → Type 0
-  Upgrades old new result =
+  -- if the result is Ok, a database of version 1 became one of this version
+  abbrev pub Upgrades : {T E : Type 0} → Version → Held S → Held S → Result T E → Type 0
+  Upgrades v old new result =
       HasCleanDisk (state g new) → IsTrue old.in_transaction → (IsTrue (state g old).is_open → IsOld (state g old).now)
-      → OnOk result (Steps migrated (state g old) (state g new))
+      → OnOk result (Steps (raised v) (state g old) (state g new))
 
   -- ---- a transaction of its own
 

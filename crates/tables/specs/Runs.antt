@@ -88,64 +88,68 @@ pub record Blanks (before after : List Part) (old new : State) : Type 0 where
 abbrev pub meta_of : Version → Meta
 meta_of v = record { one = pos 1; version = pos (number_of v) }
 
--- the row of `meta` of the version that this program makes
+-- the row of `meta` of a database whose contents are rows
 abbrev pub current_meta : Meta
 current_meta = meta_of current
 
--- the tables of version 2 that are made of those of version 1: all rows stay, and no name is retired
-unfoldable pub migrated : Tables → Tables
-migrated t = record t { meta = current_meta ∷ []; retired = []; schema = upgraded t.schema }
+-- the tables of a later version that are made of those of version 1: all rows stay, and no name is retired
+unfoldable pub raised : Version → Tables → Tables
+raised v t = record t { meta = meta_of v ∷ []; retired = []; schema = upgraded v t.schema }
 
--- the tables of a new database: those of version 1, made beside those of this schema, and then the step to version 2
-abbrev pub fresh : Schema → Tables
-fresh schema = record {
-  meta = current_meta ∷ [];
+-- the tables of version 2 that are made of those of version 1
+abbrev pub migrated : Tables → Tables
+migrated = raised current
+
+-- the tables of a new database: those of version 1, made beside those of this schema, and then the step to this version
+abbrev pub fresh : Version → Schema → Tables
+fresh v schema = record {
+  meta = meta_of v ∷ [];
   repos = [];
   tokens = [];
   uploads = [];
   chunks = [];
   locks = [];
   retired = [];
-  schema = upgraded (with_parts (parts_of version_one) schema);
+  schema = upgraded v (with_parts (parts_of version_one) schema);
 }
 
 -- the step to the tables of a new database
-unfoldable pub with_fresh : Schema → Tables → Tables
-with_fresh schema _ = fresh schema
+unfoldable pub with_fresh : Version → Schema → Tables → Tables
+with_fresh v schema _ = fresh v schema
 
 -- the database has none of our tables
 abbrev pub HasNoTable : State → Type 0
 HasNoTable s = HasNone s.now.schema
 
--- the database does not have none of our tables, and does not have those of the current version with its number
-pub record IsForeign (s : State) : Type 0 where
+-- the database does not have none of our tables, and does not have those of this version with its number
+pub record IsForeign (v : Version) (s : State) : Type 0 where
   pub some : ¬ HasNoTable s
-  pub other : HasAll current s.now.schema → ¬ ((tables_in s).meta ≡ current_meta ∷ [])
+  pub other : HasAll v s.now.schema → ¬ ((tables_in s).meta ≡ meta_of v ∷ [])
 
 -- the trees of a new database, if the old one had none of our tables
-abbrev pub LeadsIfBlank : State → Trees → Type 0
-LeadsIfBlank old trees = HasNoTable old × Leads (with_fresh old.now.schema) old trees
+abbrev pub LeadsIfBlank : Version → State → Trees → Type 0
+LeadsIfBlank v old trees = HasNoTable old × Leads (with_fresh v old.now.schema) old trees
 
 -- a database with none of our tables got them, or nothing was changed
-abbrev pub MakesOrKeeps : State → State → Type 0
-MakesOrKeeps old new = (HasNoTable old × IsTrue old.is_open × IsAfter (with_fresh old.now.schema) old.now new.now) ⊎ Keeps old new
+abbrev pub MakesOrKeeps : Version → State → State → Type 0
+MakesOrKeeps v old new = (HasNoTable old × IsTrue old.is_open × IsAfter (with_fresh v old.now.schema) old.now new.now) ⊎ Keeps old new
 
 -- after a crash now, the next open finds a database with our tables
 abbrev pub LeavesOurs : State → Type 0
 LeavesOurs s = (trees : Trees) → s.may_leave trees → (db : Database) × IsKept db × (trees ≡ db.trees)
 
--- it is open, with nothing pending, and its tables are those of the current version
-pub record HasOurs (s : State) : Type 0 where
+-- it is open, with nothing pending, and its tables are those of this version
+pub record HasOurs (v : Version) (s : State) : Type 0 where
   pub is_open : IsTrue s.is_open
   pub settled : s.now ≡ s.committed
   pub kept : IsKept s.now
-  pub version : (tables_in s).meta ≡ current_meta ∷ []
+  pub version : (tables_in s).meta ≡ meta_of v ∷ []
 
 -- the next open finds the new tables, if there was none of them before, or our tables unchanged
-abbrev pub LeavesOnly : State → State → Type 0
-LeavesOnly old new =
+abbrev pub LeavesOnly : Version → State → State → Type 0
+LeavesOnly v old new =
     (db : Database) → IsKept db → new.may_leave db.trees
-    → (HasNoTable old × (tables_of db ≡ fresh old.now.schema)) ⊎ (HasOurs old × (tables_of db ≡ tables_in old))
+    → (HasNoTable old × (tables_of db ≡ fresh v old.now.schema)) ⊎ (HasOurs v old × (tables_of db ≡ tables_in old))
 
 -- ---- a migration
 
@@ -158,20 +162,20 @@ pub record HasOld (s : State) : Type 0 where
 
 -- the database is foreign, and does not have the tables of version 1 with their number
 pub record IsUnknown (s : State) : Type 0 where
-  pub foreign : IsForeign s
+  pub foreign : IsForeign current s
   pub other : HasFirst s.now.schema → ¬ ((tables_in s).meta ≡ meta_of version_one ∷ [])
 
 -- what a migration did: it migrated a database of version 1; or the database had nothing of ours, or the current tables
 abbrev pub Migrates : State → State → Migrated → Type 0
 Migrates old new result.From1 = HasOld old × IsAfter migrated old.now new.now
-Migrates old new result.Already = MakesOrKeeps old new
+Migrates old new result.Already = MakesOrKeeps current old new
 
 -- the next open finds the migrated tables, or what it finds after `MakesOrKeeps`
 abbrev pub LeavesMigrated : State → State → Migrated → Type 0
 LeavesMigrated old new result.From1 =
     HasOld old × ((db : Database) → IsKept db → new.may_leave db.trees → tables_of db ≡ migrated (tables_in old))
-LeavesMigrated old new result.Already = LeavesOnly old new
+LeavesMigrated old new result.Already = LeavesOnly current old new
 
 -- the trees of a new database, if the old one had nothing of ours, or of a migrated one, if it was of version 1
 abbrev pub LeadsIfAny : State → Trees → Type 0
-LeadsIfAny old trees = LeadsIfBlank old trees ⊎ (HasOld old × Leads migrated old trees)
+LeadsIfAny old trees = LeadsIfBlank current old trees ⊎ (HasOld old × Leads migrated old trees)

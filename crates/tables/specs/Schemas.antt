@@ -7,7 +7,8 @@ use Rattle.sqlite.specs.Table.{Table}
 use Rattle.sqlite.specs.Rows.{sequence}
 use Rattle.sqlite_schema.specs.Names.{same_name, table_named, index_named, view_named}
 use Rattle.typed_rows.specs.Queries.{IsFree}
-use Rattle.tables.specs.Layout.{Version, version_one, current}
+use Rattle.tables.specs.Layout.{Version, version_one, version_of}
+use Rattle.tables.specs.declared.layout.Layout.{Layout}
 use Rattle.tables.specs.Rows.{Part, meta, name_of, table_for, place_of, tree_of, is_in, parts_of}
 
 -- some foreign key refers to a table of this name
@@ -64,9 +65,10 @@ pub record HasFirst (schema : Schema) : Type 0 where
   pub index : index_named schema (name_of meta) ≡ None
   pub view : view_named schema (name_of meta) ≡ None
 
--- the schema has all tables, and each table has a tree of its own
+-- the schema has all tables, in one of the layouts, and each table has a tree of its own
 pub record HasWhole (schema : Schema) : Type 0 where
-  pub parts : (p : Part) → HasPart current schema p
+  pub layout : Layout
+  pub parts : (p : Part) → HasPart (version_of layout) schema p
   pub counts : HasCounts schema
   pub laid : IsLaid schema
 

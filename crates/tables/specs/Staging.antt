@@ -14,6 +14,7 @@ use Rattle.tables.specs.declared.rows.ObjectRow.{ObjectRow}
 use Rattle.tables.specs.declared.rows.Completion.{Completion}
 use Rattle.tables.specs.declared.rows.Completion.TheVariants as completion
 use Rattle.tables.specs.declared.rows.UploadRow.{UploadRow}
+use Rattle.tables.specs.declared.rows.NumberedChunk.{NumberedChunk}
 use Rattle.tables.specs.declared.uploads.Total.{Total}
 use Rattle.tables.specs.Rows.{Repo, Upload, Chunk, Tables}
 use Rattle.tables.specs.Statements.{same_bytes, is_complete, is_object_in, by_name, is_staged_with, is_staged_in, is_object, with_upload, with_chunk, with_done, without_row, without_chunks, without_chunks_from}
@@ -40,6 +41,23 @@ chunk_bytes c = bytes_of (column c.row 0)
 -- the result has the bytes of this chunk, or there is none
 abbrev pub IsChunkOf : Option ChunkRow → Option Chunk → Type 0
 IsChunkOf row c = option_map chunk_bytes row ≡ option_map (λ (k : Chunk). k.bytes) c
+
+-- what is returned of a chunk that is found by its number
+pub record NumberedFields : Type 0 where
+  pub upload : ℤ
+  pub bytes : List ℕ
+
+-- the fields of a row of `chunks` that are returned so
+abbrev pub numbered_fields : Chunk → NumberedFields
+numbered_fields c = record { upload = c.upload; bytes = c.bytes }
+
+-- the fields of such a chunk
+abbrev pub read_numbered : NumberedChunk → NumberedFields
+read_numbered c = record { upload = upload_number c.upload; bytes = c.bytes.items }
+
+-- the results are these chunks
+abbrev pub AreNumbered : List NumberedChunk → List Chunk → Type 0
+AreNumbered found chunks = map read_numbered found ≡ map numbered_fields chunks
 
 -- the staged upload with this id
 abbrev pub staged_with : ℤ → Tables → Option Upload

@@ -91,6 +91,10 @@ is_of_from upload n c = int_eq c.upload upload && int_le n c.n
 abbrev pub is_chunk : ℤ → ℤ → Chunk → Bool
 is_chunk upload n c = int_eq c.upload upload && int_eq c.n n
 
+-- the chunk has this number
+abbrev pub has_number : ℤ → Chunk → Bool
+has_number n c = int_eq c.n n
+
 -- the row is that of this name, which the repository has retired
 abbrev pub is_retired_as : List ℕ → List ℕ → Retired → Bool
 is_retired_as repo oid r = same_bytes r.repo repo && same_bytes r.oid oid
@@ -153,6 +157,10 @@ show_upload u = Int u.id ∷ Text u.repo ∷ Text u.oid ∷ Int u.size ∷ Int u
 abbrev pub show_bytes : Chunk → Row
 show_bytes c = Blob c.bytes ∷ []
 
+-- the columns that are returned of a chunk with the upload that it is of
+abbrev pub show_numbered : Chunk → Row
+show_numbered c = Int c.upload ∷ Blob c.bytes ∷ []
+
 -- the column that is returned of a retired name
 abbrev pub show_retired : Retired → Row
 show_retired r = Text r.oid ∷ []
@@ -186,6 +194,7 @@ pub data Read : Type 0 where
   objects : Read
   staged : Read
   chunk_at : ℤ → ℕ → Read
+  numbered : ℕ → Read
   retired_as : List ℕ → List ℕ → Read
   retired_in : List ℕ → Read
 
@@ -265,6 +274,11 @@ reading (chunk_at upload n) = record {
   text = codes "SELECT bytes FROM chunks WHERE upload = ?1 AND n = ?2 ORDER BY rowid";
   params = Int upload ∷ Int (pos n) ∷ [];
   meaning = λ t. map show_bytes (filter (is_chunk upload (pos n)) t.chunks);
+}
+reading (numbered n) = record {
+  text = codes "SELECT upload, bytes FROM chunks WHERE n = ?1 ORDER BY rowid";
+  params = Int (pos n) ∷ [];
+  meaning = λ t. map show_numbered (filter (has_number (pos n)) t.chunks);
 }
 reading (retired_as repo oid) = record {
   text = codes "SELECT oid FROM retired WHERE repo = ?1 AND oid = ?2 ORDER BY rowid";

@@ -1,18 +1,19 @@
 //! The calls on the chunks of uploads.
 
-ghost use Rattle.std.specs.Prelude.{◌≡◌, ⊤, pos, find, map, slice_get};
-ghost use Rattle.tables.specs.Statements.{is_chunk, show_bytes, with_chunk};
-ghost use Rattle.tables.specs.Staging.{upload_number, asked_chunk, chunk_bytes, IsChunkOf};
+ghost use Rattle.std.specs.Prelude.{◌≡◌, ⊤, pos, find, filter, map, slice_get};
+ghost use Rattle.tables.specs.Statements.{is_chunk, has_number, show_bytes, with_chunk};
+ghost use Rattle.tables.specs.Staging.{upload_number, asked_chunk, chunk_bytes, IsChunkOf, AreNumbered};
 ghost use Rattle.tables.specs.Calls.{Does, Transacts};
 ghost use Rattle.tables.specs.Shown.{Reads, Changes};
 
 use crate::Store;
 use crate::fault::StoreFault;
 use crate::read::read;
-use crate::rows::UploadId;
+use crate::rows::{NumberedChunk, UploadId, all_numbered};
 use crate::write::{change, finish_with};
 use sqlite::{Alter, Connection, Error, Row, Transaction, params};
 use sqlite_value::value::ValueRef;
+use std::alloc::Global;
 
 pub(crate) fn chunk_into<S: Alter>(
     tx: &mut Transaction<'_, S>,
@@ -97,6 +98,27 @@ impl<S: Alter> Store<S> {
             params![upload.number, n],
         )?;
         Ok(first_chunk(rows))
+    }
+
+    /// Returns the chunks with this number, of all uploads, in the order in which they were added.
+    ///
+    /// # Errors
+    ///
+    /// `Refused` or `Memory`. The tables are unchanged in any case.
+    pub fn chunks_numbered(
+        &mut self,
+        alloc: Global,
+        n: u32,
+    ) -> Result<Vec<NumberedChunk>, StoreFault>
+        ensures { Reads S.Store self.old self.new result
+            (λ t found. AreNumbered found.items (filter (has_number (pos n)) t.chunks)) }
+    {
+        let rows = read(
+            &mut self.conn,
+            "SELECT upload, bytes FROM chunks WHERE n = ?1 ORDER BY rowid",
+            params![n],
+        )?;
+        all_numbered(alloc, rows.as_slice())
     }
 
     /// Adds a chunk to the upload, under this number. The numbers of an upload's chunks count from 0 up.

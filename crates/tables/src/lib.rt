@@ -14,6 +14,7 @@ mod beginning;
 mod chunks;
 mod discarding;
 mod fault;
+mod layout;
 mod locks;
 mod making;
 mod new_rows;
@@ -30,8 +31,12 @@ mod write;
 
 pub use chunks::ChunkRow;
 pub use fault::{OpenFault, StoreFault};
+pub use layout::Layout;
 pub use new_rows::{LastChunk, NewLock, NewToken, NewUpload};
-pub use rows::{Completion, Creation, LockRow, Migrated, ObjectRow, TokenRow, UploadId, UploadRow};
+pub use rows::{
+    Completion, Creation, LockRow, Migrated, NumberedChunk, ObjectRow, TokenRow, UploadId,
+    UploadRow,
+};
 pub use sqlite::{Alter, Start, Unknown};
 pub use storage::Storage;
 

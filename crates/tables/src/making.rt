@@ -1,18 +1,19 @@
-//! Makes the tables: those of version 1, and then the step from there to version 2. A new database takes both, so that
-//! each statement of a version is written once.
+//! Makes the tables: those of version 1, and then the step from there to a later version. A new database takes both, so
+//! that each statement of a version is written once.
 
 ghost use Rattle.std.specs.Prelude.{◌≡◌, [], OnOk, IsTrue};
 ghost use Rattle.sqlite.specs.State.{HasCleanDisk, ExecutesInside};
 ghost use Rattle.sqlite.specs.Held.{state};
 ghost use Rattle.tables.specs.Rows as part;
 ghost use Rattle.tables.specs.Rows.{Part, parts_of};
-ghost use Rattle.tables.specs.Layout.{version_one};
+ghost use Rattle.tables.specs.Layout.{version_one, version_of};
 ghost use Rattle.tables.specs.Making.{text_for, before, after, IsBlank};
 ghost use Rattle.tables.specs.Runs.{IsReadyOld, with_fresh, migrated};
 ghost use Rattle.typed_rows.specs.Transactions.{Inside};
 ghost use Rattle.tables.specs.Calls.{MakesBlank, MakesFirst, MakesFresh, Upgrades, Commits};
 
 use crate::fault::StoreFault;
+use crate::layout::Layout;
 use crate::write::finish;
 use sqlite::{Alter, Connection, Error, Transaction};
 
@@ -86,46 +87,43 @@ fn first_into<S: Alter>(tx: &mut Transaction<'_, S>) -> Result<(), Error>
     last_tables_into(tx)
 }
 
-/// Makes version 2 of version 1: `meta` is made anew for the new number, and `retired` is added.
-fn second_into<S: Alter>(tx: &mut Transaction<'_, S>) -> Result<(), Error>
+/// Makes a later version of version 1: `meta` is made anew for the new number, and `retired` is added.
+fn later_into<S: Alter>(tx: &mut Transaction<'_, S>, layout: Layout) -> Result<(), Error>
     ensures same_reference { tx.new.conn.ghost_name ≡ tx.old.conn.ghost_name }
-    ensures ok { Upgrades S.Store tx.old.conn.now tx.new.conn.now result }
+    ensures ok { Upgrades S.Store (version_of layout) tx.old.conn.now tx.new.conn.now result }
     ensures within { Inside S.Store tx.old.conn.now tx.new.conn.now result }
 {
     define(tx, "DROP TABLE meta")?;
-    define(
-        tx,
-        "CREATE TABLE meta (one INTEGER PRIMARY KEY CHECK (one = 1), version INTEGER NOT NULL CHECK (version = 2)) STRICT",
-    )?;
+    define(tx, layout.meta_text())?;
     define(
         tx,
         "CREATE TABLE retired (repo TEXT NOT NULL, oid TEXT NOT NULL, PRIMARY KEY (repo, oid)) STRICT",
     )?;
-    define(tx, "INSERT INTO meta (one, version) VALUES (1, 2)")?;
+    define(tx, layout.insert_meta_text())?;
     Ok(())
 }
 
-fn fresh_into<S: Alter>(tx: &mut Transaction<'_, S>) -> Result<(), Error>
+fn fresh_into<S: Alter>(tx: &mut Transaction<'_, S>, layout: Layout) -> Result<(), Error>
     ensures same_reference { tx.new.conn.ghost_name ≡ tx.old.conn.ghost_name }
-    ensures ok { MakesFresh S.Store tx.old.conn.now tx.new.conn.now result }
+    ensures ok { MakesFresh S.Store (version_of layout) tx.old.conn.now tx.new.conn.now result }
     ensures within { Inside S.Store tx.old.conn.now tx.new.conn.now result }
 {
     first_into(tx)?;
-    second_into(tx)
+    later_into(tx, layout)
 }
 
-/// Gives a database that has none of our tables those of the current version and its number, all or none.
+/// Gives a database that has none of our tables those of this layout and its number, all or none.
 #[tactic(auto, using(crate::proofs::Calls::led))]
-pub(crate) fn create<S: Alter>(conn: &mut Connection<S>) -> Result<(), StoreFault>
+pub(crate) fn create<S: Alter>(conn: &mut Connection<S>, layout: Layout) -> Result<(), StoreFault>
     ensures { Commits S.Store (IsTrue (state S.Store conn.old).is_open
         → IsBlank [] (state S.Store conn.old).now) conn.old conn.new result
-        (with_fresh (state S.Store conn.old).now.schema) }
+        (with_fresh (version_of layout) (state S.Store conn.old).now.schema) }
 {
     if !conn.is_autocommit() {
         return Err(StoreFault::Refused);
     }
     let mut tx = conn.transaction();
-    fresh_into(&mut tx)?;
+    fresh_into(&mut tx, layout)?;
     finish(tx)
 }
 
@@ -138,7 +136,7 @@ pub(crate) fn upgrade<S: Alter>(conn: &mut Connection<S>) -> Result<(), StoreFau
         return Err(StoreFault::Refused);
     }
     let mut tx = conn.transaction();
-    second_into(&mut tx)?;
+    later_into(&mut tx, Layout::Rows)?;
     finish(tx)
 }
 

@@ -1,6 +1,6 @@
 //! Opens stores.
 
-ghost use Rattle.std.specs.Prelude.{◌≡◌, ◌⊎◌, [], ◌∷◌, codes, IfOk, IsErr, OnErr, OnOk};
+ghost use Rattle.std.specs.Prelude.{◌≡◌, ◌↔◌, ◌⊎◌, IsTrue, [], ◌∷◌, codes, IfOk, IsErr, OnErr, OnOk};
 ghost use Rattle.sqlite_wal.specs.Files.{image_at};
 ghost use Rattle.sqlite_wal.specs.Reads.{AreClean};
 ghost use Rattle.sqlite.specs.Closing.{IsCopied};
@@ -9,12 +9,13 @@ ghost use Rattle.sqlite.specs.Steps.{over_memory};
 ghost use Rattle.sqlite.specs.Files.{over_files, file_state, IsNothing};
 ghost use Rattle.sqlite_catalog.specs.Listing.{IsSound};
 ghost use Rattle.sqlite_trees.specs.Objects.{catalog_tree};
-ghost use Rattle.tables.specs.Layout.{current};
+ghost use Rattle.tables.specs.Layout.{version_of};
 ghost use Rattle.tables.specs.Schemas.{HasAll};
-ghost use Rattle.tables.specs.Runs.{current_meta};
+ghost use Rattle.tables.specs.Runs.{current_meta, meta_of};
 ghost use Rattle.tables.specs.Shown.{connection, committed, IsHonest, IsOpen, HasNoTable, HasOurs, IsForeign, IsUnknown, fresh_on, HasTables, shown, Leaves, IsSafe, Rests, AddsFresh, AddsMigrated, MigratesTo, IsMigrated};
 
 use crate::fault::{OpenFault, StoreFault};
+use crate::layout::Layout;
 use crate::rows::Migrated;
 use crate::storage::Storage;
 use crate::{Store, schema};
@@ -103,47 +104,55 @@ impl<S: Alter> Store<S> {
 }
 
 impl<S: Storage> Store<S> {
-    /// Gives a database that has none of our tables those of the current version, all or none, and leaves one that has
-    /// them, whatever other tables it has. The result holds whatever the file held before.
+    /// Whether the database has none of our tables, and nothing in their way.
+    pub fn is_new(&self) -> bool
+        ensures { IsTrue result ↔ HasNoTable S.Store self.now }
+    {
+        schema::is_new(&self.conn)
+    }
+
+    /// Gives a database that has none of our tables those of the layout, all or none, and leaves one that has them,
+    /// whatever other tables it has. The result holds whatever the file held before.
     ///
     /// # Errors
     ///
-    /// `UnknownSchema` for any other database, one of version 1 too; `Store` of `Refused` or `Memory`. The database is
-    /// unchanged, but if it had none of our tables, a stop may still leave them.
-    pub fn create_or_check(&mut self, alloc: Global) -> Result<(), OpenFault>
+    /// `UnknownSchema` for any other database, one of version 1 or of another layout too; `Store` of `Refused` or
+    /// `Memory`. The database is unchanged, but if it had none of our tables, a stop may still leave them.
+    pub fn create_or_check(&mut self, alloc: Global, layout: Layout) -> Result<(), OpenFault>
         ensures ready { OnOk result (HasTables S.Store self.new) }
         ensures version { IsHonest S.Store self.new
             → OnOk result (IsOpen S.Store self.new
-            → (shown S.Store self.new).meta ≡ current_meta ∷ []) }
+            → (shown S.Store self.new).meta ≡ meta_of (version_of layout) ∷ []) }
         ensures ok { IsHonest S.Store self.new
-            → OnOk result ((HasNoTable S.Store self.old × (shown S.Store self.new ≡ fresh_on S.Store self.old))
+            → OnOk result ((HasNoTable S.Store self.old
+            × (shown S.Store self.new ≡ fresh_on S.Store (version_of layout) self.old))
             ⊎ Rests S.Store self.old self.new) }
         ensures safe { IsHonest S.Store self.new → OnOk result (IsSafe S.Store self.new) }
         ensures only { IsHonest S.Store self.new
             → OnOk result ((t : _) → Leaves S.Store self.new t
-            → (HasNoTable S.Store self.old × (t ≡ fresh_on S.Store self.old))
-            ⊎ (HasOurs S.Store self.old × (t ≡ shown S.Store self.old))) }
-        ensures ours { IsHonest S.Store self.new → (schema : _) → HasAll current schema
+            → (HasNoTable S.Store self.old × (t ≡ fresh_on S.Store (version_of layout) self.old))
+            ⊎ (HasOurs S.Store (version_of layout) self.old × (t ≡ shown S.Store self.old))) }
+        ensures ours { IsHonest S.Store self.new → (schema : _) → HasAll (version_of layout) schema
             → IsSound schema (committed S.Store self.old)
-            → OnOk result (HasOurs S.Store self.old) }
+            → OnOk result (HasOurs S.Store (version_of layout) self.old) }
         ensures empty { IsHonest S.Store self.new → committed S.Store self.old catalog_tree ≡ []
             → OnOk result (HasNoTable S.Store self.old) }
         ensures err { IsHonest S.Store self.new → OnErr result (Rests S.Store self.old self.new) }
         ensures unknown { IsHonest S.Store self.new → result ≡ Err OpenFault.UnknownSchema
-            → IsForeign S.Store self.old }
-        ensures stop { AddsFresh S.Store self.old self.new }
+            → IsForeign S.Store (version_of layout) self.old }
+        ensures stop { AddsFresh S.Store (version_of layout) self.old self.new }
     {
         self.staged = None;
-        schema::create_or_check(alloc, &mut self.conn)
+        schema::create_or_check(alloc, &mut self.conn, layout)
     }
 
-    /// Gives a database of version 1 the tables of the current version, all or none, and leaves its other rows. Any
-    /// other database is treated as [`create_or_check`](Store::create_or_check) treats it.
+    /// Gives a database of version 1 the tables of version 2, all or none, and leaves its other rows. Any other database
+    /// is treated as [`create_or_check`](Store::create_or_check) treats it.
     ///
     /// # Errors
     ///
     /// `UnknownSchema` for a database that is neither, `Store` of `Refused` or `Memory`. The database is unchanged, but
-    /// a stop may still leave the current version, if it was of version 1 or had none of our tables.
+    /// a stop may still leave version 2, if it was of version 1 or had none of our tables.
     pub fn migrate(&mut self, alloc: Global) -> Result<Migrated, OpenFault>
         ensures ready { OnOk result (HasTables S.Store self.new) }
         ensures version { IsHonest S.Store self.new

@@ -1,9 +1,9 @@
 //! The rows that the calls return.
 
 ghost use Rattle.std.specs.Prelude.{◌≡◌, ◌≢◌, ◌<◌, pos, length, IfOk, MatchOption, map, slice_get};
-ghost use Rattle.tables.specs.Rows.{Lock, Token, Upload};
-ghost use Rattle.tables.specs.Statements.{show_lock, show_token, show_upload};
-ghost use Rattle.tables.specs.Staging.{upload_fields, read_upload, IsUploadOf, AreUploadsOf};
+ghost use Rattle.tables.specs.Rows.{Lock, Token, Upload, Chunk};
+ghost use Rattle.tables.specs.Statements.{show_lock, show_token, show_upload, show_numbered};
+ghost use Rattle.tables.specs.Staging.{upload_number, upload_fields, read_upload, IsUploadOf, AreUploadsOf, numbered_fields, read_numbered, AreNumbered};
 ghost use Rattle.tables.specs.Steps.{IsLockOf, AreLocksOf, lock_fields, read_lock, IsTokenOf, AreTokensOf, token_fields, read_token, code_of};
 ghost use Rattle.tables.specs.Ranges.{IsLockInRange, IsTokenInRange};
 
@@ -51,6 +51,15 @@ pub struct UploadId {
     pub(crate) number: i64,
 }
 
+impl UploadId {
+    /// Its number in the database.
+    pub fn number(self) -> i64
+        ensures { result ≡ upload_number self }
+    {
+        self.number
+    }
+}
+
 /// An upload, staged or complete.
 #[derive(Debug, Drop)]
 pub struct UploadRow {
@@ -60,6 +69,14 @@ pub struct UploadRow {
     pub oid: Oid,
     /// The number of its bytes, once it is complete.
     pub size: Size,
+}
+
+/// A chunk that was found by its number.
+#[derive(Debug, Drop)]
+pub struct NumberedChunk {
+    /// The upload that it is of.
+    pub upload: UploadId,
+    pub bytes: Vec<u8>,
 }
 
 /// An object: a complete upload, without its names, which the caller knows.
@@ -84,9 +101,9 @@ pub enum Completion {
 /// The result of migrating a database.
 #[derive(Clone, Copy, Debug, PartialEq, Eq)]
 pub enum Migrated {
-    /// It was of version 1, and is of the current version now.
+    /// It was of version 1, and is of version 2 now.
     From1,
-    /// It was of the current version, or it had none of our tables and has those of the current version now.
+    /// It was of version 2, or it had none of our tables and has those of version 2 now.
     Already,
 }
 
@@ -178,6 +195,19 @@ fn upload_from(row: &Row) -> Result<UploadRow, StoreFault>
     })
 }
 
+/// The chunk in a row that has its upload and its bytes. A row that is out of range is refused.
+fn numbered_from(row: &Row) -> Result<NumberedChunk, StoreFault>
+    ensures { (c : Chunk) → row.now ≡ show_numbered c → IfOk result
+        (λ found. read_numbered found ≡ numbered_fields c) }
+{
+    Ok(NumberedChunk {
+        upload: UploadId {
+            number: row.get(0)?,
+        },
+        bytes: row.get(1)?,
+    })
+}
+
 /// The upload in the first of the rows.
 pub(crate) fn first_upload(rows: &[Row]) -> Result<Option<UploadRow>, StoreFault>
     ensures { (uploads : _) → rows.now ≡ map show_upload uploads → IfOk result
@@ -243,6 +273,18 @@ pub(crate) fn all_uploads(alloc: Global, rows: &[Row]) -> Result<Vec<UploadRow>,
     for row in rows {
         let upload = upload_from(row)?;
         found.push(upload).map_err(AllocError::from)?;
+    }
+    Ok(found)
+}
+
+pub(crate) fn all_numbered(alloc: Global, rows: &[Row]) -> Result<Vec<NumberedChunk>, StoreFault>
+    ensures { (chunks : _) → rows.now ≡ map show_numbered chunks → IfOk result
+        (λ found. AreNumbered found.items chunks) }
+{
+    let mut found = Vec::with_capacity(alloc, rows.len())?;
+    for row in rows {
+        let chunk = numbered_from(row)?;
+        found.push(chunk).map_err(AllocError::from)?;
     }
     Ok(found)
 }

@@ -8,16 +8,17 @@ ghost use Rattle.sqlite_catalog.specs.Listing.{IsSound};
 ghost use Rattle.sqlite_trees.specs.Objects.{catalog_tree};
 ghost use Rattle.tables.specs.Rows as part;
 ghost use Rattle.tables.specs.Rows.{Part, name_of};
-ghost use Rattle.tables.specs.Layout.{current};
+ghost use Rattle.tables.specs.Layout.{version_of};
 ghost use Rattle.tables.specs.Schemas.{HasSome, IsShared, HasAll, HasFirst, is_parent, counts_name};
 ghost use Rattle.typed_rows.specs.Queries.{IsFree};
 ghost use Rattle.sqlite_schema.specs.Names.{table_named, index_named, view_named};
 ghost use Rattle.tables.specs.Statements.{show_meta};
-ghost use Rattle.tables.specs.Runs.{HasNoTable, IsForeign, IsUnknown, HasOurs, IsReady, IsOld, current_meta, tables_in, LeadsIfBlank, LeadsIfAny, LeavesOurs, LeavesOnly, LeavesMigrated, MakesOrKeeps, Migrates};
+ghost use Rattle.tables.specs.Runs.{HasNoTable, IsForeign, IsUnknown, HasOurs, IsReady, IsOld, current_meta, meta_of, tables_in, LeadsIfBlank, LeadsIfAny, LeavesOurs, LeavesOnly, LeavesMigrated, MakesOrKeeps, Migrates};
 ghost use Rattle.typed_rows.specs.Transactions.{Keeps};
 ghost use Rattle.tables.specs.Calls.{LooksAtMeta};
 
 use crate::fault::{OpenFault, StoreFault};
+use crate::layout::Layout;
 use crate::making::{create, create_first, upgrade};
 use crate::read::read_meta;
 use crate::rows::Migrated;
@@ -90,7 +91,7 @@ fn has_part(schema: &Schema, ours: &Schema, name: &[u8]) -> bool
     }
 }
 
-/// Whether the schema has the six tables that both versions have, as the other schema has them.
+/// Whether the schema has the six tables that all versions have, as the other schema has them.
 fn has_six(schema: &Schema, ours: &Schema) -> bool
     ensures meta { HasSome ours.now part.meta → IsTrue result → IsShared schema.now ours.now part.meta }
     ensures repos { HasSome ours.now part.repos → IsTrue result → IsShared schema.now ours.now part.repos }
@@ -145,14 +146,14 @@ fn has_first(alloc: Global, schema: &Schema) -> Result<bool, StoreFault>
     Ok(has_six(schema, made.schema()))
 }
 
-/// Whether the schema has the tables of the current version, as `create` makes them.
-fn has_all(alloc: Global, schema: &Schema) -> Result<bool, StoreFault>
-    ensures { IfOk result (λ all. IsTrue all ↔ HasAll current schema.now) }
+/// Whether the schema has the tables of the layout, as `create` makes them.
+fn has_all(alloc: Global, schema: &Schema, layout: Layout) -> Result<bool, StoreFault>
+    ensures { IfOk result (λ all. IsTrue all ↔ HasAll (version_of layout) schema.now) }
 {
     let Ok(mut made) = Connection::open_in_memory(alloc) else {
         return Err(StoreFault::Memory);
     };
-    create(&mut made)?;
+    create(&mut made, layout)?;
     let ours = made.schema();
     if !has_part(schema, ours, b"retired") {
         return Ok(false);
@@ -182,15 +183,26 @@ fn has_number<S: Alter>(conn: &mut Connection<S>, number: u32) -> Result<bool, S
     is_numbered(rows.as_slice(), number)
 }
 
-/// Whether the database has the tables of the current version.
-fn has_our_tables<S: Storage>(alloc: Global, conn: &Connection<S>) -> Result<bool, StoreFault>
+/// Whether the database has none of our tables.
+pub(crate) fn is_new<S: Storage>(conn: &Connection<S>) -> bool
+    ensures { IsTrue result ↔ HasNoTable (state S.Store conn.now) }
+{
+    has_none(conn.schema())
+}
+
+/// Whether the database has the tables of the layout.
+fn has_our_tables<S: Storage>(
+    alloc: Global,
+    conn: &Connection<S>,
+    layout: Layout,
+) -> Result<bool, StoreFault>
     requires { IsTrue (state S.Store conn.now).is_open
         → (state S.Store conn.now).now ≡ (state S.Store conn.now).committed }
     ensures ready { IfOk result (λ found. IsTrue found → IsReady (state S.Store conn.now)) }
     ensures same { IfOk result
-        (λ found. IsTrue found ↔ HasAll current (state S.Store conn.now).now.schema) }
+        (λ found. IsTrue found ↔ HasAll (version_of layout) (state S.Store conn.now).now.schema) }
 {
-    has_all(alloc, conn.schema())
+    has_all(alloc, conn.schema(), layout)
 }
 
 /// Whether the database has the tables of version 1.
@@ -205,49 +217,50 @@ fn has_first_tables<S: Storage>(alloc: Global, conn: &Connection<S>) -> Result<b
     has_first(alloc, conn.schema())
 }
 
-/// Gives a database that has none of our tables those of the current version, leaves one that has them, and refuses any
-/// other.
+/// Gives a database that has none of our tables those of the layout, leaves one that has them, and refuses any other.
 pub(crate) fn create_or_check<S: Storage>(
     alloc: Global,
     conn: &mut Connection<S>,
+    layout: Layout,
 ) -> Result<(), OpenFault>
     ensures ready { OnOk result (IsReady (state S.Store conn.new)) }
     ensures version { HasCleanDisk (state S.Store conn.new)
         → OnOk result (IsTrue (state S.Store conn.new).is_open
-        → (tables_in (state S.Store conn.new)).meta ≡ current_meta ∷ []) }
+        → (tables_in (state S.Store conn.new)).meta ≡ meta_of (version_of layout) ∷ []) }
     ensures ok { HasCleanDisk (state S.Store conn.new)
-        → OnOk result (MakesOrKeeps (state S.Store conn.old) (state S.Store conn.new)) }
+        → OnOk result (MakesOrKeeps (version_of layout) (state S.Store conn.old) (state S.Store conn.new)) }
     ensures err { HasCleanDisk (state S.Store conn.new)
         → OnErr result (Keeps (state S.Store conn.old) (state S.Store conn.new)) }
     ensures unknown { HasCleanDisk (state S.Store conn.new) → result ≡ Err OpenFault.UnknownSchema
-        → IsForeign (state S.Store conn.old) }
+        → IsForeign (version_of layout) (state S.Store conn.old) }
     ensures safe { HasCleanDisk (state S.Store conn.new)
         → OnOk result (LeavesOurs (state S.Store conn.new)) }
     ensures only { HasCleanDisk (state S.Store conn.new)
-        → OnOk result (LeavesOnly (state S.Store conn.old) (state S.Store conn.new)) }
+        → OnOk result (LeavesOnly (version_of layout) (state S.Store conn.old) (state S.Store conn.new)) }
     ensures ours { HasCleanDisk (state S.Store conn.new)
-        → (schema : _) → HasAll current schema → IsSound schema (state S.Store conn.old).committed.trees
-        → OnOk result (HasOurs (state S.Store conn.old)) }
+        → (schema : _) → HasAll (version_of layout) schema
+        → IsSound schema (state S.Store conn.old).committed.trees
+        → OnOk result (HasOurs (version_of layout) (state S.Store conn.old)) }
     ensures empty { HasCleanDisk (state S.Store conn.new)
         → (state S.Store conn.old).committed.trees catalog_tree ≡ []
         → OnOk result (HasNoTable (state S.Store conn.old)) }
     ensures survives { Survives (state S.Store conn.old) (state S.Store conn.new)
-        (LeadsIfBlank (state S.Store conn.old)) }
+        (LeadsIfBlank (version_of layout) (state S.Store conn.old)) }
 {
     if !conn.is_autocommit() {
         return Err(StoreFault::Refused.into());
     }
     if has_none(conn.schema()) {
-        return Ok(create(conn)?);
+        return Ok(create(conn, layout)?);
     }
-    if has_our_tables(alloc, conn)? && has_number(conn, 2)? {
+    if has_our_tables(alloc, conn, layout)? && has_number(conn, layout.number())? {
         Ok(())
     } else {
         Err(OpenFault::UnknownSchema)
     }
 }
 
-/// Gives a database of version 1 the tables of the current version, and does to any other what `create_or_check` does.
+/// Gives a database of version 1 the tables of version 2, and does to any other what `create_or_check` does.
 pub(crate) fn migrate<S: Storage>(
     alloc: Global,
     conn: &mut Connection<S>,
@@ -273,7 +286,7 @@ pub(crate) fn migrate<S: Storage>(
         return Err(StoreFault::Refused.into());
     }
     if !has_first_tables(alloc, conn)? {
-        create_or_check(alloc, conn)?;
+        create_or_check(alloc, conn, Layout::Rows)?;
         return Ok(Migrated::Already);
     }
     if !has_number(conn, 1)? {

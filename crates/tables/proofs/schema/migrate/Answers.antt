@@ -1,7 +1,8 @@
 use Rattle.tables.proofs.Prelude.{arith, ◌≡◌, Bool, true, false, IsTrue, refl, rules, ap, ◌∙◌, Database, HasCleanDisk, state, Tables, tables_in, tables_of, IsAfter}
+use Rattle.tables.specs.declared.layout.Layout.TheVariants.{Rows}
 use Rattle.tables.specs.Layout.{version_one}
 use Rattle.tables.specs.Rows.{meta}
-use Rattle.tables.specs.Runs.{HasOld, migrated}
+use Rattle.tables.specs.Runs.{HasOld, raised, migrated}
 use Rattle.tables.proofs.Once.{same_tables}
 use Rattle.tables.proofs.Opened.{not_none, old_meta, first_is_other}
 use Rattle.tables.proofs.Migrating.{did, migrating_survives}
@@ -19,7 +20,7 @@ returns-then-not-branch-2-clause-unknown g c clean _ =
     record {
       foreign = record {
         some = λ none. not_none version_one (state g.S.Store c.args.conn.now).now.schema (state g.S.Store c.args.conn.now).now.schema none (first.all.parts.made meta refl) refl;
-        other = λ all _. first_is_other (state g.S.Store c.args.conn.now).now.schema first all;
+        other = λ all _. first_is_other Rows (state g.S.Store c.args.conn.now).now.schema first all;
       };
       other = λ _ version. never c.in_ok-has_number.field-0 (search (rules, c.if-not-branch-2.true)) (it.1.1 version);
     }
@@ -40,7 +41,7 @@ returns-clause-ok g c =
     did g.S.Store c.args.conn.now c.has_number.new.conn c.upgrade.new.conn _ (tables.ready (search (rules, c.if-not-branch.false))) (c.if-not-is_autocommit.ensures.settled refl) c.in_ok-has_number.field-0 (search (rules, c.if-not-branch-2.false)) c.in_ok-has_number.ensures c.in_ok-upgrade.ensures
 
 pub returns-clause-version : goal.returns-clause-version
-unfolding migrated
+unfolding raised
 returns-clause-version g c clean is_open =
     let tables = c.in_ok-has_first_tables.ensures in
     let it = did g.S.Store c.args.conn.now c.has_number.new.conn c.upgrade.new.conn _ (tables.ready (search (rules, c.if-not-branch.false))) (c.if-not-is_autocommit.ensures.settled refl) c.in_ok-has_number.field-0 (search (rules, c.if-not-branch-2.false)) c.in_ok-has_number.ensures c.in_ok-upgrade.ensures clean in
