@@ -5,7 +5,7 @@
 #![tactic(auto)]
 
 mod address;
-mod contents;
+mod beside;
 mod explaining;
 mod inputs;
 mod migrating;

@@ -6,7 +6,7 @@ ghost use Rattle.model.specs.World.{World};
 ghost use Rattle.refinement.specs.Left.{From};
 ghost use Rattle.faults.specs.declared.faults.Fault.{Fault};
 
-use crate::contents::{make_contents, open_contents, place_fault};
+use crate::beside::{make_contents, open_contents, place_fault};
 use crate::starts::Starts;
 use faults::Fault;
 use names::Sink;
