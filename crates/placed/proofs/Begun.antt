@@ -163,8 +163,8 @@ module _ {T D : Type 0} (g : Ghosts T) (d : disk.Ghosts D) (s : Placed T D) (bet
     begun_none fault =
         let next : Placed T D = record s { rows = between; regions = regions; staged = ls } in
         begins_none (beside g d) s next next
-        (still_with g d s between s.disk (file_itself d s.disk) regions ls more is finds.same finds.adds)
-        (nothing_with g d s between s.disk (file_itself d s.disk) regions ls more is finds.adds) asked fault
+        (still_with g d s between s.disk (file_itself d s.disk) regions ls s.unsynced more is finds.same finds.adds)
+        (nothing_with g d s between s.disk (file_itself d s.disk) regions ls s.unsynced more is finds.adds) asked fault
 
     -- the database did not begin it
     pub begun_failed : (fault other : StoreFault) → Begins g between rows (Err fault) asked

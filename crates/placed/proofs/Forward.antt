@@ -20,10 +20,10 @@ module _ {T D : Type 0} (g : Ghosts T) (d : disk.Ghosts D) (s : Placed T D) (row
 
   -- a call that reads
   pub still : Moves g (λ t. t) s.rows rows → AddsNothing g s.rows rows → Moves (beside g d) (λ t. t) s (record s { rows = rows })
-  still = still_with g d s rows s.disk (file_itself d s.disk) s.regions s.staged (λ r used. used) refl
+  still = still_with g d s rows s.disk (file_itself d s.disk) s.regions s.staged s.unsynced (λ r used. used) refl
 
   pub nothing : AddsNothing g s.rows rows → AddsNothing (beside g d) s (record s { rows = rows })
-  nothing = nothing_with g d s rows s.disk (file_itself d s.disk) s.regions s.staged (λ r used. used) refl
+  nothing = nothing_with g d s rows s.disk (file_itself d s.disk) s.regions s.staged s.unsynced (λ r used. used) refl
 
   pub reads : {X : Type 0} (r : Result X StoreFault) (P Q : Tables → X → Type 0)
       → ((t : Tables) (x : X) → P t x → Q (viewed g d s t) x) → Reads g s.rows rows r P
