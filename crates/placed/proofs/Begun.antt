@@ -1,5 +1,5 @@
 -- An upload that begins takes the place of the staged one of its repository, and a large content of it gets a region.
-use Rattle.placed.proofs.Prelude.{◌≡◌, ◌≢◌, inl, inr, ℕ, ◌<◌, suc, zero, ℤ, pos, Bool, true, false, cond, List, [], ◌∷◌, ◌++◌, take, drop, find, Option, Some, None, is_some, option_map, Ok, Err, refl, sym, ap, subst, ◌∙◌, Contains, arith, true≢false, Vec, AllByRecursion, option_or, int_eq, and_parts, ints, find-append, none-some, same_Some, all_weaker, all-append, ascending-append, Region, Regions, regions_of, IsReserved, Upload, Chunk, Tables, is_staged_in, is_staged_with, is_upload, is_staged, with_upload, upload_number, asked_upload, IsAbove, IsBegun, without_staged_in, after_begin, StoreFault, NewUpload, UploadId, UploadRow, Ghosts, IsHonest, HasTables, shown, Makes, Begins, Finds, Placed, Staged, view, received_pieces, others_of_found, AreSeparate, OfOthers, AreStagedApart, IsStagedIn, IsPlace, IsReceived, AreReceived, staged_of, shown_with, beside, pieces, without_found}
+use Rattle.placed.proofs.Prelude.{AreBeside, IsBeside, ◌≡◌, ◌≢◌, inl, inr, ℕ, ◌<◌, suc, zero, ℤ, pos, Bool, true, false, cond, List, [], ◌∷◌, ◌++◌, take, drop, find, Option, Some, None, is_some, option_map, Ok, Err, refl, sym, ap, subst, ◌∙◌, Contains, arith, true≢false, Vec, AllByRecursion, option_or, int_eq, and_parts, ints, find-append, none-some, same_Some, all_weaker, all-append, ascending-append, Region, Regions, regions_of, IsReserved, Upload, Chunk, Tables, is_staged_in, is_staged_with, is_upload, is_staged, with_upload, upload_number, asked_upload, IsAbove, IsBegun, without_staged_in, after_begin, StoreFault, NewUpload, UploadId, UploadRow, Ghosts, IsHonest, HasTables, shown, Makes, Begins, Finds, Placed, Staged, view, received_pieces, others_of_found, AreSeparate, OfOthers, AreStagedApart, IsStagedIn, IsPlace, IsReceived, AreReceived, staged_of, shown_with, beside, pieces, without_found}
 use Rattle.std.proofs.Common.{◌<ℤ◌, IsPermutation}
 use Rattle.std.specs.Bool.{MatchBool}
 use Rattle.std.proofs.lemmas.List.Elements.{All-contains, Contains-append_right}
@@ -229,18 +229,20 @@ module _ {T D : Type 0} (g : Ghosts T) (d : disk.Ghosts D) (s : Placed T D) (bet
             means = p.means;
             kept = p.kept;
             used = p.used;
+            some = p.some;
             apart = part_all _ (staged_of s) left_over some_left p.apart;
           };
           leads = leads_after it.tables it.honest;
+          beside = λ cs places. part_all _ (staged_of s) left_over some_left;
         })
 
     -- of a large content nothing is written yet
     pub begun_large : (regions : Regions) (ls : Vec Staged) (others : List Staged) (content : Staged) (size : ℕ)
-        → content.id ≡ id → content.draft.written ≡ 0
+        → 0 < size → content.id ≡ id → content.draft.written ≡ 0
         → IsReserved (regions_of s.regions) (regions_of regions) size content.draft.region → others ≡ left_over
         → ls.items ≡ others ++ content ∷ []
         → Begins (beside g d) s (record s { rows = rows; regions = regions; staged = ls }) (Ok id) asked
-    begun_large regions ls others content size own empty reserved rest is =
+    begun_large regions ls others content size large own empty reserved rest is =
         begun_by regions ls (made_with g d s rows regions ls step step whole.made goes)
       where
         old : List Region
@@ -261,6 +263,7 @@ module _ {T D : Type 0} (g : Ghosts T) (d : disk.Ghosts D) (s : Placed T D) (bet
           bytes = r.bytes;
           written = r.written;
           within = r.within;
+          some = r.some;
         }
 
         new_one : IsReceived d s.disk regions content
@@ -269,6 +272,7 @@ module _ {T D : Type 0} (g : Ghosts T) (d : disk.Ghosts D) (s : Placed T D) (bet
           bytes = [];
           written = record { size = sym empty; there = λ some. absurd (omega arith) };
           within = omega arith;
+          some = let same = reserved.size_is in omega (arith, same, large);
         }
 
         list_is : ls.items ≡ left_over ++ content ∷ []
@@ -327,10 +331,22 @@ module _ {T D : Type 0} (g : Ghosts T) (d : disk.Ghosts D) (s : Placed T D) (bet
           means = p.means;
           kept = p.kept;
           used = used p.region p.used;
+          some = p.some;
           apart = all-append (IsAway p.region) left_over
               (content ∷ []) (part_all _ (staged_of s) left_over some_left p.apart)
               ((λ not_sealed. apart_from old new size region reserved p.region p.used), tt);
         }
+
+        beside_after : (cs : List Chunk) → AllByRecursion (IsPlace d s.disk s.regions (staged_of s)) cs
+            → AreBeside (staged_of s) cs → AreBeside (left_over ++ content ∷ []) cs
+        beside_after cs places all = all-append (λ (x : Staged). AllByRecursion (IsBeside x) cs) left_over (content ∷ [])
+            (part_all _ (staged_of s) left_over some_left all) (
+              all_weaker (IsPlace d s.disk s.regions (staged_of s)) (IsBeside content)
+                  (λ c p r means.
+                  subst (AreSeparate region) (same_Some p.region r (sym p.means ∙ means)) (apart_from old new size region reserved p.region p.used))
+                  cs places,
+              tt,
+            )
 
         goes : Known g d s rows → GoesTo regions ls.items
         goes it =
@@ -339,6 +355,7 @@ module _ {T D : Type 0} (g : Ghosts T) (d : disk.Ghosts D) (s : Placed T D) (bet
             subst (GoesTo regions) (sym list_is) (record {
               received = received_after (whole.answers it.honest it.tables).1 it.received it.served.uploads;
               places = place_after;
+              beside = beside_after;
               leads = record {
                 shown = view-staged-empty (d.seen s.disk) left_over (step t) content no_pieces ∙ l.shown;
                 some = l.some;

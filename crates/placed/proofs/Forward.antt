@@ -16,6 +16,7 @@ module _ {T D : Type 0} (g : Ghosts T) (d : disk.Ghosts D) (s : Placed T D) (row
     places = place_same d s.disk s.disk s.regions s.regions (λ r used. used) (file_itself d s.disk) (staged_of s) ls.items
         (λ region. part_all _ (staged_of s) ls.items part);
     leads = leads it;
+    beside = λ cs places. part_all _ (staged_of s) ls.items part;
   })
 
   -- a call that reads

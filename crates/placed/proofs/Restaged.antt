@@ -1,9 +1,9 @@
 -- A call after which other contents are received, or other regions are in use, is a call on the database and its file.
-use Rattle.placed.proofs.Prelude.{◌≡◌, ◌≢◌, inl, inr, List, Err, refl, sym, ap, subst, Contains, Vec, AllByRecursion, all_weaker, Region, Regions, regions_of, IsSameFile, Chunk, Tables, StoreFault, Ghosts, IsHonest, IsOpen, HasTables, shown, Moves, AddsNothing, Makes, Puts, FailsAny, Changes, PutsOr, moves_none, Placed, Staged, view, IsStagedIn, IsPlace, AreReceived, IsServed, places_in, staged_of, AreHonest, shown_with, IsPlaced, HasPlaces, beside, ℕ, Result, Ok, IsErr, true≢false, IfOk, Reads, ◌∙◌}
+use Rattle.placed.proofs.Prelude.{AreBeside, ArePlacesApart, ◌≡◌, ◌≢◌, inl, inr, List, Err, refl, sym, ap, subst, Contains, Vec, AllByRecursion, all_weaker, Region, Regions, regions_of, IsSameFile, Chunk, Tables, StoreFault, Ghosts, IsHonest, IsOpen, HasTables, shown, Moves, AddsNothing, Makes, Puts, FailsAny, Changes, PutsOr, moves_none, Placed, Staged, view, IsStagedIn, IsPlace, AreReceived, IsServed, places_in, staged_of, AreHonest, shown_with, IsPlaced, HasPlaces, beside, ℕ, Result, Ok, IsErr, true≢false, IfOk, Reads, ◌∙◌}
 use Rattle.sqlite_disk.specs.declared.Disk as disk
 use Rattle.store.proofs.Moved.{nothing_none}
 use Rattle.placed.proofs.Keeping.{place_same, received_same, file_itself}
-use Rattle.placed.proofs.Tracked.{places-kept, apart-kept, places-remain}
+use Rattle.placed.proofs.Tracked.{places-kept, apart-kept, beside-kept, places-remain}
 use Rattle.placed.proofs.Both.{moves, makes, puts, fails}
 use Rattle.placed.proofs.Leading.{Leads, LeadsAny, HasPlace, Known, known, turned}
 use Rattle.placed.proofs.After.{changes_after, fails_after, puts_none, puts_or_after}
@@ -40,6 +40,8 @@ module _ {T D : Type 0} (g : Ghosts T) (d : disk.Ghosts D) (s : Placed T D) wher
     pub received : AreReceived d s.disk regions after
     pub places : (c : Chunk) → IsPlace d s.disk s.regions (staged_of s) c → IsPlace d s.disk regions after c
     pub leads : Leads (d.seen s.disk) (staged_of s) after t v shows
+    pub beside : (cs : List Chunk) → AllByRecursion (IsPlace d s.disk s.regions (staged_of s)) cs
+        → AreBeside (staged_of s) cs → AreBeside after cs
 
   module _ (rows : T) (regions : Regions) (ls : Vec Staged) where
     abbrev next : Placed T D
@@ -74,26 +76,29 @@ module _ {T D : Type 0} (g : Ghosts T) (d : disk.Ghosts D) (s : Placed T D) wher
           single = apart-kept (λ (a b : Chunk). a.upload ≢ b.upload) (shown g s.rows) (step (shown g s.rows)) n.leads.some
               it.served.single;
           uploads = n.leads.uploads it.served.uploads;
+          separate = apart-kept ArePlacesApart (shown g s.rows) (step (shown g s.rows)) n.leads.some it.served.separate;
+          beside = beside-kept (shown g s.rows) (step (shown g s.rows)) n.leads.some ls.items
+              (n.beside _ it.served.places it.served.beside);
         })
 
-    -- a call that is made durably
+    -- what holds after a call that is made durably
+    pub placed_with : (step after : Tables → Tables) → Makes g step s.rows rows → GoesOn step after → HasPlaces g d s
+        → AreHonest g d next → IsPlaced g d next
+    placed_with step after m go h k =
+        let before = known g d s rows m.moves.was_honest h k (m.was_open k.0) in
+        let n = go before in
+        let now = served_by step after m.moves (m.is_open k.0) n before in
+        record {
+          received = n.received;
+          served = λ o. now;
+          left = λ u leaves. places-remain NowPlace (shown g rows) u ((m.durable h.rows).only k.0 u leaves) now.places;
+        }
+
+    -- such a call
     pub made_with : (step after : Tables → Tables) → Makes g step s.rows rows → GoesOn step after
         → Makes (beside g d) after s next
-    made_with step after m go = makes g d s next (λ k. k) placed step after m (λ h k o. (go (before h k)).leads.shown)
-      where
-        before : HasPlaces g d s → AreHonest g d next → Known g d s rows
-        before h k = known g d s rows m.moves.was_honest h k (m.was_open k.0)
-
-        placed : HasPlaces g d s → AreHonest g d next → IsPlaced g d next
-        placed h k =
-            let n = go (before h k) in
-            let now = served_by step after m.moves (m.is_open k.0) n (before h k) in
-            record {
-              received = n.received;
-              served = λ o. now;
-              left = λ u leaves.
-                  places-remain NowPlace (shown g rows) u ((m.durable h.rows).only k.0 u leaves) now.places;
-            }
+    made_with step after m go = makes g d s next (λ k. k) (placed_with step after m go) step after m
+        (λ h k o. (go (known g d s rows m.moves.was_honest h k (m.was_open k.0))).leads.shown)
 
     -- a call that is made while the store is open, of which a stop may leave nothing
     pub puts_with : (step after : Tables → Tables) → Puts g step s.rows rows
@@ -149,6 +154,8 @@ module _ {T D : Type 0} (g : Ghosts T) (d : disk.Ghosts D) (s : Placed T D) wher
       places = places_still (places_in t) e.places;
       single = e.single;
       uploads = subst (AllByRecursion (IsStagedIn t)) (sym is) e.uploads;
+      separate = e.separate;
+      beside = subst (λ (l : List Staged). AreBeside l (places_in t)) (sym is) e.beside;
     }
 
     pub still_with : Moves g (λ t. t) s.rows rows → AddsNothing g s.rows rows → Moves (beside g d) (λ t. t) s read

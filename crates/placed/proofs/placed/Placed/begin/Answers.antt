@@ -2,7 +2,12 @@
 use Rattle.placed.proofs.Prelude.{◌≡◌, ◌≤◌, ◌<◌, ℕ, false, arith, refl, sym, ◌∙◌, ap, subst, Contains, err_from_is_err_and, regions_of, IsReserved, others_of_found}
 use Rattle.std.proofs.lemmas.Option.{MatchOption-at_none, MatchOption-at_some}
 use Rattle.placed.proofs.Begun.{number_found, begun_none, begun_failed, begun_small, begun_large, used_again}
+use Rattle.placed.proofs.Freeing.{made_freed, unused_left, unused_places}
 use Rattle.placed.proofs.placed.Placed.begin.Goals as goal
+
+-- a size that is not below that of a piece is not 0
+some_size : (asked read again : ℕ) → read ≡ asked → again ≡ asked → 65536 ≤ read → 0 < again
+some_size asked read again one two large = omega arith
 
 pub returns-in_err-id : goal.returns-in_err-id
 returns-in_err-id g c =
@@ -49,21 +54,19 @@ returns-in_default g c =
 pub returns-in-Ok : goal.returns-in-Ok
 returns-in-Ok g c =
     let reserved = MatchOption-at_some _ _ c.in-Some.region c.in-Some.is c.in_ok-region.ensures.ok in
+    let some = some_size c.args.upload.now.size c.get.result c.get-2.result c.get.ensures.value c.get-2.ensures.value
+    c.if-get-lt-PIECE.false in
     let s = c.args.self.now in
     begun_large g.T.State g.D.Disk s c.staged_upload.new.self c.begin_upload-2.new.self c.args.upload.now
     c.in_ok-replaced.replaced c.in_ok-replaced.ensures c.in-Ok.id c.in-Ok.ensures c.reserve-2.new.self c.add.new.staged
     c.forget_found-in-Ok.new.staged.items
     (record { id = c.in-Ok.id; draft = c.new-draft.result; is_sealed = false }) c.get-2.result
-    refl c.new-draft.ensures.written
+    some refl c.new-draft.ensures.written
     (subst (IsReserved (regions_of s.regions) (regions_of c.reserve-2.new.self) c.get-2.result)
     (sym c.new-draft.ensures.region) reserved)
     (c.forget_found-in-Ok.ensures.items
     ∙ ap (others_of_found (number_found c.in_ok-replaced.replaced)) c.in_ok-reserve.ensures.items)
     c.add.ensures
-
--- a size that is not below that of a piece is not 0
-some_size : (asked read again : ℕ) → read ≡ asked → again ≡ asked → 65536 ≤ read → 0 < again
-some_size asked read again one two large = omega arith
 
 pub returns-in-Err : goal.returns-in-Err
 returns-in-Err g c =
