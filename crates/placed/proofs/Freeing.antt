@@ -1,5 +1,5 @@
 -- A region goes out of use, and the file may be cut: all other contents are still there.
-use Rattle.placed.proofs.Prelude.{◌≡◌, ◌≢◌, ◌≤◌, true, none-some, inl, inr, ℕ, suc, zero, ℤ, pos, List, ◌∷◌, ◌++◌, find, filter, Option, Some, None, arith, refl, sym, ap, subst, ◌∙◌, Contains, Vec, AllByRecursion, IsAscending, all_weaker, all-append, same_int, and_parts, int_eq, Region, Regions, regions_of, HasContent, HasWritten, IsAlteredBy, Chunk, Tables, is_chunk, upload_number, Ghosts, shown, IsHonest, HasTables, IsOpen, Makes, Placed, Staged, place_number, is_place, region_in, pieces, pieces_at, received_pieces, others_of, others_of_found, view, AreSeparate, AreStagedApart, ArePlacesApart, OfOthers, IsBeside, IsPlace, IsReceived, AreReceived, IsServed, AreOfOthers, places_in, staged_of, shown_with, AreHonest, HasPlaces, IsPlaced, beside}
+use Rattle.placed.proofs.Prelude.{◌≡◌, ◌≢◌, ◌≤◌, true, none-some, same_Some, inl, inr, ℕ, suc, zero, ℤ, pos, List, ◌∷◌, ◌++◌, find, filter, Option, Some, None, arith, refl, sym, ap, subst, ◌∙◌, Contains, Vec, AllByRecursion, IsAscending, all_weaker, all-append, same_int, and_parts, int_eq, Region, Regions, regions_of, HasContent, HasWritten, IsAlteredBy, Chunk, Tables, is_chunk, upload_number, Ghosts, shown, IsHonest, HasTables, IsOpen, Makes, Placed, Staged, place_number, is_place, region_in, pieces, pieces_at, received_pieces, others_of, others_of_found, view, AreSeparate, AreStagedApart, ArePlacesApart, OfOthers, IsBeside, IsPlace, IsReceived, AreReceived, IsServed, AreOfOthers, places_in, staged_of, shown_with, AreHonest, HasPlaces, IsPlaced, beside}
 use Rattle.std.proofs.lemmas.List.Sorted.{Contains-permutation}
 use Rattle.sqlite_keyed.proofs.ListLemmas.{all_of, all_both}
 use Rattle.sqlite_disk.specs.declared.Disk as disk
@@ -44,6 +44,14 @@ used_still old new (Some region) (inl is) r some apart used = at (Contains-permu
     at (zero, less, same) = absurd (apart_other region r some apart same)
     at (suc k, less, same) = (k, omega arith, same)
 used_still old new (Some region) (inr is) r some apart used = subst (λ (l : List Region). Contains l r) (sym is.1) used
+
+-- a file that is not touched
+pub unaltered : {D : Type 0} (d : disk.Ghosts D) (disk : D) (used : List Region) → IsAlteredBy d (KeepsRegions used) disk disk
+unaltered d disk used = record {
+  seen = λ r there at bytes from to has. has;
+  stop = λ left may. (left, may, λ r there at bytes from to has. has);
+  clean = λ k. k;
+}
 
 -- ---- the contents in the file
 
@@ -256,6 +264,18 @@ module _ {D : Type 0} (d : disk.Ghosts D) (disk : D) (regions : Regions) (staged
           all_weaker (ArePlacesApart it.place) Far
               (λ c sides other r means. sides region r it.means means) cut.1 apart.1,
         ))
+
+  -- the region is in use
+  pub held_used : (k : Option ℤ) (region : Region) → IsHeldBy k staged t (Some region) → Contains (regions_of regions) region
+  held_used None region is = absurd (none-some region (sym is))
+  held_used (Some id) region (inl it) =
+      subst (Contains (regions_of regions)) (sym it.region_is)
+      (all_middle (IsReceived d disk regions) it.before it.after it.content
+      (subst (AllByRecursion (IsReceived d disk regions)) it.is received.each)).1.0.used
+  held_used (Some id) region (inr it) =
+      let p = (found_among (IsPlace d disk regions staged) (is_chunk id (pos place_number)) is_place (is_a_place id region) t.chunks
+      it.place it.there served.places).0 in
+      subst (Contains (regions_of regions)) (same_Some p.region region (sym p.means ∙ it.means)) p.used
 
   -- nothing that is left after the upload was removed has a byte in its region
   pub unused_left : (k : Option ℤ) (found : Option Region) → IsHeldBy k staged t found → IsLeftOver k found
