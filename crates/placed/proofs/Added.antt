@@ -40,6 +40,7 @@ module _ {T D : Type 0} (g : Ghosts T) (d : disk.Ghosts D) (old : Placed T D) (r
       bytes = r.bytes ++ bytes;
       written = joined r.bytes r.written;
       within = subst (λ region. draft.written ≤ region.size) (sym same_region) (subst (λ k. k ≤ e.draft.region.size) (sym written) room.within);
+      some = subst (λ region. 1 ≤ region.size) (sym same_region) r.some;
     }
 
     more : IsPlaced g d mid

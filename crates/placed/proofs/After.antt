@@ -69,6 +69,9 @@ module _ {S : Type 0} (g : Ghosts S) (a b c : S) (m : Moves g (λ t. t) a b) (n 
     puts_or_after f (Err fault) e = record { answers = λ k h. tt; made = tt; failed = fails_after (λ t u. u ≡ f t) e.failed }
 
     -- a call that ends after the first, with an error
+    pub changes_none : (f : Tables → Tables) (fault : StoreFault) → Changes g a b (Err fault) f P
+    changes_none f fault = record { answers = λ k h. tt; made = tt; failed = fails_none (λ t u. u ≡ f t) }
+
     pub puts_none : (f : Tables → Tables) (fault : StoreFault) → PutsOr g a b (Err fault) f P
     puts_none f fault = record { answers = λ k h. tt; made = tt; failed = fails_none (λ t u. u ≡ f t) }
 

@@ -1,5 +1,5 @@
 -- An upload that begins takes the place of the staged one of its repository, and a large content of it gets a region.
-use Rattle.placed.proofs.Prelude.{◌≡◌, ◌≢◌, inl, inr, ℕ, ◌<◌, suc, zero, ℤ, pos, Bool, true, false, cond, List, [], ◌∷◌, ◌++◌, take, drop, find, Option, Some, None, is_some, option_map, Ok, Err, refl, sym, ap, subst, ◌∙◌, Contains, arith, true≢false, Vec, AllByRecursion, option_or, int_eq, and_parts, ints, find-append, none-some, same_Some, all_weaker, all-append, ascending-append, Region, Regions, regions_of, IsReserved, Upload, Chunk, Tables, is_staged_in, is_staged_with, is_upload, is_staged, with_upload, upload_number, asked_upload, IsAbove, IsBegun, without_staged_in, after_begin, StoreFault, NewUpload, UploadId, UploadRow, Ghosts, IsHonest, HasTables, shown, Makes, Begins, Finds, Placed, Staged, view, received_pieces, others_of_found, AreSeparate, OfOthers, AreStagedApart, IsStagedIn, IsPlace, IsReceived, AreReceived, staged_of, shown_with, beside, pieces, without_found}
+use Rattle.placed.proofs.Prelude.{◌≤◌, IsAlteredBy, Moves, AddsNothing, piece_size, places_in, AreBeside, IsBeside, ◌≡◌, ◌≢◌, inl, inr, ℕ, ◌<◌, suc, zero, ℤ, pos, Bool, true, false, cond, List, [], ◌∷◌, ◌++◌, take, drop, find, Option, Some, None, is_some, option_map, Ok, Err, refl, sym, ap, subst, ◌∙◌, Contains, arith, true≢false, Vec, AllByRecursion, option_or, int_eq, and_parts, ints, find-append, none-some, same_Some, all_weaker, all-append, ascending-append, Region, Regions, regions_of, IsReserved, Upload, Chunk, Tables, is_staged_in, is_staged_with, is_upload, is_staged, with_upload, upload_number, asked_upload, IsAbove, IsBegun, without_staged_in, after_begin, StoreFault, NewUpload, UploadId, UploadRow, Ghosts, IsHonest, HasTables, shown, Makes, Begins, Finds, Placed, Staged, view, received_pieces, others_of_found, AreSeparate, OfOthers, AreStagedApart, IsStagedIn, IsPlace, IsReceived, AreReceived, staged_of, shown_with, beside, pieces, without_found}
 use Rattle.std.proofs.Common.{◌<ℤ◌, IsPermutation}
 use Rattle.std.specs.Bool.{MatchBool}
 use Rattle.std.proofs.lemmas.List.Elements.{All-contains, Contains-append_right}
@@ -13,29 +13,30 @@ use Rattle.placed.proofs.Views.{view-staged-empty}
 use Rattle.placed.proofs.Tracked.{staged_more}
 use Rattle.placed.proofs.Leading.{Leads, part_all, part_apart, part_received, part_of_found, ArePart, Known}
 use Rattle.placed.proofs.After.{begins_after, begins_none}
-use Rattle.placed.proofs.Restaged.{Continues, made_with, still_with, nothing_with, failed_with}
-use Rattle.placed.proofs.Removing.{number_of, leads_found}
+use Rattle.placed.proofs.Restaged.{Continues, still_with, nothing_with, failed_with}
+use Rattle.placed.proofs.Removing.{finds_after, found_leaves, leads_found}
+use Rattle.placed.proofs.Freeing.{HasNoPlacesOf, IsApartFrom, IsElsewhere, IsUnused, held_used, made_freed, unused_left, unused_places}
+use Rattle.placed.specs.Freed.{FindsRegion, Frees, HasRoomFor, IsFreed, IsHeldBy, id_in}
+use Rattle.contents.specs.Files.{KeepsRegions}
 use Rattle.placed.proofs.Keeping.{file_itself, IsAway}
 
 -- ---- the upload that was found
 
--- the number of the upload that was found
-abbrev pub number_found : Option UploadRow → Option ℤ
-number_found = option_map (λ (row : UploadRow). upload_number row.id)
-
--- the number of an upload that was found is that of the row
-same_found : (found : Option UploadRow) (o : Option Upload) → IsUploadOf found o → number_found found ≡ number_of o
-same_found None None is = refl
-same_found None (Some u) is = absurd (none-some _ is)
-same_found (Some row) None is = absurd (none-some _ (sym is))
-same_found (Some row) (Some u) is = ap (λ (f : UploadFields). Some f.id) (same_Some _ _ is)
+-- the ids of an upload that was found are one
+same_found : (found : Option UploadRow) (ids : Option UploadId) (o : Option Upload)
+    → ids ≡ option_map (λ (row : UploadRow). row.id) found → IsUploadOf found o → option_map upload_number ids ≡ id_in o
+same_found None ids None of_row is = ap (option_map upload_number) of_row
+same_found None ids (Some u) of_row is = absurd (none-some _ is)
+same_found (Some row) ids None of_row is = absurd (none-some _ (sym is))
+same_found (Some row) ids (Some u) of_row is =
+    ap (option_map upload_number) of_row ∙ ap (λ (f : UploadFields). Some f.id) (same_Some _ _ is)
 
 -- the tables in which the upload is begun, beside the contents of the others
 module _ (file : List ℕ) (staged : List Staged) (t : Tables) (u : Upload) where
   abbrev LeadsTo : List Staged → Type 0
   LeadsTo left = Leads file staged left t (after_begin u t) (after_begin u (view file staged t))
 
-  leads_begun : LeadsTo (others_of_found (number_of (find (is_staged_in u.repo) t.uploads)) staged)
+  leads_begun : LeadsTo (others_of_found (id_in (find (is_staged_in u.repo) t.uploads)) staged)
   unfolding view after_begin with_upload without_staged_in
   leads_begun =
       let o = find (is_staged_in u.repo) t.uploads in
@@ -43,13 +44,17 @@ module _ (file : List ℕ) (staged : List Staged) (t : Tables) (u : Upload) wher
       record {
         shown = ap (with_upload u) l.shown;
         some = l.some;
-        uploads = λ all. staged_more u (without_found o t) (others_of_found (number_of o) staged) (l.uploads all);
+        uploads = λ all. staged_more u (without_found o t) (others_of_found (id_in o) staged) (l.uploads all);
       }
 
-  leads_row : (found : Option UploadRow) → IsUploadOf found (find (is_staged_in u.repo) t.uploads)
-      → LeadsTo (others_of_found (number_found found) staged)
-  leads_row found is =
-      subst (λ (o : Option ℤ). LeadsTo (others_of_found o staged)) (sym (same_found found _ is)) leads_begun
+-- no place is of the upload that is replaced
+begun_leaves : (u : Upload) (t : Tables) → HasNoPlacesOf (id_in (find (is_staged_in u.repo) t.uploads)) (after_begin u t)
+unfolding after_begin with_upload without_staged_in
+begun_leaves u t = at (find (is_staged_in u.repo) t.uploads)
+  where
+    at : (o : Option Upload) → HasNoPlacesOf (id_in o) (with_upload u (without_found o t))
+    at None = tt
+    at (Some v) = found_leaves (Some v) t
 
 -- the upload that is begun is staged
 staged_last : (u : Upload) (t : Tables) → u.done ≡ pos 0
@@ -130,14 +135,7 @@ module _ (old new : List Region) (size : ℕ) (region : Region) (reserved : IsRe
 -- ---- the call
 
 module _ {T D : Type 0} (g : Ghosts T) (d : disk.Ghosts D) (s : Placed T D) (between rows : T) (asked : NewUpload)
-    (found : Option UploadRow) (finds : Finds g s.rows between (repo_text asked.repo.now) (Ok found)) where
-  -- the contents of other uploads than the one that was found
-  abbrev left_over : List Staged
-  left_over = others_of_found (number_found found) (staged_of s)
-
-  some_left : ArePart (staged_of s) left_over
-  some_left = part_of_found (number_found found) (staged_of s)
-
+    (same : Moves g (λ t. t) s.rows between) (added : AddsNothing g s.rows between) where
   -- ---- a call that failed
 
   module _ (regions : Regions) (ls : Vec Staged)
@@ -148,7 +146,7 @@ module _ {T D : Type 0} (g : Ghosts T) (d : disk.Ghosts D) (s : Placed T D) (bet
     leads staged t v begun =
         let u = asked_upload asked begun.0 in
         let o = find (is_staged_in u.repo) t.uploads in
-        let after = others_of_found (number_of o) staged in
+        let after = others_of_found (id_in o) staged in
         let file = d.seen s.disk in (
           after_begin u (view file staged t),
           (begun.0, above_view file staged t begun.0 begun.1, refl),
@@ -163,8 +161,8 @@ module _ {T D : Type 0} (g : Ghosts T) (d : disk.Ghosts D) (s : Placed T D) (bet
     begun_none fault =
         let next : Placed T D = record s { rows = between; regions = regions; staged = ls } in
         begins_none (beside g d) s next next
-        (still_with g d s between s.disk (file_itself d s.disk) regions ls more is finds.same finds.adds)
-        (nothing_with g d s between s.disk (file_itself d s.disk) regions ls more is finds.adds) asked fault
+        (still_with g d s between s.disk (file_itself d s.disk) regions ls s.unsynced more is same added)
+        (nothing_with g d s between s.disk (file_itself d s.disk) regions ls s.unsynced more is added) asked fault
 
     -- the database did not begin it
     pub begun_failed : (fault other : StoreFault) → Begins g between rows (Err fault) asked
@@ -173,10 +171,28 @@ module _ {T D : Type 0} (g : Ghosts T) (d : disk.Ghosts D) (s : Placed T D) (bet
       answers = λ k h. tt;
       made = tt;
       failed = failed_with g d s rows regions ls more is (IsBegun asked) (IsBegun asked)
-          (begins_after g s.rows between rows finds.same finds.adds (Err fault) asked begins).failed leads;
+          (begins_after g s.rows between rows same added (Err fault) asked begins).failed leads;
     }
 
-  -- ---- a call that began it
+-- ---- a call that began it
+
+module _ {T D : Type 0} (g : Ghosts T) (d : disk.Ghosts D) (s : Placed T D) (mid between rows : T) (asked : NewUpload)
+    (found : Option UploadRow) (finds : Finds g s.rows mid (repo_text asked.repo.now) (Ok found))
+    (ids : Option UploadId) (of_row : ids ≡ option_map (λ (row : UploadRow). row.id) found) (freed : Option Region)
+    (holds : FindsRegion g mid between (staged_of s) (option_map upload_number ids) (Ok freed)) where
+  -- the upload that is replaced
+  abbrev replaced : Option ℤ
+  replaced = option_map upload_number ids
+
+  -- the contents of the others
+  abbrev left_over : List Staged
+  left_over = others_of_found replaced (staged_of s)
+
+  some_left : ArePart (staged_of s) left_over
+  some_left = part_of_found replaced (staged_of s)
+
+  holds_first : FindsRegion g s.rows between (staged_of s) replaced (Ok freed)
+  holds_first = finds_after g s.rows mid between finds.same finds.adds (staged_of s) replaced (Ok freed) holds
 
   module _ (id : UploadId) (begins : Begins g between rows (Ok id) asked) where
     -- the upload in the tables
@@ -187,40 +203,90 @@ module _ {T D : Type 0} (g : Ghosts T) (d : disk.Ghosts D) (s : Placed T D) (bet
     step = after_begin asked_one
 
     whole : Begins g s.rows rows (Ok id) asked
-    whole = begins_after g s.rows between rows finds.same finds.adds (Ok id) asked begins
+    whole = begins_after g s.rows between rows holds_first.same holds_first.adds (Ok id) asked begins
 
     -- the upload that was found is that of the tables before the call
-    found_before : HasTables g s.rows → IsHonest g rows
-        → IsUploadOf found (find (is_staged_in (repo_text asked.repo.now)) (shown g s.rows).uploads)
-    found_before h k =
-        let honest = begins.made.moves.was_honest k in
-        let opened = begins.made.was_open k in
-        subst (λ (t : Tables). IsUploadOf found (find (is_staged_in (repo_text asked.repo.now)) t.uploads))
-        (finds.same.shows honest h opened) (finds.answers honest h opened)
+    is_replaced : HasTables g s.rows → IsHonest g rows
+        → replaced ≡ id_in (find (is_staged_in (repo_text asked.repo.now)) (shown g s.rows).uploads)
+    is_replaced h k =
+        let honest = holds.same.was_honest (begins.made.moves.was_honest k) in
+        let opened = holds.same.was_open (begins.made.moves.was_honest k) (begins.made.was_open k) in
+        same_found found ids _ of_row
+        (subst (λ (t : Tables). IsUploadOf found (find (is_staged_in (repo_text asked.repo.now)) t.uploads))
+        (finds.same.shows honest h opened) (finds.answers honest h opened))
+
+    is_held : HasTables g s.rows → IsHonest g rows → IsHeldBy replaced (staged_of s) (shown g s.rows) freed
+    is_held h k = holds_first.answers (begins.made.moves.was_honest k) h (begins.made.was_open k)
 
     leads_after : HasTables g s.rows → IsHonest g rows
         → Leads (d.seen s.disk) (staged_of s) left_over (shown g s.rows) (step (shown g s.rows)) (step (shown_with g d s))
-    leads_after h k = leads_row (d.seen s.disk) (staged_of s) (shown g s.rows) asked_one found (found_before h k)
+    leads_after h k =
+        subst (λ (o : Option ℤ). LeadsTo (d.seen s.disk) (staged_of s) (shown g s.rows) asked_one (others_of_found o (staged_of s)))
+        (sym (is_replaced h k)) (leads_begun (d.seen s.disk) (staged_of s) (shown g s.rows) asked_one)
+
+    no_place : HasTables g s.rows → IsHonest g rows → HasNoPlacesOf replaced (step (shown g s.rows))
+    no_place h k =
+        subst (λ (o : Option ℤ). HasNoPlacesOf o (step (shown g s.rows))) (sym (is_replaced h k)) (begun_leaves asked_one (shown g s.rows))
+
+    -- what is left has no byte in the region
+    elsewhere : (it : Known g d s rows) → AllByRecursion (IsElsewhere freed) (places_in (step (shown g s.rows)))
+    elsewhere it =
+        unused_places d s.disk s.regions (staged_of s) (shown g s.rows) it.received it.served replaced freed (is_held it.tables it.honest)
+        (step (shown g s.rows)) (leads_after it.tables it.honest).some (no_place it.tables it.honest)
+
+    apart_left : (it : Known g d s rows) → AllByRecursion (λ (x : Staged). IsApartFrom freed x.draft.region) left_over
+    apart_left it =
+        unused_left d s.disk s.regions (staged_of s) (shown g s.rows) it.received it.served replaced freed (is_held it.tables it.honest)
 
     -- these contents go with the step
     abbrev GoesTo : Regions → List Staged → Type 0
     GoesTo regions after = Continues g d s regions after (shown g s.rows) (step (shown g s.rows)) (step (shown_with g d s))
 
-    begun_by : (regions : Regions) (ls : Vec Staged)
-        → Makes (beside g d) step s (record s { rows = rows; regions = regions; staged = ls })
-        → Begins (beside g d) s (record s { rows = rows; regions = regions; staged = ls }) (Ok id) asked
-    begun_by regions ls made = record {
-      answers = λ k h. let it = whole.answers k.0 h.kept.rows in
-          (it.0, above_view (d.seen s.disk) (staged_of s) (shown g s.rows) (upload_number id) it.1);
-      made = made;
-      failed = tt;
-    }
+    -- a call that made the step, with these regions in use before one of them was freed
+    module _ (mid_regions regions : Regions) (ls : Vec Staged) (file : D)
+        (room : HasRoomFor asked.size (regions_of s.regions) (regions_of mid_regions))
+        (is_freed : IsFreed (regions_of mid_regions) (regions_of regions) freed) where
+      abbrev next : Placed T D
+      next = record s { rows = rows; disk = file; regions = regions; staged = ls }
+
+      begun_by : Makes (beside g d) step s next → Begins (beside g d) s next (Ok id) asked
+          × Frees g d s next asked.size (λ t. id_in (find (is_staged_in (repo_text asked.repo.now)) t.uploads)) (Ok id)
+      begun_by made = (
+        record {
+          answers = λ k h. let it = whole.answers k.0 h.kept.rows in
+              (it.0, above_view (d.seen s.disk) (staged_of s) (shown g s.rows) (upload_number id) it.1);
+          made = made;
+          failed = tt;
+        },
+        record {
+          freed = λ k h. (
+            regions_of mid_regions,
+            room,
+            freed,
+            subst (λ (o : Option ℤ). IsHeldBy o (staged_of s) (shown g s.rows) freed) (is_replaced h.rows k.0) (is_held h.rows k.0),
+            is_freed,
+          );
+          kept = tt;
+        },
+      )
 
     -- a small content has no region
-    pub begun_small : (ls : Vec Staged) → ls.items ≡ left_over
-        → Begins (beside g d) s (record s { rows = rows; staged = ls }) (Ok id) asked
-    begun_small ls is = begun_by s.regions ls (made_with g d s rows s.regions ls step step whole.made goes)
+    pub begun_small : asked.size < piece_size → (regions : Regions) (ls : Vec Staged) (file : D) → ls.items ≡ left_over
+        → IsFreed (regions_of s.regions) (regions_of regions) freed
+        → IsAlteredBy d (KeepsRegions (regions_of regions)) s.disk file
+        → Begins (beside g d) s (record s { rows = rows; disk = file; regions = regions; staged = ls }) (Ok id) asked
+        × Frees g d s (record s { rows = rows; disk = file; regions = regions; staged = ls }) asked.size
+        (λ t. id_in (find (is_staged_in (repo_text asked.repo.now)) t.uploads)) (Ok id)
+    begun_small small regions ls file is is_freed altered = begun_by s.regions regions ls file (inl (small, refl)) is_freed
+        (made_freed g d s rows s.regions regions ls file freed is_freed altered step step whole.made goes unused)
       where
+        unused : (it : Known g d s rows)
+            → IsUnused g d s rows s.regions regions ls file freed is_freed altered (step (shown g s.rows))
+        unused it = record {
+          received = subst (AllByRecursion (λ (x : Staged). IsApartFrom freed x.draft.region)) (sym is) (apart_left it);
+          places = elsewhere it;
+        }
+
         goes : Known g d s rows → GoesTo s.regions ls.items
         goes it = subst (GoesTo s.regions) (sym is) (record {
           received = part_received d s.disk s.regions (staged_of s) left_over some_left it.received;
@@ -229,20 +295,29 @@ module _ {T D : Type 0} (g : Ghosts T) (d : disk.Ghosts D) (s : Placed T D) (bet
             means = p.means;
             kept = p.kept;
             used = p.used;
+            some = p.some;
             apart = part_all _ (staged_of s) left_over some_left p.apart;
           };
           leads = leads_after it.tables it.honest;
+          beside = λ cs places. part_all _ (staged_of s) left_over some_left;
         })
 
     -- of a large content nothing is written yet
-    pub begun_large : (regions : Regions) (ls : Vec Staged) (others : List Staged) (content : Staged) (size : ℕ)
-        → content.id ≡ id → content.draft.written ≡ 0
-        → IsReserved (regions_of s.regions) (regions_of regions) size content.draft.region → others ≡ left_over
-        → ls.items ≡ others ++ content ∷ []
-        → Begins (beside g d) s (record s { rows = rows; regions = regions; staged = ls }) (Ok id) asked
-    begun_large regions ls others content size own empty reserved rest is =
-        begun_by regions ls (made_with g d s rows regions ls step step whole.made goes)
+    pub begun_large : piece_size ≤ asked.size → (regions last : Regions) (ls : Vec Staged) (file : D) (others : List Staged)
+        (content : Staged) → content.id ≡ id → content.draft.written ≡ 0
+        → IsReserved (regions_of s.regions) (regions_of regions) asked.size content.draft.region → others ≡ left_over
+        → ls.items ≡ others ++ content ∷ [] → IsFreed (regions_of regions) (regions_of last) freed
+        → IsAlteredBy d (KeepsRegions (regions_of last)) s.disk file
+        → Begins (beside g d) s (record s { rows = rows; disk = file; regions = last; staged = ls }) (Ok id) asked
+        × Frees g d s (record s { rows = rows; disk = file; regions = last; staged = ls }) asked.size
+        (λ t. id_in (find (is_staged_in (repo_text asked.repo.now)) t.uploads)) (Ok id)
+    begun_large large regions last ls file others content own empty reserved rest is is_freed altered =
+        begun_by regions last ls file (inr (large, content.draft.region, reserved)) is_freed
+        (made_freed g d s rows regions last ls file freed is_freed altered step step whole.made goes unused)
       where
+        size : ℕ
+        size = asked.size
+
         old : List Region
         old = regions_of s.regions
 
@@ -261,6 +336,7 @@ module _ {T D : Type 0} (g : Ghosts T) (d : disk.Ghosts D) (s : Placed T D) (bet
           bytes = r.bytes;
           written = r.written;
           within = r.within;
+          some = r.some;
         }
 
         new_one : IsReceived d s.disk regions content
@@ -269,6 +345,7 @@ module _ {T D : Type 0} (g : Ghosts T) (d : disk.Ghosts D) (s : Placed T D) (bet
           bytes = [];
           written = record { size = sym empty; there = λ some. absurd (omega arith) };
           within = omega arith;
+          some = let same = reserved.size_is in omega (arith, same, large);
         }
 
         list_is : ls.items ≡ left_over ++ content ∷ []
@@ -319,6 +396,24 @@ module _ {T D : Type 0} (g : Ghosts T) (d : disk.Ghosts D) (s : Placed T D) (bet
               (part_all _ (staged_of s) left_over some_left (all_apart was.each));
         }
 
+        -- the new content has no byte in the region that is freed
+        apart_new : (found : Option Region) → ((r : Region) → found ≡ Some r → Contains old r) → IsApartFrom found region
+        apart_new None used = tt
+        apart_new (Some r) used = apart_to old new size region reserved r (used r refl)
+
+        unused : (it : Known g d s rows)
+            → IsUnused g d s rows regions last ls file freed is_freed altered (step (shown g s.rows))
+        unused it = record {
+          received = subst (AllByRecursion (λ (x : Staged). IsApartFrom freed x.draft.region)) (sym list_is)
+              (all-append (λ (x : Staged). IsApartFrom freed x.draft.region) left_over (content ∷ []) (apart_left it) (
+                apart_new freed (λ r same.
+                    held_used d s.disk s.regions (staged_of s) (shown g s.rows) it.received it.served replaced r
+                    (subst (IsHeldBy replaced (staged_of s) (shown g s.rows)) same (is_held it.tables it.honest))),
+                tt,
+              ));
+          places = elsewhere it;
+        }
+
         -- each place is apart from the region of the new content
         place_after : (c : Chunk) → IsPlace d s.disk s.regions (staged_of s) c
             → IsPlace d s.disk regions (left_over ++ content ∷ []) c
@@ -327,10 +422,22 @@ module _ {T D : Type 0} (g : Ghosts T) (d : disk.Ghosts D) (s : Placed T D) (bet
           means = p.means;
           kept = p.kept;
           used = used p.region p.used;
+          some = p.some;
           apart = all-append (IsAway p.region) left_over
               (content ∷ []) (part_all _ (staged_of s) left_over some_left p.apart)
               ((λ not_sealed. apart_from old new size region reserved p.region p.used), tt);
         }
+
+        beside_after : (cs : List Chunk) → AllByRecursion (IsPlace d s.disk s.regions (staged_of s)) cs
+            → AreBeside (staged_of s) cs → AreBeside (left_over ++ content ∷ []) cs
+        beside_after cs places all = all-append (λ (x : Staged). AllByRecursion (IsBeside x) cs) left_over (content ∷ [])
+            (part_all _ (staged_of s) left_over some_left all) (
+              all_weaker (IsPlace d s.disk s.regions (staged_of s)) (IsBeside content)
+                  (λ c p r means.
+                  subst (AreSeparate region) (same_Some p.region r (sym p.means ∙ means)) (apart_from old new size region reserved p.region p.used))
+                  cs places,
+              tt,
+            )
 
         goes : Known g d s rows → GoesTo regions ls.items
         goes it =
@@ -339,6 +446,7 @@ module _ {T D : Type 0} (g : Ghosts T) (d : disk.Ghosts D) (s : Placed T D) (bet
             subst (GoesTo regions) (sym list_is) (record {
               received = received_after (whole.answers it.honest it.tables).1 it.received it.served.uploads;
               places = place_after;
+              beside = beside_after;
               leads = record {
                 shown = view-staged-empty (d.seen s.disk) left_over (step t) content no_pieces ∙ l.shown;
                 some = l.some;

@@ -1,13 +1,14 @@
 -- An upload whose content is in the file is completed: a row that says where it is takes the place of what was received.
-use Rattle.placed.proofs.Prelude.{not, suc, take, drop, ◌≡◌, ◌≢◌, ◌≤◌, ◌*◌, ◌<◌, ◌^◌, inl, inr, ℕ, ℤ, pos, Bool, true, false, cond, List, [], ◌∷◌, ◌++◌, length, find, Option, Some, None, option_map, is_some, refl, sym, ap, subst, ◌∙◌, arith, append-nil, true≢false, AllByRecursion, filter-append, none-some, same_Some, ints, int_eq, next_key, all_weaker, all-append, ascending-append, IsAscending, HasContent, HasWritten, Chunk, Upload, Tables, is_object, is_staged_with, with_chunk, with_done, upload_number, asked_chunk, staged_with, with_used, with_bytes, with_last, with_kept, completion_by, completion_of, after_completion, after_found, after_complete, LastChunk, Completion, Ghosts, placeless, arranged, normal, Placed, Staged, piece_size, pieces, place_number, is_place, place_of, region_in, view, others_of, pieces_in, pieces_at, received_pieces, AreSeparate, AreStagedApart, IsStagedIn, IsPlace, HasSinglePlaces, places_in, staged_of, IsPlaced, AreOfOthers}
+use Rattle.placed.proofs.Prelude.{AreBeside, IsBeside, not, suc, take, drop, ◌≡◌, ◌≢◌, ◌≤◌, ◌*◌, ◌<◌, ◌^◌, inl, inr, ℕ, ℤ, pos, Bool, true, false, cond, List, [], ◌∷◌, ◌++◌, length, find, Option, Some, None, option_map, is_some, refl, sym, ap, subst, ◌∙◌, arith, append-nil, true≢false, AllByRecursion, filter-append, none-some, same_Some, ints, int_eq, next_key, all_weaker, all-append, ascending-append, IsAscending, HasContent, HasWritten, Chunk, Upload, Tables, is_object, is_staged_with, with_chunk, with_done, upload_number, asked_chunk, staged_with, with_used, with_bytes, with_last, with_kept, completion_by, completion_of, after_completion, after_found, after_complete, LastChunk, Completion, Ghosts, placeless, arranged, normal, Placed, Staged, piece_size, pieces, place_number, is_place, place_of, region_in, view, others_of, pieces_in, pieces_at, received_pieces, AreSeparate, AreStagedApart, IsStagedIn, IsPlace, HasSinglePlaces, ArePlacesApart, places_in, staged_of, IsPlaced, AreOfOthers}
 use Rattle.std.proofs.Common.{if◌then◌else◌, ◌⊎◌}
 use Rattle.sqlite_disk.specs.declared.Disk as disk
 use Rattle.tables.specs.Staging.{is_as_begun}
 use Rattle.tables.specs.declared.rows.Completion.TheVariants as completion
+use Rattle.sqlite_keyed.proofs.ListLemmas.{all_both}
 use Rattle.placed.proofs.Arranged.{arranged-filter}
 use Rattle.placed.proofs.Bytes.{content_is, written_is, place_means}
 use Rattle.placed.proofs.Cutting.{pieces_push}
-use Rattle.placed.proofs.Ordered.{all_arranged, apart_arranged}
+use Rattle.placed.proofs.Ordered.{all_arranged, related_arranged}
 use Rattle.placed.proofs.Tracked.{staged-done, others-same, others_turned}
 use Rattle.placed.proofs.Written.{WritesPast, unchanged, received_at, still_received, turned_around, still_placed, once_here, same_places, same_before, same_after}
 use Rattle.placed.proofs.Views.{view-of-normal, view-completed, last_of, found_id}
@@ -15,6 +16,9 @@ use Rattle.placed.proofs.Lists.{ascending_middle}
 use Rattle.placed.proofs.Keeping.{AreAway}
 
 -- ---- the step
+
+places_turned : (a b : Chunk) → ArePlacesApart a b → ArePlacesApart b a
+places_turned a b apart r q means other = turned_around q r (apart q r other means)
 
 module _ (t : Tables) (u : Upload) (bytes : List ℕ) where
   -- the row of the place, with a rowid
@@ -44,10 +48,20 @@ module _ (t : Tables) (u : Upload) (bytes : List ℕ) where
       → HasSinglePlaces with_place
   single_and others single =
       subst (IsAscending (λ (a b : Chunk). a.upload ≢ b.upload)) (sym places_are)
-      (apart_arranged (places_in t ++ row next ∷ [])
+      (related_arranged (λ (a b : Chunk). a.upload ≢ b.upload) (λ a b other same. other (sym same)) (λ a b other. other)
+      (places_in t ++ row next ∷ [])
       (ascending-append (λ (a b : Chunk). a.upload ≢ b.upload) (places_in t) (row next ∷ []) single (tt, tt)
       (all_weaker (λ (c : Chunk). c.upload ≢ u.id) (λ c. AllByRecursion (λ (b : Chunk). c.upload ≢ b.upload) (row next ∷ []))
       (λ c other. (other, tt)) (places_in t) others)))
+
+  pub separate_and : AllByRecursion (λ (c : Chunk). ArePlacesApart c (row next)) (places_in t)
+      → IsAscending ArePlacesApart (places_in t) → IsAscending ArePlacesApart (places_in with_place)
+  separate_and others separate =
+      subst (IsAscending ArePlacesApart) (sym places_are)
+      (related_arranged ArePlacesApart places_turned (λ a b apart. apart) (places_in t ++ row next ∷ [])
+      (ascending-append ArePlacesApart (places_in t) (row next ∷ []) separate (tt, tt)
+      (all_weaker (λ (c : Chunk). ArePlacesApart c (row next)) (λ c. AllByRecursion (ArePlacesApart c) (row next ∷ []))
+      (λ c apart. (apart, tt)) (places_in t) others)))
 
   pub staged_and : (staged : List Staged) → AllByRecursion (IsStagedIn t) staged → AreOfOthers u.id staged
       → AllByRecursion (IsStagedIn with_place) staged
@@ -222,7 +236,28 @@ module _ {T D : Type 0} (g : Ghosts T) (d : disk.Ghosts D) (old : Placed T D) {f
       kept = record { content = r.bytes ++ last.bytes.items; seen = ends.content r.bytes r.written; left = ends.stop r.bytes r.written };
       used = r.used;
       apart = apart;
+      some = r.some;
     }
+
+    -- it is apart from each place from which the content was
+    pub place_separate : (t : Tables) (u : Upload) → AllByRecursion (IsBeside e) (places_in t)
+        → IsAscending ArePlacesApart (places_in t)
+        → IsAscending ArePlacesApart (places_in (with_place t u place.bytes.items))
+    place_separate t u near = separate_and t u place.bytes.items
+        (all_weaker (IsBeside e) (λ (c : Chunk). ArePlacesApart c (row t u place.bytes.items (next t u place.bytes.items)))
+        (λ c apart r q means other.
+        subst (AreSeparate r) (same_Some e.draft.region q (sym region_is ∙ other)) (turned_around e.draft.region r (apart r means)))
+        (places_in t) near)
+
+    -- contents that are apart from it, beside it and the other places
+    pub contents_beside : (t : Tables) (u : Upload) (xs : List Staged)
+        → AllByRecursion (λ (x : Staged). AreSeparate x.draft.region e.draft.region) xs → AreBeside xs (places_in t)
+        → AreBeside xs (places_in (with_place t u place.bytes.items))
+    contents_beside t u = all_both (λ (x : Staged). AreSeparate x.draft.region e.draft.region)
+        (λ (x : Staged). AllByRecursion (IsBeside x) (places_in t))
+        (λ (x : Staged). AllByRecursion (IsBeside x) (places_in (with_place t u place.bytes.items)))
+        (λ x apart all. places_and t u place.bytes.items (IsBeside x) (λ c near. near)
+        (λ r means. subst (AreSeparate x.draft.region) (same_Some e.draft.region r (sym region_is ∙ means)) apart) all)
 
     -- what it shows
     whole : IsPlaced g d old → (upload : ℤ) → upload ≡ id → pieces_at (d.seen file) (new_row upload)

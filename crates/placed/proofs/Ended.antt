@@ -1,5 +1,5 @@
 -- How the completion of a content in the file ends.
-use Rattle.placed.proofs.Prelude.{◌≡◌, ◌≢◌, inl, inr, suc, take, drop, ℕ, ℤ, true, List, [], ◌∷◌, ◌++◌, map, filter, Some, None, Result, Ok, Err, refl, sym, ap, subst, ◌∙◌, true≢false, IsTrue, IsErr, Vec, AllByRecursion, flat_map, all_weaker, all-append, Region, Draft, Chunk, Tables, upload_number, completion_of, after_complete, asked_chunk, StoreFault, LastChunk, Completion, UploadId, Ghosts, normal, settled, Remains, arranged, IsHonest, IsOpen, HasTables, shown, Moves, AddsNothing, Changes, Placed, Staged, pieces, place_number, is_place, is_piece, view, others_of, pieces_at, AreSeparate, OfOthers, IsStagedIn, IsPlace, IsReceived, IsServed, HasSinglePlaces, places_in, staged_of, AreHonest, shown_with, IsPlaced, HasPlaces, beside, place_in, AreOfOthers, is_some, find, is_staged_with, AreStagedApart}
+use Rattle.placed.proofs.Prelude.{AreBeside, ArePlacesApart, IsAscending, IsBeside, region_in, ◌≡◌, ◌≢◌, inl, inr, suc, take, drop, ℕ, ℤ, true, List, [], ◌∷◌, ◌++◌, map, filter, Some, None, Result, Ok, Err, refl, sym, ap, subst, ◌∙◌, true≢false, IsTrue, IsErr, Vec, AllByRecursion, flat_map, all_weaker, all-append, Region, Draft, Chunk, Tables, upload_number, completion_of, after_complete, asked_chunk, StoreFault, LastChunk, Completion, UploadId, Ghosts, normal, settled, Remains, arranged, IsHonest, IsOpen, HasTables, shown, Moves, AddsNothing, Changes, Placed, Staged, pieces, place_number, is_place, is_piece, view, others_of, pieces_at, AreSeparate, OfOthers, IsStagedIn, IsPlace, IsReceived, IsServed, HasSinglePlaces, places_in, staged_of, AreHonest, shown_with, IsPlaced, HasPlaces, beside, place_in, AreOfOthers, is_some, find, is_staged_with, AreStagedApart}
 use Rattle.sqlite_disk.specs.declared.Disk as disk
 use Rattle.sqlite_keyed.proofs.ListLemmas.{flat_map-map}
 use Rattle.tables.specs.declared.rows.Completion.TheVariants as completion
@@ -12,7 +12,7 @@ use Rattle.placed.proofs.Both.{alike, makes, fails}
 use Rattle.placed.proofs.Forward.{still, nothing}
 use Rattle.placed.proofs.After.{changes_after, fails_after, was_honest}
 use Rattle.placed.proofs.Written.{WritesPast, unchanged, still_received, still_pieces, pieces_around, same_places, goes_back, write_fails}
-use Rattle.placed.proofs.Completed.{IsNew, Completes, said, said_other, cases, places_and, single_and, staged_and, without_one, beside_file, others_around, separate_around, place_there, step_new, shows_new}
+use Rattle.placed.proofs.Completed.{IsNew, Completes, said, said_other, cases, places_and, single_and, staged_and, without_one, beside_file, others_around, separate_around, place_there, place_separate, contents_beside, with_place, step_new, shows_new}
 use Rattle.placed.proofs.Lists.{all_exchanged, ascending_exchanged, alike_at, all_middle, list_at}
 use Rattle.placed.proofs.Leading.{ArePart, others_part, part_all, part_received}
 
@@ -114,7 +114,7 @@ module _ {T D : Type 0} (g : Ghosts T) (d : disk.Ghosts D) (old : Placed T D) (m
         subst (λ (v : Tables). AllByRecursion (PlaceIn staged) (places_in v))
         (sym (step_new g d old w ends oid size t new))
         (places_and t new.upload place.bytes.items (PlaceIn staged)
-        (λ c p. record { region = p.region; means = p.means; kept = p.kept; used = p.used; apart = p.apart })
+        (λ c p. record { region = p.region; means = p.means; kept = p.kept; used = p.used; apart = p.apart; some = p.some })
         (row_there before staged apart new.upload.id) all)
 
     apart_around : IsPlaced g d old → AreAway e.draft.region pre × AreAway e.draft.region post
@@ -175,6 +175,9 @@ module _ {T D : Type 0} (g : Ghosts T) (d : disk.Ghosts D) (old : Placed T D) (m
               let is_shown = all.made.moves.shows k.0 h.rows (all.made.is_open k.0) in
               let seen = is_shown ∙ step_new g d old w ends oid size t it in
               let guards = apart_around before in
+              let sides = separate_around g d old w before in
+              let near = all_middle (λ (x : Staged). AllByRecursion (IsBeside x) (places_in t)) pre post e
+              (subst (λ (l : List Staged). AreBeside l (places_in t)) is_there served.beside) in
               let around : AreAway e.draft.region ls.items =
               subst (AreAway e.draft.region) (sym (is_around before)) (all-append _ pre post guards.0 guards.1) in
               let places : AllByRecursion (PlaceIn ls.items) (places_in (shown g rows)) =
@@ -195,6 +198,13 @@ module _ {T D : Type 0} (g : Ghosts T) (d : disk.Ghosts D) (old : Placed T D) (m
                       (staged_and t u place.bytes.items ls.items
                       (part_all _ (staged_of old) ls.items part served.uploads)
                       (subst (λ k. AreOfOthers k ls.items) (sym same) (subst (AreOfOthers id) (sym is) (others-apart id (staged_of old)))));
+                  separate = subst (λ (v : Tables). IsAscending ArePlacesApart (places_in v)) (sym seen)
+                      (place_separate g d old w ends oid size t u near.1.0 served.separate);
+                  beside = subst (λ (v : Tables). AreBeside ls.items (places_in v)) (sym seen)
+                      (subst (λ (l : List Staged). AreBeside l (places_in (with_place t u place.bytes.items))) (sym (is_around before))
+                      (all-append (λ (x : Staged). AllByRecursion (IsBeside x) (places_in (with_place t u place.bytes.items))) pre post
+                      (contents_beside g d old w ends oid size t u pre sides.0 near.0)
+                      (contents_beside g d old w ends oid size t u post sides.1 near.1.1)));
                 };
                 left = λ v leaves. places-remain (PlaceIn ls.items) (shown g rows) v ((all.made.durable h.rows).only k.0 v leaves) places;
               }
@@ -280,7 +290,7 @@ module _ {T D : Type 0} (g : Ghosts T) (d : disk.Ghosts D) (old : Placed T D) (m
           received_sealed : IsReceived d file old.regions e → IsReceived d file old.regions sealed
           received_sealed r =
               subst (λ (it : Draft). IsReceived d file old.regions (record sealed { draft = it })) (sym same_draft)
-              (record { used = r.used; bytes = r.bytes; written = r.written; within = r.within })
+              (record { used = r.used; bytes = r.bytes; written = r.written; within = r.within; some = r.some })
 
           guards : (region : Region) → AreAway region (staged_of old) → AreAway region ls.items
           guards region = exchanged (IsAway region) (λ away off. absurd (true≢false (sym shut ∙ off)))
@@ -328,6 +338,11 @@ module _ {T D : Type 0} (g : Ghosts T) (d : disk.Ghosts D) (old : Placed T D) (m
                       uploads = subst (λ (v : Tables). AllByRecursion (IsStagedIn v) ls.items) (sym is_shown)
                           (exchanged (IsStagedIn t)
                           (subst (λ (i : UploadId). is_some (find (is_staged_with (upload_number i)) t.uploads) ≡ true) (sym same_id)) served.uploads);
+                      separate = subst (λ (v : Tables). IsAscending ArePlacesApart (places_in v)) (sym is_shown) served.separate;
+                      beside = subst (λ (v : Tables). AreBeside ls.items (places_in v)) (sym is_shown)
+                          (exchanged (λ (x : Staged). AllByRecursion (IsBeside x) (places_in t))
+                          (subst (λ (it : Draft). AllByRecursion (λ (c : Chunk). (r : Region) → region_in c.bytes ≡ Some r
+                          → AreSeparate it.region r) (places_in t)) (sym same_draft)) served.beside);
                     };
                 left = λ v leaves. elim ((all.failed.adds h.rows).outcomes k.0 v leaves) [
                   | inl was_left ↦ places_now before _ (now.left v was_left)

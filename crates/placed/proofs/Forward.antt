@@ -4,26 +4,34 @@ use Rattle.sqlite_disk.specs.declared.Disk as disk
 use Rattle.placed.proofs.Keeping.{place_same, file_itself}
 use Rattle.placed.proofs.Tracked.{LeavesUploads}
 use Rattle.placed.proofs.Leading.{ArePart, all_of, leads_same, part_all, part_received, Known, Follows, LeadsTo, viewed}
-use Rattle.placed.proofs.Restaged.{made_with, still_with, nothing_with, failed_known}
+use Rattle.placed.proofs.Restaged.{Continues, made_with, still_with, nothing_with, failed_known}
 
 module _ {T D : Type 0} (g : Ghosts T) (d : disk.Ghosts D) (s : Placed T D) (rows : T) where
+  -- some of the contents are still received after a call
+  pub continues : (ls : Vec Staged) → ArePart (staged_of s) ls.items → (step after : Tables → Tables) → Known g d s rows
+      → Follows g d s ls.items step after
+      → Continues g d s s.regions ls.items (shown g s.rows) (step (shown g s.rows)) (after (shown_with g d s))
+  continues ls part step after it follows = record {
+    received = part_received d s.disk s.regions (staged_of s) ls.items part it.received;
+    places = place_same d s.disk s.disk s.regions s.regions (λ r used. used) (file_itself d s.disk) (staged_of s) ls.items
+        (λ region. part_all _ (staged_of s) ls.items part);
+    leads = follows;
+    beside = λ cs places. part_all _ (staged_of s) ls.items part;
+  }
+
   -- a call that is made durably, after which some contents are not received any more
   pub made_known : (step after : Tables → Tables) → Makes g step s.rows rows → (ls : Vec Staged)
       → ArePart (staged_of s) ls.items → (Known g d s rows → Follows g d s ls.items step after)
       → Makes (beside g d) after s (record s { rows = rows; staged = ls })
-  made_known step after m ls part leads = made_with g d s rows s.regions ls step after m (λ it. record {
-    received = part_received d s.disk s.regions (staged_of s) ls.items part it.received;
-    places = place_same d s.disk s.disk s.regions s.regions (λ r used. used) (file_itself d s.disk) (staged_of s) ls.items
-        (λ region. part_all _ (staged_of s) ls.items part);
-    leads = leads it;
-  })
+  made_known step after m ls part leads =
+      made_with g d s rows s.regions ls step after m (λ it. continues ls part step after it (leads it))
 
   -- a call that reads
   pub still : Moves g (λ t. t) s.rows rows → AddsNothing g s.rows rows → Moves (beside g d) (λ t. t) s (record s { rows = rows })
-  still = still_with g d s rows s.disk (file_itself d s.disk) s.regions s.staged (λ r used. used) refl
+  still = still_with g d s rows s.disk (file_itself d s.disk) s.regions s.staged s.unsynced (λ r used. used) refl
 
   pub nothing : AddsNothing g s.rows rows → AddsNothing (beside g d) s (record s { rows = rows })
-  nothing = nothing_with g d s rows s.disk (file_itself d s.disk) s.regions s.staged (λ r used. used) refl
+  nothing = nothing_with g d s rows s.disk (file_itself d s.disk) s.regions s.staged s.unsynced (λ r used. used) refl
 
   pub reads : {X : Type 0} (r : Result X StoreFault) (P Q : Tables → X → Type 0)
       → ((t : Tables) (x : X) → P t x → Q (viewed g d s t) x) → Reads g s.rows rows r P

@@ -74,6 +74,7 @@ module _ {D : Type 0} (d : Ghosts D) (old new : D) where
       kept = kept_same same p.region p.kept;
       used = more p.region p.used;
       apart = fewer p.region p.apart;
+      some = p.some;
     }
 
     pub received_same : IsSameFile d old new → (s : Staged) → IsReceived d old was s → IsReceived d new now s
@@ -82,4 +83,5 @@ module _ {D : Type 0} (d : Ghosts D) (old new : D) where
       bytes = r.bytes;
       written = subst (λ file. HasWritten file s.draft r.bytes) (sym same.seen) r.written;
       within = r.within;
+      some = r.some;
     }

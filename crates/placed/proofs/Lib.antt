@@ -25,6 +25,7 @@ pub mod Added
 pub mod Ordered
 pub mod Completed
 pub mod Ended
+pub mod Freeing
 pub mod Begun
 pub mod Shortened
 pub mod ShortenCalls

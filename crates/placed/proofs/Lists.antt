@@ -51,6 +51,18 @@ found_among {A} P p q weaker (y ∷ ys) x is all = at (p y) (q y) refl refl is a
     at false true e f later every rest = rest later every.1
     at false false e f later every rest = rest later every
 
+-- the list around what is found
+pub found_middle : {A : Type 0} (p : A → Bool) (xs : List A) (x : A) → find p xs ≡ Some x
+    → (pre : List A) × (post : List A) × (xs ≡ pre ++ x ∷ post)
+found_middle p [] x found = absurd (none-some x found)
+found_middle {A} p (y ∷ ys) x found = at (p y) found (found_middle p ys x)
+  where
+    at : (b : Bool) → cond b (Some y) (find p ys) ≡ Some x
+        → (find p ys ≡ Some x → (pre : List A) × (post : List A) × (ys ≡ pre ++ x ∷ post))
+        → (pre : List A) × (post : List A) × (y ∷ ys ≡ pre ++ x ∷ post)
+    at true here rest = ([], ys, ap (λ z. z ∷ ys) (same_Some y x here))
+    at false later rest = let it = rest later in (y ∷ it.0, it.1, ap (λ l. y ∷ l) it.2)
+
 pub flat_map_each : {A B : Type 0} (f g : A → List B) (xs : List A) → AllByRecursion (λ x. f x ≡ g x) xs
     → flat_map f xs ≡ flat_map g xs
 flat_map_each f g [] each = refl

@@ -1,7 +1,10 @@
 -- Where the content of an upload is, by the row of the database that says so and by what is being received.
-use Rattle.placed.proofs.Prelude.{◌≡◌, ◌≢◌, inl, inr, ℕ, ℤ, ◌<◌, suc, List, length, take, drop, All, HoldsAt, slice_index_or, Option, Some, None, option_map, Ok, refl, sym, ap, ◌∙◌, none-some, same_Some, all_weaker, Region, Chunk, Tables, upload_number, UploadId, content_bytes, IsContentOf, Reads, ChunkContent, Ghosts, Staged, region_in, AreOfOthers, IsRegionOf, place_in}
+use Rattle.placed.proofs.Prelude.{moves_none, subst, ◌≡◌, ◌≢◌, inl, inr, ℕ, ℤ, ◌<◌, suc, List, length, take, drop, All, HoldsAt, slice_index_or, Option, Some, None, option_map, Ok, refl, sym, ap, ◌∙◌, none-some, same_Some, all_weaker, Region, Chunk, Tables, upload_number, UploadId, content_bytes, IsContentOf, Reads, ChunkContent, Ghosts, Staged, region_in, AreOfOthers, IsRegionOf, place_in}
 use Rattle.std.proofs.lemmas.List.Elements.{recursion_from_All}
+use Rattle.store.proofs.Moved.{nothing_none}
+use Rattle.placed.specs.Freed.{FindsRegion, IsHeld, IsHeldBy, IsReceivedIn}
 use Rattle.placed.specs.Seeking.{written_region}
+use Rattle.std.proofs.lemmas.List.{get_or_default}
 use Rattle.placed.proofs.Lists.{list_at}
 
 -- the chunk that was found, if its bytes were read
@@ -66,3 +69,75 @@ reads_as g old new x y P Q says e = record {
   same = e.same;
   adds = e.adds;
 }
+
+-- ---- the region of an upload that was found
+
+module _ (id : UploadId) (staged : List Staged) where
+  -- its content is being received
+  received_in : (index : ℕ) (s : Staged) (region : Region) → index < length staged
+      → HoldsAt (λ (x : Staged). x.id ≡ id) staged index → s ≡ slice_index_or staged index s → region ≡ s.draft.region
+      → IsReceivedIn (upload_number id) staged region
+  received_in index s region less own at is = record {
+    before = take index staged;
+    content = s;
+    after = drop (suc index) staged;
+    is = list_at staged index s less (sym at);
+    of_upload = ap (λ (x : Staged). upload_number x.id) at ∙ ap upload_number (own s);
+    region_is = is;
+  }
+
+  -- a row says where it is, if its bytes mean a region
+  held_at : (t : Tables) (place : ChunkContent) (k : Chunk) → place_in (upload_number id) t ≡ Some k
+      → k.bytes ≡ content_bytes place → AreOfOthers (upload_number id) staged → (found : Option Region)
+      → found ≡ region_in (content_bytes place) → IsHeld (upload_number id) staged t found
+  held_at t place k there bytes others None is = record {
+    others = others;
+    nowhere = λ c same. ap (λ (x : Chunk). region_in x.bytes) (same_Some c k (sym same ∙ there)) ∙ ap region_in bytes ∙ sym is;
+  }
+  held_at t place k there bytes others (Some region) is =
+      inr (record { place = k; there = there; means = ap region_in bytes ∙ sym is; others = others })
+
+  module _ {T : Type 0} (g : Ghosts T) (old : T) (upload : Option UploadId) (found_id : upload ≡ Some id) where
+    -- what is held of the upload is held of the one that was found
+    of_found : (t : Tables) (found : Option Region) → IsHeld (upload_number id) staged t found
+        → IsHeldBy (option_map upload_number upload) staged t found
+    of_found t found =
+        subst (λ (o : Option ℤ). IsHeldBy o staged t found) (sym (ap (option_map upload_number) found_id))
+
+    pub finds_received : (index : ℕ) (s : Staged) (region : Region) → index < length staged
+        → HoldsAt (λ (x : Staged). x.id ≡ id) staged index → region ≡ (slice_index_or staged index s).draft.region
+        → FindsRegion g old old staged (option_map upload_number upload) (Ok (Some region))
+    finds_received index s region less own is = record {
+      answers = λ k h o. let e = slice_index_or staged index s in
+          of_found (g.shown old) (Some region) (inl (received_in index e region less own (get_or_default staged index s e less) is));
+      same = moves_none g old;
+      adds = nothing_none g old;
+    }
+
+    module _ (new : T) (read : Option ChunkContent)
+        (asked : Reads g old new (Ok read) (λ t c. IsContentOf c (place_in (upload_number id) t)))
+        (others : All (λ (s : Staged). s.id ≢ id) staged) where
+      pub finds_place : (place : ChunkContent) → read ≡ Some place → (found : Option Region)
+          → found ≡ region_in (content_bytes place)
+          → FindsRegion g old new staged (option_map upload_number upload) (Ok found)
+      finds_place place some found is = record {
+        answers = λ k h o.
+            let it = found_some (content_bytes place) (place_in (upload_number id) (g.shown old))
+            (ap (option_map content_bytes) (sym some) ∙ (asked.answers k h).1) in
+            of_found (g.shown old) found
+            (held_at (g.shown old) place it.0 it.1 it.2 (others_all id staged others) found is);
+        same = asked.same;
+        adds = asked.adds;
+      }
+
+      pub finds_nothing : read ≡ None → FindsRegion g old new staged (option_map upload_number upload) (Ok None)
+      finds_nothing none = record {
+        answers = λ k h o. of_found (g.shown old) None (record {
+          others = others_all id staged others;
+          nowhere = λ c there. absurd
+              (none-some c (sym (found_none (place_in (upload_number id) (g.shown old))
+              (ap (option_map content_bytes) (sym none) ∙ (asked.answers k h).1)) ∙ there));
+        });
+        same = asked.same;
+        adds = asked.adds;
+      }

@@ -7,7 +7,7 @@ pub use Rattle.contents.specs.declared.draft.Draft.{Draft}
 pub use Rattle.contents.specs.declared.region.Region.{Region}
 pub use Rattle.contents.specs.declared.regions.Regions.{Regions}
 pub use Rattle.placed.specs.Altered.{IsAlteredBy}
-pub use Rattle.placed.specs.Kept.{AreReceived, AreSeparate, AreStagedApart, HasSinglePlaces, IsPlace, IsReceived, IsServed, IsStagedIn, OfOthers, places_in}
+pub use Rattle.placed.specs.Kept.{AreBeside, ArePlacesApart, AreReceived, AreSeparate, AreStagedApart, HasSinglePlaces, IsBeside, IsPlace, IsReceived, IsServed, IsStagedIn, OfOthers, places_in}
 pub use Rattle.placed.specs.Pieces.{cut_into, piece_size}
 unfoldable pub use Rattle.placed.specs.Pieces.{pieces}
 pub use Rattle.placed.specs.Placed.{AreHonest, HasPlaces, IsPlaced, beside, shown_with, staged_of}

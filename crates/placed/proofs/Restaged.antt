@@ -1,12 +1,12 @@
 -- A call after which other contents are received, or other regions are in use, is a call on the database and its file.
-use Rattle.placed.proofs.Prelude.{◌≡◌, ◌≢◌, inl, inr, List, Err, refl, sym, ap, subst, Contains, Vec, AllByRecursion, all_weaker, Region, Regions, regions_of, IsSameFile, Chunk, Tables, StoreFault, Ghosts, IsHonest, IsOpen, HasTables, shown, Moves, AddsNothing, Makes, Puts, FailsAny, PutsOr, moves_none, Placed, Staged, view, IsStagedIn, IsPlace, AreReceived, IsServed, places_in, staged_of, AreHonest, shown_with, IsPlaced, HasPlaces, beside, ℕ, Result, IfOk, Reads, ◌∙◌}
+use Rattle.placed.proofs.Prelude.{AreBeside, ArePlacesApart, ◌≡◌, ◌≢◌, inl, inr, List, Err, refl, sym, ap, subst, Contains, Vec, AllByRecursion, all_weaker, Region, Regions, regions_of, IsSameFile, Chunk, Tables, StoreFault, Ghosts, IsHonest, IsOpen, HasTables, shown, Moves, AddsNothing, Makes, Puts, FailsAny, Changes, PutsOr, moves_none, Placed, Staged, view, IsStagedIn, IsPlace, AreReceived, IsServed, places_in, staged_of, AreHonest, shown_with, IsPlaced, HasPlaces, beside, ℕ, Result, Ok, IsErr, true≢false, IfOk, Reads, ◌∙◌}
 use Rattle.sqlite_disk.specs.declared.Disk as disk
 use Rattle.store.proofs.Moved.{nothing_none}
 use Rattle.placed.proofs.Keeping.{place_same, received_same, file_itself}
-use Rattle.placed.proofs.Tracked.{places-kept, apart-kept, places-remain}
+use Rattle.placed.proofs.Tracked.{places-kept, apart-kept, beside-kept, places-remain}
 use Rattle.placed.proofs.Both.{moves, makes, puts, fails}
 use Rattle.placed.proofs.Leading.{Leads, LeadsAny, HasPlace, Known, known, turned}
-use Rattle.placed.proofs.After.{fails_after, puts_none}
+use Rattle.placed.proofs.After.{changes_after, fails_after, puts_none, puts_or_after}
 
 module _ {T D : Type 0} (g : Ghosts T) (d : disk.Ghosts D) (s : Placed T D) (rows : T) where
   pub failed_known : (change after : Tables → Tables → Type 0) → FailsAny g change s.rows rows
@@ -40,6 +40,8 @@ module _ {T D : Type 0} (g : Ghosts T) (d : disk.Ghosts D) (s : Placed T D) wher
     pub received : AreReceived d s.disk regions after
     pub places : (c : Chunk) → IsPlace d s.disk s.regions (staged_of s) c → IsPlace d s.disk regions after c
     pub leads : Leads (d.seen s.disk) (staged_of s) after t v shows
+    pub beside : (cs : List Chunk) → AllByRecursion (IsPlace d s.disk s.regions (staged_of s)) cs
+        → AreBeside (staged_of s) cs → AreBeside after cs
 
   module _ (rows : T) (regions : Regions) (ls : Vec Staged) where
     abbrev next : Placed T D
@@ -74,26 +76,29 @@ module _ {T D : Type 0} (g : Ghosts T) (d : disk.Ghosts D) (s : Placed T D) wher
           single = apart-kept (λ (a b : Chunk). a.upload ≢ b.upload) (shown g s.rows) (step (shown g s.rows)) n.leads.some
               it.served.single;
           uploads = n.leads.uploads it.served.uploads;
+          separate = apart-kept ArePlacesApart (shown g s.rows) (step (shown g s.rows)) n.leads.some it.served.separate;
+          beside = beside-kept (shown g s.rows) (step (shown g s.rows)) n.leads.some ls.items
+              (n.beside _ it.served.places it.served.beside);
         })
 
-    -- a call that is made durably
+    -- what holds after a call that is made durably
+    pub placed_with : (step after : Tables → Tables) → Makes g step s.rows rows → GoesOn step after → HasPlaces g d s
+        → AreHonest g d next → IsPlaced g d next
+    placed_with step after m go h k =
+        let before = known g d s rows m.moves.was_honest h k (m.was_open k.0) in
+        let n = go before in
+        let now = served_by step after m.moves (m.is_open k.0) n before in
+        record {
+          received = n.received;
+          served = λ o. now;
+          left = λ u leaves. places-remain NowPlace (shown g rows) u ((m.durable h.rows).only k.0 u leaves) now.places;
+        }
+
+    -- such a call
     pub made_with : (step after : Tables → Tables) → Makes g step s.rows rows → GoesOn step after
         → Makes (beside g d) after s next
-    made_with step after m go = makes g d s next (λ k. k) placed step after m (λ h k o. (go (before h k)).leads.shown)
-      where
-        before : HasPlaces g d s → AreHonest g d next → Known g d s rows
-        before h k = known g d s rows m.moves.was_honest h k (m.was_open k.0)
-
-        placed : HasPlaces g d s → AreHonest g d next → IsPlaced g d next
-        placed h k =
-            let n = go (before h k) in
-            let now = served_by step after m.moves (m.is_open k.0) n (before h k) in
-            record {
-              received = n.received;
-              served = λ o. now;
-              left = λ u leaves.
-                  places-remain NowPlace (shown g rows) u ((m.durable h.rows).only k.0 u leaves) now.places;
-            }
+    made_with step after m go = makes g d s next (λ k. k) (placed_with step after m go) step after m
+        (λ h k o. (go (known g d s rows m.moves.was_honest h k (m.was_open k.0))).leads.shown)
 
     -- a call that is made while the store is open, of which a stop may leave nothing
     pub puts_with : (step after : Tables → Tables) → Puts g step s.rows rows
@@ -126,11 +131,11 @@ module _ {T D : Type 0} (g : Ghosts T) (d : disk.Ghosts D) (s : Placed T D) wher
             }
 
   -- a call that reads the database and its file, after which the regions that were in use still are
-  module _ (rows : T) (disk : D) (same : IsSameFile d s.disk disk) (regions : Regions) (ls : Vec Staged)
+  module _ (rows : T) (disk : D) (same : IsSameFile d s.disk disk) (regions : Regions) (ls : Vec Staged) (unsynced : ℕ)
       (more : (r : Region) → Contains (regions_of s.regions) r → Contains (regions_of regions) r)
       (is : ls.items ≡ staged_of s) where
     abbrev read : Placed T D
-    read = record s { rows = rows; disk = disk; regions = regions; staged = ls }
+    read = record s { rows = rows; disk = disk; regions = regions; staged = ls; unsynced = unsynced }
 
     received_still : AreReceived d s.disk s.regions (staged_of s) → AreReceived d disk regions ls.items
     received_still a = subst (AreReceived d disk regions) (sym is) (record {
@@ -149,6 +154,8 @@ module _ {T D : Type 0} (g : Ghosts T) (d : disk.Ghosts D) (s : Placed T D) wher
       places = places_still (places_in t) e.places;
       single = e.single;
       uploads = subst (AllByRecursion (IsStagedIn t)) (sym is) e.uploads;
+      separate = e.separate;
+      beside = subst (λ (l : List Staged). AreBeside l (places_in t)) (sym is) e.beside;
     }
 
     pub still_with : Moves g (λ t. t) s.rows rows → AddsNothing g s.rows rows → Moves (beside g d) (λ t. t) s read
@@ -192,9 +199,29 @@ module _ {T D : Type 0} (g : Ghosts T) (d : disk.Ghosts D) (s : Placed T D) wher
       → Reads (beside g d) s (record s { rows = rows; disk = disk }) r P
   reads_both rows disk m a same r P says = record {
     answers = λ k h. says k h.kept;
-    same = still_with rows disk same s.regions s.staged (λ r used. used) refl m a;
-    adds = nothing_with rows disk same s.regions s.staged (λ r used. used) refl a;
+    same = still_with rows disk same s.regions s.staged s.unsynced (λ r used. used) refl m a;
+    adds = nothing_with rows disk same s.regions s.staged s.unsynced (λ r used. used) refl a;
   }
+
+  -- the file was synced, or more bytes of it are counted, and nothing else was done
+  module _ (disk : D) (same : IsSameFile d s.disk disk) (unsynced : ℕ) where
+    abbrev pub counted : Placed T D
+    counted = record s { disk = disk; unsynced = unsynced }
+
+    counted_moves : Moves (beside g d) (λ t. t) s counted
+    counted_moves = still_with s.rows disk same s.regions s.staged unsynced (λ r used. used) refl (moves_none g s.rows) (nothing_none g s.rows)
+
+    counted_nothing : AddsNothing (beside g d) s counted
+    counted_nothing = nothing_with s.rows disk same s.regions s.staged unsynced (λ r used. used) refl (nothing_none g s.rows)
+
+    -- a call after that
+    pub puts_counted : {X : Type 0} (new : Placed T D) (step : Tables → Tables) (P : Tables → X → Type 0)
+        (r : Result X StoreFault) → PutsOr (beside g d) counted new r step P → PutsOr (beside g d) s new r step P
+    puts_counted new step P = puts_or_after (beside g d) s counted new counted_moves counted_nothing P step
+
+    pub changes_counted : {X : Type 0} (new : Placed T D) (step : Tables → Tables) (P : Tables → X → Type 0)
+        (r : Result X StoreFault) → Changes (beside g d) counted new r step P → Changes (beside g d) s new r step P
+    changes_counted new step P = changes_after (beside g d) s counted new counted_moves counted_nothing P step
 
   -- a call that failed, after which the same contents are received
   pub failed_with : (rows : T) (regions : Regions) (ls : Vec Staged)
@@ -206,8 +233,8 @@ module _ {T D : Type 0} (g : Ghosts T) (d : disk.Ghosts D) (s : Placed T D) wher
   failed_with rows regions ls more is change after f leads =
       let between : Placed T D = record s { regions = regions; staged = ls } in
       fails_after (beside g d) s between (record between { rows = rows })
-      (still_with s.rows s.disk (file_itself d s.disk) regions ls more is (moves_none g s.rows) (nothing_none g s.rows))
-      (nothing_with s.rows s.disk (file_itself d s.disk) regions ls more is (nothing_none g s.rows))
+      (still_with s.rows s.disk (file_itself d s.disk) regions ls s.unsynced more is (moves_none g s.rows) (nothing_none g s.rows))
+      (nothing_with s.rows s.disk (file_itself d s.disk) regions ls s.unsynced more is (nothing_none g s.rows))
       after (failed_known g d between rows change after f (λ it. leads ls.items (shown g s.rows)))
 
   -- a call that was to put something ends after it has read, with an error
@@ -216,5 +243,15 @@ module _ {T D : Type 0} (g : Ghosts T) (d : disk.Ghosts D) (s : Placed T D) wher
       → PutsOr (beside g d) s (record s { rows = rows }) (Err fault) step P
   ends_early rows m a step P fault =
       let next : Placed T D = record s { rows = rows } in
-      puts_none (beside g d) s next next (still_with rows s.disk (file_itself d s.disk) s.regions s.staged (λ r used. used) refl m a)
-      (nothing_with rows s.disk (file_itself d s.disk) s.regions s.staged (λ r used. used) refl a) P step fault
+      puts_none (beside g d) s next next (still_with rows s.disk (file_itself d s.disk) s.regions s.staged s.unsynced (λ r used. used) refl m a)
+      (nothing_with rows s.disk (file_itself d s.disk) s.regions s.staged s.unsynced (λ r used. used) refl a) P step fault
+
+-- a call that was to put something ends after it has read and the file was to be synced, with an error
+pub ends_counted : {T D X : Type 0} (g : Ghosts T) (d : disk.Ghosts D) (s : Placed T D) (rows : T) (disk : D)
+    (same : IsSameFile d s.disk disk) (unsynced : ℕ) → Moves g (λ t. t) s.rows rows → AddsNothing g s.rows rows
+    → (r : Result X StoreFault) → IsErr r → (step : Tables → Tables) (P : Tables → X → Type 0)
+    → PutsOr (beside g d) s (record s { rows = rows; disk = disk; unsynced = unsynced }) r step P
+ends_counted g d s rows disk same unsynced m a (Ok x) bad step P = absurd (true≢false (sym bad))
+ends_counted g d s rows disk same unsynced m a (Err fault) bad step P =
+    puts_counted g d s disk same unsynced (record s { rows = rows; disk = disk; unsynced = unsynced }) step P (Err fault)
+    (ends_early g d (counted g d s disk same unsynced) rows m a step P fault)

@@ -4,7 +4,7 @@ use Rattle.sqlite_disk.specs.declared.Disk as disk
 use Rattle.placed.proofs.After.{puts_or_after}
 use Rattle.placed.proofs.Leading.{Leads, Known}
 use Rattle.placed.proofs.Restaged.{Continues, puts_with, failed_known}
-use Rattle.placed.proofs.Shortened.{answer_shown, leads_unchanged, leads_cut, leads_any, received_cut, place_cut, have_all}
+use Rattle.placed.proofs.Shortened.{answer_shown, leads_unchanged, leads_cut, leads_any, received_cut, place_cut, beside_cut, have_all}
 use Rattle.placed.proofs.RowCompleted.{none_read}
 
 -- the chunk that was read is the place of the upload, if it has one
@@ -64,6 +64,7 @@ module _ {T D : Type 0} (g : Ghosts T) (d : disk.Ghosts D) (s : Placed T D) (bet
         → PutsOr (beside g d) s (record s { rows = rows; staged = ls }) (Ok answer) step Says
     shorten_staged ls there is = shortened_by ls (λ it. record {
       received = received_cut d s.disk s.regions id (n * piece_size) (staged_of s) ls.items is it.received;
+      beside = λ cs places. beside_cut id (n * piece_size) (staged_of s) ls.items is cs;
       places = place_cut d s.disk s.regions id (n * piece_size) (staged_of s) ls.items is;
       leads = leads_cut (d.seen s.disk) (staged_of s) (shown g s.rows) id n (no_place (e.made.moves.was_honest it.honest) it.tables)
           it.received.once (have_all d s.disk s.regions (staged_of s) it.received.each) ls.items is
@@ -74,5 +75,6 @@ module _ {T D : Type 0} (g : Ghosts T) (d : disk.Ghosts D) (s : Placed T D) (bet
     shorten_other no_such = shortened_by s.staged (λ it. record {
       received = it.received;
       places = λ c p. p;
+      beside = λ cs places all. all;
       leads = leads_unchanged (d.seen s.disk) (staged_of s) (shown g s.rows) id n (sym (whole.answers it.honest it.tables).1 ∙ no_such);
     })

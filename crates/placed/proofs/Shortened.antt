@@ -1,5 +1,5 @@
 -- Of a content that is being received the first bytes are left.
-use Rattle.placed.proofs.Prelude.{◌≡◌, ◌≢◌, inl, inr, ℕ, suc, ◌*◌, ◌<◌, ◌≤◌, min, ℤ, pos, Bool, true, false, not, List, [], ◌∷◌, length, take, drop, filter, find, Option, Some, None, is_some, arith, refl, sym, ap, subst, ◌∙◌, All, HoldsAt, Contains, true≢false, AllByRecursion, int_eq, ints, length-take-le, get_or-take, IsAscending, all_weaker, same_int, Region, Regions, Draft, HasAt, regions_of, Upload, Chunk, Tables, is_chunk, is_staged_with, is_of_from, without_chunks_from, upload_number, staged_with, without_found_from, without_staged_from, UploadId, Staged, piece_size, pieces, place_number, written_in, received_pieces, view, AreSeparate, OfOthers, AreStagedApart, IsStagedIn, IsPlace, IsReceived, AreReceived, IsTruncated}
+use Rattle.placed.proofs.Prelude.{AreBeside, IsBeside, region_in, ◌≡◌, ◌≢◌, inl, inr, ℕ, suc, ◌*◌, ◌<◌, ◌≤◌, min, ℤ, pos, Bool, true, false, not, List, [], ◌∷◌, length, take, drop, filter, find, Option, Some, None, is_some, arith, refl, sym, ap, subst, ◌∙◌, All, HoldsAt, Contains, true≢false, AllByRecursion, int_eq, ints, length-take-le, get_or-take, IsAscending, all_weaker, same_int, Region, Regions, Draft, HasAt, regions_of, Upload, Chunk, Tables, is_chunk, is_staged_with, is_of_from, without_chunks_from, upload_number, staged_with, without_found_from, without_staged_from, UploadId, Staged, piece_size, pieces, place_number, written_in, received_pieces, view, AreSeparate, OfOthers, AreStagedApart, IsStagedIn, IsPlace, IsReceived, AreReceived, IsTruncated}
 use Rattle.std.proofs.Common.{get_or, set}
 use Rattle.std.proofs.lemmas.List.{take_min}
 use Rattle.sqlite_disk.specs.declared.Disk as disk
@@ -276,6 +276,7 @@ module _ {D : Type 0} (d : disk.Ghosts D) (disk : D) (regions : Regions) (id : �
             let most = r.within in
             let same = ap (λ (it : Region). it.size) region in
             omega (arith, written, same, most);
+        some = subst (λ (it : Region). 1 ≤ it.size) (sym region) r.some;
       }
 
   pub received_cut : AreReceived d disk regions staged → AreReceived d disk regions left
@@ -303,6 +304,7 @@ module _ {D : Type 0} (d : disk.Ghosts D) (disk : D) (regions : Regions) (id : �
       means = p.means;
       kept = p.kept;
       used = p.used;
+      some = p.some;
       apart =
           let P = λ (s : Staged). s.is_sealed ≡ false → AreSeparate s.draft.region p.region in
           subst (AllByRecursion P) (sym one.is)
@@ -312,6 +314,18 @@ module _ {D : Type 0} (d : disk.Ghosts D) (disk : D) (regions : Regions) (id : �
           (subst (AllByRecursion P) one.was p.apart));
     }
   ]
+
+pub beside_cut : (id : ℤ) (len : ℕ) (staged left : List Staged) → IsTruncated id len staged left → (cs : List Chunk)
+    → AreBeside staged cs → AreBeside left cs
+beside_cut id len staged left is cs all = elim is [
+  | inl none ↦ subst (λ (l : List Staged). AreBeside l cs) (sym none.1) all
+  | inr one ↦
+      let P = λ (s : Staged). AllByRecursion (IsBeside s) cs in
+      subst (AllByRecursion P) (sym one.is)
+      (all_replaced P one.before one.after one.content one.shorter
+      (subst (λ (it : Region). AllByRecursion (λ (c : Chunk). (r : Region) → region_in c.bytes ≡ Some r → AreSeparate it r) cs)
+      (sym one.same_region)) (subst (AllByRecursion P) one.was all))
+]
 
 -- the file has all bytes of each content that is received
 pub have_all : {D : Type 0} (d : disk.Ghosts D) (disk : D) (regions : Regions) (staged : List Staged)

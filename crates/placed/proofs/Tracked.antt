@@ -1,5 +1,5 @@
 -- Which places, and which staged uploads whose contents are being received, a step on the tables leaves.
-use Rattle.placed.proofs.Prelude.{◌≡◌, ◌≢◌, inl, inr, ℕ, ℤ, pos, Bool, true, false, not, cond, List, [], ◌∷◌, ◌++◌, filter, find, Option, Some, None, is_some, refl, sym, ap, ◌∙◌, subst, true≢false, arith, AllByRecursion, option_or, int_eq, and_parts, ints, find-append, IsAscending, all_weaker, all-filter, filter_all, ascending-filter, int_eq_apart, Lock, Token, Upload, Chunk, Tables, is_upload, is_staged, is_staged_with, is_of, is_of_from, with_lock, with_token, with_upload, with_done, without_lock, without_expired, without_row, without_chunks, without_chunks_from, Outcome, held, used_up, created, outcome_of, after_outcome, after_create, with_new_lock, with_made, has_token, after_add, upload_number, staged_with, without_upload, without_found_from, without_staged_from, with_used, with_kept, is_of_staged, Remains, Staged, is_place, others_of, same_int, OfOthers, AreOfOthers}
+use Rattle.placed.proofs.Prelude.{AreBeside, IsBeside, ◌≡◌, ◌≢◌, inl, inr, ℕ, ℤ, pos, Bool, true, false, not, cond, List, [], ◌∷◌, ◌++◌, filter, find, Option, Some, None, is_some, refl, sym, ap, ◌∙◌, subst, true≢false, arith, AllByRecursion, option_or, int_eq, and_parts, ints, find-append, IsAscending, all_weaker, all-filter, filter_all, ascending-filter, int_eq_apart, Lock, Token, Upload, Chunk, Tables, is_upload, is_staged, is_staged_with, is_of, is_of_from, with_lock, with_token, with_upload, with_done, without_lock, without_expired, without_row, without_chunks, without_chunks_from, Outcome, held, used_up, created, outcome_of, after_outcome, after_create, with_new_lock, with_made, has_token, after_add, upload_number, staged_with, without_upload, without_found_from, without_staged_from, with_used, with_kept, is_of_staged, Remains, Staged, is_place, others_of, same_int, OfOthers, AreOfOthers}
 use Rattle.sqlite_keyed.specs.Lists.{update_where, delete_where}
 use Rattle.sqlite_keyed.proofs.ListLemmas.{all_both}
 use Rattle.placed.proofs.Lists.{filter_swap, filter_every, find_kept}
@@ -19,6 +19,12 @@ pub apart-kept : (R : Chunk → Chunk → Type 0) (t left : Tables) → HasSomeP
     → IsAscending R (filter is_place t.chunks) → IsAscending R (filter is_place left.chunks)
 apart-kept R t left some apart =
     subst (IsAscending R) (sym some.1) (ascending-filter R some.0 (filter is_place t.chunks) apart)
+
+-- what is received is beside these places too
+pub beside-kept : (t left : Tables) → HasSomePlaces t left → (staged : List Staged)
+    → AreBeside staged (filter is_place t.chunks) → AreBeside staged (filter is_place left.chunks)
+beside-kept t left some = all_weaker (λ (s : Staged). AllByRecursion (IsBeside s) (filter is_place t.chunks))
+    (λ s. AllByRecursion (IsBeside s) (filter is_place left.chunks)) (λ s. places-kept (IsBeside s) t left some)
 
 -- these tables have all places of the others
 pub every_place : (t left : Tables) → filter is_place left.chunks ≡ filter is_place t.chunks → HasSomePlaces t left

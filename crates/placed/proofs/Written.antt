@@ -1,5 +1,5 @@
 -- A write into the region of a content that is being received changes nothing else.
-use Rattle.placed.proofs.Prelude.{◌≡◌, ◌≢◌, ◌≤◌, inl, inr, ℕ, false, List, [], ◌∷◌, ◌++◌, refl, sym, ap, subst, ◌∙◌, arith, Vec, AllByRecursion, IsAscending, all_weaker, all-append, Region, HasContent, KeepsContents, HasWritten, Chunk, Tables, with_chunk, upload_number, Ghosts, normal, settled, Remains, IsOpen, Leaves, shown, Moves, Puts, FailsAny, moves_none, Placed, Staged, view, pieces_at, received_pieces, AreSeparate, OfOthers, AreStagedApart, IsStagedIn, IsPlace, IsReceived, IsAlteredBy, staged_of, AreHonest, shown_with, IsPlaced, HasPlaces, beside, pieces, length, take, drop, suc, ◌<◌, ◌+◌, slice_index_or, KeepsOthers, UploadId, is_some, find, is_staged_with, true}
+use Rattle.placed.proofs.Prelude.{IsBeside, places_in, region_in, Some, ◌≡◌, ◌≢◌, ◌≤◌, inl, inr, ℕ, false, List, [], ◌∷◌, ◌++◌, refl, sym, ap, subst, ◌∙◌, arith, Vec, AllByRecursion, IsAscending, all_weaker, all-append, Region, HasContent, KeepsContents, HasWritten, Chunk, Tables, with_chunk, upload_number, Ghosts, normal, settled, Remains, IsOpen, Leaves, shown, Moves, Puts, FailsAny, moves_none, Placed, Staged, view, pieces_at, received_pieces, AreSeparate, OfOthers, AreStagedApart, IsStagedIn, IsPlace, IsReceived, IsAlteredBy, staged_of, AreHonest, shown_with, IsPlaced, HasPlaces, beside, pieces, length, take, drop, suc, ◌<◌, ◌+◌, slice_index_or, KeepsOthers, UploadId, is_some, find, is_staged_with, true}
 use Rattle.sqlite_disk.specs.declared.Disk as disk
 use Rattle.placed.proofs.Bytes.{written_is}
 use Rattle.placed.proofs.Keeping.{kept_altered, pieces_alike, AgreeAt, AgreeOn, AreAway, IsAway}
@@ -56,6 +56,7 @@ module _ {T D : Type 0} (g : Ghosts T) (d : disk.Ghosts D) (s : Placed T D) (sta
     used = p.used;
     apart = exchanged (IsAway p.region)
         (λ away open_. subst (λ (r : Region). AreSeparate r p.region) w.same_region (away (w.same_seal ∙ open_))) p.apart;
+    some = p.some;
   }
 
   -- what is written of another content
@@ -70,7 +71,7 @@ module _ {T D : Type 0} (g : Ghosts T) (d : disk.Ghosts D) (s : Placed T D) (sta
 
   other_received : (x : Staged) → AreSeparate e.draft.region x.draft.region → IsReceived d s.disk s.regions x
       → IsReceived d file s.regions x
-  other_received x apart r = record { used = r.used; bytes = r.bytes; written = other_written x apart r; within = r.within }
+  other_received x apart r = record { used = r.used; bytes = r.bytes; written = other_written x apart r; within = r.within; some = r.some }
 
   other_pieces : (x : Staged) → AreSeparate e.draft.region x.draft.region → IsReceived d s.disk s.regions x
       → received_pieces (d.seen file) x ≡ received_pieces (d.seen s.disk) x
@@ -144,6 +145,10 @@ module _ {T D : Type 0} (g : Ghosts T) (d : disk.Ghosts D) (s : Placed T D) (sta
         places = places_now _ it.places;
         single = it.single;
         uploads = staged_now (shown g s.rows) it.uploads;
+        separate = it.separate;
+        beside = exchanged (λ (x : Staged). AllByRecursion (IsBeside x) (places_in (shown g s.rows)))
+            (subst (λ (r : Region). AllByRecursion (λ (c : Chunk). (q : Region) → region_in c.bytes ≡ Some q → AreSeparate r q)
+            (places_in (shown g s.rows))) w.same_region) it.beside;
       };
       left = λ u leaves. places_now _ (before.left u leaves);
     }
@@ -278,7 +283,7 @@ module _ {T D : Type 0} (g : Ghosts T) (d : disk.Ghosts D) (s : Placed T D) {fil
 
   pub still_received : IsPlaced g d s → IsReceived d file s.regions e
   still_received before = let r = received_at before in
-      record { used = r.used; bytes = r.bytes; written = still_written r; within = r.within }
+      record { used = r.used; bytes = r.bytes; written = still_written r; within = r.within; some = r.some }
 
   pub still_pieces : IsPlaced g d s → received_pieces (d.seen file) e ≡ received_pieces (d.seen s.disk) e
   still_pieces before = let r = received_at before in

@@ -35,6 +35,18 @@ IsStagedIn t s = is_some (find (is_staged_with (upload_number s.id)) t.uploads) 
 abbrev pub places_in : Tables → List Chunk
 places_in t = filter is_place t.chunks
 
+-- the places of the two rows have no byte in common
+abbrev pub ArePlacesApart : Chunk → Chunk → Type 0
+ArePlacesApart c e = (r q : Region) → region_in c.bytes ≡ Some r → region_in e.bytes ≡ Some q → AreSeparate r q
+
+-- the place of the row and the content that is being received have no byte in common, also if that is sealed
+abbrev pub IsBeside : Staged → Chunk → Type 0
+IsBeside s c = (r : Region) → region_in c.bytes ≡ Some r → AreSeparate s.draft.region r
+
+-- each of these contents that are being received is beside each of these places
+abbrev pub AreBeside : List Staged → List Chunk → Type 0
+AreBeside staged places = AllByRecursion (λ (s : Staged). AllByRecursion (IsBeside s) places) staged
+
 -- no two places are of one upload
 abbrev pub HasSinglePlaces : Tables → Type 0
 HasSinglePlaces t = IsAscending (λ (a b : Chunk). a.upload ≢ b.upload) (places_in t)
@@ -54,6 +66,7 @@ module _ {D : Type 0} (d : Ghosts D) (disk : D) where
       pub kept : IsInFile region
       pub used : Contains (regions_of regions) region
       pub apart : AllByRecursion (λ (s : Staged). s.is_sealed ≡ false → AreSeparate s.draft.region region) staged
+      pub some : 1 ≤ region.size
 
     -- a content that is being received has a region in use, and what is written of it is in the file
     pub record IsReceived (s : Staged) : Type 0 where
@@ -61,6 +74,7 @@ module _ {D : Type 0} (d : Ghosts D) (disk : D) where
       pub bytes : List ℕ
       pub written : HasWritten (d.seen disk) s.draft bytes
       pub within : s.draft.written ≤ s.draft.region.size
+      pub some : 1 ≤ s.draft.region.size
 
     -- the contents that are being received are each received once, and apart from each other
     pub record AreReceived (staged : List Staged) : Type 0 where
@@ -68,8 +82,10 @@ module _ {D : Type 0} (d : Ghosts D) (disk : D) where
       pub once : IsAscending OfOthers staged
       pub apart : IsAscending AreStagedApart staged
 
-    -- these tables are served with these contents that are being received
+    -- these tables are served with these contents that are being received: the places of both have no byte in common
     pub record IsServed (staged : List Staged) (t : Tables) : Type 0 where
       pub places : AllByRecursion (IsPlace staged) (places_in t)
       pub single : HasSinglePlaces t
       pub uploads : AllByRecursion (IsStagedIn t) staged
+      pub separate : IsAscending ArePlacesApart (places_in t)
+      pub beside : AreBeside staged (places_in t)

@@ -6,3 +6,4 @@ pub mod Placed
 pub mod Reading
 pub mod Seeking
 pub mod Altered
+pub mod Freed

@@ -1,15 +1,16 @@
 //! Uploads that begin.
 
-ghost use Rattle.std.specs.Prelude.{◌≡◌, ◌≤◌, length, option_map};
-ghost use Rattle.std.specs.Vec.{vec_capacity};
-ghost use Rattle.tables.specs.Staging.{upload_number};
+ghost use Rattle.std.specs.Prelude.{◌≡◌, find, option_map};
+ghost use Rattle.names.specs.Names.{repo_text};
+ghost use Rattle.tables.specs.Statements.{is_staged_in};
 ghost use Rattle.store.specs.Shown.{Begins};
+ghost use Rattle.placed.specs.Freed.{Frees, id_in};
 ghost use Rattle.placed.specs.Placed.{beside};
-ghost use Rattle.placed.specs.View.{others_of_found};
 
 use crate::placed::Placed;
 use crate::reading::PIECE;
-use crate::staged::{Staged, add, forget};
+use crate::removal::{forget_found, give_back, region_held};
+use crate::staged::{Staged, add};
 use contents::Draft;
 use sqlite_disk::Disk;
 use std::alloc::Global;
@@ -17,18 +18,23 @@ use store::Store;
 use tables::{NewUpload, StoreFault, UploadId, UploadRow};
 
 impl<T: Store, D: Disk> Placed<T, D> {
-    /// Begins an upload. A content as large as a piece or larger gets a region of the file.
+    /// Begins an upload in place of the staged one of its repository. A content as large as a piece or larger gets a
+    /// region of the file.
     pub(crate) fn begin(
         &mut self,
         alloc: Global,
         upload: &NewUpload<'_>,
     ) -> Result<UploadId, StoreFault>
-        ensures { Begins (beside T.State D.Disk) self.old self.new result upload.now }
+        ensures begins { Begins (beside T.State D.Disk) self.old self.new result upload.now }
+        ensures frees { Frees T.State D.Disk self.old self.new upload.now.size
+            (λ t. id_in (find (is_staged_in (repo_text upload.now.repo.now)) t.uploads)) result }
     {
-        let replaced = self.rows.staged_upload(alloc, upload.repo)?;
+        let replaced = id_of(self.rows.staged_upload(alloc, upload.repo)?);
+        let freed = region_held(&mut self.rows, &self.staged, replaced)?;
         if upload.size.get() < PIECE {
             let id = self.rows.begin_upload(alloc, upload)?;
             forget_found(&mut self.staged, replaced);
+            give_back(&mut self.regions, &mut self.disk, freed);
             return Ok(id);
         }
         self.staged.reserve(1)?;
@@ -47,6 +53,7 @@ impl<T: Store, D: Disk> Placed<T, D> {
                         is_sealed: false,
                     },
                 );
+                give_back(&mut self.regions, &mut self.disk, freed);
                 Ok(id)
             }
             Err(fault) => {
@@ -57,14 +64,12 @@ impl<T: Store, D: Disk> Placed<T, D> {
     }
 }
 
-/// Forgets the content of an upload that was found.
-fn forget_found(staged: &mut Vec<Staged>, found: Option<UploadRow>)
-    ensures items { staged.new.items
-        ≡ others_of_found (option_map (λ row. upload_number row.id) found) staged.old.items }
-    ensures len { length staged.new.items ≤ length staged.old.items }
-    ensures capacity { vec_capacity staged.new ≡ vec_capacity staged.old }
+/// The id of an upload that was found.
+fn id_of(found: Option<UploadRow>) -> Option<UploadId>
+    ensures { result ≡ option_map (λ row. row.id) found }
 {
-    if let Some(upload) = found {
-        forget(staged, upload.id);
+    match found {
+        Some(upload) => Some(upload.id),
+        None => None,
     }
 }

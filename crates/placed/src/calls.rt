@@ -3,7 +3,6 @@
 use crate::place::PLACE_NUMBER;
 use crate::placed::Placed;
 use crate::reading::read_piece;
-use crate::staged::forget;
 use names::{LockId, LockPath, Moment, Oid, RefName, RepoName, Size, UserName};
 use sqlite_disk::Disk;
 use std::alloc::Global;
@@ -108,11 +107,7 @@ impl<T: Store, D: Disk> Store for Placed<T, D> {
     }
 
     fn remove_upload(&mut self, id: UploadId) -> Result<bool, StoreFault> {
-        let removed = self.rows.remove_upload(id)?;
-        if removed {
-            forget(&mut self.staged, id);
-        }
-        Ok(removed)
+        self.remove(id)
     }
 
     fn begin_upload(
@@ -156,12 +151,7 @@ impl<T: Store, D: Disk> Store for Placed<T, D> {
     }
 
     fn retire_object(&mut self, repo: &RepoName, oid: &Oid) -> Result<bool, StoreFault> {
-        let found = self.rows.object(repo, oid)?;
-        let removed = self.rows.retire_object(repo, oid)?;
-        if let Some(object) = found {
-            forget(&mut self.staged, object.id);
-        }
-        Ok(removed)
+        self.retire(repo, oid)
     }
 
     fn is_retired(&mut self, repo: &RepoName, oid: &Oid) -> Result<bool, StoreFault> {
@@ -173,11 +163,6 @@ impl<T: Store, D: Disk> Store for Placed<T, D> {
     }
 
     fn discard_object(&mut self, repo: &RepoName, oid: &Oid) -> Result<bool, StoreFault> {
-        let found = self.rows.object(repo, oid)?;
-        let removed = self.rows.discard_object(repo, oid)?;
-        if let Some(object) = found {
-            forget(&mut self.staged, object.id);
-        }
-        Ok(removed)
+        self.discard(repo, oid)
     }
 }

@@ -81,7 +81,9 @@ impl<T: Store, D: Disk> Placed<T, D> {
         if content.is_sealed || self.rows.chunk(id, PLACE_NUMBER)?.is_some() {
             return Err(StoreFault::Refused);
         }
+        self.unsynced = self.unsynced.saturating_add(PIECE);
         let region = write_last(&mut self.disk, content.draft, last)?;
+        self.unsynced = 0;
         let place = LastChunk {
             n: PLACE_NUMBER,
             bytes: place_of(self.alloc, region)?,

@@ -8,6 +8,7 @@ mod place;
 mod placed;
 mod reading;
 mod receiving;
+mod removal;
 mod staged;
 
 pub use placed::Placed;

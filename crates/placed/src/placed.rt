@@ -22,6 +22,8 @@ pub struct Placed<T, D> {
     pub(crate) regions: Regions,
     /// The contents that are being received.
     pub(crate) staged: Vec<Staged>,
+    /// How many bytes may have been written to the file since its last sync that succeeded.
+    pub(crate) unsynced: u64,
     pub(crate) alloc: Global,
 }
 
@@ -41,6 +43,7 @@ impl<T: Store, D: Disk> Placed<T, D> {
             disk,
             regions: Regions::new(alloc),
             staged: Vec::new(alloc),
+            unsynced: 0,
             alloc,
         }
     }

@@ -1,6 +1,8 @@
 //! Contents that are being received.
 
-ghost use Rattle.std.specs.Prelude.{◌≡◌, ◌*◌, ⊤, pos, is_some, false, true, length};
+ghost use Rattle.std.specs.Prelude.{◌≡◌, ◌≤◌, ◌<◌, ◌*◌, ⊤, pos, is_some, false, true, length, OnOk};
+ghost use Rattle.sqlite_disk.specs.Disk.{Only};
+ghost use Rattle.contents.specs.Files.{IsSameFile};
 ghost use Rattle.tables.specs.Statements.{with_chunk};
 ghost use Rattle.tables.specs.Staging.{upload_number, asked_chunk, staged_with, without_staged_from};
 ghost use Rattle.store.specs.Normal.{normal};
@@ -13,10 +15,14 @@ use crate::place::{PLACE_NUMBER, region_in};
 use crate::placed::Placed;
 use crate::reading::PIECE;
 use crate::staged::{Staged, index_of};
-use contents::Region;
+use contents::{Region, sync};
 use sqlite_disk::Disk;
 use store::Store;
 use tables::{StoreFault, UploadId};
+
+/// How many bytes may be written to the file between two syncs, so that the sync of a content that is completed is
+/// short: 8 MiB.
+const MOST_UNSYNCED: u64 = 8_388_608;
 
 impl Staged {
     /// The part of its region that is written.
@@ -76,11 +82,12 @@ impl<T: Store, D: Disk> Placed<T, D> {
         let Some(index) = index_of(&self.staged, upload) else {
             return Err(StoreFault::Refused);
         };
-        let content = &mut self.staged[index];
-        if !content.takes(n, bytes) {
+        if !self.staged[index].takes(n, bytes) {
             return Err(StoreFault::Refused);
         }
-        match content.draft.append(&mut self.disk, bytes) {
+        sync_if_due(&mut self.disk, &mut self.unsynced)?;
+        self.unsynced += PIECE;
+        match self.staged[index].draft.append(&mut self.disk, bytes) {
             Ok(()) => Ok(()),
             Err(_) => Err(StoreFault::Refused),
         }
@@ -100,6 +107,29 @@ impl<T: Store, D: Disk> Placed<T, D> {
             truncate(&mut self.staged, id, u64::from(n) * PIECE);
         }
         Ok(staged)
+    }
+}
+
+/// Syncs the file if as many bytes as may be unsynced were written since the last sync.
+///
+/// # Errors
+///
+/// `Refused` if the sync fails: no bytes are changed, and nothing more may be asked of the file.
+fn sync_if_due<D: Disk>(disk: &mut D, unsynced: &mut u64) -> Result<(), StoreFault>
+    ensures few { OnOk result (unsynced.new < MOST_UNSYNCED) }
+    ensures synced { OnOk result (MOST_UNSYNCED ≤ unsynced.old
+        → Only (D.Disk.seen disk.new) (D.Disk.may_leave disk.new)) }
+    ensures same { IsSameFile D.Disk disk.old disk.new }
+{
+    if *unsynced < MOST_UNSYNCED {
+        return Ok(());
+    }
+    match sync(disk) {
+        Ok(()) => {
+            *unsynced = 0;
+            Ok(())
+        }
+        Err(_) => Err(StoreFault::Refused),
     }
 }
 

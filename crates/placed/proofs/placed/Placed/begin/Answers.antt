@@ -1,65 +1,106 @@
--- The database finds the staged upload, and then begins another, once there is room for a large content.
-use Rattle.placed.proofs.Prelude.{◌≡◌, ◌≤◌, ◌<◌, ℕ, false, arith, refl, sym, ◌∙◌, ap, subst, Contains, err_from_is_err_and, regions_of, IsReserved, others_of_found}
+-- The database finds the staged upload and where its content is, and then begins another, once there is room for a large
+-- content.
+use Rattle.placed.proofs.Prelude.{◌≡◌, ◌≤◌, ◌<◌, ℕ, false, arith, rules, refl, sym, ◌∙◌, ap, subst, Contains, err_from_is_err_and, regions_of, IsReserved, others_of_found, option_map, upload_number, nothing_then}
 use Rattle.std.proofs.lemmas.Option.{MatchOption-at_none, MatchOption-at_some}
-use Rattle.placed.proofs.Begun.{number_found, begun_none, begun_failed, begun_small, begun_large, used_again}
+use Rattle.store.proofs.Moved.{moves_then}
+use Rattle.placed.proofs.Begun.{begun_none, begun_failed, begun_small, begun_large, used_again}
 use Rattle.placed.proofs.placed.Placed.begin.Goals as goal
 
-pub returns-in_err-id : goal.returns-in_err-id
-returns-in_err-id g c =
+pub returns-in_err-freed-clause-begins : goal.returns-in_err-freed-clause-begins
+returns-in_err-freed-clause-begins g c =
+    let p = err_from_is_err_and c.from_residual-in_err-freed.result c.from_residual-in_err-freed.ensures.1 in
+    let s = c.args.self.now in
+    let mid = c.staged_upload.new.self in
+    let between = c.region_held.new.rows in
+    let same = moves_then g.T.State s.rows mid between c.staged_upload.ensures.same c.region_held.ensures.same in
+    let added = nothing_then g.T.State s.rows mid between c.staged_upload.ensures.adds c.region_held.ensures.adds in
+    rw p.1 (begun_none g.T.State g.D.Disk s between between c.args.upload.now same added s.regions s.staged (λ r used. used) refl p.0)
+
+pub returns-in_err-id-clause-begins : goal.returns-in_err-id-clause-begins
+returns-in_err-id-clause-begins g c =
     let p = err_from_is_err_and c.from_residual-in_err-id.result c.from_residual-in_err-id.ensures.1 in
     let s = c.args.self.now in
+    let mid = c.staged_upload.new.self in
+    let between = c.region_held.new.rows in
+    let same = moves_then g.T.State s.rows mid between c.staged_upload.ensures.same c.region_held.ensures.same in
+    let added = nothing_then g.T.State s.rows mid between c.staged_upload.ensures.adds c.region_held.ensures.adds in
     rw p.1 (
-    begun_failed g.T.State g.D.Disk s c.staged_upload.new.self c.begin_upload.new.self c.args.upload.now
-    c.in_ok-replaced.replaced c.in_ok-replaced.ensures s.regions s.staged (λ r used. used) refl
-    c.in_err-id.field-0.0 p.0 c.in_err-id.ensures)
+    begun_failed g.T.State g.D.Disk s between c.begin_upload.new.self c.args.upload.now same added s.regions s.staged
+    (λ r used. used) refl c.in_err-id.field-0.0 p.0 c.in_err-id.ensures)
 
 pub returns-then-get-lt-PIECE : goal.returns-then-get-lt-PIECE
 returns-then-get-lt-PIECE g c =
-    begun_small g.T.State g.D.Disk c.args.self.now c.staged_upload.new.self c.begin_upload.new.self c.args.upload.now
-    c.in_ok-replaced.replaced c.in_ok-replaced.ensures c.in_ok-id.id c.in_ok-id.ensures
-    c.forget_found.new.staged c.forget_found.ensures.items
+    let it = begun_small g.T.State g.D.Disk c.args.self.now c.staged_upload.new.self c.region_held.new.rows
+    c.begin_upload.new.self c.args.upload.now c.in_ok-staged_upload.field-0 c.in_ok-staged_upload.ensures
+    c.id_of-replaced.result c.id_of-replaced.ensures c.in_ok-freed.freed (rw c.deref.ensures.value at c.in_ok-freed.ensures)
+    c.in_ok-id.id c.in_ok-id.ensures (search rules) c.give_back.new.regions c.forget_found.new.staged c.give_back.new.disk
+    c.forget_found.ensures.items c.give_back.ensures.freed c.give_back.ensures.kept in
+    record { begins = it.0; frees = it.1 }
 
-pub returns-in_err-reserve : goal.returns-in_err-reserve
-returns-in_err-reserve g c =
+pub returns-in_err-reserve-clause-begins : goal.returns-in_err-reserve-clause-begins
+returns-in_err-reserve-clause-begins g c =
     let p = err_from_is_err_and c.from_residual-in_err-reserve.result c.from_residual-in_err-reserve.ensures.1 in
     let s = c.args.self.now in
+    let mid = c.staged_upload.new.self in
+    let between = c.region_held.new.rows in
+    let same = moves_then g.T.State s.rows mid between c.staged_upload.ensures.same c.region_held.ensures.same in
+    let added = nothing_then g.T.State s.rows mid between c.staged_upload.ensures.adds c.region_held.ensures.adds in
     rw p.1 (
-    begun_none g.T.State g.D.Disk s c.staged_upload.new.self c.staged_upload.new.self c.args.upload.now
-    c.in_ok-replaced.replaced c.in_ok-replaced.ensures s.regions c.reserve.new.self (λ r used. used)
+    begun_none g.T.State g.D.Disk s between between c.args.upload.now same added s.regions c.reserve.new.self (λ r used. used)
     c.in_err-reserve.ensures.items p.0)
 
-pub returns-in_err-region : goal.returns-in_err-region
-returns-in_err-region g c =
+pub returns-in_err-region-clause-begins : goal.returns-in_err-region-clause-begins
+returns-in_err-region-clause-begins g c =
     let p = err_from_is_err_and c.from_residual-in_err-region.result c.from_residual-in_err-region.ensures.1 in
     let s = c.args.self.now in
+    let mid = c.staged_upload.new.self in
+    let between = c.region_held.new.rows in
+    let same = moves_then g.T.State s.rows mid between c.staged_upload.ensures.same c.region_held.ensures.same in
+    let added = nothing_then g.T.State s.rows mid between c.staged_upload.ensures.adds c.region_held.ensures.adds in
     rw p.1 (
-    begun_none g.T.State g.D.Disk s c.staged_upload.new.self c.staged_upload.new.self c.args.upload.now
-    c.in_ok-replaced.replaced c.in_ok-replaced.ensures c.reserve-2.new.self c.reserve.new.self
+    begun_none g.T.State g.D.Disk s between between c.args.upload.now same added c.reserve-2.new.self c.reserve.new.self
     (λ r used. subst (λ regions. Contains regions r) (sym c.in_err-region.ensures.err) used)
     c.in_ok-reserve.ensures.items p.0)
 
+pub returns-in_err-region-clause-frees : goal.returns-in_err-region-clause-frees
+returns-in_err-region-clause-frees g c =
+    let p = err_from_is_err_and c.from_residual-in_err-region.result c.from_residual-in_err-region.ensures.1 in
+    rw p.1 (record {
+      freed = λ k h. tt;
+      kept = λ r used. subst (λ regions. Contains regions r) (sym c.in_err-region.ensures.err) used;
+    })
+
 pub returns-in_default : goal.returns-in_default
 returns-in_default g c =
-    let same = (MatchOption-at_none _ _ c.in_default.is c.in_ok-region.ensures.ok).1 in
+    let none = (MatchOption-at_none _ _ c.in_default.is c.in_ok-region.ensures.ok).1 in
     let s = c.args.self.now in
-    begun_none g.T.State g.D.Disk s c.staged_upload.new.self c.staged_upload.new.self c.args.upload.now
-    c.in_ok-replaced.replaced c.in_ok-replaced.ensures c.reserve-2.new.self c.reserve.new.self
-    (λ r used. subst (λ regions. Contains regions r) (sym same) used) c.in_ok-reserve.ensures.items _
+    let mid = c.staged_upload.new.self in
+    let between = c.region_held.new.rows in
+    let same = moves_then g.T.State s.rows mid between c.staged_upload.ensures.same c.region_held.ensures.same in
+    let added = nothing_then g.T.State s.rows mid between c.staged_upload.ensures.adds c.region_held.ensures.adds in
+    record {
+      begins = begun_none g.T.State g.D.Disk s between between c.args.upload.now same added c.reserve-2.new.self c.reserve.new.self
+          (λ r used. subst (λ regions. Contains regions r) (sym none) used) c.in_ok-reserve.ensures.items _;
+      frees = record { freed = λ k h. tt; kept = λ r used. subst (λ regions. Contains regions r) (sym none) used };
+    }
 
 pub returns-in-Ok : goal.returns-in-Ok
 returns-in-Ok g c =
     let reserved = MatchOption-at_some _ _ c.in-Some.region c.in-Some.is c.in_ok-region.ensures.ok in
     let s = c.args.self.now in
-    begun_large g.T.State g.D.Disk s c.staged_upload.new.self c.begin_upload-2.new.self c.args.upload.now
-    c.in_ok-replaced.replaced c.in_ok-replaced.ensures c.in-Ok.id c.in-Ok.ensures c.reserve-2.new.self c.add.new.staged
-    c.forget_found-in-Ok.new.staged.items
-    (record { id = c.in-Ok.id; draft = c.new-draft.result; is_sealed = false }) c.get-2.result
+    let it = begun_large g.T.State g.D.Disk s c.staged_upload.new.self c.region_held.new.rows c.begin_upload-2.new.self
+    c.args.upload.now c.in_ok-staged_upload.field-0 c.in_ok-staged_upload.ensures
+    c.id_of-replaced.result c.id_of-replaced.ensures c.in_ok-freed.freed (rw c.deref.ensures.value at c.in_ok-freed.ensures)
+    c.in-Ok.id c.in-Ok.ensures (search rules) c.reserve-2.new.self c.give_back-in-Ok.new.regions c.add.new.staged
+    c.give_back-in-Ok.new.disk c.forget_found-in-Ok.new.staged.items
+    (record { id = c.in-Ok.id; draft = c.new-draft.result; is_sealed = false })
     refl c.new-draft.ensures.written
-    (subst (IsReserved (regions_of s.regions) (regions_of c.reserve-2.new.self) c.get-2.result)
-    (sym c.new-draft.ensures.region) reserved)
+    (subst (IsReserved (regions_of s.regions) (regions_of c.reserve-2.new.self) c.args.upload.now.size)
+    (sym c.new-draft.ensures.region) (rw c.get-2.ensures.value at reserved))
     (c.forget_found-in-Ok.ensures.items
-    ∙ ap (others_of_found (number_found c.in_ok-replaced.replaced)) c.in_ok-reserve.ensures.items)
-    c.add.ensures
+    ∙ ap (others_of_found (option_map upload_number c.id_of-replaced.result)) c.in_ok-reserve.ensures.items)
+    c.add.ensures c.give_back-in-Ok.ensures.freed c.give_back-in-Ok.ensures.kept in
+    record { begins = it.0; frees = it.1 }
 
 -- a size that is not below that of a piece is not 0
 some_size : (asked read again : ℕ) → read ≡ asked → again ≡ asked → 65536 ≤ read → 0 < again
@@ -71,8 +112,14 @@ returns-in-Err g c =
     let some = some_size c.args.upload.now.size c.get.result c.get-2.result c.get.ensures.value c.get-2.ensures.value
     c.if-get-lt-PIECE.false in
     let s = c.args.self.now in
-    begun_failed g.T.State g.D.Disk s c.staged_upload.new.self c.begin_upload-2.new.self c.args.upload.now
-    c.in_ok-replaced.replaced c.in_ok-replaced.ensures c.release.new.self c.reserve.new.self
-    (used_again (regions_of s.regions) (regions_of c.reserve-2.new.self) c.get-2.result c.in-Some.region reserved some
-    c.release.result (regions_of c.release.new.self) c.release.ensures)
-    c.in_ok-reserve.ensures.items c.in-Err.fault c.in-Err.fault c.in-Err.ensures
+    let mid = c.staged_upload.new.self in
+    let between = c.region_held.new.rows in
+    let same = moves_then g.T.State s.rows mid between c.staged_upload.ensures.same c.region_held.ensures.same in
+    let added = nothing_then g.T.State s.rows mid between c.staged_upload.ensures.adds c.region_held.ensures.adds in
+    let again = used_again (regions_of s.regions) (regions_of c.reserve-2.new.self) c.get-2.result c.in-Some.region reserved some
+    c.release.result (regions_of c.release.new.self) c.release.ensures in
+    record {
+      begins = begun_failed g.T.State g.D.Disk s between c.begin_upload-2.new.self c.args.upload.now same added c.release.new.self
+          c.reserve.new.self again c.in_ok-reserve.ensures.items c.in-Err.fault c.in-Err.fault c.in-Err.ensures;
+      frees = record { freed = λ k h. tt; kept = again };
+    }
