@@ -27,6 +27,14 @@ OfOthers a b = upload_number a.id ≢ upload_number b.id
 abbrev pub AreStagedApart : Staged → Staged → Type 0
 AreStagedApart a b = AreSeparate a.draft.region b.draft.region
 
+-- the places of the two rows have no byte in common
+abbrev pub ArePlacesApart : Chunk → Chunk → Type 0
+ArePlacesApart c e = (r q : Region) → region_in c.bytes ≡ Some r → region_in e.bytes ≡ Some q → AreSeparate r q
+
+-- the place of the row and the content that is being received have no byte in common, also if that is sealed
+abbrev pub IsBeside : Staged → Chunk → Type 0
+IsBeside s c = (r : Region) → region_in c.bytes ≡ Some r → AreSeparate s.draft.region r
+
 -- the upload is staged
 abbrev pub IsStagedIn : Tables → Staged → Type 0
 IsStagedIn t s = is_some (find (is_staged_with (upload_number s.id)) t.uploads) ≡ true
@@ -51,6 +59,7 @@ module _ {D : Type 0} (d : Ghosts D) (disk : D) where
     pub record IsPlace (staged : List Staged) (c : Chunk) : Type 0 where
       pub region : Region
       pub means : region_in c.bytes ≡ Some region
+      pub some : 1 ≤ region.size
       pub kept : IsInFile region
       pub used : Contains (regions_of regions) region
       pub apart : AllByRecursion (λ (s : Staged). s.is_sealed ≡ false → AreSeparate s.draft.region region) staged
@@ -58,6 +67,7 @@ module _ {D : Type 0} (d : Ghosts D) (disk : D) where
     -- a content that is being received has a region in use, and what is written of it is in the file
     pub record IsReceived (s : Staged) : Type 0 where
       pub used : Contains (regions_of regions) s.draft.region
+      pub some : 1 ≤ s.draft.region.size
       pub bytes : List ℕ
       pub written : HasWritten (d.seen disk) s.draft bytes
       pub within : s.draft.written ≤ s.draft.region.size
@@ -72,4 +82,6 @@ module _ {D : Type 0} (d : Ghosts D) (disk : D) where
     pub record IsServed (staged : List Staged) (t : Tables) : Type 0 where
       pub places : AllByRecursion (IsPlace staged) (places_in t)
       pub single : HasSinglePlaces t
+      pub separate : IsAscending ArePlacesApart (places_in t)
+      pub beside : AllByRecursion (λ (s : Staged). AllByRecursion (IsBeside s) (places_in t)) staged
       pub uploads : AllByRecursion (IsStagedIn t) staged

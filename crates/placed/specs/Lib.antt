@@ -6,3 +6,5 @@ pub mod Placed
 pub mod Reading
 pub mod Seeking
 pub mod Altered
+pub mod Numbered
+pub mod Opening

@@ -4,10 +4,15 @@
 mod beginning;
 mod calls;
 mod completing;
+mod fault;
+mod opening;
 mod place;
 mod placed;
 mod reading;
 mod receiving;
+mod rows;
 mod staged;
 
+pub use fault::PlaceFault;
 pub use placed::Placed;
+pub use rows::{Numbered, NumberedChunk};
