@@ -2,6 +2,7 @@
 use Rattle.placed.proofs.Prelude.{◌≡◌, ◌≢◌, ℕ, length, Bool, true, false, not, cond, List, [], ◌∷◌, ◌++◌, filter, refl, sym, ap, subst, ◌∙◌, append-nil, AllByRecursion, flat_map, Chunk, Tables, Ghosts, arranged, normal, IsHonest, IsOpen, HasTables, shown, Placed, is_place, is_piece, view, pieces_at, IsAscending, OfOthers, AreStagedApart, IsStagedIn, IsReceived, IsPlace, places_in, staged_of, beside}
 use Rattle.std.proofs.Common.{suc-ne-zero}
 use Rattle.sqlite_disk.specs.declared.Disk as disk
+use Rattle.placed.specs.Kept.{ArePlacesApart, IsBeside}
 use Rattle.placed.specs.Placed.{HasNoPlace}
 use Rattle.placed.proofs.Views.{view-normal}
 use Rattle.placed.proofs.Both.{marked_view}
@@ -48,6 +49,8 @@ module _ {T D : Type 0} (g : Ghosts T) (d : disk.Ghosts D) (s : Placed T D) (emp
         served = λ o. record {
           places = no_place (IsPlace d s.disk s.regions (staged_of s)) (shown g s.rows) (none.shown k.0 o);
           single = subst (IsAscending (λ (a b : Chunk). a.upload ≢ b.upload)) (sym (none.shown k.0 o)) tt;
+          separate = subst (IsAscending ArePlacesApart) (sym (none.shown k.0 o)) tt;
+          beside = subst (AllByRecursion (λ x. AllByRecursion (IsBeside x) (places_in (shown g s.rows)))) (sym empty) tt;
           uploads = subst (AllByRecursion (IsStagedIn (shown g s.rows))) (sym empty) tt;
         };
         left = λ u leaves. no_place (IsPlace d s.disk s.regions (staged_of s)) u (none.left k.0 u leaves);

@@ -33,3 +33,4 @@ pub mod Pairs
 pub mod Cleared
 pub mod Named
 pub mod Sorting
+pub mod Opened
