@@ -5,7 +5,8 @@ use Rattle.std.specs.Prelude.{int_le}
 use Rattle.sqlite_keyed.proofs.ListLemmas.{filter_same, map-map}
 use Rattle.std.proofs.lemmas.List.{map_more}
 use Rattle.tables.specs.Staging.{AreUploadsOf, UploadFields, read_upload, upload_fields}
-use Rattle.placed.specs.Opening.{cleared, LacksStaged, Clears}
+use Rattle.store.specs.Shown.{Fails}
+use Rattle.placed.specs.Opening.{cleared, LacksStaged, Clears, ClearsSome}
 use Rattle.placed.proofs.Lists.{filter_every, found_passes}
 use Rattle.placed.proofs.Views.{found_id}
 
@@ -288,5 +289,65 @@ module _ {S : Type 0} (g : Ghosts S) where
             inr (was, made.1, subst (λ t. LacksStaged t made.1) (found.same.shows (a.was_honest k) h made.0) made.2, made.3)
       ];
       safe = λ k safe. a.safe k (found.adds.safe (a.was_honest k) safe);
+    };
+  }
+
+  -- ---- some of them
+
+  -- a call that reads
+  pub clears_none : (old new : S) → Moves g (λ t. t) old new → AddsNothing g old new → ClearsSome g old new
+  clears_none old new m a = record {
+    was_honest = m.was_honest;
+    was_open = m.was_open;
+    ready = m.ready;
+    shows = λ k h o. subst (LacksStaged (shown g old)) (sym (m.shows k h o)) (lacks_nothing (shown g old));
+    adds = λ h. record { was_honest = a.was_honest; outcomes = λ k t leaves. inl (a.outcomes k t leaves); safe = a.safe };
+  }
+
+  pub clears_then : (old mid new : S) → ClearsSome g old mid → ClearsSome g mid new → ClearsSome g old new
+  clears_then old mid new p q = record {
+    was_honest = λ k. p.was_honest (q.was_honest k);
+    was_open = λ k o. p.was_open (q.was_honest k) (q.was_open k o);
+    ready = λ h. q.ready (p.ready h);
+    shows = λ k h o. lacks_then (shown g old) (shown g mid) (shown g new) (p.shows (q.was_honest k) h (q.was_open k o))
+        (q.shows k (p.ready h) o);
+    adds = λ h. let a = p.adds h in let b = q.adds (p.ready h) in record {
+      was_honest = λ k. a.was_honest (b.was_honest k);
+      outcomes = λ k t leaves. elim (b.outcomes k t leaves) [
+        | inl before ↦ a.outcomes (b.was_honest k) t before
+        | inr made ↦ inr (
+            p.was_open (b.was_honest k) made.0,
+            made.1,
+            lacks_then (shown g old) (shown g mid) made.1 (p.shows (b.was_honest k) h made.0) made.2,
+            made.3,
+          )
+      ];
+      safe = λ k safe. b.safe k (a.safe (b.was_honest k) safe);
+    };
+  }
+
+  pub removes_some : (ids : List ℤ) (old new : S) → Removes ids old new → ClearsSome g old new
+  removes_some ids old new r = record {
+    was_honest = r.moves.was_honest;
+    was_open = r.moves.was_open;
+    ready = r.moves.ready;
+    shows = λ k h o. subst (LacksStaged (shown g old)) (sym (r.moves.shows k h o)) (lacks_all ids (shown g old));
+    adds = r.adds;
+  }
+
+  -- a call that failed to remove those of an upload
+  pub fails_some : (id : ℤ) (old new : S) → Fails g (without_staged_from id (pos 0)) old new → ClearsSome g old new
+  fails_some id old new f = record {
+    was_honest = f.moves.was_honest;
+    was_open = f.moves.was_open;
+    ready = f.moves.ready;
+    shows = λ k h o. subst (LacksStaged (shown g old)) (sym (f.moves.shows k h o)) (lacks_nothing (shown g old));
+    adds = λ h. let a = f.adds h in record {
+      was_honest = a.was_honest;
+      outcomes = λ k t leaves. elim (a.outcomes k t leaves) [
+        | inl before ↦ inl before
+        | inr made ↦ inr (made.0, made.1, subst (LacksStaged (shown g old)) (sym made.2) (lacks_step id (shown g old)), made.3)
+      ];
+      safe = a.safe;
     };
   }

@@ -1,21 +1,28 @@
 -- What is opened serves the places of the database.
-use Rattle.placed.proofs.Prelude.{◌≡◌, ◌≢◌, inl, inr, ℕ, ◌≤◌, List, [], length, refl, sym, ap, subst, ◌∙◌, IsTrue, All, Contains, AllByRecursion, IsAscending, all_weaker, Region, regions_of, HasContent, IsSameFile, Chunk, Tables, Ghosts, settled, Remains, IsHonest, IsOpen, HasTables, Leaves, shown, Moves, AddsNothing, Placed, region_in, content_in, pieces_at, view, OfOthers, AreStagedApart, AreSeparate, IsStagedIn, IsReceived, IsPlace, IsServed, places_in, staged_of, AreHonest, IsPlaced, beside}
-use Rattle.std.proofs.lemmas.List.Elements.{All-contains}
+use Rattle.placed.proofs.Prelude.{◌≡◌, ◌≢◌, ◌&&◌, ◌++◌, inl, inr, ℕ, ℤ, ◌≤◌, pos, true, false, not, Bool, cond, List, [], filter, find, flat_map, is_some, length, refl, sym, ap, subst, ◌∙◌, IsTrue, All, Contains, AllByRecursion, IsAscending, all_weaker, Region, regions_of, HasContent, IsSameFile, Chunk, Upload, Tables, is_staged_with, arranged, is_of_staged, all_chunks, shown_meta, is_piece, is_place, all-append, all-filter, filter_all, Ghosts, settled, Remains, IsHonest, IsOpen, HasTables, Leaves, shown, Moves, AddsNothing, Placed, region_in, content_in, pieces_at, view, OfOthers, AreStagedApart, AreSeparate, IsStagedIn, IsReceived, IsPlace, IsServed, places_in, staged_of, AreHonest, IsPlaced, beside}
+use Rattle.std.proofs.lemmas.List.Elements.{All-contains, filter_passes, recursion_from_All}
 use Rattle.sqlite_disk.specs.Disk.{Only}
 use Rattle.sqlite_disk.specs.declared.Disk as disk
-use Rattle.sqlite_keyed.proofs.ListLemmas.{all_of}
+use Rattle.sqlite_keyed.proofs.ListLemmas.{all_of, all-flat_map}
+use Rattle.sqlite_trees.proofs.ListLemmas.{filter_same}
+use Rattle.std.specs.Prelude.{int_le}
 use Rattle.contents.specs.Regions.{end_of}
 use Rattle.store.specs.Shown.{IsDurable, IsSafe}
 use Rattle.placed.specs.Kept.{ArePlacesApart, IsBeside, IsInFile}
-use Rattle.placed.specs.Opening.{AreTaken, Clears, IsTaken, LacksStaged, cleared}
+use Rattle.placed.specs.Opening.{AreNumbered, AreTaken, Clears, IsTaken, LacksStaged, cleared}
 use Rattle.placed.proofs.Both.{marked_view}
 use Rattle.placed.proofs.Bytes.{has_content}
 use Rattle.placed.proofs.Cleared.{lacks_cleared, lacks_remains, lacks_then, settled_lacking}
+use Rattle.placed.proofs.Ordered.{all_arranged}
 use Rattle.placed.proofs.Settled.{settled-left}
 use Rattle.placed.proofs.Tracked.{HasSomeChunks, apart-kept, places-left, places-of-chunks}
-use Rattle.placed.proofs.Views.{view-normal}
+use Rattle.placed.proofs.Views.{at_owned, view-normal}
 
 -- ---- tables that lack chunks of staged uploads
+
+-- the chunk is not one of a staged upload
+abbrev IsKept : List Upload → Chunk → Type 0
+IsKept us c = not (is_of_staged us c) ≡ true
 
 chunks_of_lacking : (t u : Tables) → LacksStaged t u → HasSomeChunks t u
 chunks_of_lacking t u lacks = (lacks.kept, ap (λ (w : Tables). w.chunks) lacks.is)
@@ -29,7 +36,52 @@ settled_viewed file t u lacks =
     itself w = settled-left file file [] w (settled w) (inr refl) tt
         (all_of (λ (c : Chunk). pieces_at file c ≡ pieces_at file c) (λ c. refl) (places_in w))
 
+-- ---- tables without a chunk of a staged upload
+
+stays_everywhere : (us : List Upload) (file : List ℕ) (cs : List Chunk) → AllByRecursion (IsKept us) cs
+    → AllByRecursion (IsKept us) (all_chunks file [] cs)
+stays_everywhere us file cs all =
+    all-append (IsKept us) (filter is_piece cs) (flat_map (pieces_at file) (filter is_place cs) ++ [])
+    (all-filter (IsKept us) is_piece cs all)
+    (all-append (IsKept us) (flat_map (pieces_at file) (filter is_place cs)) []
+    (all-flat_map (IsKept us) (pieces_at file) (filter is_place cs)
+    (all_weaker (IsKept us) _ at (filter is_place cs) (all-filter (IsKept us) is_place cs all)))
+    tt)
+  where
+    at : (c : Chunk) → IsKept us c → AllByRecursion (IsKept us) (pieces_at file c)
+    at c kept = all_weaker (λ (x : Chunk). x.upload ≡ c.upload) (IsKept us)
+        (λ x own. ap (λ (k : ℤ). not (is_some (find (is_staged_with k) us))) own ∙ kept) (pieces_at file c) (at_owned file c)
+
+-- they show none with a file either
+view_settled : (file : List ℕ) (t : Tables) → view file [] (settled t) ≡ settled (view file [] (settled t))
+unfolding view
+view_settled file t =
+    let u = settled t in
+    let kept = filter_passes (λ c. not (is_of_staged t.uploads c)) t.chunks in
+    sym (ap (λ cs. record u { meta = shown_meta t.meta; chunks = cs })
+    (filter_all (λ c. not (is_of_staged t.uploads c)) (arranged (all_chunks file [] u.chunks))
+    (all_arranged (IsKept t.uploads) (all_chunks file [] u.chunks)
+    (stays_everywhere t.uploads file u.chunks (recursion_from_All (IsKept t.uploads) u.chunks kept)))))
+
+numbered_cleared : (t : Tables) → AreNumbered t → cleared t ≡ settled t
+numbered_cleared t numbered =
+    ap (λ cs. record t { chunks = cs }) (filter_same _ _ t.chunks
+    (all_weaker (λ (c : Chunk). int_le (pos 0) c.n ≡ true) _ (λ c is. rw is (at (is_of_staged t.uploads c))) t.chunks numbered))
+  where
+    at : (b : Bool) → not (b && true) ≡ not b
+    at true = refl
+    at false = refl
+
 -- ---- the store that is opened
+
+-- two calls that change nothing in the file
+pub same_then : {D : Type 0} (d : disk.Ghosts D) (file mid new : D) → IsSameFile d file mid → IsSameFile d mid new
+    → IsSameFile d file new
+same_then d file mid new one two = record {
+  seen = two.seen ∙ one.seen;
+  stop = λ left may. one.stop left (two.stop left may);
+  clean = λ k. one.clean (two.clean k);
+}
 
 -- what the calls of an opening did: the file was synced, the places of the database were read, and chunks of staged uploads
 -- were removed
@@ -119,6 +171,15 @@ module _ {T D : Type 0} (g : Ghosts T) (d : disk.Ghosts D) (rows read : T) (file
         ap (λ l. view (d.seen s.disk) l (shown g s.rows)) empty
         ∙ ap (λ bytes. view bytes [] (shown g s.rows)) same_bytes
         ∙ ap (view (d.seen file) []) (shows k.0 o)
+
+    pub opened_settled : AreHonest g d s → IsOpen g s.rows → AreNumbered before
+        → view (d.seen s.disk) (staged_of s) (shown g s.rows) ≡ settled (view (d.seen file) [] before)
+    opened_settled k o numbered =
+        opened_shown k o
+        ∙ ap (view (d.seen file) []) (numbered_cleared before numbered)
+        ∙ view_settled (d.seen file) before
+        ∙ ap settled (ap (view (d.seen file) []) (sym (numbered_cleared before numbered)))
+        ∙ settled_viewed (d.seen file) before (cleared before) (lacks_cleared before)
 
     module _ (durable : IsDurable g rows) where
       -- a stop leaves the tables of before without some chunks of staged uploads

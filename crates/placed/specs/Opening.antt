@@ -10,7 +10,7 @@ use Rattle.contents.specs.Files.{IsSameFile}
 use Rattle.tables.specs.Rows.{Chunk, Tables}
 use Rattle.store.specs.declared.state.State.{Ghosts}
 use Rattle.store.specs.Normal.{is_of_staged}
-use Rattle.store.specs.Shown.{IsHonest, HasTables, Moves, AddsAny, AddsNothing, shown}
+use Rattle.store.specs.Shown.{IsHonest, IsOpen, HasTables, Moves, AddsAny, AddsNothing, shown}
 use Rattle.placed.specs.declared.fault.PlaceFault.{PlaceFault}
 use Rattle.placed.specs.declared.fault.PlaceFault.TheVariants.{Unreadable, Overlapping, Short, Store, Contents}
 use Rattle.placed.specs.declared.rows.NumberedChunk.{NumberedChunk}
@@ -88,13 +88,33 @@ pub record IsRefused {T D : Type 0} (g : Ghosts T) (d : disk.Ghosts D) (rows : T
 abbrev pub cleared : Tables → Tables
 cleared t = record t { chunks = filter (λ c. not (is_of_staged t.uploads c && int_le (pos 0) c.n)) t.chunks }
 
+-- each chunk has a number of 0 or more
+abbrev pub AreNumbered : Tables → Type 0
+AreNumbered t = AllByRecursion (λ (c : Chunk). int_le (pos 0) c.n ≡ true) t.chunks
+
 -- the second tables are the first without some of the chunks of staged uploads
 pub record LacksStaged (t left : Tables) : Type 0 where
   pub kept : Chunk → Bool
   pub others : (c : Chunk) → is_of_staged t.uploads c ≡ false → kept c ≡ true
   pub is : left ≡ record t { chunks = filter kept t.chunks }
 
--- the store shows no such chunk any more; a stop may still leave some of them
-pub record Clears {S : Type 0} (g : Ghosts S) (old new : S) : Type 0 where
-  pub moves : Moves g cleared old new
-  pub adds : HasTables g old → AddsAny g LacksStaged old new
+module _ {S : Type 0} (g : Ghosts S) where
+  -- the store shows no such chunk any more; a stop may still leave some of them
+  pub record Clears (old new : S) : Type 0 where
+    pub moves : Moves g cleared old new
+    pub adds : HasTables g old → AddsAny g LacksStaged old new
+
+  -- the store shows and a stop leaves what was before, but for some chunks of staged uploads
+  pub record ClearsSome (old new : S) : Type 0 where
+    pub was_honest : IsHonest g new → IsHonest g old
+    pub was_open : IsHonest g new → IsOpen g new → IsOpen g old
+    pub ready : HasTables g old → HasTables g new
+    pub shows : IsHonest g new → HasTables g old → IsOpen g new → LacksStaged (shown g old) (shown g new)
+    pub adds : HasTables g old → AddsAny g LacksStaged old new
+
+-- the call ended with a database that is as it was, but for some chunks of staged uploads, and with the same file
+pub record HasEnded {T D : Type 0} (g : Ghosts T) (d : disk.Ghosts D) (rows : T) (file : D) : Type 0 where
+  pub ended_rows : T
+  pub ended_file : D
+  pub some : ClearsSome g rows ended_rows
+  pub same : IsSameFile d file ended_file

@@ -16,7 +16,7 @@ pub enum PlaceFault {
     #[error("a row of the database names no region of the file of contents")]
     Unreadable,
     /// Two rows name regions that have bytes in common, or are of one upload.
-    #[error("two rows of the database name regions of the file of contents that have bytes in common, or are of one upload")]
+    #[error("two rows of the database name the same bytes of the file of contents, or are of one upload")]
     Overlapping,
     /// The file ends before a region does.
     #[error("the file of contents is shorter than the database says")]

@@ -1,6 +1,6 @@
 //! Stores over a database that names places in the file are opened.
 
-ghost use Rattle.std.specs.Prelude.{◌≡◌, ◌≢◌, ◌≤◌, length, map, [], All, IsTrue, MatchBool, IfOk, IfErr, IfSome, IfNone, OnOk};
+ghost use Rattle.std.specs.Prelude.{◌≡◌, ◌≢◌, ◌≤◌, length, map, [], All, IsTrue, MatchBool, IfOk, IfErr, IfSome, IfNone, OnOk, OnErr};
 ghost use Rattle.std.specs.List.Sorted.{IsPermutation};
 ghost use Rattle.sqlite_trees.specs.Tree.{IsAscending};
 ghost use Rattle.contents.specs.Regions.{end_of};
@@ -11,7 +11,7 @@ ghost use Rattle.tables.specs.Rows.{Tables};
 ghost use Rattle.store.specs.Normal.{settled};
 ghost use Rattle.store.specs.Shown.{IsHonest, IsOpen, IsSafe, IsDurable, HasTables, Leaves, Moves, AddsNothing, shown};
 ghost use Rattle.placed.specs.Kept.{AreSeparate, places_in};
-ghost use Rattle.placed.specs.Opening.{AreGood, AreNamed, AreTaken, Clears, IsNamed, IsOfPlaces, IsRefused, IsRegion, cleared};
+ghost use Rattle.placed.specs.Opening.{AreGood, AreNamed, AreNumbered, AreTaken, Clears, ClearsSome, HasEnded, IsNamed, IsOfPlaces, IsRefused, IsRegion, cleared};
 ghost use Rattle.placed.specs.Placed.{beside};
 ghost use Rattle.placed.specs.View.{view};
 
@@ -32,7 +32,8 @@ impl<T: Numbered + Drop, D: Disk + Drop> Placed<T, D> {
     /// # Errors
     ///
     /// `Unreadable`, `Overlapping` or `Short` if the places of the database are not those of contents in this file: then
-    /// the database was not written. `Store` or `Contents` if a call failed. The database and the file are closed.
+    /// the database was not written. `Store` or `Contents` if a call failed; chunks of staged uploads may be removed. The
+    /// database and the file are closed.
     pub fn open(alloc: Global, mut rows: T, mut disk: D) -> Result<Placed<T, D>, PlaceFault>
         ensures honest { IfOk result (λ s. IsHonest (beside T.State D.Disk) s
             → IsHonest T.State rows × IsTrue (D.Disk.is_clean disk)) }
@@ -41,6 +42,10 @@ impl<T: Numbered + Drop, D: Disk + Drop> Placed<T, D> {
         ensures shown { IfOk result (λ s. HasTables T.State rows → IsHonest (beside T.State D.Disk) s
             → IsOpen (beside T.State D.Disk) s → shown (beside T.State D.Disk) s
             ≡ view (D.Disk.seen disk) [] (cleared (shown T.State rows))) }
+        ensures settled { IfOk result (λ s. HasTables T.State rows
+            → IsHonest (beside T.State D.Disk) s → IsOpen (beside T.State D.Disk) s
+            → AreNumbered (shown T.State rows) → shown (beside T.State D.Disk) s
+            ≡ settled (view (D.Disk.seen disk) [] (shown T.State rows))) }
         ensures left { IfOk result (λ s. HasTables T.State rows → IsDurable T.State rows
             → IsHonest (beside T.State D.Disk) s → (t : Tables) → Leaves (beside T.State D.Disk) s t
             → t ≡ settled (view (D.Disk.seen disk) [] (shown T.State rows))) }
@@ -50,6 +55,7 @@ impl<T: Numbered + Drop, D: Disk + Drop> Placed<T, D> {
             → IsHonest (beside T.State D.Disk) s → IsSafe (beside T.State D.Disk) s) }
         ensures faults { IfErr result (λ fault. IsOfPlaces fault
             → IsRefused T.State D.Disk rows disk) }
+        ensures ended { OnErr result (HasEnded T.State D.Disk rows disk) }
     {
         sync(&mut disk)?;
         let regions = read_places(alloc, &mut rows, &mut disk)?;
@@ -65,8 +71,13 @@ impl<T: Numbered + Drop, D: Disk + Drop> Placed<T, D> {
 }
 
 /// Removes the chunks of the staged uploads. If nothing is staged nothing is written.
+///
+/// # Errors
+///
+/// `Refused` or `Memory`. Some of the chunks may be removed.
 pub(crate) fn clear_staged<T: Store>(alloc: Global, rows: &mut T) -> Result<(), StoreFault>
-    ensures { OnOk result (Clears T.State rows.old rows.new) }
+    ensures all { OnOk result (Clears T.State rows.old rows.new) }
+    ensures some { ClearsSome T.State rows.old rows.new }
 {
     let staged = rows.staged_uploads(alloc)?;
     for upload in &staged {
