@@ -1,5 +1,5 @@
 -- The chunks of the staged uploads are removed, those of one upload after another.
-use Rattle.placed.proofs.Prelude.{◌≡◌, inl, inr, ℕ, ℤ, pos, Bool, true, false, not, cond, ◌&&◌, List, [], ◌∷◌, ◌++◌, ◌+◌, ◌<◌, length, take, slice_index_or, map, filter, find, Option, Some, None, is_some, refl, sym, ap, subst, ◌∙◌, true≢false, and_parts, arith, ints, AllByRecursion, all_weaker, moves_none, filter-filter, int_eq, same_int, Upload, Chunk, Tables, is_of_from, is_staged, is_staged_with, is_upload, staged_with, without_chunks_from, without_found_from, without_staged_from, is_of_staged, settled, Remains, Ghosts, IsHonest, IsOpen, HasTables, Leaves, shown, Moves, AddsAny, AddsNothing, Puts, Reads, Ok, upload_number, UploadRow, Vec}
+use Rattle.placed.proofs.Prelude.{◌≡◌, inl, inr, ℕ, ℤ, pos, Bool, true, false, not, cond, ◌&&◌, List, [], ◌∷◌, ◌++◌, ◌+◌, ◌<◌, length, take, slice_index_or, map, filter, find, Option, Some, None, is_some, refl, sym, ap, subst, ◌∙◌, true≢false, and_parts, arith, ints, AllByRecursion, all_weaker, moves_none, filter-filter, int_eq, same_int, Upload, Chunk, Tables, is_of_from, is_staged, is_staged_with, is_upload, staged_with, without_chunks_from, without_found_from, without_staged_from, is_of_staged, settled, Remains, Ghosts, IsHonest, IsOpen, HasTables, shown, Moves, AddsAny, AddsNothing, Puts, Reads, Ok, upload_number, UploadRow, Vec}
 use Rattle.std.proofs.Common.{◌||◌}
 use Rattle.std.specs.Prelude.{int_le}
 use Rattle.sqlite_keyed.proofs.ListLemmas.{filter_same, map-map}
@@ -7,7 +7,7 @@ use Rattle.std.proofs.lemmas.List.{map_more}
 use Rattle.tables.specs.Staging.{AreUploadsOf, UploadFields, read_upload, upload_fields}
 use Rattle.store.specs.Shown.{Fails}
 use Rattle.placed.specs.Opening.{cleared, LacksStaged, Clears, ClearsSome}
-use Rattle.placed.proofs.Lists.{filter_every, found_passes}
+use Rattle.placed.proofs.Lists.{filter_every}
 use Rattle.placed.proofs.Views.{found_id}
 
 -- ---- tables that lack chunks of staged uploads
@@ -316,11 +316,11 @@ module _ {S : Type 0} (g : Ghosts S) where
       outcomes = λ k t leaves. elim (b.outcomes k t leaves) [
         | inl before ↦ a.outcomes (b.was_honest k) t before
         | inr made ↦ inr (
-            p.was_open (b.was_honest k) made.0,
-            made.1,
-            lacks_then (shown g old) (shown g mid) made.1 (p.shows (b.was_honest k) h made.0) made.2,
-            made.3,
-          )
+          p.was_open (b.was_honest k) made.0,
+          made.1,
+          lacks_then (shown g old) (shown g mid) made.1 (p.shows (b.was_honest k) h made.0) made.2,
+          made.3,
+        )
       ];
       safe = λ k safe. b.safe k (a.safe (b.was_honest k) safe);
     };

@@ -1,5 +1,5 @@
 -- The rows that a call found are the places of the tables: what holds of their regions and uploads holds of the places.
-use Rattle.placed.proofs.Prelude.{◌≡◌, ◌≢◌, inl, inr, ℕ, ℤ, ◌+◌, ◌<◌, ◌≤◌, List, [], ◌∷◌, ◌++◌, map, length, take, slice_index_or, map-append, ap₂, Option, Some, refl, sym, ap, subst, ◌∙◌, same_Some, All, Contains, AllByRecursion, IsAscending, all_weaker, Ok, Vec, Ghosts, IsHonest, HasTables, Reads, shown, places_in, Region, Regions, regions_of, Chunk, AreSeparate, region_in, arith}
+use Rattle.placed.proofs.Prelude.{◌≡◌, ◌≢◌, inl, inr, ℕ, ℤ, ◌+◌, ◌<◌, ◌≤◌, List, [], ◌∷◌, ◌++◌, map, length, take, slice_index_or, map-append, ap₂, Option, Some, refl, sym, ap, subst, ◌∙◌, same_Some, All, Contains, AllByRecursion, IsAscending, all_weaker, Ok, Vec, Ghosts, IsHonest, HasTables, Reads, shown, places_in, Region, Regions, regions_of, Chunk, AreSeparate, region_in}
 use Rattle.std.specs.List.Sorted.{IsPermutation}
 use Rattle.std.proofs.lemmas.List.Elements.{All-from_recursion, recursion_from_All, All-contains_itself, All-push}
 use Rattle.std.proofs.lemmas.List.{map_more}
@@ -8,9 +8,8 @@ use Rattle.sqlite_keyed.proofs.ListLemmas.{all_map, all_unmap, ascending-map, as
 use Rattle.sqlite_trees.proofs.ListLemmas.{all-permutation}
 use Rattle.contents.specs.Regions.{AreInOrder, EndsBefore, IsLastEnd, end_of}
 use Rattle.placed.specs.declared.rows.NumberedChunk.{NumberedChunk}
-use Rattle.placed.specs.Kept.{ArePlacesApart}
 use Rattle.placed.specs.Numbered.{numbered_fields, read_numbered}
-use Rattle.placed.specs.Opening.{AreDistinct, AreGood, AreNamed, AreTaken, IsGoodPlace, IsNamed, IsRegion, IsTaken}
+use Rattle.placed.specs.Opening.{AreGood, AreNamed, AreTaken, IsGoodPlace, IsNamed, IsRegion, IsTaken}
 use Rattle.placed.proofs.Pairs.{ascending_from_pairs, ascending_permuted}
 
 -- ---- regions

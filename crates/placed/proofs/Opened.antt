@@ -1,5 +1,5 @@
 -- What is opened serves the places of the database.
-use Rattle.placed.proofs.Prelude.{◌≡◌, ◌≢◌, ◌&&◌, ◌++◌, inl, inr, ℕ, ℤ, ◌≤◌, pos, true, false, not, Bool, cond, List, [], filter, find, flat_map, is_some, length, refl, sym, ap, subst, ◌∙◌, IsTrue, All, Contains, AllByRecursion, IsAscending, all_weaker, Region, regions_of, HasContent, IsSameFile, Chunk, Upload, Tables, is_staged_with, arranged, is_of_staged, all_chunks, shown_meta, is_piece, is_place, all-append, all-filter, filter_all, Ghosts, settled, Remains, IsHonest, IsOpen, HasTables, Leaves, shown, Moves, AddsNothing, Placed, region_in, content_in, pieces_at, view, OfOthers, AreStagedApart, AreSeparate, IsStagedIn, IsReceived, IsPlace, IsServed, places_in, staged_of, AreHonest, IsPlaced, beside}
+use Rattle.placed.proofs.Prelude.{◌≡◌, ◌≢◌, ◌&&◌, ◌++◌, inl, inr, ℕ, ℤ, ◌≤◌, pos, true, false, not, Bool, List, [], filter, find, flat_map, is_some, length, refl, sym, ap, subst, ◌∙◌, IsTrue, All, AllByRecursion, IsAscending, all_weaker, Region, regions_of, HasContent, IsSameFile, Chunk, Upload, Tables, is_staged_with, arranged, is_of_staged, all_chunks, shown_meta, is_piece, is_place, all-append, all-filter, filter_all, Ghosts, settled, IsHonest, IsOpen, HasTables, Leaves, shown, Moves, AddsNothing, Placed, content_in, pieces_at, view, OfOthers, AreStagedApart, IsStagedIn, IsReceived, IsPlace, IsServed, places_in, staged_of, AreHonest, IsPlaced, beside}
 use Rattle.std.proofs.lemmas.List.Elements.{All-contains, filter_passes, recursion_from_All}
 use Rattle.sqlite_disk.specs.Disk.{Only}
 use Rattle.sqlite_disk.specs.declared.Disk as disk
@@ -227,8 +227,8 @@ module _ {T D : Type 0} (g : Ghosts T) (d : disk.Ghosts D) (rows read : T) (file
       pub opened_durable : IsOpen g s.rows → IsDurable (beside g d) s
       opened_durable o = record {
         only = λ k t leaves. inr (
-          opened_left k t leaves
-          ∙ sym (ap settled (opened_shown k o) ∙ settled_viewed (d.seen file) before (cleared before) (lacks_cleared before))
-        );
+            opened_left k t leaves
+            ∙ sym (ap settled (opened_shown k o) ∙ settled_viewed (d.seen file) before (cleared before) (lacks_cleared before))
+            );
         safe = opened_safe;
       }

@@ -1,5 +1,5 @@
 -- Each element of a list and each later one, whatever the order of the list is.
-use Rattle.placed.proofs.Prelude.{ℕ, ◌<◌, suc, zero, List, [], ◌∷◌, length, slice_index_or, arith, refl, All, AllByRecursion, IsAscending}
+use Rattle.placed.proofs.Prelude.{suc, zero, List, [], ◌∷◌, arith, refl, IsAscending}
 use Rattle.std.specs.List.{AllPairs}
 use Rattle.std.specs.List.Sorted.{IsPermutation}
 use Rattle.std.proofs.lemmas.List.Elements.{All-from_recursion, recursion_from_All}

@@ -8,7 +8,7 @@ use Rattle.std.specs.List.Sorted.{IsPermutation, IsSorted, IsNonDecreasingBy}
 use Rattle.std.proofs.lemmas.Cmp.{int_ranked}
 use Rattle.std.proofs.lemmas.List.{get_or_default}
 use Rattle.std.proofs.lemmas.List.Sorted.{ranks_by, sorted_far, IsPermutation-sym, All-permutation}
-use Rattle.contents.specs.Regions.{EndsBefore, FitsAfter, end_of}
+use Rattle.contents.specs.Regions.{EndsBefore, FitsAfter}
 use Rattle.placed.specs.Opening.{IsRegion}
 use Rattle.placed.proofs.Named.{separate_turned}
 use Rattle.placed.proofs.Pairs.{ascending_from_pairs, ascending_permuted, pairs_from_ascending}

@@ -1,7 +1,6 @@
 -- A store over a database that names places in its file is opened.
-use Rattle.std.specs.Prelude.{◌≡◌, ◌≢◌, ◌≤◌, ⊤, ℕ, ℤ, pos, false, true, ◌&&◌, int_le, not, List, map, filter, length, Bool, Option, Some, All, Contains, IsTrue}
+use Rattle.std.specs.Prelude.{◌≡◌, ◌≢◌, ◌≤◌, ⊤, ℕ, pos, false, true, ◌&&◌, int_le, not, List, map, filter, length, Bool, Some, All, Contains, IsTrue}
 use Rattle.std.specs.List.{AllByRecursion}
-
 use Rattle.sqlite_trees.specs.Tree.{IsAscending}
 use Rattle.sqlite_disk.specs.declared.Disk as disk
 use Rattle.contents.specs.declared.region.Region.{Region}
@@ -73,7 +72,7 @@ IsOfPlaces (Contents fault) = ⊥
 
 -- the call ended with a database and a file that are as they were, and if both were honest until then, the places are not
 -- those of contents in the file
-pub record IsRefused {T D : Type 0} (g : Ghosts T) (d : disk.Ghosts D) (rows : T) (file : D) : Type 0 where
+pub record RefusesPlaces {T D : Type 0} (g : Ghosts T) (d : disk.Ghosts D) (rows : T) (file : D) : Type 0 where
   pub ended_rows : T
   pub ended_file : D
   pub still : Moves g (λ t. t) rows ended_rows
@@ -113,7 +112,7 @@ module _ {S : Type 0} (g : Ghosts S) where
     pub adds : HasTables g old → AddsAny g LacksStaged old new
 
 -- the call ended with a database that is as it was, but for some chunks of staged uploads, and with the same file
-pub record HasEnded {T D : Type 0} (g : Ghosts T) (d : disk.Ghosts D) (rows : T) (file : D) : Type 0 where
+pub record HasClosed {T D : Type 0} (g : Ghosts T) (d : disk.Ghosts D) (rows : T) (file : D) : Type 0 where
   pub ended_rows : T
   pub ended_file : D
   pub some : ClearsSome g rows ended_rows

@@ -11,14 +11,14 @@ ghost use Rattle.tables.specs.Rows.{Tables};
 ghost use Rattle.store.specs.Normal.{settled};
 ghost use Rattle.store.specs.Shown.{IsHonest, IsOpen, IsSafe, IsDurable, HasTables, Leaves, Moves, AddsNothing, shown};
 ghost use Rattle.placed.specs.Kept.{AreSeparate, places_in};
-ghost use Rattle.placed.specs.Opening.{AreGood, AreNamed, AreNumbered, AreTaken, Clears, ClearsSome, HasEnded, IsNamed, IsOfPlaces, IsRefused, IsRegion, cleared};
+ghost use Rattle.placed.specs.Opening.{AreGood, AreNamed, AreNumbered, AreTaken, Clears, ClearsSome, HasClosed, IsNamed, IsOfPlaces, RefusesPlaces, IsRegion, cleared};
 ghost use Rattle.placed.specs.Placed.{beside};
 ghost use Rattle.placed.specs.View.{view};
 
 use crate::fault::PlaceFault;
 use crate::place::{PLACE_NUMBER, region_in};
-use crate::rows::{Numbered, NumberedChunk};
 use crate::placed::Placed;
+use crate::rows::{Numbered, NumberedChunk};
 use contents::{ContentsFault, LARGEST_END, Region, Regions, sync};
 use sqlite_disk::Disk;
 use std::alloc::{AllocError, Global};
@@ -54,8 +54,8 @@ impl<T: Numbered + Drop, D: Disk + Drop> Placed<T, D> {
         ensures safe { IfOk result (λ s. HasTables T.State rows → IsDurable T.State rows
             → IsHonest (beside T.State D.Disk) s → IsSafe (beside T.State D.Disk) s) }
         ensures faults { IfErr result (λ fault. IsOfPlaces fault
-            → IsRefused T.State D.Disk rows disk) }
-        ensures ended { OnErr result (HasEnded T.State D.Disk rows disk) }
+            → RefusesPlaces T.State D.Disk rows disk) }
+        ensures ended { OnErr result (HasClosed T.State D.Disk rows disk) }
     {
         sync(&mut disk)?;
         let regions = read_places(alloc, &mut rows, &mut disk)?;

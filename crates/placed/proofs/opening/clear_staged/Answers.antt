@@ -1,5 +1,5 @@
 -- The chunks of one upload after another are removed.
-use Rattle.std.proofs.Common.{ap, subst, ◌∙◌}
+use Rattle.std.proofs.Common.{subst, ◌∙◌}
 use Rattle.std.proofs.lemmas.List.{take_all}
 use Rattle.placed.proofs.Cleared.{Removes, clears_none, clears_then, fails_some, read_ids, removes_all, removes_next, removes_some}
 use Rattle.placed.proofs.opening.clear_staged.Goals as goal

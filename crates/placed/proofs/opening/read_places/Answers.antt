@@ -31,8 +31,7 @@ pub returns-in-Ok-clause-taken : goal.returns-in-Ok-clause-taken
 returns-in-Ok-clause-taken g c = λ honest h.
     let is = found_rows g.T.State _ _ _ c.in_ok-found.ensures honest h c.deref-2.result.now c.deref-2.ensures.value in
     let named = subst (AreNamed c.deref-2.result.now) (sym c.deref_mut.ensures.value) c.in_ok-named.ensures.ok in
-    let different = rw c.if-not-branch.false at c.in_ok-are_of_different_uploads.ensures in
-    (
+    let different = rw c.if-not-branch.false at c.in_ok-are_of_different_uploads.ensures in (
       (c.in_ok-found.ensures.answers honest h).0,
       are_taken c.deref-2.result.now _ is c.deref_mut.result.now named c.in_ok-regions.regions c.in_ok-regions.ensures.ok
           (subst (λ l. AreDifferent (map (λ row. row.upload) l)) (c.deref.ensures.value ∙ sym c.deref-2.ensures.value) different),
