@@ -29,6 +29,19 @@ pub content_is : (file : List ℕ) (region : Region) (content : List ℕ) → Ha
     → content_in file region ≡ content
 content_is file region content has = part_is file region.start region.size content has.size has.there
 
+-- a region that ends within the file has a content
+pub has_content : (file : List ℕ) (region : Region) → region.start + region.size ≤ length file
+    → HasContent file region (content_in file region)
+has_content file region within =
+    let same : length (content_in file region) ≡ region.size = long file region.start region.size within in
+    record {
+      size = same;
+      there = λ some. record {
+        within = omega (arith, same);
+        each = λ i less. sym (read file region.start region.size i (omega (arith, same)));
+      };
+    }
+
 -- the bytes that are written of a draft
 pub written_is : (file : List ℕ) (draft : Draft) (bytes : List ℕ) → HasWritten file draft bytes
     → written_in file draft ≡ bytes

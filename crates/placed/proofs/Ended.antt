@@ -29,7 +29,8 @@ pub view_alike : (file : List ℕ) (xs ys : List Staged) (t : Tables) → map dr
     → view file xs t ≡ view file ys t
 unfolding view
 view_alike file xs ys t same =
-    ap (λ (cs : List Chunk). record t { chunks = arranged (filter is_piece t.chunks ++ (flat_map (pieces_at file) (filter is_place t.chunks) ++ cs)) })
+    ap (λ (cs : List Chunk).
+    record (view file [] t) { chunks = arranged (filter is_piece t.chunks ++ (flat_map (pieces_at file) (filter is_place t.chunks) ++ cs)) })
     (sym (flat_map-map bytes_at draft_of xs) ∙ ap (flat_map bytes_at) same ∙ flat_map-map bytes_at draft_of ys)
   where
     bytes_at : UploadId × Draft → List Chunk

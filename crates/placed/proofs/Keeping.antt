@@ -71,17 +71,17 @@ module _ {D : Type 0} (d : Ghosts D) (old new : D) where
     place_same same before after fewer c p = record {
       region = p.region;
       means = p.means;
+      some = p.some;
       kept = kept_same same p.region p.kept;
       used = more p.region p.used;
       apart = fewer p.region p.apart;
-      some = p.some;
     }
 
     pub received_same : IsSameFile d old new → (s : Staged) → IsReceived d old was s → IsReceived d new now s
     received_same same s r = record {
       used = more s.draft.region r.used;
+      some = r.some;
       bytes = r.bytes;
       written = subst (λ file. HasWritten file s.draft r.bytes) (sym same.seen) r.written;
       within = r.within;
-      some = r.some;
     }

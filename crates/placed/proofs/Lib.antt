@@ -30,3 +30,8 @@ pub mod Begun
 pub mod Shortened
 pub mod ShortenCalls
 pub mod Fresh
+pub mod Pairs
+pub mod Cleared
+pub mod Named
+pub mod Sorting
+pub mod Opened

@@ -14,7 +14,7 @@ pub use Rattle.placed.specs.Placed.{AreHonest, HasPlaces, IsPlaced, beside, show
 pub use Rattle.placed.specs.Places.{is_piece, is_place, place_number, place_of, region_in}
 pub use Rattle.placed.specs.Reading.{piece_of}
 pub use Rattle.placed.specs.Seeking.{AreOfOthers, IsRegionOf, IsTruncated, place_in}
-pub use Rattle.placed.specs.View.{all_chunks, content_in, others_of, others_of_found, pieces_at, pieces_in, received_pieces, written_in}
+pub use Rattle.placed.specs.View.{all_chunks, content_in, others_of, others_of_found, pieces_at, pieces_in, received_pieces, shown_meta, written_in}
 unfoldable pub use Rattle.placed.specs.View.{view}
 pub use Rattle.placed.specs.declared.placed.Placed.{Placed}
 pub use Rattle.placed.specs.declared.staged.Staged.{Staged}

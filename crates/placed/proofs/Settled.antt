@@ -1,5 +1,5 @@
 -- What a stop leaves: the contents that are being received are gone, and the rows of staged uploads may be too.
-use Rattle.placed.proofs.Prelude.{◌≡◌, inl, inr, ℕ, ℤ, Bool, true, false, not, cond, List, [], ◌∷◌, ◌++◌, filter, find, Option, Some, None, is_some, refl, sym, ap, ap₂, ◌∙◌, append-nil, AllByRecursion, flat_map, filter-append, Region, all-filter, Upload, Chunk, Tables, is_staged_with, upload_number, arranged, is_of_staged, settled, Remains, Staged, pieces, is_place, is_piece, region_in, content_in, written_in, pieces_in, pieces_at, received_pieces, all_chunks, view, filter-filter}
+use Rattle.placed.proofs.Prelude.{◌≡◌, inl, inr, ℕ, ℤ, Bool, true, false, not, cond, List, [], ◌∷◌, ◌++◌, filter, find, Option, Some, None, is_some, refl, sym, ap, ap₂, ◌∙◌, append-nil, AllByRecursion, flat_map, filter-append, Region, all-filter, Upload, Chunk, Tables, is_staged_with, upload_number, arranged, is_of_staged, settled, Remains, Staged, pieces, is_place, is_piece, region_in, content_in, written_in, pieces_in, pieces_at, received_pieces, all_chunks, shown_meta, view, filter-filter}
 use Rattle.placed.proofs.Owned.{filter-flat_map, pieces_owned, filter_owned}
 use Rattle.placed.proofs.Lists.{flat_map_each, filter_swap}
 use Rattle.placed.proofs.Arranged.{arranged-filter}
@@ -80,15 +80,15 @@ module _ (us : List Upload) where
       (flat_map_each (pieces_at left) (pieces_at file) (filter stays (filter is_place cs))
       (all-filter (λ c. pieces_at left c ≡ pieces_at file c) stays (filter is_place cs) kept))
 
--- the tables with these chunks arranged
+-- the tables that are shown with these chunks arranged
 abbrev with_arranged : Tables → List Chunk → Tables
-with_arranged t cs = record t { chunks = arranged cs }
+with_arranged t cs = record t { meta = shown_meta t.meta; chunks = arranged cs }
 
 settled_view : (file : List ℕ) (staged : List Staged) (t : Tables) → AreThere t.uploads staged
     → settled (view file staged t) ≡ with_arranged t (left_over t.uploads file t.chunks)
 unfolding view
 settled_view file staged t there =
-    ap (λ (cs : List Chunk). record t { chunks = cs })
+    ap (λ (cs : List Chunk). record t { meta = shown_meta t.meta; chunks = cs })
     (sym (arranged-filter (stays t.uploads) refl (all_chunks file staged t.chunks)))
     ∙ ap (with_arranged t) (all_stay t.uploads file staged t.chunks there)
 

@@ -1,5 +1,5 @@
 -- The steps of the calls change the tables that a database shows together with a file as they change its tables.
-use Rattle.placed.proofs.Prelude.{◌≡◌, ◌≢◌, ℕ, ℤ, pos, Bool, true, false, not, cond, List, [], ◌∷◌, ◌++◌, filter, Option, Some, None, refl, sym, ap, subst, ◌∙◌, true≢false, is_gt, append-nil, AllByRecursion, flat_map, int_cmp, int_eq, int_cmp_total, tied_itself, flat_map-append, filter-append, next_key, insert_sorted, all-append, all_weaker, filter_all, int_eq_apart, same_int, Chunk, Upload, Lock, Token, Tables, is_of, is_of_from, is_staged, is_staged_with, is_upload, with_chunk, with_done, with_lock, with_token, without_chunks, without_chunks_from, without_expired, without_lock, without_row, Outcome, held, used_up, created, outcome_of, after_outcome, after_create, with_new_lock, with_made, has_token, after_add, upload_number, asked_chunk, staged_with, with_used, with_bytes, with_kept, without_upload, placeless, chunk_cmp, arranged, normal, Staged, place_number, is_place, is_piece, region_in, content_in, written_in, pieces_in, pieces_at, received_pieces, all_chunks, others_of, view, Region, and_parts, AreOfOthers}
+use Rattle.placed.proofs.Prelude.{◌≡◌, ◌≢◌, ℕ, ℤ, pos, Bool, true, false, not, cond, List, [], ◌∷◌, ◌++◌, filter, Option, Some, None, refl, sym, ap, subst, ◌∙◌, true≢false, is_gt, append-nil, AllByRecursion, flat_map, int_cmp, int_eq, int_cmp_total, tied_itself, flat_map-append, filter-append, next_key, insert_sorted, all-append, all_weaker, filter_all, int_eq_apart, same_int, Chunk, Upload, Lock, Token, Tables, is_of, is_of_from, is_staged, is_staged_with, is_upload, with_chunk, with_done, with_lock, with_token, without_chunks, without_chunks_from, without_expired, without_lock, without_row, Outcome, held, used_up, created, outcome_of, after_outcome, after_create, with_new_lock, with_made, has_token, after_add, upload_number, asked_chunk, staged_with, with_used, with_bytes, with_kept, without_upload, placeless, chunk_cmp, arranged, normal, Staged, place_number, is_place, is_piece, region_in, content_in, written_in, pieces_in, pieces_at, received_pieces, all_chunks, others_of, shown_meta, view, Region, and_parts, AreOfOthers}
 use Rattle.std.proofs.lemmas.List.{append_assoc}
 use Rattle.sqlite_keyed.proofs.ListLemmas.{all-flat_map}
 use Rattle.tables.specs.Staging.{objects_of}
@@ -9,9 +9,9 @@ use Rattle.placed.proofs.Arranged.{arranged-filter, arranged-front, arranged-swa
 use Rattle.placed.proofs.Lists.{flat_map_each, filter_swap, found_passes}
 use Rattle.placed.proofs.Keeping.{AgreeAt, AgreeOn}
 
--- the tables with these chunks
+-- the tables that are shown with these chunks
 abbrev with_rows : Tables → List Chunk → Tables
-with_rows t cs = record t { chunks = cs }
+with_rows t cs = record t { meta = shown_meta t.meta; chunks = cs }
 
 -- the pieces of the contents at the places among these rows
 abbrev placed : List ℕ → List Chunk → List Chunk
@@ -57,7 +57,7 @@ filter_three : (p : Chunk → Bool) (xs ys zs : List Chunk)
 filter_three p xs ys zs = filter-append p xs (ys ++ zs) ∙ ap (λ l. filter p xs ++ l) (filter-append p ys zs)
 
 -- each piece at a place is of the upload of the place
-at_owned : (file : List ℕ) (c : Chunk) → AreOf c.upload (pieces_at file c)
+pub at_owned : (file : List ℕ) (c : Chunk) → AreOf c.upload (pieces_at file c)
 at_owned file c = go (region_in c.bytes)
   where
     go : (o : Option Region) → AreOf c.upload (pieces_in file c o)

@@ -63,18 +63,18 @@ module _ {D : Type 0} (d : Ghosts D) (disk : D) where
     pub record IsPlace (staged : List Staged) (c : Chunk) : Type 0 where
       pub region : Region
       pub means : region_in c.bytes ≡ Some region
+      pub some : 1 ≤ region.size
       pub kept : IsInFile region
       pub used : Contains (regions_of regions) region
       pub apart : AllByRecursion (λ (s : Staged). s.is_sealed ≡ false → AreSeparate s.draft.region region) staged
-      pub some : 1 ≤ region.size
 
     -- a content that is being received has a region in use, and what is written of it is in the file
     pub record IsReceived (s : Staged) : Type 0 where
       pub used : Contains (regions_of regions) s.draft.region
+      pub some : 1 ≤ s.draft.region.size
       pub bytes : List ℕ
       pub written : HasWritten (d.seen disk) s.draft bytes
       pub within : s.draft.written ≤ s.draft.region.size
-      pub some : 1 ≤ s.draft.region.size
 
     -- the contents that are being received are each received once, and apart from each other
     pub record AreReceived (staged : List Staged) : Type 0 where
@@ -86,6 +86,6 @@ module _ {D : Type 0} (d : Ghosts D) (disk : D) where
     pub record IsServed (staged : List Staged) (t : Tables) : Type 0 where
       pub places : AllByRecursion (IsPlace staged) (places_in t)
       pub single : HasSinglePlaces t
-      pub uploads : AllByRecursion (IsStagedIn t) staged
       pub separate : IsAscending ArePlacesApart (places_in t)
       pub beside : AreBeside staged (places_in t)
+      pub uploads : AllByRecursion (IsStagedIn t) staged

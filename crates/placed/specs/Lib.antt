@@ -7,3 +7,4 @@ pub mod Reading
 pub mod Seeking
 pub mod Altered
 pub mod Freed
+pub mod Opening

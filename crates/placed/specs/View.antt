@@ -1,10 +1,10 @@
 -- The tables that a database shows together with a file of contents.
-use Rattle.std.specs.Prelude.{ℕ, ℤ, not, ◌++◌, List, [], filter, take, drop, Option, Some, None}
+use Rattle.std.specs.Prelude.{ℕ, ℤ, pos, not, ◌++◌, List, [], map, filter, take, drop, Option, Some, None}
 use Rattle.std.specs.List.{flat_map}
 use Rattle.std.specs.Ordering.{int_eq}
 use Rattle.contents.specs.declared.region.Region.{Region}
 use Rattle.contents.specs.declared.draft.Draft.{Draft}
-use Rattle.tables.specs.Rows.{Chunk, Tables}
+use Rattle.tables.specs.Rows.{Chunk, Meta, Tables}
 use Rattle.tables.specs.Staging.{upload_number}
 use Rattle.store.specs.Normal.{arranged}
 use Rattle.placed.specs.declared.staged.Staged.{Staged}
@@ -46,6 +46,10 @@ abbrev pub others_of_found : Option ℤ → List Staged → List Staged
 others_of_found None staged = staged
 others_of_found (Some id) staged = others_of id staged
 
+-- the row of `meta` with the number of version 2: a database that names places in a file has another one
+abbrev pub shown_meta : List Meta → List Meta
+shown_meta = map (λ (m : Meta). record m { version = pos 2 })
+
 -- what the tables of a database mean beside this file and these contents that are being received
 unfoldable pub view : List ℕ → List Staged → Tables → Tables
-view file staged t = record t { chunks = arranged (all_chunks file staged t.chunks) }
+view file staged t = record t { meta = shown_meta t.meta; chunks = arranged (all_chunks file staged t.chunks) }

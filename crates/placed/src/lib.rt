@@ -4,6 +4,8 @@
 mod beginning;
 mod calls;
 mod completing;
+mod fault;
+mod opening;
 mod place;
 mod placed;
 mod reading;
@@ -11,4 +13,5 @@ mod receiving;
 mod removal;
 mod staged;
 
+pub use fault::PlaceFault;
 pub use placed::Placed;
