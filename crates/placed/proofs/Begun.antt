@@ -1,10 +1,11 @@
 -- An upload that begins takes the place of the staged one of its repository, and a large content of it gets a region.
-use Rattle.placed.proofs.Prelude.{◌≤◌, IsAlteredBy, Moves, AddsNothing, piece_size, places_in, AreBeside, IsBeside, ◌≡◌, ◌≢◌, inl, inr, ℕ, ◌<◌, suc, zero, ℤ, pos, Bool, true, false, cond, List, [], ◌∷◌, ◌++◌, take, drop, find, Option, Some, None, is_some, option_map, Ok, Err, refl, sym, ap, subst, ◌∙◌, Contains, arith, true≢false, Vec, AllByRecursion, option_or, int_eq, and_parts, ints, find-append, none-some, same_Some, all_weaker, all-append, ascending-append, Region, Regions, regions_of, IsReserved, Upload, Chunk, Tables, is_staged_in, is_staged_with, is_upload, is_staged, with_upload, upload_number, asked_upload, IsAbove, IsBegun, without_staged_in, after_begin, StoreFault, NewUpload, UploadId, UploadRow, Ghosts, IsHonest, HasTables, shown, Makes, Begins, Finds, Placed, Staged, view, received_pieces, others_of_found, AreSeparate, OfOthers, AreStagedApart, IsStagedIn, IsPlace, IsReceived, AreReceived, staged_of, shown_with, beside, pieces, without_found}
+use Rattle.placed.proofs.Prelude.{nothing_then, ◌≤◌, IsAlteredBy, Moves, AddsNothing, piece_size, places_in, AreBeside, IsBeside, ◌≡◌, ◌≢◌, inl, inr, ℕ, ◌<◌, suc, zero, ℤ, pos, Bool, true, false, cond, List, [], ◌∷◌, ◌++◌, take, drop, find, Option, Some, None, is_some, option_map, Ok, Err, refl, sym, ap, subst, ◌∙◌, Contains, arith, true≢false, Vec, AllByRecursion, option_or, int_eq, and_parts, ints, find-append, none-some, same_Some, all_weaker, all-append, ascending-append, Region, Regions, regions_of, IsReserved, Upload, Chunk, Tables, is_staged_in, is_staged_with, is_upload, is_staged, with_upload, upload_number, asked_upload, IsAbove, IsBegun, without_staged_in, after_begin, StoreFault, NewUpload, UploadId, UploadRow, Ghosts, IsHonest, HasTables, shown, Makes, Begins, Finds, Placed, Staged, view, received_pieces, others_of_found, AreSeparate, OfOthers, AreStagedApart, IsStagedIn, IsPlace, IsReceived, AreReceived, staged_of, shown_with, beside, pieces, without_found}
 use Rattle.std.proofs.Common.{◌<ℤ◌, IsPermutation}
 use Rattle.std.specs.Bool.{MatchBool}
 use Rattle.std.proofs.lemmas.List.Elements.{All-contains, Contains-append_right}
 use Rattle.std.proofs.lemmas.List.Sorted.{Contains-permutation}
 use Rattle.sqlite_disk.specs.declared.Disk as disk
+use Rattle.store.proofs.Moved.{moves_then}
 use Rattle.contents.specs.Regions.{AreApart}
 use Rattle.tables.specs.Staging.{UploadFields, IsUploadOf}
 use Rattle.names.specs.Names.{repo_text}
@@ -134,8 +135,15 @@ module _ (old new : List Region) (size : ℕ) (region : Region) (reserved : IsRe
 
 -- ---- the call
 
-module _ {T D : Type 0} (g : Ghosts T) (d : disk.Ghosts D) (s : Placed T D) (between rows : T) (asked : NewUpload)
-    (same : Moves g (λ t. t) s.rows between) (added : AddsNothing g s.rows between) where
+module _ {T D : Type 0} (g : Ghosts T) (d : disk.Ghosts D) (s : Placed T D) (mid between rows : T) (asked : NewUpload)
+    (m : Moves g (λ t. t) s.rows mid) (a : AddsNothing g s.rows mid) (m' : Moves g (λ t. t) mid between)
+    (a' : AddsNothing g mid between) where
+  same : Moves g (λ t. t) s.rows between
+  same = moves_then g s.rows mid between m m'
+
+  added : AddsNothing g s.rows between
+  added = nothing_then g s.rows mid between a a'
+
   -- ---- a call that failed
 
   module _ (regions : Regions) (ls : Vec Staged)

@@ -1,9 +1,10 @@
 -- The region of a content that is removed, which goes out of use.
-use Rattle.std.specs.Prelude.{◌≡◌, ◌⊎◌, ◌≤◌, ◌<◌, ℕ, ℤ, List, ◌∷◌, ◌++◌, Option, Some, None, Result, OnOk, OnErr, IfOk, option_map, Contains, IsPermutation}
+use Rattle.std.specs.Prelude.{◌≡◌, ◌⊎◌, ◌≤◌, ◌<◌, ℕ, ℤ, false, length, List, ◌∷◌, ◌++◌, Option, Some, None, Result, OnOk, OnErr, IfOk, option_map, Contains, IsPermutation}
+use Rattle.sqlite_disk.specs.Disk.{MoreFaults}
 use Rattle.sqlite_disk.specs.declared.Disk as disk
 use Rattle.contents.specs.declared.region.Region.{Region}
 use Rattle.contents.specs.InUse.{regions_of}
-use Rattle.contents.specs.Regions.{IsReserved}
+use Rattle.contents.specs.Regions.{IsLastEnd, IsReserved}
 use Rattle.tables.specs.Rows.{Chunk, Upload, Tables}
 use Rattle.tables.specs.Staging.{upload_number}
 use Rattle.tables.specs.declared.fault.StoreFault.{StoreFault}
@@ -20,6 +21,11 @@ use Rattle.placed.specs.Seeking.{AreOfOthers, IsAtPlace, place_in}
 abbrev pub IsFreed : (old new : List Region) → Option Region → Type 0
 IsFreed old new None = new ≡ old
 IsFreed old new (Some region) = IsPermutation old (region ∷ new) ⊎ ((Contains old region → ⊥) × (new ≡ old))
+
+-- the file ends where the last of these regions does, unless no call of it is allowed any more, or one failed
+abbrev pub IsCut : {D : Type 0} → disk.Ghosts D → (old new : D) → List Region → Type 0
+IsCut d old new used =
+    IsLastEnd used (length (d.seen new)) ⊎ ((d.is_usable old ≡ false) ⊎ MoreFaults (d.faults old) (d.faults new))
 
 -- the content of the upload is being received in this region
 pub record IsReceivedIn (id : ℤ) (staged : List Staged) (region : Region) : Type 0 where
