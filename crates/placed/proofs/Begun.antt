@@ -17,7 +17,7 @@ use Rattle.placed.proofs.After.{begins_after, begins_none}
 use Rattle.placed.proofs.Restaged.{Continues, still_with, nothing_with, failed_with}
 use Rattle.placed.proofs.Removing.{finds_after, found_leaves, leads_found}
 use Rattle.placed.proofs.Freeing.{HasNoPlacesOf, IsApartFrom, IsElsewhere, IsUnused, held_used, made_freed, unused_left, unused_places}
-use Rattle.placed.specs.Freed.{FindsRegion, Frees, HasRoomFor, IsFreed, IsHeldBy, id_in}
+use Rattle.placed.specs.Freed.{FindsRegion, Frees, HasMadeRoom, IsFreed, IsHeldBy, id_in}
 use Rattle.contents.specs.Files.{KeepsRegions}
 use Rattle.placed.proofs.Keeping.{file_itself, IsAway}
 
@@ -252,7 +252,7 @@ module _ {T D : Type 0} (g : Ghosts T) (d : disk.Ghosts D) (s : Placed T D) (mid
 
     -- a call that made the step, with these regions in use before one of them was freed
     module _ (mid_regions regions : Regions) (ls : Vec Staged) (file : D)
-        (room : HasRoomFor asked.size (regions_of s.regions) (regions_of mid_regions))
+        (room : HasMadeRoom asked.size (regions_of s.regions) (regions_of mid_regions))
         (is_freed : IsFreed (regions_of mid_regions) (regions_of regions) freed) where
       abbrev next : Placed T D
       next = record s { rows = rows; disk = file; regions = regions; staged = ls }
