@@ -16,7 +16,7 @@ use Rattle.placed.proofs.Leading.{Leads, part_all, part_apart, part_received, pa
 use Rattle.placed.proofs.After.{begins_after, begins_none}
 use Rattle.placed.proofs.Restaged.{Continues, still_with, nothing_with, failed_with}
 use Rattle.placed.proofs.Removing.{finds_after, found_leaves, leads_found}
-use Rattle.placed.proofs.Freeing.{HasNoPlacesOf, IsApartFrom, IsElsewhere, IsUnused, held_used, made_freed, unused_left, unused_places}
+use Rattle.placed.proofs.Freeing.{HasNoPlacesOf, IsApartFrom, IsElsewhere, IsUnused, apart_other, held_used, made_freed, unused_left, unused_places}
 use Rattle.placed.specs.Freed.{FindsRegion, Frees, HasMadeRoom, IsFreed, IsHeldBy, id_in}
 use Rattle.contents.specs.Files.{KeepsRegions}
 use Rattle.placed.proofs.Keeping.{file_itself, IsAway}
@@ -118,9 +118,7 @@ module _ (old new : List Region) (size : ℕ) (region : Region) (reserved : IsRe
   -- none of them is it
   not_among : 0 < size → (r : Region) → Contains old r → region ≢ r
   not_among some r used is =
-      let here : AreSeparate region region = subst (AreSeparate region) (sym is) (apart_from r used) in
-      let same = reserved.size_is in
-      elim here [ inl before ↦ omega arith | inr after ↦ omega arith ]
+      apart_other r region (let same = reserved.size_is in omega (arith, same, some)) (apart_to r used) (sym is)
 
   -- after it was released they are in use
   pub used_again : 0 < size → (released : Bool) (left : List Region)

@@ -55,8 +55,10 @@ impl<T: Store, D: Disk> Placed<T, D> {
         let found = id_of(self.rows.object(repo, oid)?);
         let region = region_held(&mut self.rows, &self.staged, found)?;
         let removed = self.rows.retire_object(repo, oid)?;
-        forget_found(&mut self.staged, found);
-        give_back(&mut self.regions, &mut self.disk, region);
+        if removed {
+            forget_found(&mut self.staged, found);
+            give_back(&mut self.regions, &mut self.disk, region);
+        }
         Ok(removed)
     }
 
@@ -72,8 +74,10 @@ impl<T: Store, D: Disk> Placed<T, D> {
         let found = id_of(self.rows.object(repo, oid)?);
         let region = region_held(&mut self.rows, &self.staged, found)?;
         let removed = self.rows.discard_object(repo, oid)?;
-        forget_found(&mut self.staged, found);
-        give_back(&mut self.regions, &mut self.disk, region);
+        if removed {
+            forget_found(&mut self.staged, found);
+            give_back(&mut self.regions, &mut self.disk, region);
+        }
         Ok(removed)
     }
 }
