@@ -1,10 +1,11 @@
 -- An upload that begins takes the place of the staged one of its repository, and a large content of it gets a region.
-use Rattle.placed.proofs.Prelude.{◌≤◌, IsAlteredBy, Moves, AddsNothing, piece_size, places_in, AreBeside, IsBeside, ◌≡◌, ◌≢◌, inl, inr, ℕ, ◌<◌, suc, zero, ℤ, pos, Bool, true, false, cond, List, [], ◌∷◌, ◌++◌, take, drop, find, Option, Some, None, is_some, option_map, Ok, Err, refl, sym, ap, subst, ◌∙◌, Contains, arith, true≢false, Vec, AllByRecursion, option_or, int_eq, and_parts, ints, find-append, none-some, same_Some, all_weaker, all-append, ascending-append, Region, Regions, regions_of, IsReserved, Upload, Chunk, Tables, is_staged_in, is_staged_with, is_upload, is_staged, with_upload, upload_number, asked_upload, IsAbove, IsBegun, without_staged_in, after_begin, StoreFault, NewUpload, UploadId, UploadRow, Ghosts, IsHonest, HasTables, shown, Makes, Begins, Finds, Placed, Staged, view, received_pieces, others_of_found, AreSeparate, OfOthers, AreStagedApart, IsStagedIn, IsPlace, IsReceived, AreReceived, staged_of, shown_with, beside, pieces, without_found}
+use Rattle.placed.proofs.Prelude.{nothing_then, ◌≤◌, IsAlteredBy, Moves, AddsNothing, piece_size, places_in, AreBeside, IsBeside, ◌≡◌, ◌≢◌, inl, inr, ℕ, ◌<◌, suc, zero, ℤ, pos, Bool, true, false, cond, List, [], ◌∷◌, ◌++◌, take, drop, find, Option, Some, None, is_some, option_map, Ok, Err, refl, sym, ap, subst, ◌∙◌, Contains, arith, true≢false, Vec, AllByRecursion, option_or, int_eq, and_parts, ints, find-append, none-some, same_Some, all_weaker, all-append, ascending-append, Region, Regions, regions_of, IsReserved, Upload, Chunk, Tables, is_staged_in, is_staged_with, is_upload, is_staged, with_upload, upload_number, asked_upload, IsAbove, IsBegun, without_staged_in, after_begin, StoreFault, NewUpload, UploadId, UploadRow, Ghosts, IsHonest, HasTables, shown, Makes, Begins, Finds, Placed, Staged, view, received_pieces, others_of_found, AreSeparate, OfOthers, AreStagedApart, IsStagedIn, IsPlace, IsReceived, AreReceived, staged_of, shown_with, beside, pieces, without_found}
 use Rattle.std.proofs.Common.{◌<ℤ◌, IsPermutation}
 use Rattle.std.specs.Bool.{MatchBool}
 use Rattle.std.proofs.lemmas.List.Elements.{All-contains, Contains-append_right}
 use Rattle.std.proofs.lemmas.List.Sorted.{Contains-permutation}
 use Rattle.sqlite_disk.specs.declared.Disk as disk
+use Rattle.store.proofs.Moved.{moves_then}
 use Rattle.contents.specs.Regions.{AreApart}
 use Rattle.tables.specs.Staging.{UploadFields, IsUploadOf}
 use Rattle.names.specs.Names.{repo_text}
@@ -15,8 +16,8 @@ use Rattle.placed.proofs.Leading.{Leads, part_all, part_apart, part_received, pa
 use Rattle.placed.proofs.After.{begins_after, begins_none}
 use Rattle.placed.proofs.Restaged.{Continues, still_with, nothing_with, failed_with}
 use Rattle.placed.proofs.Removing.{finds_after, found_leaves, leads_found}
-use Rattle.placed.proofs.Freeing.{HasNoPlacesOf, IsApartFrom, IsElsewhere, IsUnused, held_used, made_freed, unused_left, unused_places}
-use Rattle.placed.specs.Freed.{FindsRegion, Frees, HasRoomFor, IsFreed, IsHeldBy, id_in}
+use Rattle.placed.proofs.Freeing.{HasNoPlacesOf, IsApartFrom, IsElsewhere, IsUnused, apart_other, held_used, made_freed, unused_left, unused_places}
+use Rattle.placed.specs.Freed.{FindsRegion, Frees, HasMadeRoom, IsFreed, IsHeldBy, id_in}
 use Rattle.contents.specs.Files.{KeepsRegions}
 use Rattle.placed.proofs.Keeping.{file_itself, IsAway}
 
@@ -117,9 +118,7 @@ module _ (old new : List Region) (size : ℕ) (region : Region) (reserved : IsRe
   -- none of them is it
   not_among : 0 < size → (r : Region) → Contains old r → region ≢ r
   not_among some r used is =
-      let here : AreSeparate region region = subst (AreSeparate region) (sym is) (apart_from r used) in
-      let same = reserved.size_is in
-      elim here [ inl before ↦ omega arith | inr after ↦ omega arith ]
+      apart_other r region (let same = reserved.size_is in omega (arith, same, some)) (apart_to r used) (sym is)
 
   -- after it was released they are in use
   pub used_again : 0 < size → (released : Bool) (left : List Region)
@@ -134,8 +133,15 @@ module _ (old new : List Region) (size : ℕ) (region : Region) (reserved : IsRe
 
 -- ---- the call
 
-module _ {T D : Type 0} (g : Ghosts T) (d : disk.Ghosts D) (s : Placed T D) (between rows : T) (asked : NewUpload)
-    (same : Moves g (λ t. t) s.rows between) (added : AddsNothing g s.rows between) where
+module _ {T D : Type 0} (g : Ghosts T) (d : disk.Ghosts D) (s : Placed T D) (mid between rows : T) (asked : NewUpload)
+    (m : Moves g (λ t. t) s.rows mid) (a : AddsNothing g s.rows mid) (m' : Moves g (λ t. t) mid between)
+    (a' : AddsNothing g mid between) where
+  same : Moves g (λ t. t) s.rows between
+  same = moves_then g s.rows mid between m m'
+
+  added : AddsNothing g s.rows between
+  added = nothing_then g s.rows mid between a a'
+
   -- ---- a call that failed
 
   module _ (regions : Regions) (ls : Vec Staged)
@@ -244,7 +250,7 @@ module _ {T D : Type 0} (g : Ghosts T) (d : disk.Ghosts D) (s : Placed T D) (mid
 
     -- a call that made the step, with these regions in use before one of them was freed
     module _ (mid_regions regions : Regions) (ls : Vec Staged) (file : D)
-        (room : HasRoomFor asked.size (regions_of s.regions) (regions_of mid_regions))
+        (room : HasMadeRoom asked.size (regions_of s.regions) (regions_of mid_regions))
         (is_freed : IsFreed (regions_of mid_regions) (regions_of regions) freed) where
       abbrev next : Placed T D
       next = record s { rows = rows; disk = file; regions = regions; staged = ls }

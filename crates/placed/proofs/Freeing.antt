@@ -1,10 +1,9 @@
 -- A region goes out of use, and the file may be cut: all other contents are still there.
-use Rattle.placed.proofs.Prelude.{◌≡◌, ◌≢◌, ◌≤◌, true, none-some, same_Some, inl, inr, ℕ, suc, zero, ℤ, pos, List, ◌∷◌, ◌++◌, find, filter, Option, Some, None, arith, refl, sym, ap, subst, ◌∙◌, Contains, Vec, AllByRecursion, IsAscending, all_weaker, all-append, same_int, and_parts, int_eq, Region, Regions, regions_of, HasContent, HasWritten, IsAlteredBy, Chunk, Tables, is_chunk, upload_number, Ghosts, shown, IsHonest, HasTables, IsOpen, Makes, Placed, Staged, place_number, is_place, region_in, pieces, pieces_at, received_pieces, others_of, others_of_found, view, AreSeparate, AreStagedApart, ArePlacesApart, OfOthers, IsBeside, IsPlace, IsReceived, AreReceived, IsServed, AreOfOthers, places_in, staged_of, shown_with, AreHonest, HasPlaces, IsPlaced, beside}
+use Rattle.placed.proofs.Prelude.{◌≡◌, ◌≢◌, ◌≤◌, true, none-some, same_Some, inl, inr, ℕ, suc, zero, ℤ, pos, List, ◌∷◌, Option, Some, None, arith, sym, ap, subst, ◌∙◌, Contains, Vec, AllByRecursion, IsAscending, all_weaker, all-append, same_int, and_parts, int_eq, Region, Regions, regions_of, HasContent, HasWritten, IsAlteredBy, Chunk, Tables, is_chunk, upload_number, Ghosts, shown, IsOpen, Makes, Placed, Staged, place_number, is_place, region_in, pieces, pieces_at, received_pieces, others_of, others_of_found, view, AreSeparate, AreStagedApart, ArePlacesApart, OfOthers, IsBeside, IsPlace, IsReceived, AreReceived, IsServed, AreOfOthers, places_in, shown_with, AreHonest, HasPlaces, IsPlaced, beside}
 use Rattle.std.proofs.lemmas.List.Sorted.{Contains-permutation}
 use Rattle.sqlite_keyed.proofs.ListLemmas.{all_of, all_both}
 use Rattle.sqlite_disk.specs.declared.Disk as disk
 use Rattle.contents.specs.Files.{KeepsRegions}
-use Rattle.placed.specs.Kept.{IsInFile}
 use Rattle.placed.specs.Freed.{IsFreed, IsHeldBy, IsReceivedIn}
 use Rattle.placed.specs.Seeking.{IsAtPlace}
 use Rattle.placed.proofs.Bytes.{written_is}

@@ -2,7 +2,7 @@
 use Rattle.placed.proofs.Prelude.{moves_none, subst, ◌≡◌, ◌≢◌, inl, inr, ℕ, ℤ, ◌<◌, suc, List, length, take, drop, All, HoldsAt, slice_index_or, Option, Some, None, option_map, Ok, refl, sym, ap, ◌∙◌, none-some, same_Some, all_weaker, Region, Chunk, Tables, upload_number, UploadId, content_bytes, IsContentOf, Reads, ChunkContent, Ghosts, Staged, region_in, AreOfOthers, IsRegionOf, place_in}
 use Rattle.std.proofs.lemmas.List.Elements.{recursion_from_All}
 use Rattle.store.proofs.Moved.{nothing_none}
-use Rattle.placed.specs.Freed.{FindsRegion, IsHeld, IsHeldBy, IsReceivedIn}
+use Rattle.placed.specs.Freed.{FindsRegion, IsHeldRegion, IsHeldBy, IsReceivedIn}
 use Rattle.placed.specs.Seeking.{written_region}
 use Rattle.std.proofs.lemmas.List.{get_or_default}
 use Rattle.placed.proofs.Lists.{list_at}
@@ -89,7 +89,7 @@ module _ (id : UploadId) (staged : List Staged) where
   -- a row says where it is, if its bytes mean a region
   held_at : (t : Tables) (place : ChunkContent) (k : Chunk) → place_in (upload_number id) t ≡ Some k
       → k.bytes ≡ content_bytes place → AreOfOthers (upload_number id) staged → (found : Option Region)
-      → found ≡ region_in (content_bytes place) → IsHeld (upload_number id) staged t found
+      → found ≡ region_in (content_bytes place) → IsHeldRegion (upload_number id) staged t found
   held_at t place k there bytes others None is = record {
     others = others;
     nowhere = λ c same. ap (λ (x : Chunk). region_in x.bytes) (same_Some c k (sym same ∙ there)) ∙ ap region_in bytes ∙ sym is;
@@ -99,7 +99,7 @@ module _ (id : UploadId) (staged : List Staged) where
 
   module _ {T : Type 0} (g : Ghosts T) (old : T) (upload : Option UploadId) (found_id : upload ≡ Some id) where
     -- what is held of the upload is held of the one that was found
-    of_found : (t : Tables) (found : Option Region) → IsHeld (upload_number id) staged t found
+    of_found : (t : Tables) (found : Option Region) → IsHeldRegion (upload_number id) staged t found
         → IsHeldBy (option_map upload_number upload) staged t found
     of_found t found =
         subst (λ (o : Option ℤ). IsHeldBy o staged t found) (sym (ap (option_map upload_number) found_id))

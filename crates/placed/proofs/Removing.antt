@@ -113,13 +113,9 @@ staged_number id t removed was is = at (staged_with id t) refl (sym is ∙ was)
     at None found none = absurd (true≢false (sym none))
     at (Some u) found some = ap Some (sym (found_id id t u found))
 
-no_staged_number : (id : ℤ) (t : Tables) (removed : Bool) → removed ≡ false → removed ≡ is_some (staged_with id t)
-    → None ≡ id_in (staged_with id t)
-no_staged_number id t removed was is = at (staged_with id t) (sym is ∙ was)
-  where
-    at : (o : Option Upload) → is_some o ≡ false → None ≡ id_in o
-    at None none = refl
-    at (Some u) some = absurd (true≢false some)
+no_number : (o : Option Upload) (removed : Bool) → removed ≡ false → removed ≡ is_some o → None ≡ id_in o
+no_number None removed was is = refl
+no_number (Some u) removed was is = absurd (true≢false (sym is ∙ was))
 
 -- the ids of an object that a call found are one
 same_number : (found : Option ObjectRow) (ids : Option UploadId) (o : Option Upload)
@@ -264,7 +260,7 @@ module _ {T D : Type 0} (g : Ghosts T) (d : disk.Ghosts D) (s : Placed T D) (row
       remove_none was =
           removes (without_staged id) SaysRemoved (staged_with id) (leads_removed (d.seen s.disk) (staged_of s) id)
           (removed_leaves id) x (whole (Ok x) e) None s.staged refl s.regions s.disk None refl (unaltered d s.disk (regions_of s.regions))
-          (λ k h. no_staged_number id (shown g s.rows) x was (says_so k h)) (λ k h. refl) (removed_seen x)
+          (λ k h. no_number (staged_with id (shown g s.rows)) x was (says_so k h)) (λ k h. refl) (removed_seen x)
 
   -- no region was found, after a call that looked for the object
   pub no_region : {X Y : Type 0} (asked_rows : T) (r : Result Y StoreFault) (P : Tables → Y → Type 0)
@@ -318,3 +314,13 @@ module _ {T D : Type 0} (g : Ghosts T) (d : disk.Ghosts D) (s : Placed T D) (row
           same_number found ids (find (is_object repo oid) (shown g s.rows).uploads) of_row
           (asked.answers (finds.same.was_honest (e.made.moves.was_honest k)) h).1)
           (λ k h. found_first.answers (e.made.moves.was_honest k) h (e.made.was_open k)) (object_seen x)
+
+      -- there was no such object
+      pub object_none : LeavesNoPlace step (λ t. find (is_object repo oid) t.uploads) → (x : Bool) → x ≡ false
+          → Changes g mid rows (Ok x) step SaysObject → Changes (beside g d) s (record s { rows = rows }) (Ok x) step SaysObject
+          × Frees g d s (record s { rows = rows }) 0 (λ t. id_in (find (is_object repo oid) t.uploads)) (Ok x)
+      object_none leaves x was e =
+          removes step SaysObject (λ t. find (is_object repo oid) t.uploads) leads leaves x (after_asked (Ok x) e) None s.staged refl
+          s.regions s.disk None refl (unaltered d s.disk (regions_of s.regions))
+          (λ k h. no_number (find (is_object repo oid) (shown g s.rows).uploads) x was ((after_asked (Ok x) e).answers k h).1)
+          (λ k h. refl) (object_seen x)

@@ -81,6 +81,7 @@ impl<T: Store, D: Disk> Placed<T, D> {
         if content.is_sealed || self.rows.chunk(id, PLACE_NUMBER)?.is_some() {
             return Err(StoreFault::Refused);
         }
+        // Part of the last piece may be written, even if the call fails.
         self.unsynced = self.unsynced.saturating_add(PIECE);
         let region = write_last(&mut self.disk, content.draft, last)?;
         self.unsynced = 0;

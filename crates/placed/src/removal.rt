@@ -1,9 +1,10 @@
 //! Uploads and objects that are removed, and the regions of their contents, which are free again.
 
-ghost use Rattle.std.specs.Prelude.{◌≡◌, ◌≤◌, length, find, option_map, is_some};
+ghost use Rattle.std.specs.Prelude.{◌≡◌, ◌≤◌, length, find, Some, option_map, is_some};
 ghost use Rattle.std.specs.Vec.{vec_capacity};
 ghost use Rattle.contents.specs.Files.{KeepsRegions};
 ghost use Rattle.contents.specs.InUse.{regions_of};
+ghost use Rattle.contents.specs.declared.region.Region.{Region};
 ghost use Rattle.names.specs.Names.{repo_text};
 ghost use Rattle.tables.specs.Discarding.{after_discard};
 ghost use Rattle.tables.specs.Retiring.{after_retire};
@@ -11,7 +12,7 @@ ghost use Rattle.tables.specs.Staging.{upload_number, staged_with, without_stage
 ghost use Rattle.tables.specs.Statements.{is_object};
 ghost use Rattle.store.specs.Shown.{Changes};
 ghost use Rattle.placed.specs.Altered.{IsAlteredBy};
-ghost use Rattle.placed.specs.Freed.{IsFreed, FindsRegion, Frees, id_in};
+ghost use Rattle.placed.specs.Freed.{IsFreed, IsCut, FindsRegion, Frees, id_in};
 ghost use Rattle.placed.specs.Placed.{beside, staged_of};
 ghost use Rattle.placed.specs.View.{others_of_found};
 
@@ -54,8 +55,10 @@ impl<T: Store, D: Disk> Placed<T, D> {
         let found = id_of(self.rows.object(repo, oid)?);
         let region = region_held(&mut self.rows, &self.staged, found)?;
         let removed = self.rows.retire_object(repo, oid)?;
-        forget_found(&mut self.staged, found);
-        give_back(&mut self.regions, &mut self.disk, region);
+        if removed {
+            forget_found(&mut self.staged, found);
+            give_back(&mut self.regions, &mut self.disk, region);
+        }
         Ok(removed)
     }
 
@@ -71,8 +74,10 @@ impl<T: Store, D: Disk> Placed<T, D> {
         let found = id_of(self.rows.object(repo, oid)?);
         let region = region_held(&mut self.rows, &self.staged, found)?;
         let removed = self.rows.discard_object(repo, oid)?;
-        forget_found(&mut self.staged, found);
-        give_back(&mut self.regions, &mut self.disk, region);
+        if removed {
+            forget_found(&mut self.staged, found);
+            give_back(&mut self.regions, &mut self.disk, region);
+        }
         Ok(removed)
     }
 }
@@ -124,6 +129,8 @@ pub(crate) fn forget_found(staged: &mut Vec<Staged>, found: Option<UploadId>)
 pub(crate) fn give_back<D: Disk>(regions: &mut Regions, disk: &mut D, region: Option<Region>)
     ensures freed { IsFreed (regions_of regions.old) (regions_of regions.new) region }
     ensures kept { IsAlteredBy D.Disk (KeepsRegions (regions_of regions.new)) disk.old disk.new }
+    ensures cut { (freed : Region) → region ≡ Some freed
+        → IsCut D.Disk disk.old disk.new (regions_of regions.new) }
 {
     if let Some(region) = region {
         regions.release(region);

@@ -1,4 +1,4 @@
-use Rattle.placed.proofs.Prelude.{sym, ap, ◌∙◌, region_in}
+use Rattle.placed.proofs.Prelude.{ap, ◌∙◌, region_in}
 use Rattle.placed.proofs.Located.{finds_received, finds_place, finds_nothing}
 use Rattle.placed.proofs.removal.region_held.Goals as goal
 

@@ -1,8 +1,7 @@
 -- The database finds the staged upload and where its content is, and then begins another, once there is room for a large
 -- content.
-use Rattle.placed.proofs.Prelude.{◌≡◌, ◌≤◌, ◌<◌, ℕ, false, arith, rules, refl, sym, ◌∙◌, ap, subst, Contains, err_from_is_err_and, regions_of, IsReserved, others_of_found, option_map, upload_number, nothing_then}
+use Rattle.placed.proofs.Prelude.{◌≡◌, ◌≤◌, ◌<◌, ℕ, false, arith, rules, refl, sym, ◌∙◌, ap, subst, Contains, err_from_is_err_and, regions_of, IsReserved, others_of_found, option_map, upload_number}
 use Rattle.std.proofs.lemmas.Option.{MatchOption-at_none, MatchOption-at_some}
-use Rattle.store.proofs.Moved.{moves_then}
 use Rattle.placed.proofs.Begun.{begun_none, begun_failed, begun_small, begun_large, used_again}
 use Rattle.placed.proofs.placed.Placed.begin.Goals as goal
 
@@ -10,22 +9,20 @@ pub returns-in_err-freed-clause-begins : goal.returns-in_err-freed-clause-begins
 returns-in_err-freed-clause-begins g c =
     let p = err_from_is_err_and c.from_residual-in_err-freed.result c.from_residual-in_err-freed.ensures.1 in
     let s = c.args.self.now in
-    let mid = c.staged_upload.new.self in
-    let between = c.region_held.new.rows in
-    let same = moves_then g.T.State s.rows mid between c.staged_upload.ensures.same c.region_held.ensures.same in
-    let added = nothing_then g.T.State s.rows mid between c.staged_upload.ensures.adds c.region_held.ensures.adds in
-    rw p.1 (begun_none g.T.State g.D.Disk s between between c.args.upload.now same added s.regions s.staged (λ r used. used) refl p.0)
+    let first = c.staged_upload.ensures in
+    let second = c.region_held.ensures in
+    rw p.1 (begun_none g.T.State g.D.Disk s c.staged_upload.new.self c.region_held.new.rows
+    c.region_held.new.rows c.args.upload.now first.same first.adds second.same second.adds s.regions s.staged (λ r used. used) refl p.0)
 
 pub returns-in_err-id-clause-begins : goal.returns-in_err-id-clause-begins
 returns-in_err-id-clause-begins g c =
     let p = err_from_is_err_and c.from_residual-in_err-id.result c.from_residual-in_err-id.ensures.1 in
     let s = c.args.self.now in
-    let mid = c.staged_upload.new.self in
-    let between = c.region_held.new.rows in
-    let same = moves_then g.T.State s.rows mid between c.staged_upload.ensures.same c.region_held.ensures.same in
-    let added = nothing_then g.T.State s.rows mid between c.staged_upload.ensures.adds c.region_held.ensures.adds in
+    let first = c.staged_upload.ensures in
+    let second = c.region_held.ensures in
     rw p.1 (
-    begun_failed g.T.State g.D.Disk s between c.begin_upload.new.self c.args.upload.now same added s.regions s.staged
+    begun_failed g.T.State g.D.Disk s c.staged_upload.new.self c.region_held.new.rows
+    c.begin_upload.new.self c.args.upload.now first.same first.adds second.same second.adds s.regions s.staged
     (λ r used. used) refl c.in_err-id.field-0.0 p.0 c.in_err-id.ensures)
 
 pub returns-then-get-lt-PIECE : goal.returns-then-get-lt-PIECE
@@ -41,24 +38,22 @@ pub returns-in_err-reserve-clause-begins : goal.returns-in_err-reserve-clause-be
 returns-in_err-reserve-clause-begins g c =
     let p = err_from_is_err_and c.from_residual-in_err-reserve.result c.from_residual-in_err-reserve.ensures.1 in
     let s = c.args.self.now in
-    let mid = c.staged_upload.new.self in
-    let between = c.region_held.new.rows in
-    let same = moves_then g.T.State s.rows mid between c.staged_upload.ensures.same c.region_held.ensures.same in
-    let added = nothing_then g.T.State s.rows mid between c.staged_upload.ensures.adds c.region_held.ensures.adds in
+    let first = c.staged_upload.ensures in
+    let second = c.region_held.ensures in
     rw p.1 (
-    begun_none g.T.State g.D.Disk s between between c.args.upload.now same added s.regions c.reserve.new.self (λ r used. used)
+    begun_none g.T.State g.D.Disk s c.staged_upload.new.self c.region_held.new.rows
+    c.region_held.new.rows c.args.upload.now first.same first.adds second.same second.adds s.regions c.reserve.new.self (λ r used. used)
     c.in_err-reserve.ensures.items p.0)
 
 pub returns-in_err-region-clause-begins : goal.returns-in_err-region-clause-begins
 returns-in_err-region-clause-begins g c =
     let p = err_from_is_err_and c.from_residual-in_err-region.result c.from_residual-in_err-region.ensures.1 in
     let s = c.args.self.now in
-    let mid = c.staged_upload.new.self in
-    let between = c.region_held.new.rows in
-    let same = moves_then g.T.State s.rows mid between c.staged_upload.ensures.same c.region_held.ensures.same in
-    let added = nothing_then g.T.State s.rows mid between c.staged_upload.ensures.adds c.region_held.ensures.adds in
+    let first = c.staged_upload.ensures in
+    let second = c.region_held.ensures in
     rw p.1 (
-    begun_none g.T.State g.D.Disk s between between c.args.upload.now same added c.reserve-2.new.self c.reserve.new.self
+    begun_none g.T.State g.D.Disk s c.staged_upload.new.self c.region_held.new.rows
+    c.region_held.new.rows c.args.upload.now first.same first.adds second.same second.adds c.reserve-2.new.self c.reserve.new.self
     (λ r used. subst (λ regions. Contains regions r) (sym c.in_err-region.ensures.err) used)
     c.in_ok-reserve.ensures.items p.0)
 
@@ -74,12 +69,11 @@ pub returns-in_default : goal.returns-in_default
 returns-in_default g c =
     let none = (MatchOption-at_none _ _ c.in_default.is c.in_ok-region.ensures.ok).1 in
     let s = c.args.self.now in
-    let mid = c.staged_upload.new.self in
-    let between = c.region_held.new.rows in
-    let same = moves_then g.T.State s.rows mid between c.staged_upload.ensures.same c.region_held.ensures.same in
-    let added = nothing_then g.T.State s.rows mid between c.staged_upload.ensures.adds c.region_held.ensures.adds in
+    let first = c.staged_upload.ensures in
+    let second = c.region_held.ensures in
     record {
-      begins = begun_none g.T.State g.D.Disk s between between c.args.upload.now same added c.reserve-2.new.self c.reserve.new.self
+      begins = begun_none g.T.State g.D.Disk s c.staged_upload.new.self c.region_held.new.rows
+          c.region_held.new.rows c.args.upload.now first.same first.adds second.same second.adds c.reserve-2.new.self c.reserve.new.self
           (λ r used. subst (λ regions. Contains regions r) (sym none) used) c.in_ok-reserve.ensures.items _;
       frees = record { freed = λ k h. tt; kept = λ r used. subst (λ regions. Contains regions r) (sym none) used };
     }
@@ -112,14 +106,13 @@ returns-in-Err g c =
     let some = some_size c.args.upload.now.size c.get.result c.get-2.result c.get.ensures.value c.get-2.ensures.value
     c.if-get-lt-PIECE.false in
     let s = c.args.self.now in
-    let mid = c.staged_upload.new.self in
-    let between = c.region_held.new.rows in
-    let same = moves_then g.T.State s.rows mid between c.staged_upload.ensures.same c.region_held.ensures.same in
-    let added = nothing_then g.T.State s.rows mid between c.staged_upload.ensures.adds c.region_held.ensures.adds in
+    let first = c.staged_upload.ensures in
+    let second = c.region_held.ensures in
     let again = used_again (regions_of s.regions) (regions_of c.reserve-2.new.self) c.get-2.result c.in-Some.region reserved some
     c.release.result (regions_of c.release.new.self) c.release.ensures in
     record {
-      begins = begun_failed g.T.State g.D.Disk s between c.begin_upload-2.new.self c.args.upload.now same added c.release.new.self
+      begins = begun_failed g.T.State g.D.Disk s c.staged_upload.new.self c.region_held.new.rows
+          c.begin_upload-2.new.self c.args.upload.now first.same first.adds second.same second.adds c.release.new.self
           c.reserve.new.self again c.in_ok-reserve.ensures.items c.in-Err.fault c.in-Err.fault c.in-Err.ensures;
       frees = record { freed = λ k h. tt; kept = again };
     }

@@ -1,5 +1,5 @@
 use Rattle.placed.proofs.Prelude.{err_from_is_err_and}
-use Rattle.placed.proofs.Removing.{leads_discarded, discarded_leaves, no_region, object_err, object_ok}
+use Rattle.placed.proofs.Removing.{leads_discarded, discarded_leaves, no_region, object_err, object_none, object_ok}
 use Rattle.placed.proofs.placed.Placed.discard.Goals as goal
 
 pub returns-in_err-region-clause-changes : goal.returns-in_err-region-clause-changes
@@ -16,11 +16,19 @@ returns-in_err-removed-clause-changes g c =
     (rw c.deref.ensures.value at c.in_ok-region.ensures) _ (leads_discarded _ _ _ _) _ p.0 c.in_err-removed.ensures
     )
 
-pub returns : goal.returns
-returns g c =
+pub returns-then-removed : goal.returns-then-removed
+returns-then-removed g c =
     let it = object_ok g.T.State g.D.Disk c.args.self.now c.discard_object.new.self _ _ c.object.new.self
     c.region_held.new.rows c.in_ok-object.field-0 c.in_ok-object.ensures c.id_of-found.result c.id_of-found.ensures
     c.in_ok-region.region (rw c.deref.ensures.value at c.in_ok-region.ensures) _ (leads_discarded _ _ _ _) (discarded_leaves _ _)
     c.in_ok-removed.removed c.in_ok-removed.ensures c.forget_found.new.staged c.forget_found.ensures.items
     c.give_back.new.regions c.give_back.new.disk c.give_back.ensures.freed c.give_back.ensures.kept in
+    record { changes = it.0; frees = it.1 }
+
+pub returns-else-removed : goal.returns-else-removed
+returns-else-removed g c =
+    let it = object_none g.T.State g.D.Disk c.args.self.now c.discard_object.new.self _ _ c.object.new.self
+    c.region_held.new.rows c.in_ok-object.field-0 c.in_ok-object.ensures c.id_of-found.result c.id_of-found.ensures
+    c.in_ok-region.region (rw c.deref.ensures.value at c.in_ok-region.ensures) _ (leads_discarded _ _ _ _) (discarded_leaves _ _)
+    c.in_ok-removed.removed c.if-removed.false c.in_ok-removed.ensures in
     record { changes = it.0; frees = it.1 }
