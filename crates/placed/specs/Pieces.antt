@@ -1,5 +1,5 @@
 -- A content in pieces, as chunks of its upload.
-use Rattle.std.specs.Prelude.{ℕ, zero, suc, ℤ, List, [], ◌∷◌, length, take, drop}
+use Rattle.std.specs.Prelude.{if◌then◌else◌, nat_lt, ℕ, zero, suc, ℤ, List, [], ◌∷◌, length, take, drop}
 use Rattle.tables.specs.Rows.{Chunk}
 use Rattle.tables.specs.Staging.{asked_chunk}
 
@@ -17,3 +17,7 @@ cut_into (suc most) size upload n (byte ∷ bytes) =
 -- the content of an upload in pieces
 unfoldable pub pieces : ℤ → List ℕ → List Chunk
 pieces upload bytes = cut_into (length bytes) piece_size upload 0 bytes
+
+-- of n bytes that may not be synced, how many are left after a sync that is made if there are as many as `most`
+abbrev pub left_unsynced : (most n : ℕ) → ℕ
+left_unsynced most n = if nat_lt n most then n else 0

@@ -1,6 +1,6 @@
 //! Contents that are being received.
 
-ghost use Rattle.std.specs.Prelude.{◌≡◌, ◌≤◌, ◌<◌, ◌*◌, ⊤, pos, is_some, false, true, length, OnOk};
+ghost use Rattle.std.specs.Prelude.{◌≡◌, ◌≤◌, ◌<◌, ◌+◌, ◌*◌, ⊤, pos, is_some, false, true, length, OnOk};
 ghost use Rattle.sqlite_disk.specs.Disk.{Only};
 ghost use Rattle.contents.specs.Files.{IsSameFile};
 ghost use Rattle.tables.specs.Statements.{with_chunk};
@@ -8,7 +8,7 @@ ghost use Rattle.tables.specs.Staging.{upload_number, asked_chunk, staged_with, 
 ghost use Rattle.store.specs.Normal.{normal};
 ghost use Rattle.store.specs.Shown.{Reads, PutsOr};
 ghost use Rattle.placed.specs.Placed.{beside, staged_of};
-ghost use Rattle.placed.specs.Pieces.{piece_size};
+ghost use Rattle.placed.specs.Pieces.{piece_size, left_unsynced};
 ghost use Rattle.placed.specs.Seeking.{IsRegionOf, IsTruncated, written_region};
 
 use crate::place::{PLACE_NUMBER, region_in};
@@ -72,9 +72,11 @@ impl<T: Store, D: Disk> Placed<T, D> {
         n: u32,
         bytes: &[u8],
     ) -> Result<(), StoreFault>
-        ensures { PutsOr (beside T.State D.Disk) self.old self.new result
+        ensures puts { PutsOr (beside T.State D.Disk) self.old self.new result
             (λ t. normal (with_chunk (asked_chunk (upload_number upload) n bytes.now) t))
             (λ _ _. ⊤) }
+        ensures counted { OnOk result
+            (self.new.unsynced ≡ left_unsynced MOST_UNSYNCED self.old.unsynced + piece_size) }
     {
         if self.rows.chunk(upload, n)?.is_some() {
             return Err(StoreFault::Refused);
@@ -117,6 +119,7 @@ impl<T: Store, D: Disk> Placed<T, D> {
 /// `Refused` if the sync fails: no bytes are changed, and nothing more may be asked of the file.
 fn sync_if_due<D: Disk>(disk: &mut D, unsynced: &mut u64) -> Result<(), StoreFault>
     ensures few { OnOk result (unsynced.new < MOST_UNSYNCED) }
+    ensures counted { OnOk result (unsynced.new ≡ left_unsynced MOST_UNSYNCED unsynced.old) }
     ensures synced { OnOk result (MOST_UNSYNCED ≤ unsynced.old
         → Only (D.Disk.seen disk.new) (D.Disk.may_leave disk.new)) }
     ensures same { IsSameFile D.Disk disk.old disk.new }

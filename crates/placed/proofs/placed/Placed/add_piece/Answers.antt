@@ -8,14 +8,14 @@ use Rattle.placed.proofs.Restaged.{counted, puts_counted, ends_counted}
 use Rattle.placed.proofs.placed.Placed.add_piece.Goals as goal
 use Rattle.placed.proofs.Written.{writes_past}
 
-pub returns-in_err-sync_if_due : goal.returns-in_err-sync_if_due
-returns-in_err-sync_if_due g c =
+pub returns-in_err-sync_if_due-clause-puts : goal.returns-in_err-sync_if_due-clause-puts
+returns-in_err-sync_if_due-clause-puts g c =
     let read = c.in_ok-chunk.ensures in
     ends_counted g.T.State g.D.Disk c.args.self.now c.chunk.new.self c.sync_if_due.new.disk c.sync_if_due.ensures.same
     c.sync_if_due.new.unsynced read.same read.adds _ c.from_residual-in_err-sync_if_due.ensures.0 _ _
 
-pub returns-in-Ok : goal.returns-in-Ok
-returns-in-Ok g c =
+pub returns-in-Ok-clause-puts : goal.returns-in-Ok-clause-puts
+returns-in-Ok-clause-puts g c =
     let read = c.in_ok-chunk.ensures in
     let many = c.sync_if_due.new.unsynced + piece_size in
     let same = c.sync_if_due.ensures.same in
@@ -30,8 +30,8 @@ returns-in-Ok g c =
     (search rules) c.append.ensures.region c.in-Ok.ensures.written c.in-Ok.ensures.inside c.in-Ok.ensures.bytes
     (λ k h. (read.answers k h).0))
 
-pub returns-in-Err : goal.returns-in-Err
-returns-in-Err g c =
+pub returns-in-Err-clause-puts : goal.returns-in-Err-clause-puts
+returns-in-Err-clause-puts g c =
     let read = c.in_ok-chunk.ensures in
     let many = c.sync_if_due.new.unsynced + piece_size in
     let same = c.sync_if_due.ensures.same in
