@@ -11,7 +11,7 @@ ghost use Rattle.tables.specs.Rows.{Tables};
 ghost use Rattle.store.specs.Normal.{settled};
 ghost use Rattle.store.specs.Shown.{IsHonest, IsOpen, IsSafe, IsDurable, HasTables, Leaves, Moves, AddsNothing, shown};
 ghost use Rattle.placed.specs.Kept.{AreSeparate, places_in};
-ghost use Rattle.placed.specs.Opening.{AreGood, AreNamed, AreNumbered, AreTaken, Clears, ClearsSome, HasClosed, IsNamed, IsOfPlaces, RefusesPlaces, IsRegion, cleared};
+ghost use Rattle.placed.specs.Opening.{AreGood, AreNamed, AreNumbered, AreTaken, ClearsSome, HasClosed, IsNamed, IsOfPlaces, IsRegion, RefusesPlaces, ShowsCleared, cleared};
 ghost use Rattle.placed.specs.Placed.{beside};
 ghost use Rattle.placed.specs.View.{view};
 
@@ -76,7 +76,7 @@ impl<T: Numbered + Drop, D: Disk + Drop> Placed<T, D> {
 ///
 /// `Refused` or `Memory`. Some of the chunks may be removed.
 pub(crate) fn clear_staged<T: Store>(alloc: Global, rows: &mut T) -> Result<(), StoreFault>
-    ensures all { OnOk result (Clears T.State rows.old rows.new) }
+    ensures all { OnOk result (ShowsCleared T.State rows.old rows.new) }
     ensures some { ClearsSome T.State rows.old rows.new }
 {
     let staged = rows.staged_uploads(alloc)?;
