@@ -31,9 +31,9 @@ impl<T: Numbered + Drop, D: Disk + Drop> Placed<T, D> {
     ///
     /// # Errors
     ///
-    /// `Unreadable`, `Overlapping` or `Short` if the places of the database are not those of contents in this file: then
-    /// the database was not written. `Store` or `Contents` if a call failed; chunks of staged uploads may be removed. The
-    /// database and the file are closed.
+    /// `Unreadable`, `Overlapping` or `Short` if the places of the database are not those of contents in this file: the
+    /// database was not written then. `Store` or `Contents` if a call failed: chunks of staged uploads may be removed.
+    /// The database and the file are closed.
     pub fn open(alloc: Global, mut rows: T, mut disk: D) -> Result<Placed<T, D>, PlaceFault>
         ensures honest { IfOk result (λ s. IsHonest (beside T.State D.Disk) s
             → IsHonest T.State rows × IsTrue (D.Disk.is_clean disk)) }
