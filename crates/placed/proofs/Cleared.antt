@@ -1,12 +1,13 @@
 -- The chunks of the staged uploads are removed, those of one upload after another.
-use Rattle.placed.proofs.Prelude.{◌≡◌, inl, inr, ℕ, ℤ, pos, Bool, true, false, not, cond, ◌&&◌, List, [], ◌∷◌, ◌++◌, ◌+◌, ◌<◌, length, take, slice_index_or, map, filter, find, Option, Some, None, is_some, refl, sym, ap, subst, ◌∙◌, true≢false, and_parts, arith, ints, AllByRecursion, all_weaker, moves_none, filter-filter, int_eq, same_int, Upload, Chunk, Tables, is_of_from, is_staged, is_staged_with, is_upload, staged_with, without_chunks_from, without_found_from, without_staged_from, is_of_staged, settled, Remains, Ghosts, IsHonest, IsOpen, HasTables, shown, Moves, AddsAny, AddsNothing, Puts, Reads, Ok, upload_number, UploadRow, Vec}
+use Rattle.placed.proofs.Prelude.{◌≡◌, inl, inr, ℕ, ℤ, pos, Bool, true, false, not, cond, ◌&&◌, List, [], ◌∷◌, ◌++◌, ◌+◌, ◌<◌, length, take, slice_index_or, map, filter, find, Option, Some, None, is_some, refl, sym, ap, subst, ◌∙◌, true≢false, and_parts, arith, ints, AllByRecursion, all_weaker, moves_none, filter-filter, int_eq, same_int, Upload, Chunk, Tables, is_of_from, is_staged, is_staged_with, is_upload, staged_with, without_chunks_from, without_found_from, without_staged_from, is_of_staged, settled, Remains, Ghosts, IsHonest, IsOpen, HasTables, shown, Moves, AddsNothing, Puts, Reads, Ok, upload_number, UploadRow, Vec}
 use Rattle.std.proofs.Common.{◌||◌}
 use Rattle.std.specs.Prelude.{int_le}
 use Rattle.sqlite_keyed.proofs.ListLemmas.{filter_same, map-map}
 use Rattle.std.proofs.lemmas.List.{map_more}
 use Rattle.tables.specs.Staging.{AreUploadsOf, UploadFields, read_upload, upload_fields}
-use Rattle.store.specs.Shown.{Fails}
-use Rattle.placed.specs.Opening.{cleared, LacksStaged, Clears, ClearsSome}
+use Rattle.store.specs.Shown.{Adds, Fails}
+use Rattle.store.proofs.Moved.{nothing_none}
+use Rattle.placed.specs.Opening.{cleared, ClearsSome, LacksStaged, ShowsCleared}
 use Rattle.placed.proofs.Lists.{filter_every}
 use Rattle.placed.proofs.Views.{found_id}
 
@@ -110,12 +111,6 @@ pub without_all-push : (ids : List ℤ) (id : ℤ) (t : Tables)
 without_all-push [] id t = refl
 without_all-push (k ∷ ids) id t = without_all-push ids id (without_staged_from k (pos 0) t)
 
-pub lacks_all : (ids : List ℤ) (t : Tables) → LacksStaged t (without_all ids t)
-lacks_all [] t = lacks_nothing t
-lacks_all (id ∷ ids) t =
-    let u = without_staged_from id (pos 0) t in
-    lacks_then t u (without_all ids u) (lacks_step id t) (lacks_all ids u)
-
 -- the chunk is one of these uploads, and has a number of 0 or more
 abbrev is_among : List ℤ → Chunk → Bool
 is_among [] c = false
@@ -212,88 +207,6 @@ read_staged rows us is =
 -- ---- the calls
 
 module _ {S : Type 0} (g : Ghosts S) where
-  -- the chunks of these uploads were removed
-  pub record Removes (ids : List ℤ) (old new : S) : Type 0 where
-    pub moves : Moves g (without_all ids) old new
-    pub adds : HasTables g old → AddsAny g LacksStaged old new
-
-  pub removes_none : (s : S) → Removes [] s s
-  removes_none s = record {
-    moves = moves_none g s;
-    adds = λ h. record { was_honest = λ k. k; outcomes = λ k t leaves. inl leaves; safe = λ k safe. safe };
-  }
-
-  pub removes_more : (ids : List ℤ) (id : ℤ) (old mid new : S) → Removes ids old mid
-      → Puts g (without_staged_from id (pos 0)) mid new → Removes (ids ++ id ∷ []) old new
-  removes_more ids id old mid new r p = record {
-    moves = record {
-      was_honest = λ k. r.moves.was_honest (p.moves.was_honest k);
-      was_open = λ k o. r.moves.was_open (p.moves.was_honest k) (p.moves.was_open k o);
-      ready = λ h. p.moves.ready (r.moves.ready h);
-      shows = λ k h o.
-          p.moves.shows k (r.moves.ready h) o
-          ∙ ap (without_staged_from id (pos 0)) (r.moves.shows (p.moves.was_honest k) h (p.moves.was_open k o))
-          ∙ sym (without_all-push ids id (shown g old));
-    };
-    adds = λ h. let a = r.adds h in let b = p.adds (r.moves.ready h) in record {
-      was_honest = λ k. a.was_honest (b.was_honest k);
-      outcomes = λ k t leaves. elim (b.outcomes k t leaves) [
-        | inl before ↦ a.outcomes (b.was_honest k) t before
-        | inr made ↦ inr (r.moves.was_open (b.was_honest k) made.0, made.1, lacks (b.was_honest k) h made.0 made.1 made.2, made.3)
-      ];
-      safe = λ k safe. b.safe k (a.safe (b.was_honest k) safe);
-    };
-  }
-    where
-      lacks : IsHonest g mid → HasTables g old → IsOpen g mid → (u : Tables)
-          → u ≡ without_staged_from id (pos 0) (shown g mid) → LacksStaged (shown g old) u
-      lacks k h o u is =
-          let t = without_all ids (shown g old) in
-          subst (LacksStaged (shown g old)) (sym (is ∙ ap (without_staged_from id (pos 0)) (r.moves.shows k h o)))
-          (lacks_then (shown g old) t (without_staged_from id (pos 0) t) (lacks_all ids (shown g old)) (lacks_step id t))
-
-  -- those of one more row that a call read
-  pub removes_next : (rows : List UploadRow) (index : ℕ) (row : UploadRow) (old mid new : S) → index < length rows
-      → row ≡ slice_index_or rows index row → Removes (read_ids (take index rows)) old mid
-      → Puts g (without_staged_from (upload_number row.id) (pos 0)) mid new
-      → Removes (read_ids (take (index + 1) rows)) old new
-  removes_next rows index row old mid new less is r p =
-      subst (λ ids. Removes ids old new)
-      (sym (map_more (λ (x : UploadRow). upload_number x.id) rows index row less
-      ∙ ap (λ (x : UploadRow). read_ids (take index rows) ++ upload_number x.id ∷ []) (sym is)))
-      (removes_more (read_ids (take index rows)) (upload_number row.id) old mid new r p)
-
-  -- those of all staged uploads, which a call found
-  pub removes_all : (rows : Vec UploadRow) (old mid new : S)
-      → Reads g old mid (Ok rows) (λ t found. AreUploadsOf found.items (filter is_staged t.uploads))
-      → Removes (read_ids rows.items) mid new → Clears g old new
-  removes_all rows old mid new found r = record {
-    moves = record {
-      was_honest = λ k. found.same.was_honest (r.moves.was_honest k);
-      was_open = λ k o. found.same.was_open (r.moves.was_honest k) (r.moves.was_open k o);
-      ready = λ h. r.moves.ready (found.same.ready h);
-      shows = λ k h o.
-          let before = found.same.shows (r.moves.was_honest k) h (r.moves.was_open k o) in
-          r.moves.shows k (found.same.ready h) o
-          ∙ ap (without_all (read_ids rows.items)) before
-          ∙ ap (λ ids. without_all ids (shown g old))
-          (read_staged rows.items (shown g old).uploads (found.answers (r.moves.was_honest k) h).1)
-          ∙ all_cleared (shown g old);
-    };
-    adds = λ h. let a = r.adds (found.same.ready h) in record {
-      was_honest = λ k. found.adds.was_honest (a.was_honest k);
-      outcomes = λ k t leaves. elim (a.outcomes k t leaves) [
-        | inl before ↦ inl (found.adds.outcomes (a.was_honest k) t before)
-        | inr made ↦
-            let was = found.same.was_open (a.was_honest k) made.0 in
-            inr (was, made.1, subst (λ t. LacksStaged t made.1) (found.same.shows (a.was_honest k) h made.0) made.2, made.3)
-      ];
-      safe = λ k safe. a.safe k (found.adds.safe (a.was_honest k) safe);
-    };
-  }
-
-  -- ---- some of them
-
   -- a call that reads
   pub clears_none : (old new : S) → Moves g (λ t. t) old new → AddsNothing g old new → ClearsSome g old new
   clears_none old new m a = record {
@@ -302,6 +215,24 @@ module _ {S : Type 0} (g : Ghosts S) where
     ready = m.ready;
     shows = λ k h o. subst (LacksStaged (shown g old)) (sym (m.shows k h o)) (lacks_nothing (shown g old));
     adds = λ h. record { was_honest = a.was_honest; outcomes = λ k t leaves. inl (a.outcomes k t leaves); safe = a.safe };
+  }
+
+  -- a call that removes those of an upload, whether it is made or fails
+  clears_one : (id : ℤ) (step : Tables → Tables) (old new : S) → ((t : Tables) → LacksStaged t (step t)) → Moves g step old new
+      → (HasTables g old → Adds g (without_staged_from id (pos 0)) old new) → ClearsSome g old new
+  clears_one id step old new lacks m adds = record {
+    was_honest = m.was_honest;
+    was_open = m.was_open;
+    ready = m.ready;
+    shows = λ k h o. subst (LacksStaged (shown g old)) (sym (m.shows k h o)) (lacks (shown g old));
+    adds = λ h. record {
+      was_honest = (adds h).was_honest;
+      outcomes = λ k t leaves. elim ((adds h).outcomes k t leaves) [
+        | inl before ↦ inl before
+        | inr made ↦ inr (made.0, made.1, subst (LacksStaged (shown g old)) (sym made.2) (lacks_step id (shown g old)), made.3)
+      ];
+      safe = (adds h).safe;
+    };
   }
 
   pub clears_then : (old mid new : S) → ClearsSome g old mid → ClearsSome g mid new → ClearsSome g old new
@@ -326,28 +257,47 @@ module _ {S : Type 0} (g : Ghosts S) where
     };
   }
 
-  pub removes_some : (ids : List ℤ) (old new : S) → Removes ids old new → ClearsSome g old new
-  removes_some ids old new r = record {
-    was_honest = r.moves.was_honest;
-    was_open = r.moves.was_open;
-    ready = r.moves.ready;
-    shows = λ k h o. subst (LacksStaged (shown g old)) (sym (r.moves.shows k h o)) (lacks_all ids (shown g old));
-    adds = r.adds;
-  }
+  -- the chunks of these uploads were removed
+  pub record Removes (ids : List ℤ) (old new : S) : Type 0 where
+    pub some : ClearsSome g old new
+    pub shows : IsHonest g new → HasTables g old → IsOpen g new → shown g new ≡ without_all ids (shown g old)
 
-  -- a call that failed to remove those of an upload
-  pub fails_some : (id : ℤ) (old new : S) → Fails g (without_staged_from id (pos 0)) old new → ClearsSome g old new
-  fails_some id old new f = record {
-    was_honest = f.moves.was_honest;
-    was_open = f.moves.was_open;
-    ready = f.moves.ready;
-    shows = λ k h o. subst (LacksStaged (shown g old)) (sym (f.moves.shows k h o)) (lacks_nothing (shown g old));
-    adds = λ h. let a = f.adds h in record {
-      was_honest = a.was_honest;
-      outcomes = λ k t leaves. elim (a.outcomes k t leaves) [
-        | inl before ↦ inl before
-        | inr made ↦ inr (made.0, made.1, subst (LacksStaged (shown g old)) (sym made.2) (lacks_step id (shown g old)), made.3)
-      ];
-      safe = a.safe;
-    };
-  }
+  pub removes_none : (s : S) → Removes [] s s
+  removes_none s = record { some = clears_none s s (moves_none g s) (nothing_none g s); shows = λ k h o. refl }
+
+  -- those of one more row that a call read
+  pub removes_next : (rows : List UploadRow) (index : ℕ) (row : UploadRow) (old mid new : S) → index < length rows
+      → row ≡ slice_index_or rows index row → Removes (read_ids (take index rows)) old mid
+      → Puts g (without_staged_from (upload_number row.id) (pos 0)) mid new
+      → Removes (read_ids (take (index + 1) rows)) old new
+  removes_next rows index row old mid new less is r p =
+      let ids = read_ids (take index rows) in
+      let id = upload_number row.id in
+      subst (λ (l : List ℤ). Removes l old new)
+      (sym (map_more (λ (x : UploadRow). upload_number x.id) rows index row less
+      ∙ ap (λ (x : UploadRow). ids ++ upload_number x.id ∷ []) (sym is)))
+      (record {
+        some = clears_then old mid new r.some
+            (clears_one id (without_staged_from id (pos 0)) mid new (lacks_step id) p.moves p.adds);
+        shows = λ k h o.
+            p.moves.shows k (r.some.ready h) o
+            ∙ ap (without_staged_from id (pos 0)) (r.shows (p.moves.was_honest k) h (p.moves.was_open k o))
+            ∙ sym (without_all-push ids id (shown g old));
+      })
+
+  -- a call that failed to remove those of one more
+  pub removes_not : (ids : List ℤ) (id : ℤ) (old mid new : S) → Removes ids old mid
+      → Fails g (without_staged_from id (pos 0)) mid new → ClearsSome g old new
+  removes_not ids id old mid new r f =
+      clears_then old mid new r.some (clears_one id (λ t. t) mid new lacks_nothing f.moves f.adds)
+
+  -- those of all staged uploads, which a call found
+  pub removes_all : (rows : Vec UploadRow) (old mid new : S)
+      → Reads g old mid (Ok rows) (λ t found. AreUploadsOf found.items (filter is_staged t.uploads))
+      → Removes (read_ids rows.items) mid new → ShowsCleared g old new
+  removes_all rows old mid new found r k h o =
+      let k' = r.some.was_honest k in
+      r.shows k (found.same.ready h) o
+      ∙ ap (without_all (read_ids rows.items)) (found.same.shows k' h (r.some.was_open k o))
+      ∙ ap (λ ids. without_all ids (shown g old)) (read_staged rows.items (shown g old).uploads (found.answers k' h).1)
+      ∙ all_cleared (shown g old)

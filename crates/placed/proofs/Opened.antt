@@ -9,10 +9,10 @@ use Rattle.std.specs.Prelude.{int_le}
 use Rattle.contents.specs.Regions.{end_of}
 use Rattle.store.specs.Shown.{IsDurable, IsSafe}
 use Rattle.placed.specs.Kept.{ArePlacesApart, IsBeside, IsInFile}
-use Rattle.placed.specs.Opening.{HaveNumbers, AreTaken, Clears, IsTaken, LacksStaged, cleared}
+use Rattle.placed.specs.Opening.{HaveNumbers, AreTaken, ClearsSome, IsTaken, LacksStaged, ShowsCleared, cleared}
 use Rattle.placed.proofs.Both.{marked_view}
 use Rattle.placed.proofs.Bytes.{has_content}
-use Rattle.placed.proofs.Cleared.{lacks_cleared, lacks_remains, lacks_then, settled_lacking}
+use Rattle.placed.proofs.Cleared.{clears_none, clears_then, lacks_cleared, lacks_remains, lacks_then, settled_lacking}
 use Rattle.placed.proofs.Ordered.{all_arranged}
 use Rattle.placed.proofs.Settled.{settled-left}
 use Rattle.placed.proofs.Tracked.{HasSomeChunks, apart-kept, places-left, places-of-chunks}
@@ -95,11 +95,12 @@ pub record IsMadeOf {T D : Type 0} (g : Ghosts T) (d : disk.Ghosts D) (rows read
   pub taken : IsHonest g read → HasTables g rows
       → IsOpen g rows × AreTaken (regions_of s.regions) (places_in (shown g rows))
   pub within : IsTrue (d.is_clean s.disk) → All (λ region. end_of region ≤ length (d.seen synced)) (regions_of s.regions)
-  pub clears : Clears g read s.rows
+  pub some : ClearsSome g read s.rows
+  pub all : ShowsCleared g read s.rows
 
 module _ {T D : Type 0} (g : Ghosts T) (d : disk.Ghosts D) (rows read : T) (file synced : D) (s : Placed T D)
     (by : IsMadeOf g d rows read file synced s) where
-  open by use {empty, still, adds, taken, clears}
+  open by use {empty, taken}
 
   same_bytes : d.seen s.disk ≡ d.seen file
   same_bytes = by.then.seen ∙ by.first.seen
@@ -134,29 +135,33 @@ module _ {T D : Type 0} (g : Ghosts T) (d : disk.Ghosts D) (rows read : T) (file
     apart = subst (AllByRecursion _) (sym empty) tt;
   }
 
+  -- but for some chunks of staged uploads the database is as it was
+  cleared_some : ClearsSome g rows s.rows
+  cleared_some = clears_then g rows read s.rows (clears_none g rows read by.still by.adds) by.some
+
   module _ (h : HasTables g rows) where
     abbrev before : Tables
     before = shown g rows
 
     rows_ready : HasTables g s.rows
-    rows_ready = clears.moves.ready (still.ready h)
+    rows_ready = cleared_some.ready h
 
     shows : IsHonest g s.rows → IsOpen g s.rows → shown g s.rows ≡ cleared before
     shows k o =
-        clears.moves.shows k (still.ready h) o
-        ∙ ap cleared (still.shows (clears.moves.was_honest k) h (clears.moves.was_open k o))
+        by.all k (by.still.ready h) o
+        ∙ ap cleared (by.still.shows (by.some.was_honest k) h (by.some.was_open k o))
 
     -- tables that lack chunks of staged uploads have places of the store
     serves_lacking : AreHonest g d s → (u : Tables) → LacksStaged before u → AllByRecursion Serves (places_in u)
     serves_lacking k u lacks =
         places-left Serves before u (chunks_of_lacking before u lacks)
         (all_weaker (IsTaken (regions_of s.regions)) Serves (serves k.1) (places_in before)
-        (taken (clears.moves.was_honest k.0) h).1.each)
+        (taken (by.some.was_honest k.0) h).1.each)
 
     served : AreHonest g d s → IsServed d s.disk s.regions (staged_of s) (cleared before)
     served k =
         let some = places-of-chunks before (cleared before) (chunks_of_lacking before (cleared before) (lacks_cleared before)) in
-        let distinct = (taken (clears.moves.was_honest k.0) h).1.distinct in
+        let distinct = (taken (by.some.was_honest k.0) h).1.distinct in
         record {
           places = serves_lacking k (cleared before) (lacks_cleared before);
           single = apart-kept (λ (a b : Chunk). a.upload ≢ b.upload) before (cleared before) some distinct.single;
@@ -184,13 +189,9 @@ module _ {T D : Type 0} (g : Ghosts T) (d : disk.Ghosts D) (rows read : T) (file
     module _ (durable : IsDurable g rows) where
       -- a stop leaves the tables of before without some chunks of staged uploads
       lacking : IsHonest g s.rows → (u : Tables) → Leaves g s.rows u → LacksStaged before u
-      lacking k u leaves = elim ((clears.adds (still.ready h)).outcomes k u leaves) [
-        | inl earlier ↦
-            let k' = clears.moves.was_honest k in
-            lacks_remains before u (durable.only (still.was_honest k') u (adds.outcomes k' u earlier))
-        | inr made ↦
-            let shown_then = still.shows (clears.moves.was_honest k) h made.0 in
-            lacks_then before made.1 u (subst (λ t. LacksStaged t made.1) shown_then made.2) (lacks_remains made.1 u made.3)
+      lacking k u leaves = elim ((cleared_some.adds h).outcomes k u leaves) [
+        | inl was ↦ lacks_remains before u (durable.only (cleared_some.was_honest k) u was)
+        | inr made ↦ lacks_then before made.1 u made.2 (lacks_remains made.1 u made.3)
       ]
 
       placed : AreHonest g d s → IsPlaced g d s
@@ -220,9 +221,7 @@ module _ {T D : Type 0} (g : Ghosts T) (d : disk.Ghosts D) (rows read : T) (file
           ∙ settled_viewed (d.seen file) before it.rows (lacking k.0 it.rows it.by_rows)
 
       pub opened_safe : AreHonest g d s → IsSafe (beside g d) s
-      opened_safe k =
-          let k' = clears.moves.was_honest k.0 in
-          (clears.adds (still.ready h)).safe k.0 (adds.safe k' (durable.safe (still.was_honest k')))
+      opened_safe k = (cleared_some.adds h).safe k.0 (durable.safe (cleared_some.was_honest k.0))
 
       pub opened_durable : IsOpen g s.rows → IsDurable (beside g d) s
       opened_durable o = record {

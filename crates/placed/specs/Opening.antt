@@ -98,11 +98,6 @@ pub record LacksStaged (t left : Tables) : Type 0 where
   pub is : left ≡ record t { chunks = filter kept t.chunks }
 
 module _ {S : Type 0} (g : Ghosts S) where
-  -- the store shows no such chunk any more; a stop may still leave some of them
-  pub record Clears (old new : S) : Type 0 where
-    pub moves : Moves g cleared old new
-    pub adds : HasTables g old → AddsAny g LacksStaged old new
-
   -- the store shows and a stop leaves what was before, but for some chunks of staged uploads
   pub record ClearsSome (old new : S) : Type 0 where
     pub was_honest : IsHonest g new → IsHonest g old
@@ -110,6 +105,10 @@ module _ {S : Type 0} (g : Ghosts S) where
     pub ready : HasTables g old → HasTables g new
     pub shows : IsHonest g new → HasTables g old → IsOpen g new → LacksStaged (shown g old) (shown g new)
     pub adds : HasTables g old → AddsAny g LacksStaged old new
+
+  -- the store shows what it showed, cleared
+  abbrev pub ShowsCleared : S → S → Type 0
+  ShowsCleared old new = IsHonest g new → HasTables g old → IsOpen g new → shown g new ≡ cleared (shown g old)
 
 -- the call ended with a database that is as it was, but for some chunks of staged uploads, and with the same file
 pub record HasClosed {T D : Type 0} (g : Ghosts T) (d : disk.Ghosts D) (rows : T) (file : D) : Type 0 where

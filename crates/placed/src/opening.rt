@@ -12,7 +12,7 @@ ghost use Rattle.tables.specs.Staging.{upload_number};
 ghost use Rattle.store.specs.Normal.{settled};
 ghost use Rattle.store.specs.Shown.{IsHonest, IsOpen, IsSafe, IsDurable, HasTables, Leaves, Moves, AddsNothing, shown};
 ghost use Rattle.placed.specs.Kept.{AreSeparate, places_in};
-ghost use Rattle.placed.specs.Opening.{AreGood, AreNamed, HaveNumbers, AreTaken, Clears, ClearsSome, HasClosed, IsNamed, IsOfPlaces, RefusesPlaces, IsRegion, cleared};
+ghost use Rattle.placed.specs.Opening.{AreGood, AreNamed, HaveNumbers, AreTaken, ClearsSome, HasClosed, IsNamed, IsOfPlaces, IsRegion, RefusesPlaces, ShowsCleared, cleared};
 ghost use Rattle.placed.specs.Placed.{beside};
 ghost use Rattle.placed.specs.View.{view};
 
@@ -31,9 +31,9 @@ impl<T: Numbered + Drop, D: Disk + Drop> Placed<T, D> {
     ///
     /// # Errors
     ///
-    /// `Unreadable`, `Overlapping` or `Short` if the places of the database are not those of contents in this file: then
-    /// the database was not written. `Store` or `Contents` if a call failed; chunks of staged uploads may be removed. The
-    /// database and the file are closed.
+    /// `Unreadable`, `Overlapping` or `Short` if the places of the database are not those of contents in this file: the
+    /// database was not written then. `Store` or `Contents` if a call failed: chunks of staged uploads may be removed.
+    /// The database and the file are closed.
     pub fn open(alloc: Global, mut rows: T, mut disk: D) -> Result<Placed<T, D>, PlaceFault>
         ensures honest { IfOk result (λ s. IsHonest (beside T.State D.Disk) s
             → IsHonest T.State rows × IsTrue (D.Disk.is_clean disk)) }
@@ -77,7 +77,7 @@ impl<T: Numbered + Drop, D: Disk + Drop> Placed<T, D> {
 ///
 /// `Refused` or `Memory`. Some of the chunks may be removed.
 pub(crate) fn clear_staged<T: Store>(alloc: Global, rows: &mut T) -> Result<(), StoreFault>
-    ensures all { OnOk result (Clears T.State rows.old rows.new) }
+    ensures all { OnOk result (ShowsCleared T.State rows.old rows.new) }
     ensures some { ClearsSome T.State rows.old rows.new }
 {
     let staged = rows.staged_uploads(alloc)?;

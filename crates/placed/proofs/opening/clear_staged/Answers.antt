@@ -1,8 +1,11 @@
 -- The chunks of one upload after another are removed.
 use Rattle.std.proofs.Common.{subst, ◌∙◌}
 use Rattle.std.proofs.lemmas.List.{take_all}
-use Rattle.placed.proofs.Cleared.{Removes, clears_none, clears_then, fails_some, read_ids, removes_all, removes_next, removes_some}
+use Rattle.placed.proofs.Cleared.{Removes, clears_none, clears_then, read_ids, removes_all, removes_next, removes_none, removes_not}
 use Rattle.placed.proofs.opening.clear_staged.Goals as goal
+
+pub loop-upload-init : goal.loop-upload-init
+loop-upload-init g c = removes_none g.T.State c.staged_uploads.new.self
 
 pub loop-upload-preserved : goal.loop-upload-preserved
 loop-upload-preserved g c =
@@ -11,16 +14,13 @@ loop-upload-preserved g c =
     c.loop-upload.invariant c.in_ok-shorten_upload.ensures.made
 
 pub returns-in_err-staged-clause-some : goal.returns-in_err-staged-clause-some
-returns-in_err-staged-clause-some g c =
-    clears_none g.T.State c.args.rows.now c.staged_uploads.new.self c.in_err-staged.ensures.same c.in_err-staged.ensures.adds
+returns-in_err-staged-clause-some g c = clears_none g.T.State _ _ c.in_err-staged.ensures.same c.in_err-staged.ensures.adds
 
 pub returns-in_err-shorten_upload-clause-some : goal.returns-in_err-shorten_upload-clause-some
 returns-in_err-shorten_upload-clause-some g c =
-    let read = clears_none g.T.State c.args.rows.now c.staged_uploads.new.self c.in_ok-staged.ensures.same c.in_ok-staged.ensures.adds in
-    let removed = removes_some g.T.State _ c.staged_uploads.new.self c.loop-upload.rows c.loop-upload.invariant in
-    let failed = fails_some g.T.State _ c.loop-upload.rows c.shorten_upload.new.self c.in_err-shorten_upload.ensures.failed in
-    clears_then g.T.State c.args.rows.now c.staged_uploads.new.self c.shorten_upload.new.self read
-    (clears_then g.T.State c.staged_uploads.new.self c.loop-upload.rows c.shorten_upload.new.self removed failed)
+    clears_then g.T.State _ c.staged_uploads.new.self _
+    (clears_none g.T.State _ _ c.in_ok-staged.ensures.same c.in_ok-staged.ensures.adds)
+    (removes_not g.T.State _ _ _ _ _ c.loop-upload.invariant c.in_err-shorten_upload.ensures.failed)
 
 pub returns-clause-all : goal.returns-clause-all
 returns-clause-all g c =
@@ -31,6 +31,5 @@ returns-clause-all g c =
 
 pub returns-clause-some : goal.returns-clause-some
 returns-clause-some g c =
-    let read = clears_none g.T.State c.args.rows.now c.staged_uploads.new.self c.in_ok-staged.ensures.same c.in_ok-staged.ensures.adds in
-    clears_then g.T.State c.args.rows.now c.staged_uploads.new.self c.loop-upload.rows read
-    (removes_some g.T.State _ c.staged_uploads.new.self c.loop-upload.rows c.loop-upload.invariant)
+    clears_then g.T.State _ c.staged_uploads.new.self _
+    (clears_none g.T.State _ _ c.in_ok-staged.ensures.same c.in_ok-staged.ensures.adds) c.loop-upload.invariant.some

@@ -29,7 +29,8 @@ by g c = record {
   adds = c.in_ok-regions.ensures.adds;
   taken = c.in_ok-regions.ensures.taken;
   within = c.in_ok-regions.ensures.within;
-  clears = c.in_ok-clear_staged.ensures.all;
+  some = c.in_ok-clear_staged.ensures.some;
+  all = c.in_ok-clear_staged.ensures.all;
 }
 
 pub returns-clause-tables : goal.returns-clause-tables
