@@ -6,7 +6,6 @@
 #![tactic(auto)]
 
 mod addresses;
-mod contents;
 mod control_sockets;
 mod databases;
 mod explanations;

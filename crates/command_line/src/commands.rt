@@ -43,10 +43,6 @@ clients can connect, and runs until it is ended, or until as many connections we
 A client may idle between two requests for --idle seconds. A connection that fails is reported on \
 the error stream, and the next message is served.
 
-With --contents, a database that does not exist yet is made with a file beside it, FILE-contents, for the contents \
-of objects. Such a database starts in the time that its rows take, however much is stored, and every command finds \
-the file by its name. A database that exists keeps its form.
-
 The status is 0 after the last connection, 1 if the policy, the address or the database was \
 refused, and 2 if the arguments are wrong.";
 
@@ -140,13 +136,6 @@ const CONTROL: Parameter = Parameter {
     kind: Kind::Optional,
 };
 
-const CONTENTS: Parameter = Parameter {
-    name: "contents",
-    value_name: "",
-    help: "Makes a new database with a file beside it, FILE-contents, for the contents of objects",
-    kind: Kind::Switch,
-};
-
 const ASKER: Parameter = Parameter {
     name: "user",
     value_name: "U",
@@ -200,10 +189,10 @@ const SESSION: CommandText = CommandText {
 
 const SERVE: CommandText = CommandText {
     name: "serve",
-    usage: "custody serve --db FILE --policy FILE --listen ADDR [--requests N] [--idle SECONDS] [--control SOCKET] [--contents] [--explain]",
+    usage: "custody serve --db FILE --policy FILE --listen ADDR [--requests N] [--idle SECONDS] [--control SOCKET] [--explain]",
     about: SERVE_ABOUT,
     long_about: SERVE_LONG_ABOUT,
-    parameters: &[DB, POLICY, LISTEN, REQUESTS, IDLE, CONTROL, CONTENTS],
+    parameters: &[DB, POLICY, LISTEN, REQUESTS, IDLE, CONTROL],
     example: "Example:\n  custody serve --db film.db --policy policy.toml --listen 127.0.0.1:8080",
 };
 

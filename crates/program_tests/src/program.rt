@@ -156,7 +156,6 @@ pub(crate) fn serve_args<'a>(
         requests: Some(requests),
         idle,
         control: None,
-        contents: false,
     }
 }
 
