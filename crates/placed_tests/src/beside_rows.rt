@@ -8,7 +8,7 @@ use sqlite_disk::{Fuse, Memory};
 use store::Store;
 use tables::{Completion, Creation, LastChunk, NewLock, NewToken, NewUpload, StoreFault, UploadId};
 
-const HERO: &str = "2cf24dba5fb0a30e26e83b2ac5b9e29e1b161e5c1fa7425e73043362938b9824";
+pub(crate) const HERO: &str = "2cf24dba5fb0a30e26e83b2ac5b9e29e1b161e5c1fa7425e73043362938b9824";
 
 /// A database without objects, and an empty file.
 fn new_store(rt: &impl Tester) -> Placed<tables::Store<MemStore>, Memory> {
@@ -21,14 +21,14 @@ fn size(rt: &impl Tester, n: u64) -> Size {
 }
 
 /// Returns `len` bytes of this value.
-fn bytes_of(rt: &impl Tester, byte: u8, len: usize) -> Vec<u8> {
+pub(crate) fn bytes_of(rt: &impl Tester, byte: u8, len: usize) -> Vec<u8> {
     let mut bytes = Vec::new(rt.alloc());
     unwrap(rt, bytes.resize(len, byte));
     bytes
 }
 
 /// Begins an upload of `len` bytes, and returns its id.
-fn begun(rt: &impl Tester, store: &mut impl Store, name: &str, len: u64) -> UploadId {
+pub(crate) fn begun(rt: &impl Tester, store: &mut impl Store, name: &str, len: u64) -> UploadId {
     let (repo, oid) = (repo(rt, name), oid(rt, HERO));
     let upload = NewUpload {
         repo: &repo,
@@ -50,7 +50,7 @@ fn completed(
 }
 
 /// Stores an object of two full pieces and three bytes.
-fn stored(rt: &impl Tester, store: &mut impl Store, name: &str, byte: u8) -> UploadId {
+pub(crate) fn stored(rt: &impl Tester, store: &mut impl Store, name: &str, byte: u8) -> UploadId {
     let id = begun(rt, store, name, 131_075);
     unwrap(rt, store.add_chunk(id, 0, &bytes_of(rt, byte, 65_536)));
     unwrap(
@@ -69,7 +69,13 @@ fn stored(rt: &impl Tester, store: &mut impl Store, name: &str, byte: u8) -> Upl
 }
 
 /// Whether piece `n` exists and has `piece.1` bytes, each of the value `piece.0`.
-fn has(rt: &impl Tester, store: &mut impl Store, id: UploadId, n: u32, piece: (u8, usize)) -> bool {
+pub(crate) fn has(
+    rt: &impl Tester,
+    store: &mut impl Store,
+    id: UploadId,
+    n: u32,
+    piece: (u8, usize),
+) -> bool {
     match unwrap(rt, store.chunk(id, n)) {
         Some(found) => found.bytes() == bytes_of(rt, piece.0, piece.1).as_slice(),
         None => false,

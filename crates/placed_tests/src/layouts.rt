@@ -1,5 +1,6 @@
 //! The two layouts of a database.
 
+use crate::beside_rows::HERO;
 use crate::harness::{Tester, in_memory, oid, repo, unwrap};
 use names::Size;
 use sqlite::{Connection, MemStore};
@@ -14,10 +15,7 @@ fn number_in(rt: &impl Abort, conn: &mut Connection<MemStore>) -> u32 {
 }
 
 fn chunks_are_found_by_their_number(rt: &impl Tester, store: &mut impl Numbered) {
-    let (film, oid) = (
-        repo(rt, "studio/film"),
-        oid(rt, &"ab".repeat(rt.alloc(), 32)),
-    );
+    let (film, oid) = (repo(rt, "studio/film"), oid(rt, HERO));
     let upload = NewUpload {
         repo: &film,
         oid: &oid,
@@ -29,7 +27,8 @@ fn chunks_are_found_by_their_number(rt: &impl Tester, store: &mut impl Numbered)
     let found = unwrap(rt, store.chunks_numbered(rt.alloc(), 9));
     assert_eq!(rt; found.len(), 1);
     assert!(rt;
-        found.first().is_some_and(|chunk| chunk.upload == id && chunk.bytes.as_slice() == b"nine")
+        found.first().is_some_and(|chunk| chunk.upload == id
+            && chunk.bytes.as_slice() == b"nine".as_slice())
     );
     assert!(rt; unwrap(rt, store.chunks_numbered(rt.alloc(), 8)).is_empty());
 }

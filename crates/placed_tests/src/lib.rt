@@ -7,3 +7,5 @@ mod beside_rows;
 mod harness;
 #[cfg(test)]
 mod layouts;
+#[cfg(test)]
+mod opened;
