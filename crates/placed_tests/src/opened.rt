@@ -47,9 +47,9 @@ fn room_is_used_again_and_a_store_is_opened_anew(rt: HostRuntime) {
     let mut store = Placed::new(rt.alloc(), in_memory(&rt), Memory::new(rt.alloc()));
     let (second, third) = two_of_three(&rt, &mut store);
     let (rows, file) = store.into_parts();
+    assert_eq!(rt; file.bytes().len(), 131_075 + 131_075 + 65_536);
     // The third object has the region of the first one.
     assert_eq!(rt; file.bytes()[0], b'p');
-    assert_eq!(rt; file.bytes().len(), 131_075 + 131_075 + 65_536);
     let mut store = unwrap(&rt, Placed::open(rt.alloc(), rows, file));
     both_are_whole(&rt, &mut store, second, third);
     remove(&rt, &mut store, "studio/game");
@@ -68,14 +68,13 @@ fn opened_with(rt: &impl Tester, first: &[u8], second: &[u8]) -> Opened {
     Placed::open(rt.alloc(), rows, Memory::new(rt.alloc()))
 }
 
+/// The bytes of a place.
+fn place(start: u8, size: u8) -> [u8; 16] {
+    [0, 0, 0, 0, 0, 0, 0, start, 0, 0, 0, 0, 0, 0, 0, size]
+}
+
 #[test]
 fn places_that_are_none_are_refused(rt: HostRuntime) {
-    let place = |start: u8, size: u8| {
-        let mut bytes = [0u8; 16];
-        bytes[7] = start;
-        bytes[15] = size;
-        bytes
-    };
     let first = place(0, 5);
     let short = opened_with(&rt, &first, &first[..2]);
     assert!(rt; matches!(short, Err(PlaceFault::Unreadable)));
