@@ -9,7 +9,7 @@ use sqlite::{Connection, Error, File, FileFrom, FileStore, Wary};
 use std::alloc::Global;
 use std::fs;
 use std::rt::HostRuntime;
-use tables::{Alter, Migrated, OpenFault, Storage, Store, StoreFault};
+use tables::{Alter, Layout, Migrated, OpenFault, Storage, Store, StoreFault};
 
 /// A step on a file, with the expected result.
 pub(crate) enum Step {
@@ -43,7 +43,7 @@ fn work<S: Storage>(rt: &impl Tester, store: &mut Store<S>, step: &Step) -> Resu
         assert!(rt; store.migrate(rt.alloc()) == *want);
         return Ok(());
     }
-    store.create_or_check(rt.alloc())?;
+    store.create_or_check(rt.alloc(), Layout::Rows)?;
     match step {
         Step::Fill => fill(rt, store),
         Step::Find(id, made, expiry) => {
