@@ -106,6 +106,8 @@ SUITES = [
           0, quick=()),
     Suite("objects", "tests.server.objects", "Objects of 0 bytes to 256 MiB are stored whole, and cut ones are not.",
           2, ("sqlite3",), quick=only("stopped", "repositories", "refused")),
+    Suite("contents", "tests.server.contents", "Contents in a file beside the database are kept, found and given back.",
+          2, ("sqlite3",), quick=("--rounds", "10", "--objects", "2000")),
     Suite("transfers", "tests.server.transfers", "Git LFS pushes, clones and fetches 200 files of 1 byte to 50 MB.",
           1, ("git", "git-lfs"), quick=("--files", "8")),
     Suite("load", "tests.server.load", "200 clients through nginx and 50 without it push, pull and lock.",

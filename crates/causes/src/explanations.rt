@@ -1,13 +1,14 @@
 //! The line that explains a fault.
 
 use crate::addresses::address_cause;
+use crate::contents::contents_text;
 use crate::control_sockets::{asking_cause, making_cause};
 use crate::databases::database_cause;
 use crate::files::file_cause;
 use crate::hints::hint;
 use crate::named::Named;
 use crate::values::expected;
-use faults::Fault;
+use faults::{ContentsCause, Fault};
 use std::alloc::{AllocError, Global};
 use std::rt::HostRuntime;
 use tables::StoreFault;
@@ -32,6 +33,16 @@ fn schema_line(rt: &HostRuntime, db: &str) -> Result<Option<String>, AllocError>
     format!(in rt.alloc();
         "{db}: this is a database of another program, or of version 1: custody migrate gives one of version 1 the tables that are needed"
     ).map(Some)
+}
+
+/// What is wrong with the file of contents beside the database.
+fn contents_line(
+    alloc: Global,
+    db: &str,
+    cause: ContentsCause,
+) -> Result<Option<String>, AllocError> {
+    let text = contents_text(cause);
+    format!(in alloc; "{db}-contents: {text}").map(Some)
 }
 
 /// What is wrong with a file that could not be read.
@@ -100,6 +111,9 @@ pub fn explanation(
     match (fault, named) {
         (Fault::Value(option), _) => value_line(rt.alloc(), option),
         (Fault::Store(StoreFault::Refused), Named { db: Some(db), .. }) => database_line(rt, db),
+        (Fault::Contents(cause), Named { db: Some(db), .. }) => {
+            contents_line(rt.alloc(), db, *cause)
+        }
         (Fault::UnknownSchema, Named { db: Some(db), .. }) => schema_line(rt, db),
         (
             Fault::PolicyFile,

@@ -6,6 +6,7 @@
 #![tactic(auto)]
 
 mod addresses;
+mod contents;
 mod control_sockets;
 mod databases;
 mod explanations;

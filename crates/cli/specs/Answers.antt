@@ -2,8 +2,9 @@
 use Rattle.std.specs.Prelude.{ℕ, ◌+◌, ◌-◌, ◌==◌, Bool, true, false, List, [], ◌∷◌, Option, Some, None, codes, decimal, ◌++◌, slice_get, if◌then◌else◌}
 use Rattle.model.specs.Policy.{Row, Decision, allowed, denied}
 use Rattle.policy.specs.Covering.{covers}
-use Rattle.tables.specs.declared.rows.Migrated.{Migrated}
 use Rattle.tables.specs.declared.rows.Migrated.TheVariants.{From1, Already}
+use Rattle.cli.specs.declared.opening.Found.{Found}
+use Rattle.cli.specs.declared.opening.Found.TheVariants.{Rows, Places}
 
 -- the question is allowed
 abbrev pub is_allowed : Decision → Bool
@@ -40,7 +41,8 @@ row_line row None = codes "row " ++ decimal row
 row_line row (Some earlier) =
     codes "row " ++ decimal row ++ codes ": never reached, row " ++ decimal earlier ++ codes " covers it"
 
--- the line of a database that was migrated, or had version 2 already
-abbrev pub migrated_line : Migrated → List ℕ
-migrated_line From1 = codes "migrated from version 1" ++ 10 ∷ []
-migrated_line Already = codes "already version 2" ++ 10 ∷ []
+-- the line of a database that was migrated, or had version 2 or 3 already
+abbrev pub migrated_line : Found → List ℕ
+migrated_line (Rows From1) = codes "migrated from version 1" ++ 10 ∷ []
+migrated_line (Rows Already) = codes "already version 2" ++ 10 ∷ []
+migrated_line Places = codes "already version 3" ++ 10 ∷ []

@@ -5,6 +5,7 @@
 #![tactic(auto)]
 
 mod address;
+mod beside;
 mod explaining;
 mod inputs;
 mod migrating;
@@ -20,6 +21,7 @@ mod quiet;
 mod reading;
 mod serve;
 mod session;
+mod starts;
 mod via;
 
 pub use address::{Outlet, ServerAddress, ServerConnection, ServerSocket, SocketOutlet};
@@ -29,4 +31,5 @@ pub use output::Flushed;
 pub use program::{Environment, refuse_args, run};
 pub use reading::size_text;
 pub use serve::{Listeners, serve_listeners};
+pub use starts::Starts;
 pub use via::{Question, ask_at, print_reply, request_of};

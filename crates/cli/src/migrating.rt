@@ -1,9 +1,9 @@
-//! The command `migrate`: gives a database of version 1 the tables of version 2.
+//! The command `migrate`: gives a database of version 1 the tables of version 2, and leaves one of a later version.
 
 ghost use Rattle.std.specs.Prelude.{◌≡◌, OnOk};
 ghost use Rattle.cli.specs.Answers.{migrated_line};
 
-use crate::opening::migrate_at;
+use crate::opening::{Found, migrate_at};
 use faults::Fault;
 use names::Sink;
 use operator::print;
@@ -23,13 +23,14 @@ fn show(terminal: Option<&Stderr>, text: &str) {
     }
 }
 
-/// The line of a database that has version 2 now.
-fn migrated_line(migrated: Migrated) -> &'static str
-    ensures { result.now ≡ migrated_line migrated }
+/// The line of a database that has version 2 or 3 now.
+fn migrated_line(found: Found) -> &'static str
+    ensures { result.now ≡ migrated_line found }
 {
-    match migrated {
-        Migrated::From1 => "migrated from version 1\n",
-        Migrated::Already => "already version 2\n",
+    match found {
+        Found::Rows(Migrated::From1) => "migrated from version 1\n",
+        Found::Rows(Migrated::Already) => "already version 2\n",
+        Found::Places => "already version 3\n",
     }
 }
 
@@ -39,7 +40,7 @@ fn migrated_line(migrated: Migrated) -> &'static str
 /// # Errors
 ///
 /// `UnknownSchema` if the database has other tables, which leaves it as it was; `Store` and `Memory`, after which it has
-/// version 1 or version 2; and `Output` if the line could not be written: it has version 2 all the same.
+/// version 1 or version 2, or is as it was; and `Output` if the line could not be written: it is migrated all the same.
 pub(crate) fn migrate<S: Start, K: Sink>(
     rt: &HostRuntime,
     db: &str,
@@ -51,8 +52,8 @@ pub(crate) fn migrate<S: Start, K: Sink>(
     let errors = rt.stderr();
     let terminal = errors.is_terminal().then_some(&errors);
     show(terminal, "migrating ...");
-    let migrated = migrate_at(rt, db, start);
+    let found = migrate_at(rt, db, start);
     show(terminal, CLEAR);
-    print(output, migrated_line(migrated?).as_bytes())?;
+    print(output, migrated_line(found?).as_bytes())?;
     Ok(())
 }

@@ -6,14 +6,18 @@ ghost use Rattle.model.specs.World.{World};
 ghost use Rattle.refinement.specs.Left.{From};
 ghost use Rattle.faults.specs.declared.faults.Fault.{Fault};
 
+use crate::beside::{make_contents, open_contents, place_fault};
+use crate::starts::Starts;
 use faults::Fault;
 use names::Sink;
-use refinement::open_from;
+use placed::Placed;
+use sqlite::{FileFrom, FileStore};
+use sqlite_disk::Disk;
 use std::fs::OpenOptions;
 use std::os::unix::fs::OpenOptionsExt;
 use std::rt::HostRuntime;
 use store::Store;
-use tables::{Migrated, Start};
+use tables::{Layout, Migrated, OpenFault, Start, Storage};
 
 /// The mode of a new database: only the user of the process may read it. Its log is made with the same mode.
 const MODE: u32 = 0o600;
@@ -22,6 +26,11 @@ const MODE: u32 = 0o600;
 pub(crate) trait Work: Drop {
     /// The work led a store that held this world to the other store, and ended so.
     ghost leads: { Self → {S : Type 0} → Ghosts S → (old new : S) → World → Result ⊤ Fault → Type 0 };
+
+    /// The layout of the database if it is new.
+    fn layout(&self) -> Layout {
+        Layout::Rows
+    }
 
     /// Whether the database is closed afterwards, so that its file holds it without the log.
     fn closes(&self) -> bool;
@@ -47,13 +56,56 @@ fn make_file(rt: &HostRuntime, db: &str) {
         .open(rt, db);
 }
 
-/// Opens the database, making it if it does not exist, and does the work with it. If the database could not be closed
-/// then, its file and its log hold it together.
+/// Gives a database that is new the tables of the layout, and accepts one that has those of either. Returns its layout.
+fn accept<S: Storage>(
+    rt: &HostRuntime,
+    db: &str,
+    store: &mut tables::Store<S>,
+    layout: Layout,
+) -> Result<Layout, Fault> {
+    let alloc = rt.alloc();
+    if store.is_new() && layout == Layout::Places {
+        make_contents(rt, db)?;
+        store.create_or_check(alloc, Layout::Places)?;
+        return Ok(Layout::Places);
+    }
+    match refinement::start(alloc, store) {
+        Ok(()) => Ok(Layout::Rows),
+        Err(OpenFault::UnknownSchema) => {
+            store.create_or_check(alloc, Layout::Places)?;
+            Ok(Layout::Places)
+        }
+        Err(fault) => Err(Fault::from(fault)),
+    }
+}
+
+/// Does the work with a database and its file of contents.
+fn work_beside<S: Start, D: Disk + Drop, J: Work, K: Sink>(
+    rt: &HostRuntime,
+    rows: tables::Store<FileStore<FileFrom<S>>>,
+    disk: D,
+    work: J,
+    output: &mut K,
+) -> Result<(), Fault>
+    ensures { OnOk result (K.failed output.new ≡ K.failed output.old) }
+{
+    let closes = work.closes();
+    let mut store = Placed::open(rt.alloc(), rows, disk).map_err(place_fault)?;
+    let done = work.run(&mut store, output);
+    if closes {
+        let (rows, _) = store.into_parts();
+        let _ = rows.close();
+    }
+    done
+}
+
+/// Opens the database, making it if it does not exist, and does the work with it. If the database could not
+/// be closed then, its file and its log hold it together.
 ///
 /// # Errors
 ///
-/// `Store` and `Memory` if it could not be opened; and those of the work.
-pub(crate) fn open_for<S: Start, J: Work, K: Sink>(
+/// `Store` and `Memory` if it could not be opened, `Contents` if its file of contents could not; and those of the work.
+pub(crate) fn open_for<S: Starts, J: Work, K: Sink>(
     rt: &HostRuntime,
     db: &str,
     start: S,
@@ -63,7 +115,11 @@ pub(crate) fn open_for<S: Start, J: Work, K: Sink>(
     ensures { OnOk result (K.failed output.new ≡ K.failed output.old) }
 {
     make_file(rt, db);
-    let mut store = open_from(rt, db, start)?;
+    let mut store = tables::Store::open_from(rt, db, start)?;
+    if accept(rt, db, &mut store, work.layout())? == Layout::Places {
+        let disk = open_contents(rt, db, S::contents())?;
+        return work_beside(rt, store, disk, work, output);
+    }
     let closes = work.closes();
     let done = work.run(&mut store, output);
     if closes {
@@ -72,19 +128,30 @@ pub(crate) fn open_for<S: Start, J: Work, K: Sink>(
     done
 }
 
+/// Which database `migrate` found.
+#[derive(Clone, Copy)]
+pub(crate) enum Found {
+    /// One whose contents are rows, or a new one.
+    Rows(Migrated),
+    /// One with a file of contents.
+    Places,
+}
+
 /// Opens the database, making it if it does not exist, and gives it the tables of version 2, if it has those of version 1
-/// or none.
+/// or none. One of version 3 is left as it is, and its file of contents is not looked at.
 ///
 /// # Errors
 ///
 /// `UnknownSchema` if it has other tables, `Store` and `Memory`.
-pub(crate) fn migrate_at<S: Start>(
-    rt: &HostRuntime,
-    db: &str,
-    start: S,
-) -> Result<Migrated, Fault> {
+pub(crate) fn migrate_at<S: Start>(rt: &HostRuntime, db: &str, start: S) -> Result<Found, Fault> {
     make_file(rt, db);
     let mut store = tables::Store::open_from(rt, db, start)?;
-    let migrated = refinement::migrate(rt.alloc(), &mut store)?;
-    Ok(migrated)
+    match refinement::migrate(rt.alloc(), &mut store) {
+        Ok(migrated) => Ok(Found::Rows(migrated)),
+        Err(OpenFault::UnknownSchema) => {
+            store.create_or_check(rt.alloc(), Layout::Places)?;
+            Ok(Found::Places)
+        }
+        Err(fault) => Err(Fault::from(fault)),
+    }
 }

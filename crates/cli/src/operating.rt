@@ -5,6 +5,7 @@ ghost use Rattle.server.specs.Commands.{RunsAs};
 
 use crate::inputs::read_input;
 use crate::opening::{Work, open_for};
+use crate::starts::Starts;
 use command_line::{Files, ForeseeArgs, OperatorCommand, PushArgs, TokenArgs};
 use faults::Fault;
 use machine::{moment, read_policy, read_random};
@@ -16,7 +17,6 @@ use std::alloc::Global;
 use std::io::IsTerminal;
 use std::rt::HostRuntime;
 use store::Store;
-use tables::Start;
 
 /// A task over the database.
 #[derive(Drop)]
@@ -40,7 +40,7 @@ impl Work for OperatorTask<'_> {
 }
 
 /// Opens the database, and runs the task over it.
-fn run_task<S: Start, K: Sink>(
+fn run_task<S: Starts, K: Sink>(
     rt: &HostRuntime,
     db: &str,
     task: &Task<'_>,
@@ -60,7 +60,7 @@ fn run_task<S: Start, K: Sink>(
 }
 
 /// Issues a token to the user, and prints the line that the client needs.
-fn authenticate<S: Start, K: Sink>(
+fn authenticate<S: Starts, K: Sink>(
     rt: &HostRuntime,
     files: &Files<'_>,
     asked: &TokenArgs<'_>,
@@ -80,7 +80,7 @@ fn authenticate<S: Start, K: Sink>(
 }
 
 /// Checks the paths of the input, and prints a verdict for each.
-fn push_check<S: Start, R: Source, K: Sink>(
+fn push_check<S: Starts, R: Source, K: Sink>(
     rt: &HostRuntime,
     files: &Files<'_>,
     asked: &PushArgs,
@@ -101,7 +101,7 @@ fn push_check<S: Start, R: Source, K: Sink>(
 }
 
 /// Prints the reply that the user would get to the message of the input.
-fn foresee<S: Start, R: Source, K: Sink>(
+fn foresee<S: Starts, R: Source, K: Sink>(
     rt: &HostRuntime,
     files: &Files<'_>,
     asked: &ForeseeArgs,
@@ -130,7 +130,7 @@ fn foresee<S: Start, R: Source, K: Sink>(
 /// be read, or a line not be written; and `Reported` if Git may not begin, a path may not be pushed, or an object is
 /// damaged. After any of them the world is as before, but for `Output` after tokens were pruned or an object was
 /// retired, and except perhaps if the database failed within the change.
-pub(crate) fn operate<S: Start, R: Source, K: Sink>(
+pub(crate) fn operate<S: Starts, R: Source, K: Sink>(
     rt: &HostRuntime,
     files: &Files<'_>,
     command: &OperatorCommand<'_>,

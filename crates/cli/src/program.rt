@@ -13,6 +13,7 @@ use crate::policy_command::policy_command;
 use crate::quiet::but_last_line;
 use crate::serve::serve;
 use crate::session::session;
+use crate::starts::Starts;
 use crate::via::ask_at;
 use causes::Named;
 use command_line::{Command, is_given, read_args, with_server};
@@ -23,7 +24,6 @@ use operator::{Destination, print};
 use std::alloc::{AllocError, Global};
 use std::io::{self, ErrorKind, Read, Write};
 use std::rt::HostRuntime;
-use tables::Start;
 
 /// Prints the help or the version.
 ///
@@ -61,7 +61,7 @@ struct Manner {
 }
 
 /// Runs the command that the arguments name.
-fn dispatch<S: Start, R: Read, K: Sink, E: Write>(
+fn dispatch<S: Starts, R: Read, K: Sink, E: Write>(
     rt: &HostRuntime,
     command: &Command<'_>,
     input: &mut R,
@@ -99,7 +99,7 @@ struct KeptOutput {
 }
 
 /// Runs the command, and keeps what it prints.
-fn dispatch_kept<S: Start, R: Read, E: Write>(
+fn dispatch_kept<S: Starts, R: Read, E: Write>(
     rt: &HostRuntime,
     command: &Command<'_>,
     input: &mut R,
@@ -136,7 +136,7 @@ impl KeptOutput {
 }
 
 /// Runs the command, and prints its fault, if there is one, and what may not have been meant.
-fn run_command<S: Start, R: Read, K: Sink, E: Write>(
+fn run_command<S: Starts, R: Read, K: Sink, E: Write>(
     explaining: Explaining<'_>,
     command: &Command<'_>,
     input: &mut R,
@@ -165,7 +165,7 @@ fn run_command<S: Start, R: Read, K: Sink, E: Write>(
 }
 
 /// Runs the command of these arguments, and prints its fault, if there is one.
-fn run_args<S: Start, R: Read, K: Sink, E: Write>(
+fn run_args<S: Starts, R: Read, K: Sink, E: Write>(
     rt: &HostRuntime,
     args: &[String],
     input: &mut R,
@@ -215,7 +215,7 @@ fn args_with_server(
 /// `start` represents the contents of the database and its log when they are opened, which no code can
 /// read: so the proofs about the commands hold for every file. A program passes
 /// [`Unknown`](tables::Unknown).
-pub fn run<S: Start, R: Read, K: Sink, E: Write>(
+pub fn run<S: Starts, R: Read, K: Sink, E: Write>(
     rt: &HostRuntime,
     args: &[String],
     input: &mut R,

@@ -6,6 +6,7 @@ ghost use Rattle.server.specs.Jobs.{ServesAll};
 
 use crate::opening::{Work, open_for};
 use crate::reading::show_start;
+use crate::starts::Starts;
 use causes::Refusals;
 use command_line::ServeArgs;
 use faults::{Fault, status_after};
@@ -24,7 +25,7 @@ use std::os::unix::net::UnixListener;
 use std::rt::HostRuntime;
 use std::time::{Clock, Duration};
 use store::Store;
-use tables::Start;
+use tables::Layout;
 
 /// The most connections of clients at a time. With those of operators and the files they fit the 1,024 files that a
 /// system usually allows a process.
@@ -169,6 +170,14 @@ struct Serving<'a, C, E> {
 impl<C: Clock, E: Write> Work for Serving<'_, C, E> {
     ghost leads = { λ work g old new world ended. ServesAll g work.policy old new world };
 
+    fn layout(&self) -> Layout {
+        if self.context.args.contents {
+            Layout::Places
+        } else {
+            Layout::Rows
+        }
+    }
+
     fn closes(&self) -> bool {
         true
     }
@@ -187,7 +196,7 @@ impl<C: Clock, E: Write> Work for Serving<'_, C, E> {
 }
 
 /// Serves those who connect at the listeners, as [`serve`] does after it has read the policy and bound the address.
-fn serve_bound<C: Clock, S: Start, K: Sink, E: Write>(
+fn serve_bound<C: Clock, S: Starts, K: Sink, E: Write>(
     rt: &HostRuntime,
     clock: &C,
     args: &ServeArgs<'_>,
@@ -231,7 +240,7 @@ fn serve_bound<C: Clock, S: Start, K: Sink, E: Write>(
 /// `PolicyFile` and `Policy`, `Network` if the address could not be bound, `Store` and `Memory`, `Control` if the control
 /// socket could not be made; then, after some connections, `Network` if no connection could be accepted, and `Clock`; and
 /// `Output` if a line could not be written. What was answered before remains valid.
-pub(crate) fn serve<S: Start, K: Sink, E: Write>(
+pub(crate) fn serve<S: Starts, K: Sink, E: Write>(
     rt: &HostRuntime,
     args: &ServeArgs<'_>,
     explains: bool,
@@ -261,7 +270,7 @@ pub(crate) fn serve<S: Start, K: Sink, E: Write>(
 /// `args.listen` is only printed, and `args.control` names a socket in place of that of the listeners.
 ///
 /// The lines are those of [`run`](crate::run).
-pub fn serve_listeners<C: Clock, S: Start, K: Sink, E: Write>(
+pub fn serve_listeners<C: Clock, S: Starts, K: Sink, E: Write>(
     rt: &HostRuntime,
     clock: &C,
     args: &ServeArgs<'_>,

@@ -5,6 +5,7 @@ ghost use Rattle.desk.specs.Asking.{setting_of};
 ghost use Rattle.cli.specs.Sessions.{IsSession, session_ended};
 
 use crate::opening::{Work, open_for};
+use crate::starts::Starts;
 use command_line::SessionArgs;
 use faults::{Fault, is_good};
 use machine::{moment, read_policy};
@@ -14,7 +15,6 @@ use service::{End, Routes, serve};
 use std::alloc::Global;
 use std::rt::HostRuntime;
 use store::Store;
-use tables::Start;
 
 /// What a session is served with.
 #[derive(Clone, Copy)]
@@ -70,7 +70,7 @@ impl<R: Source> Work for Connection<'_, R> {
 /// `Clock`, `PolicyFile` and `Policy`, which leave the database unopened; `Store` and `Memory` if it
 /// could not be opened; and `Session` if reading or writing failed, or the store within the content of an
 /// object: what was answered before remains valid.
-pub(crate) fn session<S: Start, R: Source, K: Sink>(
+pub(crate) fn session<S: Starts, R: Source, K: Sink>(
     rt: &HostRuntime,
     args: &SessionArgs<'_>,
     input: &mut R,

@@ -127,6 +127,8 @@ pub struct ServeArgs<'a> {
     pub idle: u64,
     /// The path of the control socket; `None` for a server without one.
     pub control: Option<&'a str>,
+    /// Whether a new database has contents in a file beside it.
+    pub contents: bool,
 }
 
 /// The arguments of `authenticate`.
@@ -299,6 +301,7 @@ fn serve_args<'a>(matches: &ArgMatches<'a>) -> Result<ServeArgs<'a>, ArgsFault>
         requests: count_of(matches, "requests", "--requests", MOST_REQUESTS)?,
         idle: count_of(matches, "idle", "--idle", LONGEST_IDLE)?.unwrap_or(IDLE),
         control: matches.get_str("control"),
+        contents: matches.get_flag("contents"),
     })
 }
 

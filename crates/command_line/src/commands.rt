@@ -43,6 +43,10 @@ clients can connect, and runs until it is ended, or until as many connections we
 A client may idle between two requests for --idle seconds. A connection that fails is reported on \
 the error stream, and the next message is served.
 
+With --contents, a database that does not exist yet is made with a file beside it, FILE-contents, for the contents \
+of objects. Such a database starts in the time that its rows take, however much is stored, and every command finds \
+the file by its name. A database that exists keeps its form.
+
 The status is 0 after the last connection, 1 if the policy, the address or the database was \
 refused, and 2 if the arguments are wrong.";
 
@@ -74,10 +78,10 @@ objects, and keeps each token, object and lock as it is. It is done at once: if 
 database has version 1 or version 2, and the command can be run again. Copy the database and its log first: \
 there is no way back.
 
-It prints \"migrated from version 1\", or \"already version 2\". If the error stream is a terminal, it shows that \
-the command works. No server may have the database open.
+It prints \"migrated from version 1\", \"already version 2\" or \"already version 3\". If the error stream is a \
+terminal, it shows that the command works. No server may have the database open.
 
-The status is 0 if the database then has version 2, 1 if something was refused, and 2 if the arguments are wrong.";
+The status is 0 if the database then has version 2 or 3, 1 if something was refused, and 2 if the arguments are wrong.";
 
 pub(crate) const DB_HELP: &str =
     "The database file; it is created if it does not exist, in a folder that exists";
@@ -136,6 +140,13 @@ const CONTROL: Parameter = Parameter {
     kind: Kind::Optional,
 };
 
+const CONTENTS: Parameter = Parameter {
+    name: "contents",
+    value_name: "",
+    help: "Makes a new database with a file beside it, FILE-contents, for the contents of objects",
+    kind: Kind::Switch,
+};
+
 const ASKER: Parameter = Parameter {
     name: "user",
     value_name: "U",
@@ -189,10 +200,10 @@ const SESSION: CommandText = CommandText {
 
 const SERVE: CommandText = CommandText {
     name: "serve",
-    usage: "custody serve --db FILE --policy FILE --listen ADDR [--requests N] [--idle SECONDS] [--control SOCKET] [--explain]",
+    usage: "custody serve --db FILE --policy FILE --listen ADDR [--requests N] [--idle SECONDS] [--control SOCKET] [--contents] [--explain]",
     about: SERVE_ABOUT,
     long_about: SERVE_LONG_ABOUT,
-    parameters: &[DB, POLICY, LISTEN, REQUESTS, IDLE, CONTROL],
+    parameters: &[DB, POLICY, LISTEN, REQUESTS, IDLE, CONTROL, CONTENTS],
     example: "Example:\n  custody serve --db film.db --policy policy.toml --listen 127.0.0.1:8080",
 };
 

@@ -21,7 +21,7 @@ use Rattle.control.specs.declared.request.RequestFault.TheVariants as request
 use Rattle.control.specs.declared.status.Status.{Status}
 use Rattle.control.specs.declared.status.Status.TheVariants.{Good, Refused, Invalid}
 use Rattle.faults.specs.declared.faults.Fault.{Fault}
-use Rattle.faults.specs.declared.faults.Fault.TheVariants.{Arguments, Value, BadPath, TooManyPaths, InputTooLong, NoMessage, NoCaller, NoObject, Clock, PolicyFile, Policy, PolicyDescribed, Repository, Random, Network, UnknownSchema, Store, Token, Memory, Output, Session, Control, Operator, Version, HoldOver, Busy, Request, Reported, ReportedInvalid}
+use Rattle.faults.specs.declared.faults.Fault.TheVariants.{Arguments, Value, BadPath, TooManyPaths, InputTooLong, NoMessage, NoCaller, NoObject, Clock, PolicyFile, Policy, PolicyDescribed, Repository, Random, Network, UnknownSchema, Store, Contents, Token, Memory, Output, Session, Control, Operator, Version, HoldOver, Busy, Request, Reported, ReportedInvalid}
 
 -- invalid for a fault of the arguments, of the paths, of a request or of its size, the status that was reported, else refused
 abbrev pub status_of : Fault → Status
@@ -43,6 +43,7 @@ status_of Random = Refused
 status_of Network = Refused
 status_of UnknownSchema = Refused
 status_of (Store _) = Refused
+status_of (Contents _) = Refused
 status_of (Token _) = Refused
 status_of Memory = Refused
 status_of Output = Refused

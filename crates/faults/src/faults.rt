@@ -3,6 +3,7 @@
 ghost use Rattle.std.specs.Prelude.{◌≡◌};
 ghost use Rattle.faults.specs.Statuses.{status_of};
 
+use crate::contents::ContentsCause;
 use command_line::ArgsFault;
 use control::{RequestFault, Status};
 use operator::{PathsFault, TaskFault};
@@ -69,6 +70,9 @@ pub enum Fault {
     /// The database refused.
     #[error("custody: {0}")]
     Store(StoreFault),
+    /// The file of contents is not the one that the database needs.
+    #[error("custody: store G2")]
+    Contents(ContentsCause),
     /// No token was issued.
     #[error("custody: {0}")]
     Token(TokenFault),
@@ -127,6 +131,7 @@ impl Fault {
             Fault::UnknownSchema => Status::Refused,
             Fault::Store(_) => Status::Refused,
             Fault::Token(_) => Status::Refused,
+            Fault::Contents(_) => Status::Refused,
             Fault::Memory => Status::Refused,
             Fault::Output => Status::Refused,
             Fault::Session(_) => Status::Refused,

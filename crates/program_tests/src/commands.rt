@@ -342,7 +342,7 @@ const HELPS: &[(&str, &[&str])] = &[
     (
         "serve --help",
         &[
-            "Usage: custody serve --db FILE --policy FILE --listen ADDR [--requests N] [--idle SECONDS] [--control SOCKET] [--explain]",
+            "Usage: custody serve --db FILE --policy FILE --listen ADDR [--requests N] [--idle SECONDS] [--control SOCKET] [--contents] [--explain]",
             "The status is 0 after the last connection",
         ],
     ),

@@ -156,6 +156,7 @@ pub(crate) fn serve_args<'a>(
         requests: Some(requests),
         idle,
         control: None,
+        contents: false,
     }
 }
 

@@ -1,0 +1,275 @@
+"""Tries `custody serve --contents`: contents of objects in a file beside the database.
+
+Each check starts a server on a new database and a free port of this machine, and reads the database with the command
+sqlite3 from a copy, while the server is killed. What an object has to be is what the check has made it of.
+"""
+import os
+import random
+import signal
+import sqlite3
+import subprocess
+import sys
+import time
+from pathlib import Path
+
+from tests.studio.checks import TOP, arguments, judge_on_server, require, within
+from tests.studio.policy import FILM, open_policy
+from tests.studio.program import CHUNK, Server, content, free_port, message, name_of, put
+from tests.studio.tables import read_copy
+
+# The number of a row that says where a content is.
+PLACE = 4_294_967_295
+SIZES = [0, 1, CHUNK - 1, CHUNK, CHUNK + 1, 3 * CHUNK, 10 << 20]
+
+
+class BesideServer(Server):
+    """A server whose database was made with a file of contents."""
+
+    def contents(self):
+        """The file of contents."""
+        return Path(f"{self.database}-contents")
+
+    def issue(self, letter, *more, **named):
+        """Stores a token. The first command over these files makes them."""
+        if not Path(self.database).exists():
+            words = [self.program, "serve", *self.files(), "--listen", f"127.0.0.1:{free_port()}", "--contents"]
+            with subprocess.Popen(words, stdout=subprocess.PIPE) as child:
+                child.stdout.readline()
+                child.kill()
+        super().issue(letter, *more, **named)
+
+    def get(self, oid):
+        """The reply to a download."""
+        return self.ask(message("GET", content(oid)), 600)
+
+    def put(self, data):
+        """The status of an upload."""
+        return self.ask(put(data), 600)[0]
+
+    def has(self, data):
+        """Whether the object of these bytes is served whole."""
+        return self.get(name_of(data)) == (200, data)
+
+    def fails(self, *name):
+        """The lines of a command over the files that fails."""
+        status, output, errors = self.over_files(*name, "--explain")
+        require((status, output) == (1, ""), f"{name} ended with {status} and printed {output!r}")
+        return errors
+
+
+def made(seed, size):
+    """Bytes of an object."""
+    return random.Random(seed).randbytes(size)
+
+
+def check_sizes(server, _):
+    """Objects beside the border between rows and the file, before and after a kill."""
+    objects = [made(size, size) for size in SIZES]
+    for data in objects:
+        require(server.get(name_of(data))[0] == 404, f"an object of {len(data)} bytes exists before its upload")
+        require(server.put(data) == 200, f"an upload of {len(data)} bytes was refused")
+        require(server.has(data), f"an object of {len(data)} bytes differs")
+    server.end(signal.SIGKILL)
+    rows = read_copy(server.database, "PRAGMA integrity_check; SELECT version FROM meta; "
+                                      "SELECT n, length(bytes) FROM chunks ORDER BY upload;").split()
+    places = [f"{PLACE}|16"] * len([size for size in SIZES if size >= CHUNK])
+    require(rows == ["ok", "3", "0|1", f"0|{CHUNK - 1}", *places], f"the rows are {rows}")
+    large = sum(size for size in SIZES if size >= CHUNK)
+    require(server.contents().stat().st_size == large, f"the file has {server.contents().stat().st_size} bytes")
+    modes = {path.stat().st_mode & 0o777 for path in (server.contents(), Path(server.database))}
+    require(modes == {0o600}, f"the modes are {modes}")
+    server.start()
+    for data in objects:
+        require(server.has(data), f"an object of {len(data)} bytes differs after a restart")
+    return f"{len(SIZES)} objects of up to {SIZES[-1]} bytes, before and after a kill"
+
+
+def killed_in_upload(server, data, chance):
+    """Kills the server within an upload, at a moment after it was sent whole, or after its reply. Returns whether the
+    reply came."""
+    text = put(data)
+    with server.client() as client:
+        match chance.randrange(3):
+            case 0:
+                client.send(text[:chance.randrange(len(text))])
+            case 1:
+                client.send(text)
+                time.sleep(chance.random() / 30)
+            case _:
+                client.send(text)
+                require(client.reply()[0] == 200, "an upload was refused")
+                return True
+    return False
+
+
+def check_killed(server, options):
+    """Servers that are killed within uploads lose no object that they reported, and serve none in part."""
+    kept, whole, lost = [], 0, 0
+    chance = random.Random(1)
+    for number in range(options.rounds):
+        data = made(number, 300_000)
+        replied = killed_in_upload(server, data, chance)
+        server.end(signal.SIGKILL)
+        server.start()
+        if replied or server.has(data):
+            kept.append(data)
+            whole += not replied
+        else:
+            require(server.get(name_of(data))[0] == 404, "an object is served in part")
+            lost += 1
+    for data in kept:
+        require(server.has(data), "an object that was reported is lost")
+    return (f"{options.rounds} servers were killed: {len(kept) - whole} objects that were reported are whole, "
+            f"{whole} others too, and {lost} are not there")
+
+
+def check_room(server, _):
+    """The region of an object that is removed is used again, and a free end is cut off."""
+    first, second, third = (made(number, 1 << 20) for number in range(3))
+    for data in (first, second):
+        require(server.put(data) == 200, "an upload was refused")
+    server.end(signal.SIGTERM)
+    size = server.contents().stat().st_size
+    require(server.over_files("retire", "--repo", FILM, name_of(first))[0] == 0, "retire failed")
+    server.start()
+    require(server.put(third) == 200, "an upload was refused")
+    require(server.contents().stat().st_size == size, "a region that is free was not used again")
+    require(server.has(second) and server.has(third), "an object differs")
+    server.end(signal.SIGTERM)
+    for data in (second, third):
+        require(server.over_files("retire", "--repo", FILM, name_of(data))[0] == 0, "retire failed")
+    require(server.contents().stat().st_size == 0, "the free end of the file was not cut off")
+    server.start()
+    return f"{size} bytes served three objects of 1 MiB, and then none"
+
+
+def check_missing(server, _):
+    """A file of contents that is missing, or shorter than the database says, is reported and never made anew."""
+    data = made(1, 200_000)
+    require(server.put(data) == 200, "an upload was refused")
+    server.end(signal.SIGTERM)
+    path, away = server.contents(), Path(f"{server.room}/away")
+    path.rename(away)
+    errors = server.fails("check")
+    require(errors.startswith("custody: store G2\n") and "does not exist" in errors, f"it printed {errors!r}")
+    require(not path.exists(), "the file was made anew")
+    path.write_bytes(away.read_bytes()[:-1])
+    errors = server.fails("check")
+    require(errors.startswith("custody: store G2\n") and "shorter" in errors, f"it printed {errors!r}")
+    require(path.read_bytes() == away.read_bytes()[:-1], "the file was changed")
+    away.rename(path)
+    server.start()
+    require(server.has(data), "the object differs")
+    return "a missing file and a short one are store G2, each with its sentence"
+
+
+def check_not_empty(server, _):
+    """A file of contents that has bytes is not taken for that of a new database."""
+    other = Path(f"{server.room}/other.db")
+    contents = Path(f"{other}-contents")
+    contents.write_bytes(b"the contents of another database")
+    words = [server.program, "serve", "--db", str(other), *server.files()[2:], "--listen",
+             f"127.0.0.1:{free_port()}", "--contents", "--explain"]
+    ran = subprocess.run(words, capture_output=True, text=True, check=False, timeout=30)
+    require(ran.returncode == 1 and "custody: store G2\n" in ran.stderr and "is new" in ran.stderr,
+            f"it ended with {ran.returncode}, {ran.stderr!r}")
+    require(contents.read_bytes() == b"the contents of another database", "the file was changed")
+    return "a file that has bytes beside a new database is refused, and kept"
+
+
+def check_spoiled(server, _):
+    """A byte that is spoiled costs one object, which check names and repair removes."""
+    objects = [made(number, 150_000) for number in range(5)]
+    for data in objects:
+        require(server.put(data) == 200, "an upload was refused")
+    server.end(signal.SIGTERM)
+    bytes_now = bytearray(server.contents().read_bytes())
+    bytes_now[2 * 150_000 + 70_000] ^= 1
+    server.contents().write_bytes(bytes_now)
+    name = name_of(objects[2])
+    status, output, _ = server.over_files("check")
+    require(status == 1 and name in output and output.count("\n") == 2, f"check ended with {status}, {output!r}")
+    status, output, _ = server.over_files("repair")
+    require(status == 0 and name in output, f"repair ended with {status}, {output!r}")
+    server.start()
+    require(server.get(name)[0] == 404, "the damaged object is served")
+    require(all(server.has(data) for data in objects if name_of(data) != name), "another object was lost")
+    require(server.put(objects[2]) == 200 and server.has(objects[2]), "the object was not stored again")
+    return "one byte of five objects was changed: check named one, and it was pushed again"
+
+
+def check_backup(server, options):
+    """A copy that deploy/programs/backup makes of a running server has the contents."""
+    objects = [made(number, 1 << 20) for number in range(3)]
+    for data in objects:
+        require(server.put(data) == 200, "an upload was refused")
+    copies = Path(f"{server.room}/copies")
+    copies.mkdir()
+    words = [TOP / "deploy/programs/backup", server.control(), server.database, copies]
+    ran = subprocess.run(words, env={**os.environ, "CUSTODY": options.program}, capture_output=True, text=True,
+                         check=False, timeout=60)
+    require(ran.returncode == 0 and "checked 3 objects" in ran.stdout, f"it ended with {ran.returncode}, {ran.stderr}")
+    copied = {path.name for path in next(copies.iterdir()).iterdir()}
+    name = Path(server.database).name
+    require(copied == {name, f"{name}-wal", f"{name}-contents"}, f"the copy has {copied}")
+    require(all(server.has(data) for data in objects), "an object differs")
+    return "a copy of three objects of 1 MiB is whole"
+
+
+def fill(path, count, size):
+    """Adds objects to a database of version 3, whose contents are holes in the file."""
+    with sqlite3.connect(path) as rows:
+        rows.execute("PRAGMA journal_mode = WAL")
+        begun = rows.execute("SELECT coalesce(max(id), 0) FROM uploads").fetchone()[0]
+        for number in range(count):
+            at = begun + number + 1
+            rows.execute("INSERT INTO uploads (id, repo, oid, size, done) VALUES (?, ?, ?, ?, 1)",
+                         (at, FILM, f"{number:064x}", size))
+            place = (number * size).to_bytes(8, "big") + size.to_bytes(8, "big")
+            rows.execute("INSERT INTO chunks (upload, n, bytes) VALUES (?, ?, ?)", (at, PLACE, place))
+        rows.execute("INSERT INTO repos (name, made, used) VALUES (?, 0, ?)", (FILM, count * size))
+    rows.close()
+    with open(f"{path}-contents", "r+b") as contents:
+        contents.truncate(count * size)
+
+
+def check_start(server, options):
+    """A start takes the time of the rows, however much is stored."""
+    server.end(signal.SIGTERM)
+    fill(server.database, options.objects, 1 << 20)
+    begun = time.monotonic()
+    server.start()
+    text = within(time.monotonic() - begun, options.seconds, f"a start with {options.objects} objects of 1 MiB")
+    peak = next(int(line.split()[1]) for line in Path(f"/proc/{server.child.pid}/status").read_text().splitlines()
+                if line.startswith("VmHWM:"))
+    status, _ = server.get(f"{options.objects - 1:064x}")
+    require(status == 200, f"an object got {status}")
+    return f"{text}, and at most {peak // 1024} MB"
+
+
+CHECKS = {
+    "sizes": check_sizes,
+    "killed": check_killed,
+    "room": check_room,
+    "missing": check_missing,
+    "not-empty": check_not_empty,
+    "spoiled": check_spoiled,
+    "backup": check_backup,
+    "start": check_start,
+}
+
+
+def main():
+    """Runs the checks."""
+    parser = arguments(__doc__, CHECKS)
+    parser.add_argument("--rounds", type=int, default=200, help="servers that are killed [default: %(default)s]")
+    parser.add_argument("--objects", type=int, default=100_000, help="objects at a start [default: %(default)s]")
+    parser.add_argument("--seconds", type=float, default=5, help="the bound of a start [default: %(default)s]")
+    options = parser.parse_args()
+    policy = open_policy(["ann"], (FILM,))
+    return judge_on_server(CHECKS, options, lambda program, room: BesideServer(
+        program, room, policy, more=("--control", f"{room}/control")))
+
+
+if __name__ == "__main__":
+    sys.exit(main())
