@@ -38,6 +38,13 @@ pub struct NewUpload<'a> {
     pub size: Size,
 }
 
+/// A chunk of an object that is added as it is.
+#[derive(Clone, Copy, Debug)]
+pub struct NewChunk<'a> {
+    pub n: u32,
+    pub bytes: &'a [u8],
+}
+
 /// The last chunk of an upload, which is added when the upload is completed.
 #[derive(Debug, Drop)]
 pub struct LastChunk {
