@@ -1,5 +1,5 @@
 -- The effect of the statement that adds an object under a given id.
-use Rattle.tables.proofs.Prelude.{◌≡◌, ℕ, ℤ, pos, Bool, true, false, cond, not, ◌&&◌, ◌||◌, int_eq, int_cmp, is_eq, is_some, find, List, [], ◌∷◌, map, Some, Ok, Err, Result, IfOk, IsTrue, refl, sym, ap, subst, ◌∙◌, list_any, Null, Int, Text, repo_text, cast_row, with_rowid, value_cmp, value_cmp-Int, Term, lit, col, Insert, Values, State, Executes, ExecutesInside, Error, put_row, rowid, IsTable, NewUpload, Schema, HasWhole, uploads_at, Upload, uploads, is_upload, place_of, tree_of, upload_row, upload_in, IsKept, tables_in, IsTypedBy, retyped, cast_null, cast_int}
+use Rattle.tables.proofs.Prelude.{◌≡◌, ℕ, ℤ, pos, Bool, true, false, cond, not, ◌&&◌, ◌||◌, int_eq, is_eq, is_some, find, List, [], ◌∷◌, map, Some, Ok, Err, Result, IfOk, IsTrue, refl, sym, ap, subst, ◌∙◌, list_any, Null, Int, Text, repo_text, cast_row, with_rowid, value_cmp, value_cmp-Int, Term, lit, col, Insert, Values, State, Executes, ExecutesInside, Error, put_row, rowid, IsTable, NewUpload, Schema, HasWhole, uploads_at, Upload, uploads, is_upload, place_of, tree_of, upload_row, upload_in, IsKept, tables_in, IsTypedBy, retyped, cast_null, cast_int}
 use Rattle.sqlite.specs.Order.{Row}
 use Rattle.sqlite_tied.specs.Compute.{everything}
 use Rattle.sqlite_rules.specs.Edit.{is_taken}

@@ -1,4 +1,4 @@
-use Rattle.tables.proofs.Prelude.{arith, w64, IfOk-weaker, to_z-of_z, rules, bound, state, executed, upload_number}
+use Rattle.tables.proofs.Prelude.{arith, w64, IfOk-weaker, to_z-of_z, rules, state, executed, upload_number}
 use Rattle.tables.proofs.Restored.{restored_inside}
 use Rattle.tables.proofs.restoring.object_row_into.Goals as goal
 
