@@ -144,8 +144,7 @@ fn expect_copied(rt: &impl Tester, store: &mut impl Listed, id: UploadId) {
     );
     let token = unwrap(rt, store.token(&[7; 32]));
     assert!(rt;
-        token.is_some_and(|row| row.operation == Operation::Download
-            && row.expires.get() == 9)
+        token.is_some_and(|row| row.operation == Operation::Download && row.expires.get() == 9)
     );
     assert!(rt; unwrap(rt, store.is_retired(&film, &oid(rt, HERO))));
     let object = unwrap(rt, store.object(&game, &oid(rt, HERO)));
@@ -164,7 +163,16 @@ fn a_copy_has_all_but_what_is_staged(rt: HostRuntime) {
     copy_small(&rt, &mut from, &mut to);
     copy_objects(&rt, &mut from, &mut to);
     expect_copied(&rt, &mut to, id);
-    assert_eq!(rt; unwrap(&rt, Listed::all_uploads(&mut from, rt.alloc())).len(), 2);
-    assert_eq!(rt; unwrap(&rt, Listed::all_uploads(&mut to, rt.alloc())).len(), 1);
-    assert_eq!(rt; unwrap(&rt, Listed::chunk_keys(&mut to, rt.alloc())).len(), 3);
+    assert_eq!(rt;
+        unwrap(&rt, Listed::all_uploads(&mut from, rt.alloc())).len(),
+        2
+    );
+    assert_eq!(rt;
+        unwrap(&rt, Listed::all_uploads(&mut to, rt.alloc())).len(),
+        1
+    );
+    assert_eq!(rt;
+        unwrap(&rt, Listed::chunk_keys(&mut to, rt.alloc())).len(),
+        3
+    );
 }
