@@ -28,7 +28,7 @@ pub struct NewToken<'a> {
     pub expires: Moment,
 }
 
-/// An upload to be begun.
+/// An upload to be begun, or an object to be added as it is.
 #[derive(Clone, Copy, Debug)]
 pub struct NewUpload<'a> {
     pub repo: &'a RepoName,

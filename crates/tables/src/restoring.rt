@@ -172,8 +172,8 @@ impl<S: Alter> Store<S> {
     ///
     /// # Errors
     ///
-    /// `Refused`, also if the repository has a row, or `Memory`. The tables are unchanged, but a stop may still leave
-    /// the change.
+    /// `Refused`, also if the repository has a row, or the number of bytes is 2^63 or more, or `Memory`. The tables are
+    /// unchanged, but a stop may still leave the change.
     pub fn restore_repo(&mut self, repo: &RepoName, made: u32, used: u64) -> Result<(), StoreFault>
         ensures { Changes S.Store self.old self.new result
             (with_counts (repo_text repo.now) (pos made) (pos used)) (λ _ _. ⊤) }

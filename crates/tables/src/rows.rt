@@ -79,7 +79,7 @@ pub struct NumberedChunk {
     pub bytes: Vec<u8>,
 }
 
-/// A repository's counts.
+/// A repository with its counts.
 #[derive(Debug, Drop)]
 pub struct RepoRow {
     pub name: RepoName,
