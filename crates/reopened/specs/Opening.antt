@@ -52,7 +52,7 @@ module _ {S : Type 0} (g : trees.Ghosts S) where
         → (HasNoTable g old × (t ≡ fresh_on g version_three old)) ⊎ (HasOurs g version_three old × (t ≡ shown g old))
 
   -- the database was refused and is unchanged; if it had none of our tables, a stop may still leave those of a new server
-  pub record IsRefused (rows : tables.Store S) (fault : OpenFault) : Type 0 where
+  pub record IsNotAccepted (rows : tables.Store S) (fault : OpenFault) : Type 0 where
     pub ended : tables.Store S
     pub rests : IsHonest g ended → Rests g rows ended
     pub adds : AddsFresh g version_three rows ended
@@ -69,5 +69,5 @@ module _ {S D : Type 0} (g : trees.Ghosts S) (d : disk.Ghosts D) where
 
   -- why the database and the file were not opened, and what is left of them
   abbrev pub Fails : tables.Store S → D → BesideFault → Type 0
-  Fails rows file (Database fault) = IsRefused g rows fault
+  Fails rows file (Database fault) = IsNotAccepted g rows fault
   Fails rows file (Contents fault) = IsNotServed rows file fault
