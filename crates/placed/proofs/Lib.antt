@@ -31,6 +31,7 @@ pub mod Shortened
 pub mod ShortenCalls
 pub mod Fresh
 pub mod Pairs
+pub mod Unstaged
 pub mod Cleared
 pub mod Named
 pub mod Sorting

@@ -1,15 +1,17 @@
 -- A store over a database that names places in its file is opened.
-use Rattle.std.specs.Prelude.{◌≡◌, ◌≢◌, ◌≤◌, ⊤, ℕ, pos, false, true, ◌&&◌, int_le, not, List, map, filter, length, Bool, Some, All, Contains, IsTrue}
+use Rattle.std.specs.Prelude.{◌≡◌, ◌≢◌, ◌≤◌, ⊤, ℕ, ℤ, List, [], ◌∷◌, map, filter, length, Some, All, Contains, IsTrue}
 use Rattle.std.specs.List.{AllByRecursion}
 use Rattle.sqlite_trees.specs.Tree.{IsAscending}
 use Rattle.sqlite_disk.specs.declared.Disk as disk
 use Rattle.contents.specs.declared.region.Region.{Region}
 use Rattle.contents.specs.Regions.{end_of, largest_end}
 use Rattle.contents.specs.Files.{IsSameFile}
-use Rattle.tables.specs.Rows.{Chunk, Tables}
+use Rattle.tables.specs.Rows.{Chunk, Upload, Tables}
+use Rattle.tables.specs.Staging.{without_staged}
+use Rattle.tables.specs.Statements.{is_staged}
 use Rattle.store.specs.declared.state.State.{Ghosts}
-use Rattle.store.specs.Normal.{is_of_staged}
-use Rattle.store.specs.Shown.{IsHonest, IsOpen, HasTables, Moves, AddsAny, AddsNothing, shown}
+use Rattle.store.specs.Normal.{Remains}
+use Rattle.store.specs.Shown.{IsDurable, IsHonest, IsOpen, HasTables, Leaves, Moves, AddsAny, AddsNothing, shown}
 use Rattle.placed.specs.declared.fault.PlaceFault.{PlaceFault}
 use Rattle.placed.specs.declared.fault.PlaceFault.TheVariants.{Unreadable, Overlapping, Short, Store, Contents}
 use Rattle.tables.specs.declared.rows.NumberedChunk.{NumberedChunk}
@@ -83,22 +85,29 @@ pub record RefusesPlaces {T D : Type 0} (g : Ghosts T) (d : disk.Ghosts D) (rows
 
 -- ---- staged uploads
 
--- the tables without the chunks of staged uploads that have a number of 0 or more, as all have that a store adds
+-- the ids of the staged ones among these uploads
+abbrev pub staged_ids : List Upload → List ℤ
+staged_ids uploads = map (λ (u : Upload). u.id) (filter is_staged uploads)
+
+-- the tables without the staged uploads that have these ids, and without their chunks
+abbrev pub without_all : List ℤ → Tables → Tables
+without_all [] t = t
+without_all (id ∷ ids) t = without_all ids (without_staged id t)
+
+-- the tables without the staged uploads and their chunks
 abbrev pub cleared : Tables → Tables
-cleared t = record t { chunks = filter (λ c. not (is_of_staged t.uploads c && int_le (pos 0) c.n)) t.chunks }
+cleared t = without_all (staged_ids t.uploads) t
 
--- each chunk has a number of 0 or more
-abbrev pub HaveNumbers : Tables → Type 0
-HaveNumbers t = AllByRecursion (λ (c : Chunk). int_le (pos 0) c.n ≡ true) t.chunks
-
--- the second tables are the first without some of the chunks of staged uploads
-pub record LacksStaged (t left : Tables) : Type 0 where
-  pub kept : Chunk → Bool
-  pub others : (c : Chunk) → is_of_staged t.uploads c ≡ false → kept c ≡ true
-  pub is : left ≡ record t { chunks = filter kept t.chunks }
+-- the second tables are the first without some of the staged uploads
+abbrev pub LacksStaged : Tables → Tables → Type 0
+LacksStaged t left = (ids : List ℤ) × (left ≡ without_all ids t)
 
 module _ {S : Type 0} (g : Ghosts S) where
-  -- the store shows and a stop leaves what was before, but for some chunks of staged uploads
+  -- while the store is honest and open, a stop leaves what it shows
+  abbrev pub IsDurableIfOpen : S → Type 0
+  IsDurableIfOpen s = IsHonest g s → IsOpen g s → IsDurable g s
+
+  -- the store shows and a stop leaves what was before, but for some staged uploads
   pub record ClearsSome (old new : S) : Type 0 where
     pub was_honest : IsHonest g new → IsHonest g old
     pub was_open : IsHonest g new → IsOpen g new → IsOpen g old
@@ -110,7 +119,12 @@ module _ {S : Type 0} (g : Ghosts S) where
   abbrev pub ShowsCleared : S → S → Type 0
   ShowsCleared old new = IsHonest g new → HasTables g old → IsOpen g new → shown g new ≡ cleared (shown g old)
 
--- the call ended with a database that is as it was, but for some chunks of staged uploads, and with the same file
+  -- the store was open, and a stop leaves that, if before it left what was shown
+  abbrev pub LeavesCleared : S → S → Type 0
+  LeavesCleared old new = HasTables g old → IsHonest g new
+      → IsOpen g old × (IsDurable g old → (t : Tables) → Leaves g new t → Remains (cleared (shown g old)) t)
+
+-- the call ended with a database that is as it was, but for some staged uploads, and with the same file
 pub record HasClosed {T D : Type 0} (g : Ghosts T) (d : disk.Ghosts D) (rows : T) (file : D) : Type 0 where
   pub ended_rows : T
   pub ended_file : D

@@ -1,9 +1,10 @@
 -- The tables that a database shows together with a file of contents.
-use Rattle.std.specs.Prelude.{ℕ, ℤ, pos, not, ◌++◌, List, [], map, filter, take, drop, Option, Some, None}
+use Rattle.std.specs.Prelude.{ℕ, ℤ, pos, cond, not, ◌++◌, List, [], map, filter, take, drop, Option, Some, None}
 use Rattle.std.specs.List.{flat_map}
 use Rattle.std.specs.Ordering.{int_eq}
 use Rattle.contents.specs.declared.region.Region.{Region}
 use Rattle.contents.specs.declared.draft.Draft.{Draft}
+use Rattle.tables.specs.Layout.{current, number_of, version_three}
 use Rattle.tables.specs.Rows.{Chunk, Meta, Tables}
 use Rattle.tables.specs.Staging.{upload_number}
 use Rattle.store.specs.Normal.{arranged}
@@ -46,9 +47,18 @@ abbrev pub others_of_found : Option ℤ → List Staged → List Staged
 others_of_found None staged = staged
 others_of_found (Some id) staged = others_of id staged
 
--- the row of `meta` with the number of version 2: a database that names places in a file has another one
+-- the number that a store shows: that of a database whose contents are rows, if its own is that of a database that may name
+-- places in a file; else 0, which no database has
+abbrev pub shown_number : ℤ → ℤ
+shown_number n = cond (int_eq n (pos (number_of version_three))) (pos (number_of current)) (pos 0)
+
+-- the row of `meta` with the number that is shown
 abbrev pub shown_meta : List Meta → List Meta
-shown_meta = map (λ (m : Meta). record m { version = pos 2 })
+shown_meta = map (λ (m : Meta). record m { version = shown_number m.version })
+
+-- the tables with that row
+abbrev pub renumbered : Tables → Tables
+renumbered t = record t { meta = shown_meta t.meta }
 
 -- what the tables of a database mean beside this file and these contents that are being received
 unfoldable pub view : List ℕ → List Staged → Tables → Tables

@@ -9,10 +9,9 @@ ghost use Rattle.contents.specs.Files.{IsSameFile};
 ghost use Rattle.contents.specs.declared.region.Region.{Region};
 ghost use Rattle.tables.specs.Rows.{Tables};
 ghost use Rattle.tables.specs.Staging.{upload_number};
-ghost use Rattle.store.specs.Normal.{settled};
 ghost use Rattle.store.specs.Shown.{IsHonest, IsOpen, IsSafe, IsDurable, HasTables, Leaves, Moves, AddsNothing, shown};
 ghost use Rattle.placed.specs.Kept.{AreSeparate, places_in};
-ghost use Rattle.placed.specs.Opening.{AreGood, AreNamed, HaveNumbers, AreTaken, ClearsSome, HasClosed, IsNamed, IsOfPlaces, IsRegion, RefusesPlaces, ShowsCleared, cleared};
+ghost use Rattle.placed.specs.Opening.{AreGood, AreNamed, AreTaken, ClearsSome, HasClosed, IsDurableIfOpen, IsNamed, IsOfPlaces, IsRegion, LeavesCleared, RefusesPlaces, ShowsCleared, cleared};
 ghost use Rattle.placed.specs.Placed.{beside};
 ghost use Rattle.placed.specs.View.{view};
 
@@ -26,32 +25,30 @@ use store::{Numbered, Store};
 use tables::{NumberedChunk, StoreFault};
 
 impl<T: Numbered + Drop, D: Disk + Drop> Placed<T, D> {
-    /// Opens a store over a database that may name places in the file, and removes the chunks that its staged uploads
-    /// have. A database without any is not written.
+    /// Opens a store over a database that may name places in the file, and removes its staged uploads. A database
+    /// without any is not written.
     ///
     /// # Errors
     ///
     /// `Unreadable`, `Overlapping` or `Short` if the places of the database are not those of contents in this file: the
-    /// database was not written then. `Store` or `Contents` if a call failed: chunks of staged uploads may be removed.
+    /// database was not written then. `Store` or `Contents` if a call failed: staged uploads may be removed.
     /// The database and the file are closed.
     pub fn open(alloc: Global, mut rows: T, mut disk: D) -> Result<Placed<T, D>, PlaceFault>
         ensures honest { IfOk result (λ s. IsHonest (beside T.State D.Disk) s
             → IsHonest T.State rows × IsTrue (D.Disk.is_clean disk)) }
-        ensures tables { IfOk result (λ s. HasTables T.State rows → IsDurable T.State rows
+        ensures was_open { IfOk result (λ s. HasTables T.State rows
+            → IsHonest (beside T.State D.Disk) s → IsOpen T.State rows) }
+        ensures tables { IfOk result (λ s. HasTables T.State rows → IsDurableIfOpen T.State rows
             → HasTables (beside T.State D.Disk) s) }
         ensures shown { IfOk result (λ s. HasTables T.State rows → IsHonest (beside T.State D.Disk) s
             → IsOpen (beside T.State D.Disk) s → shown (beside T.State D.Disk) s
-            ≡ view (D.Disk.seen disk) [] (cleared (shown T.State rows))) }
-        ensures settled { IfOk result (λ s. HasTables T.State rows
-            → IsHonest (beside T.State D.Disk) s → IsOpen (beside T.State D.Disk) s
-            → HaveNumbers (shown T.State rows) → shown (beside T.State D.Disk) s
-            ≡ settled (view (D.Disk.seen disk) [] (shown T.State rows))) }
-        ensures left { IfOk result (λ s. HasTables T.State rows → IsDurable T.State rows
+            ≡ cleared (view (D.Disk.seen disk) [] (shown T.State rows))) }
+        ensures left { IfOk result (λ s. HasTables T.State rows → IsDurableIfOpen T.State rows
             → IsHonest (beside T.State D.Disk) s → (t : Tables) → Leaves (beside T.State D.Disk) s t
-            → t ≡ settled (view (D.Disk.seen disk) [] (shown T.State rows))) }
-        ensures durable { IfOk result (λ s. HasTables T.State rows → IsDurable T.State rows
+            → t ≡ cleared (view (D.Disk.seen disk) [] (shown T.State rows))) }
+        ensures durable { IfOk result (λ s. HasTables T.State rows → IsDurableIfOpen T.State rows
             → IsOpen (beside T.State D.Disk) s → IsDurable (beside T.State D.Disk) s) }
-        ensures safe { IfOk result (λ s. HasTables T.State rows → IsDurable T.State rows
+        ensures safe { IfOk result (λ s. HasTables T.State rows → IsDurableIfOpen T.State rows
             → IsHonest (beside T.State D.Disk) s → IsSafe (beside T.State D.Disk) s) }
         ensures faults { IfErr result (λ fault. IsOfPlaces fault
             → RefusesPlaces T.State D.Disk rows disk) }
@@ -71,18 +68,19 @@ impl<T: Numbered + Drop, D: Disk + Drop> Placed<T, D> {
     }
 }
 
-/// Removes the chunks of the staged uploads. If nothing is staged nothing is written.
+/// Removes the staged uploads and their chunks. If nothing is staged nothing is written.
 ///
 /// # Errors
 ///
-/// `Refused` or `Memory`. Some of the chunks may be removed.
+/// `Refused` or `Memory`. Some of them may be removed.
 pub(crate) fn clear_staged<T: Store>(alloc: Global, rows: &mut T) -> Result<(), StoreFault>
     ensures all { OnOk result (ShowsCleared T.State rows.old rows.new) }
+    ensures left { OnOk result (LeavesCleared T.State rows.old rows.new) }
     ensures some { ClearsSome T.State rows.old rows.new }
 {
     let staged = rows.staged_uploads(alloc)?;
     for upload in &staged {
-        rows.shorten_upload(upload.id, 0)?;
+        rows.remove_upload(upload.id)?;
     }
     Ok(())
 }

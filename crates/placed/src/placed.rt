@@ -1,9 +1,9 @@
 //! A database with a file of contents as a store.
 
-ghost use Rattle.std.specs.Prelude.{◌≡◌, ◌∷◌, []};
-ghost use Rattle.tables.specs.Runs.{current_meta};
+ghost use Rattle.std.specs.Prelude.{◌≡◌};
 ghost use Rattle.store.specs.Shown.{IsHonest, IsOpen, HasTables, shown};
 ghost use Rattle.placed.specs.Placed.{beside, database_of, file_of, HasNoPlace};
+ghost use Rattle.placed.specs.View.{renumbered};
 
 use crate::staged::Staged;
 use contents::Regions;
@@ -29,16 +29,16 @@ pub struct Placed<T, D> {
 }
 
 impl<T: Store, D: Disk> Placed<T, D> {
-    /// A store of this database and this file. If the database is of the current version and names no place in a file,
-    /// the store shows what the database does; the file may have any bytes, which are written over.
+    /// A store of this database and this file. If the database names no place in a file, the store shows what the
+    /// database does, but for the number in `meta`; the file may have any bytes, which are written over.
     pub fn new(alloc: Global, rows: T, disk: D) -> Placed<T, D>
         ensures rows { database_of result ≡ rows }
         ensures disk { file_of result ≡ disk }
         ensures tables { HasTables T.State rows → HasNoPlace T.State rows
             → HasTables (beside T.State D.Disk) result }
         ensures shown { HasTables T.State rows → HasNoPlace T.State rows → IsHonest T.State rows
-            → IsOpen T.State rows → (shown T.State rows).meta ≡ current_meta ∷ []
-            → shown (beside T.State D.Disk) result ≡ shown T.State rows }
+            → IsOpen T.State rows
+            → shown (beside T.State D.Disk) result ≡ renumbered (shown T.State rows) }
     {
         Placed {
             rows,

@@ -1,4 +1,4 @@
-//! Tests of `placed`, through its public items, over a database and a file in memory.
+//! Tests of `placed` and `reopened`, through their public items, over a database and a file in memory.
 #![tactic(auto)]
 
 #[cfg(test)]
@@ -11,3 +11,5 @@ mod harness;
 mod layouts;
 #[cfg(test)]
 mod opened;
+#[cfg(test)]
+mod started;

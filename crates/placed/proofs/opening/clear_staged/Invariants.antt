@@ -1,4 +1,4 @@
--- The chunks of the uploads that were gone through are removed.
+-- The uploads that were gone through are removed.
 use Rattle.std.proofs.Common.{take}
 use Rattle.placed.proofs.Cleared.{Removes, read_ids}
 use Rattle.placed.proofs.opening.clear_staged.Given as goal

@@ -7,6 +7,6 @@ returns-clause-tables g c h none =
     (record { rows = c.args.rows; disk = c.args.disk; regions = c.new.result; staged = c.new-2.result; unsynced = 0; alloc = c.args.alloc }) c.new-2.ensures.items none h
 
 pub returns-clause-shown : goal.returns-clause-shown
-returns-clause-shown g c h none k o two =
+returns-clause-shown g c h none k o =
     fresh_shown g.T.State g.D.Disk
-    (record { rows = c.args.rows; disk = c.args.disk; regions = c.new.result; staged = c.new-2.result; unsynced = 0; alloc = c.args.alloc }) c.new-2.ensures.items none h k o two
+    (record { rows = c.args.rows; disk = c.args.disk; regions = c.new.result; staged = c.new-2.result; unsynced = 0; alloc = c.args.alloc }) c.new-2.ensures.items none h k o

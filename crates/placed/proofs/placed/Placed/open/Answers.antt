@@ -2,7 +2,7 @@
 use Rattle.std.proofs.lemmas.Result.{err_from_is_err_and}
 use Rattle.store.proofs.Moved.{moves_none, nothing_none}
 use Rattle.placed.proofs.Cleared.{clears_none, clears_then}
-use Rattle.placed.proofs.Opened.{IsMadeOf, opened_durable, opened_left, opened_settled, opened_tables, same_then}
+use Rattle.placed.proofs.Opened.{IsMadeOf, opened_was, opened_shown, opened_durable, opened_left, opened_tables, same_then}
 use Rattle.placed.specs.declared.placed.Placed.{Placed}
 use Rattle.placed.proofs.placed.Placed.open.Given.{Over}
 use Rattle.placed.proofs.placed.Placed.open.Goals as goal
@@ -31,13 +31,17 @@ by g c = record {
   within = c.in_ok-regions.ensures.within;
   some = c.in_ok-clear_staged.ensures.some;
   all = c.in_ok-clear_staged.ensures.all;
+  left = c.in_ok-clear_staged.ensures.left;
 }
 
 pub returns-clause-tables : goal.returns-clause-tables
 returns-clause-tables g c h durable = opened_tables g.T.State g.D.Disk _ _ _ _ _ (by g c) h durable
 
-pub returns-clause-settled : goal.returns-clause-settled
-returns-clause-settled g c h k o numbered = opened_settled g.T.State g.D.Disk _ _ _ _ _ (by g c) h k o numbered
+pub returns-clause-was_open : goal.returns-clause-was_open
+returns-clause-was_open g c h k = opened_was g.T.State g.D.Disk _ _ _ _ _ (by g c) h k.0
+
+pub returns-clause-shown : goal.returns-clause-shown
+returns-clause-shown g c h k o = opened_shown g.T.State g.D.Disk _ _ _ _ _ (by g c) h k o
 
 pub returns-clause-left : goal.returns-clause-left
 returns-clause-left g c h durable k t leaves = opened_left g.T.State g.D.Disk _ _ _ _ _ (by g c) h durable k t leaves

@@ -1,0 +1,3 @@
+pub mod Cleared
+pub mod Started
+pub mod Stopped
