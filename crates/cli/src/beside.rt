@@ -2,6 +2,7 @@
 
 use faults::{ContentsCause, Fault};
 use placed::PlaceFault;
+use reopened::BesideFault;
 use sqlite_std_file::{FileFrom, OpenError};
 use std::fs::{self, OpenOptions};
 use std::io::{self, ErrorKind};
@@ -88,8 +89,16 @@ pub(crate) fn open_contents<C: Start>(
     Ok(files.db)
 }
 
-/// Why a database and its file are not a store.
-pub(crate) fn place_fault(fault: PlaceFault) -> Fault {
+/// Why a database and its file of contents are not served.
+pub(crate) fn fault_beside(fault: BesideFault) -> Fault {
+    match fault {
+        BesideFault::Database(fault) => Fault::from(fault),
+        BesideFault::Contents(fault) => place_fault(fault),
+    }
+}
+
+/// Why a database is not served with this file.
+fn place_fault(fault: PlaceFault) -> Fault {
     match fault {
         PlaceFault::Unreadable => refused(ContentsCause::NoPlace),
         PlaceFault::Overlapping => refused(ContentsCause::Overlapping),

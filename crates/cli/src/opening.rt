@@ -6,11 +6,11 @@ ghost use Rattle.model.specs.World.{World};
 ghost use Rattle.refinement.specs.Left.{From};
 ghost use Rattle.faults.specs.declared.faults.Fault.{Fault};
 
-use crate::beside::{make_contents, open_contents, place_fault};
+use crate::beside::{fault_beside, make_contents, open_contents};
 use crate::starts::Starts;
 use faults::Fault;
 use names::Sink;
-use placed::Placed;
+use reopened::start_beside;
 use sqlite::{FileFrom, FileStore};
 use sqlite_disk::Disk;
 use std::fs::OpenOptions;
@@ -56,8 +56,9 @@ fn make_file(rt: &HostRuntime, db: &str) {
         .open(rt, db);
 }
 
-/// Gives a database that is new the tables of the layout, and accepts one that has those of either. Returns its layout.
-fn accept<S: Storage>(
+/// Returns the layout of a database; one that is new gets this one. A database whose contents are rows is accepted, and
+/// given its tables if it is new.
+fn layout_of<S: Storage>(
     rt: &HostRuntime,
     db: &str,
     store: &mut tables::Store<S>,
@@ -66,7 +67,6 @@ fn accept<S: Storage>(
     let alloc = rt.alloc();
     if store.is_new() && layout == Layout::Places {
         make_contents(rt, db)?;
-        store.create_or_check(alloc, Layout::Places)?;
         return Ok(Layout::Places);
     }
     match refinement::start(alloc, store) {
@@ -90,7 +90,7 @@ fn work_beside<S: Start, D: Disk + Drop, J: Work, K: Sink>(
     ensures { OnOk result (K.failed output.new ≡ K.failed output.old) }
 {
     let closes = work.closes();
-    let mut store = Placed::open(rt.alloc(), rows, disk).map_err(place_fault)?;
+    let mut store = start_beside(rt.alloc(), rows, disk).map_err(fault_beside)?;
     let done = work.run(&mut store, output);
     if closes {
         let (rows, _) = store.into_parts();
@@ -116,7 +116,7 @@ pub(crate) fn open_for<S: Starts, J: Work, K: Sink>(
 {
     make_file(rt, db);
     let mut store = tables::Store::open_from(rt, db, start)?;
-    if accept(rt, db, &mut store, work.layout())? == Layout::Places {
+    if layout_of(rt, db, &mut store, work.layout())? == Layout::Places {
         let disk = open_contents(rt, db, S::contents())?;
         return work_beside(rt, store, disk, work, output);
     }
