@@ -32,7 +32,7 @@ use Rattle.refinement.specs.Objects.{DiffersInRepo}
 use Rattle.refinement.specs.Opening.{IsAt, IsAtOne}
 use Rattle.refinement.specs.Representation.{Represents}
 use Rattle.refinement.proofs.Sorting.{into_pairs}
-use Rattle.reopened.specs.Opening.{AcceptsPlaces, AreAmongWith}
+use Rattle.reopened.specs.Opening.{AcceptsPlaces, AreAmongWith, IsServedBy}
 use Rattle.reopened.proofs.Cleared.{cleared_represented}
 
 -- ---- the tables of a new database
@@ -117,6 +117,15 @@ module _ {S : Type 0} (g : trees.Ghosts S) (old mid : Store S) (a : AcceptsPlace
         → IsSafe (beside (alone g) d) s
 
   module _ {D : Type 0} (d : disk.Ghosts D) (file : D) (s : Placed (Store S) D) (it : IsOpened d file s) where
+    pub is_served : IsServedBy g d old file s
+    is_served = record {
+      accepted = mid;
+      accepts = a;
+      was_open = it.was_open ready;
+      shows = it.shows ready;
+      only = it.left ready accepted_durable;
+    }
+
     is_at : (world : World) → IsWorld world
         → (database.IsHonest g mid → database.IsOpen g mid
         → Represents (cleared (view (d.seen file) [] (normal (database.shown g mid)))) world)

@@ -18,8 +18,11 @@ use Rattle.tables.specs.declared.fault.OpenFault.{OpenFault}
 use Rattle.tables.specs.declared.fault.OpenFault.TheVariants.{UnknownSchema}
 use Rattle.store.specs.Database.{alone}
 use Rattle.store.specs.Normal.{normal, settled}
+use Rattle.store.specs.Shown as store
+use Rattle.placed.specs.Placed.{beside}
 use Rattle.placed.specs.View.{view}
-use Rattle.placed.specs.Opening.{HasClosed, IsOfPlaces, RefusesPlaces}
+use Rattle.placed.specs.Opening.{HasClosed, IsOfPlaces, RefusesPlaces, cleared}
+use Rattle.placed.specs.declared.placed.Placed.{Placed}
 use Rattle.placed.specs.declared.fault.PlaceFault.{PlaceFault}
 use Rattle.refinement.specs.Left.{IsAmong}
 use Rattle.reopened.specs.declared.fault.BesideFault.{BesideFault}
@@ -38,7 +41,7 @@ AreAmongWith db file bound =
 abbrev pub HoldAmong : Image → List ℕ → Bound → Type 0
 HoldAmong image file bound = ∥ ((db : Trees) × HoldsDatabase image db × AreAmongWith db file bound) ∥₁
 
--- ---- what is left after an error
+-- ---- which databases are opened, and what is left of others
 
 module _ {S : Type 0} (g : trees.Ghosts S) where
   -- a database was accepted: it has the tables of a database whose contents are in a file, with their number, new ones if it
@@ -59,6 +62,17 @@ module _ {S : Type 0} (g : trees.Ghosts S) where
     pub unknown : IsHonest g ended → fault ≡ UnknownSchema → IsForeign g version_three rows
 
 module _ {S D : Type 0} (g : trees.Ghosts S) (d : disk.Ghosts D) where
+  -- the database was accepted, and the store shows what that has, with this file and without the staged uploads; a stop leaves
+  -- only this
+  pub record IsServedBy (rows : tables.Store S) (file : D) (s : Placed (tables.Store S) D) : Type 0 where
+    pub accepted : tables.Store S
+    pub accepts : AcceptsPlaces g rows accepted
+    pub was_open : store.IsHonest (beside (alone g) d) s → IsOpen g accepted
+    pub shows : store.IsHonest (beside (alone g) d) s → store.IsOpen (beside (alone g) d) s
+        → store.shown (beside (alone g) d) s ≡ cleared (view (d.seen file) [] (normal (shown g accepted)))
+    pub only : store.IsHonest (beside (alone g) d) s → (t : Tables) → store.Leaves (beside (alone g) d) s t
+        → t ≡ cleared (view (d.seen file) [] (normal (shown g accepted)))
+
   -- the database was accepted, and is not served with this file
   pub record IsNotServed (rows : tables.Store S) (file : D) (fault : PlaceFault) : Type 0 where
     pub accepted : tables.Store S

@@ -14,7 +14,7 @@ ghost use Rattle.store.specs.Shown.{IsHonest};
 ghost use Rattle.placed.specs.Placed.{beside, database_of, file_of};
 ghost use Rattle.refinement.specs.Left.{IsBoundedBy};
 ghost use Rattle.refinement.specs.Opening.{IsAt, IsAtOne};
-ghost use Rattle.reopened.specs.Opening.{AreAmongWith, Fails, HoldAmong};
+ghost use Rattle.reopened.specs.Opening.{AreAmongWith, Fails, HoldAmong, IsServedBy};
 
 use crate::fault::BesideFault;
 use placed::Placed;
@@ -40,6 +40,7 @@ pub fn start_beside<S: Storage + Drop, D: Disk + Drop>(
 ) -> Result<Placed<Store<S>, D>, BesideFault>
     ensures honest { IfOk result (λ store. IsHonest (beside (alone S.Store) D.Disk) store
         → IsHonest (alone S.Store) rows × IsTrue (D.Disk.is_clean disk)) }
+    ensures accepts { IfOk result (IsServedBy S.Store D.Disk rows disk) }
     ensures fresh { HasNoTable S.Store rows
         → IfOk result (λ store. IsAt (beside (alone S.Store) D.Disk) store nothing) }
     ensures again { (bound : Bound)

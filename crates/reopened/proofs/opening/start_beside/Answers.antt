@@ -1,7 +1,7 @@
 -- The database is accepted, and then served with the file.
 use Rattle.std.proofs.Common.{Err, ap}
 use Rattle.std.proofs.lemmas.Result.{err_from_is_err_and}
-use Rattle.reopened.proofs.Started.{is_new, is_one}
+use Rattle.reopened.proofs.Started.{is_new, is_one, is_served}
 use Rattle.reopened.proofs.opening.start_beside.Goals as goal
 
 pub returns-in_err-create_or_check-clause-err : goal.returns-in_err-create_or_check-clause-err
@@ -27,6 +27,14 @@ returns-in_err-open-clause-err g c =
       closed = e.ended;
       faults = e.faults;
     })
+
+pub returns-clause-accepts : goal.returns-clause-accepts
+returns-clause-accepts g c =
+    let a = c.in_ok-create_or_check.ensures in
+    let o = c.in_ok-open.ensures in
+    is_served g.S.Store c.args.rows c.create_or_check.new.self
+    (record { ready = a.ready; version = a.version; ok = a.ok; safe = a.safe; only = a.only }) g.D.Disk c.args.disk c.in_ok-open.field-0
+    (record { honest = o.honest; was_open = o.was_open; tables = o.tables; shows = o.shown; left = o.left; safe = o.safe })
 
 pub returns-clause-fresh : goal.returns-clause-fresh
 returns-clause-fresh g c none =
