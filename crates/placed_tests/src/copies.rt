@@ -40,7 +40,7 @@ fn fill(rt: &impl Tester, store: &mut impl Store) -> UploadId {
     id
 }
 
-fn copy_lock(rt: &impl Tester, to: &mut impl Restored, row: &RepoLock) {
+fn copy_lock(rt: &impl Tester, to: &mut impl Restored, row: RepoLock) {
     let lock = NewLock {
         repo: &row.repo,
         ref_name: &row.lock.ref_name,
@@ -95,7 +95,7 @@ fn copy_small(rt: &impl Tester, from: &mut impl Listed, to: &mut impl Restored) 
         unwrap(rt, to.restore_repo(&row.name, row.made, row.used));
         assert!(rt; to.restore_repo(&row.name, 0, 0).is_err());
     }
-    for row in &unwrap(rt, from.all_locks(rt.alloc())) {
+    for row in unwrap(rt, from.all_locks(rt.alloc())) {
         copy_lock(rt, to, row);
     }
     for row in &unwrap(rt, from.all_tokens(rt.alloc())) {
