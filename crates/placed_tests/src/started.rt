@@ -38,6 +38,11 @@ fn a_database_of_rows_is_refused(rt: HostRuntime) {
     let mut rows = unwrap(&rt, tables::Store::open_memory(rt.alloc()));
     unwrap(&rt, rows.create_or_check(rt.alloc(), Layout::Rows));
     let refused = started(&rt, rows);
-    assert!(rt; matches!(refused, Err(BesideFault::Database(OpenFault::UnknownSchema))));
+    assert!(rt;
+        matches!(
+            refused,
+            Err(BesideFault::Database(OpenFault::UnknownSchema))
+        )
+    );
     assert!(rt; started(&rt, in_memory(&rt)).is_ok());
 }
