@@ -1,20 +1,18 @@
 -- A store that was opened over a database that was accepted is in a world, and a stop leaves that world.
-use Rattle.std.proofs.Common.{◌≡◌, ◌⊎◌, ℕ, inl, inr, IsTrue, List, [], ◌∷◌, Result, Ok, Err, refl, sym, ap, subst, ◌∙◌}
+use Rattle.std.proofs.Common.{◌≡◌, ℕ, inl, inr, IsTrue, List, [], ◌∷◌, Result, Ok, Err, refl, sym, ap, subst, ◌∙◌}
 use Rattle.std.proofs.Math.Logic.{∥∥₁_map}
 use Rattle.std.specs.Prelude.{IfOk}
 use Rattle.std.proofs.lemmas.List.Sorted.{IsPermutation-refl}
 use Rattle.sqlite_trees.specs.declared.store.Store as trees
 use Rattle.sqlite_disk.specs.declared.Disk as disk
-use Rattle.sqlite_catalog.specs.Listing.{IsSound}
 use Rattle.sqlite.specs.Effect.{Database}
 use Rattle.sqlite.specs.Schema.{Schema}
 use Rattle.model.specs.World.{World, IsWorld, nothing}
 use Rattle.model.specs.Bounds.{Bound}
 use Rattle.model.proofs.Keeping.{makes_world}
 use Rattle.tables.specs.Layout.{version_three}
-use Rattle.tables.specs.Rows.{Tables, tables_of, tables_under}
+use Rattle.tables.specs.Rows.{Tables, tables_of}
 use Rattle.tables.specs.Runs.{IsKept, fresh}
-use Rattle.tables.specs.Schemas.{HasAll}
 use Rattle.tables.specs.Shown as database
 use Rattle.tables.specs.Shown.{HasNoTable, HasOurs, committed, fresh_on}
 use Rattle.tables.specs.declared.Store.{Store}

@@ -1,5 +1,5 @@
 -- What a stop leaves of a database and of its file of contents represents one of the worlds of the store's bound.
-use Rattle.std.proofs.Common.{◌≡◌, ◌≢◌, ℕ, ℤ, pos, inl, inr, IsTrue, Bool, true, false, cond, List, [], ◌∷◌, map, refl, sym, ap, subst, ◌∙◌}
+use Rattle.std.proofs.Common.{◌≡◌, ℕ, ℤ, pos, inl, inr, IsTrue, Bool, true, false, cond, List, [], ◌∷◌, refl, sym, ap, subst, ◌∙◌}
 use Rattle.std.proofs.Math.Logic.{∥∥₁_map}
 use Rattle.std.specs.Ordering.{int_eq}
 use Rattle.sqlite_disk.specs.declared.Disk as disk
@@ -14,8 +14,7 @@ use Rattle.sqlite.proofs.Theorems.{opens_again}
 use Rattle.model.specs.Bounds.{Bound}
 use Rattle.tables.specs.Layout.{current, number_of, version_three}
 use Rattle.tables.specs.Rows.{Meta, Tables, tables_of, tables_under}
-use Rattle.tables.specs.Runs.{IsKept, current_meta, meta_of}
-use Rattle.tables.specs.Schemas.{HasAll}
+use Rattle.tables.specs.Runs.{current_meta, meta_of}
 use Rattle.tables.specs.declared.Store.{Store}
 use Rattle.tables.specs.declared.layout.Layout.TheVariants.{Places}
 use Rattle.tables.proofs.Marked.{kept_marked}
