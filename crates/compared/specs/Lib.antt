@@ -1,2 +1,4 @@
 pub mod Listing
 pub mod Same
+pub mod Keys
+pub mod Comparing

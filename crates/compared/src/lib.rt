@@ -1,8 +1,10 @@
 //! The comparison of two stores.
 #![tactic(auto)]
 
+mod keys;
 mod laws;
 mod listed;
+mod rows;
 
 pub use laws::same_law;
 pub use listed::{ChunkKey, Listed, MarkedUpload, RepoLock, RepoRow, RetiredRow};
